@@ -1,0 +1,6 @@
+-- Lemmas: lines of a text, files read line by line, digits, readers, and the laws.
+pub mod LineLemmas
+pub mod FileLemmas
+pub mod DigitLemmas
+pub mod ReaderLemmas
+pub mod LawLemmas

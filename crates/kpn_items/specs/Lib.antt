@@ -1,0 +1,5 @@
+-- What the contracts of this crate speak of: lines and their items, whole files, readers, laws.
+pub mod ItemLine
+pub mod ItemFile
+pub mod Input
+pub mod Laws

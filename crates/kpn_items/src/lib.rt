@@ -1,0 +1,13 @@
+#![tactic(auto)]
+// Item files: lists of whole numbers from -2^63 to 2^63-1, one to a line, read from any reader and
+// written to any writer. `specs/ItemLine.antt` and `specs/ItemFile.antt` say what a file spells.
+
+mod fault;
+mod input;
+mod item_file;
+mod item_line;
+pub mod laws;
+
+pub use fault::{ItemFault, WriteFault};
+pub use input::{READ_LIMIT, read_all};
+pub use item_file::{items_of, read_items, write_items};
