@@ -1,0 +1,25 @@
+-- The text that `kpn alone` writes, as a function of the process's name, its talk and its stop.
+use Rattle.std.specs.Prelude.{ℕ, List, [], ◌∷◌, ◌++◌, codes}
+use Rattle.kpn_lang.specs.declared.value.Fault.{Fault}
+use Rattle.kpn_lang.specs.declared.value.Fault.TheVariants.{Overflow, ZeroDivisor}
+use Rattle.kpn_lang.specs.declared.talk.Said.{Said}
+use Rattle.kpn_lang.specs.Alone.{put_at}
+use Rattle.kpn_step.specs.declared.stop.AloneStop.{AloneStop}
+use Rattle.kpn_step.specs.declared.stop.AloneStop.TheVariants.{Done, Faulted, Starved, Paused}
+use Rattle.kpn_items.specs.ItemFile.{item_text}
+
+-- the word for a fault
+abbrev pub cause_of : Fault → List ℕ
+cause_of Overflow = codes "overflow"
+cause_of ZeroDivisor = codes "zero-divisor"
+
+-- the line `fault NAME CAUSE` where the process faulted, and nothing where it did not
+abbrev pub fault_text : (name : List ℕ) → AloneStop → List ℕ
+fault_text name (Faulted fault) = codes "fault " ++ name ++ codes " " ++ cause_of fault ++ codes "\n"
+fault_text name Done = []
+fault_text name (Starved port) = []
+fault_text name Paused = []
+
+-- the items put on the one out port, each on a line of its own, and then how the process faulted
+abbrev pub alone_text : (name : List ℕ) → List Said → AloneStop → List ℕ
+alone_text name talk stop = item_text (put_at talk 0) ++ fault_text name stop

@@ -1,0 +1,30 @@
+// Shelves: where the program finds and keeps files by name.
+ghost use Rattle.std.specs.Prelude.{◌≡◌, ◌≢◌, ◌≤◌, ℕ, List, IfOk, IfErr, OnOk, vec_len};
+ghost use Rattle.kpn_items.specs.Input.{NamesNoLine};
+
+use kpn_items::{ItemFault, READ_LIMIT, WriteFault};
+use std::alloc::Global;
+
+pub mod files;
+pub mod memory;
+
+pub use files::FileShelf;
+pub use memory::MemoryShelf;
+
+/// Files by name.
+pub trait Shelf {
+    /// The bytes that a load of a name may give.
+    ghost may_give: { Self → List ℕ → List ℕ → Type 0 };
+
+    /// The bytes of a file. It is refused as `Read` or `NoMemory`, never as `BadItem`.
+    fn load(&self, alloc: Global, name: &str) -> Result<Vec<u8>, ItemFault>
+        ensures given { IfOk result (λ bytes. may_give self.now name.now bytes.items) }
+        ensures within { IfOk result (λ bytes. vec_len bytes ≤ READ_LIMIT) }
+        ensures fault { IfErr result NamesNoLine };
+
+    /// Keeps bytes under a name, in place of what the name had. After a refusal what the name has is
+    /// not known; other names keep what they had.
+    fn store(&mut self, name: &str, bytes: &[u8]) -> Result<(), WriteFault>
+        ensures stored { OnOk result (may_give self.new name.now bytes.now) }
+        ensures others { (other held : List ℕ) → other ≢ name.now → may_give self.new other held → may_give self.old other held };
+}

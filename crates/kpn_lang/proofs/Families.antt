@@ -1,0 +1,91 @@
+-- Families of lists that grow: what items stand behind them, and what a read leaves of them.
+use Rattle.std.proofs.Common.{◌≡◌, ℕ, ◌<◌, ◌≤◌, ℤ, ◌⊎◌, List, [], ◌∷◌, ◌++◌, length, set, get_or, refl, sym, ap, ◌∙◌, inl, inr, arith, get_or-set_same, get_or-set_other, append_assoc}
+use Rattle.std.proofs.lemmas.List.{get_or_past, append-nil, append_cancel_left}
+use Rattle.std.proofs.lemmas.Bool.{cases_lt, cases_eq}
+use Rattle.kpn_lang.specs.Run.{Lists, list_at}
+use Rattle.kpn_lang.specs.Prefix.{IsPrefix, ArePrefixes}
+use Rattle.kpn_lang.specs.Laws.{Grows}
+use Rattle.kpn_lang.proofs.Prefixes.{IsPrefix-refl, IsPrefix-trans, IsPrefix-from_rest, rest_of_prefix}
+
+pub ArePrefixes-refl : (lists : Lists) → ArePrefixes lists lists
+ArePrefixes-refl lists = λ port. IsPrefix-refl (list_at lists port)
+
+pub ArePrefixes-trans : (lists longer longest : Lists) → ArePrefixes lists longer → ArePrefixes longer longest → ArePrefixes lists longest
+ArePrefixes-trans lists longer longest p q = λ port. IsPrefix-trans (list_at lists port) (list_at longer port) (list_at longest port) (p port) (q port)
+
+-- no items behind any list
+abbrev pub nothing : ℕ → List ℤ
+nothing port = []
+
+pub Grows-refl : (lists : Lists) → Grows nothing lists lists
+Grows-refl lists = record { each = λ port. sym (append-nil (list_at lists port)) }
+
+-- first the one and then the other behind each list
+abbrev pub both : (more extra : ℕ → List ℤ) → ℕ → List ℤ
+both more extra port = more port ++ extra port
+
+pub Grows-trans : (more extra : ℕ → List ℤ) (lists longer longest : Lists) → Grows more lists longer → Grows extra longer longest → Grows (both more extra) lists longest
+Grows-trans more extra lists longer longest g h =
+    record {
+      each = λ port. h.each port ∙ ap (λ xs. xs ++ extra port) (g.each port) ∙ append_assoc (list_at lists port) (more port) (extra port);
+    }
+
+pub Grows-then : (more : ℕ → List ℤ) (lists longer longest : Lists) → Grows more lists longer → Grows nothing longer longest → Grows more lists longest
+Grows-then more lists longer longest g h =
+    record { each = λ port. h.each port ∙ append-nil (list_at longer port) ∙ g.each port }
+
+-- two lists that are nothing together are nothing
+pub nil_from_append : (xs ys : List ℤ) → xs ++ ys ≡ [] → (xs ≡ []) × (ys ≡ [])
+nil_from_append [] ys e = (refl, e)
+nil_from_append (x ∷ xs) ys e = absurd cc
+
+pub ArePrefixes-from_grows : (more : ℕ → List ℤ) (lists longer : Lists) → Grows more lists longer → ArePrefixes lists longer
+ArePrefixes-from_grows more lists longer g = λ port. IsPrefix-from_rest (list_at lists port) (more port) (list_at longer port) (sym (g.each port))
+
+-- what stands behind each list of a longer family
+abbrev pub added : (lists longer : Lists) → ArePrefixes lists longer → ℕ → List ℤ
+added lists longer p port = (rest_of_prefix (list_at lists port) (list_at longer port) (p port)).0
+
+pub Grows-from_prefixes : (lists longer : Lists) (p : ArePrefixes lists longer) → Grows (added lists longer p) lists longer
+Grows-from_prefixes lists longer p =
+    record { each = λ port. sym (rest_of_prefix (list_at lists port) (list_at longer port) (p port)).1 }
+
+-- nothing stands behind a list that stays
+pub nil_from_same : (xs rest : List ℤ) → xs ≡ xs ++ rest → rest ≡ []
+nil_from_same xs rest e = append_cancel_left xs rest [] (sym e ∙ sym (append-nil xs))
+
+pub nil_from_grows : (more : ℕ → List ℤ) (lists longer : Lists) → Grows more lists longer → (port : ℕ) → list_at longer port ≡ list_at lists port → more port ≡ []
+nil_from_grows more lists longer g port e = nil_from_same (list_at lists port) (more port) (sym e ∙ g.each port)
+
+-- a port that has items is there
+pub port_is_there : (lists : Lists) (port : ℕ) (v : ℤ) (items : List ℤ) → list_at lists port ≡ v ∷ items → port < length lists
+port_is_there lists port v items e =
+    elim (cases_lt port (length lists)) [
+      | inl h ↦ h
+      | inr h ↦ let past = get_or_past lists port [] h in absurd cc
+    ]
+
+-- after a list is replaced
+pub list_at-set_same : (lists : Lists) (port : ℕ) (items : List ℤ) → port < length lists → list_at (set lists port items) port ≡ items
+list_at-set_same lists port items h = get_or-set_same lists port items [] h
+
+pub list_at-set_other : (lists : Lists) (port other : ℕ) (items : List ℤ) → (other ≡ port → ⊥) → list_at (set lists port items) other ≡ list_at lists other
+list_at-set_other lists port other items h = get_or-set_other lists port other items [] h
+
+-- a read takes the first item of both, and as much more remains
+pub Grows-read : (more : ℕ → List ℤ) (lists longer : Lists) → Grows more lists longer → (port : ℕ) (v : ℤ) (items : List ℤ) → list_at lists port ≡ v ∷ items → Grows more (set lists port items) (set longer port (items ++ more port))
+Grows-read more lists longer g port v items e =
+    let there = port_is_there lists port v items e in
+    let there' = port_is_there longer port v (items ++ more port) (g.each port ∙ ap (λ xs. xs ++ more port) e) in
+    record {
+      each = λ other. elim (cases_eq other port) [
+        | inl same ↦
+            rw same (
+            list_at-set_same longer port (items ++ more port) there'
+            ∙ ap (λ xs. xs ++ more port) (sym (list_at-set_same lists port items there)))
+        | inr differ ↦
+            list_at-set_other longer port other (items ++ more port) differ
+            ∙ g.each other
+            ∙ ap (λ xs. xs ++ more other) (sym (list_at-set_other lists port other items differ))
+      ];
+    }

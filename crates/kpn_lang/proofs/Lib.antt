@@ -1,0 +1,12 @@
+pub mod Alike
+pub mod Families
+pub mod Following
+pub mod Further
+pub mod Interpreting
+pub mod Prefixes
+pub mod Processes
+pub mod Programs
+pub mod Remaining
+pub mod Rules
+pub mod Sequential
+pub mod Talks

@@ -1,0 +1,131 @@
+-- Codes of terms, statements and the parts of a program. A code maps a type one to one into the stored values,
+-- which are trees of numbers, so that a proof can tell two values of the type apart behind a reference.
+use Rattle.std.specs.Prelude.{◌≡◌, ℕ, zero, suc, pos, negsuc, List, [], ◌∷◌, slice_index_or, ◌⊎◌, refl}
+use Rattle.std.specs.Coded.{Coded, code_by, coded_ℕ, coded×, coded⊎, coded_list}
+use base.Stored.{Gv, gnil, gnum, gcons}
+use mathlib.Core.Path.{sym, ◌∙◌, ap}
+use mathlib.Core.Logic.{inl, inr}
+use Rattle.kpn_lang.specs.declared.syntax.Op.{Op}
+use Rattle.kpn_lang.specs.declared.syntax.Op.TheVariants.{Add, Sub, Mul, Div, Rem, Lt, Le, Gt, Ge, Eq, Ne, And, Or}
+use Rattle.kpn_lang.specs.Syntax.{Term, Num, Var, Neg, Not, Bin, Statement, Assign, Read, Write, If, While}
+use Rattle.kpn_lang.specs.Parts.{Parts}
+
+-- ---- operators, by their places in one list
+
+abbrev operators : List Op
+operators = Add ∷ Sub ∷ Mul ∷ Div ∷ Rem ∷ Lt ∷ Le ∷ Gt ∷ Ge ∷ Eq ∷ Ne ∷ And ∷ Or ∷ []
+
+abbrev place_of : Op → ℕ
+place_of Add = 0
+place_of Sub = 1
+place_of Mul = 2
+place_of Div = 3
+place_of Rem = 4
+place_of Lt = 5
+place_of Le = 6
+place_of Gt = 7
+place_of Ge = 8
+place_of Eq = 9
+place_of Ne = 10
+place_of And = 11
+place_of Or = 12
+
+abbrev operator_at : ℕ → Op
+operator_at n = slice_index_or operators n Or
+
+pub operator_at-place_of : (op : Op) → operator_at (place_of op) ≡ op
+operator_at-place_of Add = refl
+operator_at-place_of Sub = refl
+operator_at-place_of Mul = refl
+operator_at-place_of Div = refl
+operator_at-place_of Rem = refl
+operator_at-place_of Lt = refl
+operator_at-place_of Le = refl
+operator_at-place_of Gt = refl
+operator_at-place_of Ge = refl
+operator_at-place_of Eq = refl
+operator_at-place_of Ne = refl
+operator_at-place_of And = refl
+operator_at-place_of Or = refl
+
+-- ---- terms: each is stored as a kind, a number and two trees
+
+abbrev stored : (kind number : ℕ) → (left right : Gv) → Gv
+stored kind number left right = gcons (gnum kind) (gcons (gnum number) (gcons left right))
+
+abbrev code_of : Term → Gv
+code_of (Num (pos n)) = stored 0 n gnil gnil
+code_of (Num (negsuc n)) = stored 1 n gnil gnil
+code_of (Var x) = stored 2 x gnil gnil
+code_of (Neg e) = stored 3 0 (code_of e) gnil
+code_of (Not e) = stored 4 0 (code_of e) gnil
+code_of (Bin op a b) = stored 5 (place_of op) (code_of a) (code_of b)
+
+-- the term of a kind
+abbrev of_kind : (kind number : ℕ) → (left right : Term) → Term
+of_kind zero n a b = Num (pos n)
+of_kind (suc zero) n a b = Num (negsuc n)
+of_kind (suc (suc zero)) n a b = Var n
+of_kind (suc (suc (suc zero))) n a b = Neg a
+of_kind (suc (suc (suc (suc zero)))) n a b = Not a
+of_kind (suc (suc (suc (suc (suc kind))))) n a b = Bin (operator_at n) a b
+
+-- the term that is stored so; what stands for no term gives any
+abbrev term_at : Gv → Term
+term_at (gcons (gnum kind) (gcons (gnum n) (gcons left right))) = of_kind kind n (term_at left) (term_at right)
+term_at _ = Var 0
+
+pub term_at-code_of : (e : Term) → term_at (code_of e) ≡ e
+term_at-code_of (Num (pos n)) = refl
+term_at-code_of (Num (negsuc n)) = refl
+term_at-code_of (Var x) = refl
+term_at-code_of (Neg e) = ap Neg (term_at-code_of e)
+term_at-code_of (Not e) = ap Not (term_at-code_of e)
+term_at-code_of (Bin op a b) = λ i. Bin (operator_at-place_of op i) (term_at-code_of a i) (term_at-code_of b i)
+
+abbrev pub term_code : Coded Term
+term_code = record { code = code_of; inj = λ x y p. sym (term_at-code_of x) ∙ ap term_at p ∙ term_at-code_of y }
+
+-- ---- statements, as a sum of the tuples of their parts
+
+abbrev Cases : Type 0
+Cases = (ℕ × Term) ⊎ ((ℕ × ℕ) ⊎ ((ℕ × Term) ⊎ ((Term × (ℕ × ℕ)) ⊎ (Term × ℕ))))
+
+abbrev cases_code : Coded Cases
+cases_code =
+    coded⊎ (coded× coded_ℕ term_code) (coded⊎ (coded× coded_ℕ coded_ℕ) (coded⊎ (coded× coded_ℕ term_code)
+    (coded⊎ (coded× term_code (coded× coded_ℕ coded_ℕ)) (coded× term_code coded_ℕ))))
+
+abbrev cases_of : Statement → Cases
+cases_of (Assign x e) = inl (x, e)
+cases_of (Read i x) = inr (inl (i, x))
+cases_of (Write o e) = inr (inr (inl (o, e)))
+cases_of (If e a b) = inr (inr (inr (inl (e, (a, b)))))
+cases_of (While e b) = inr (inr (inr (inr (e, b))))
+
+abbrev statement_at : Cases → Statement
+statement_at (inl p) = Assign p.0 p.1
+statement_at (inr (inl p)) = Read p.0 p.1
+statement_at (inr (inr (inl p))) = Write p.0 p.1
+statement_at (inr (inr (inr (inl p)))) = If p.0 p.1.0 p.1.1
+statement_at (inr (inr (inr (inr p)))) = While p.0 p.1
+
+pub statement_at-cases_of : (s : Statement) → statement_at (cases_of s) ≡ s
+statement_at-cases_of (Assign x e) = refl
+statement_at-cases_of (Read i x) = refl
+statement_at-cases_of (Write o e) = refl
+statement_at-cases_of (If e a b) = refl
+statement_at-cases_of (While e b) = refl
+
+abbrev pub statement_code : Coded Statement
+statement_code = code_by Cases cases_code cases_of statement_at statement_at-cases_of
+
+-- ---- the parts of a program, as the tuple of its fields
+
+abbrev pub parts_code : Coded Parts
+parts_code =
+    code_by (ℕ × (ℕ × (ℕ × (ℕ × List (List Statement)))))
+    (coded× coded_ℕ (coded× coded_ℕ (coded× coded_ℕ (coded× coded_ℕ (coded_list (coded_list statement_code))))))
+    (λ p. (p.ins, (p.outs, (p.pars, (p.vars, p.blocks)))))
+    (λ t. record { ins = t.0; outs = t.1.0; pars = t.1.1.0; vars = t.1.1.1.0; blocks = t.1.1.1.1 })
+    (λ _. refl)

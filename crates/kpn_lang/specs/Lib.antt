@@ -1,0 +1,11 @@
+pub mod Syntax
+pub mod Value
+pub mod Tree
+pub mod Parts
+pub mod Run
+pub mod Prefix
+pub mod Alone
+pub mod Laws
+pub mod View
+pub mod Codes
+pub mod Plain

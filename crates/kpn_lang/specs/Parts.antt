@@ -1,0 +1,146 @@
+-- What a program is made of, the rules that it keeps, and the first rule that parts break.
+use Rattle.std.specs.Prelude.{ℕ, zero, suc, ◌+◌, ◌-◌, max, Bool, true, false, not, ◌&&◌, ◌||◌, nat_lt, nat_le, nat_eq, ◌≡◌, ◌≤◌, if◌then◌else◌, List, [], ◌∷◌, length, Option, Some, None, Result, Ok, Err, sum_by}
+use Rattle.std.specs.List.{list_any, list_all, flat_map, range_with_len}
+use Rattle.std.specs.Cmp.Lexicographic.{pointwise}
+use Rattle.kpn_lang.specs.declared.program.ProgramFault.{ProgramFault}
+use Rattle.kpn_lang.specs.declared.program.ProgramFault.TheVariants.{TooMany, NoSuchBlock, BlockOrder, NoSuchVar, NoSuchPort, TooDeep}
+use Rattle.kpn_lang.specs.Syntax.{Term, Num, Var, Neg, Not, Bin, Statement, Assign, Read, Write, If, While, names_below}
+use Rattle.kpn_lang.specs.Tree.{block_at}
+
+-- in ports, out ports, parameters, variables with the parameters first, and the blocks with the body first
+pub record Parts : Type 0 where
+  pub ins : ℕ
+  pub outs : ℕ
+  pub pars : ℕ
+  pub vars : ℕ
+  pub blocks : List (List Statement)
+
+-- the expressions of a statement
+abbrev pub expressions : Statement → List Term
+expressions (Assign x e) = e ∷ []
+expressions (Read i x) = []
+expressions (Write o e) = e ∷ []
+expressions (If e a b) = e ∷ []
+expressions (While e b) = e ∷ []
+
+-- the blocks inside a statement, in the order of their opening braces
+abbrev pub inner_blocks : Statement → List ℕ
+inner_blocks (Assign x e) = []
+inner_blocks (Read i x) = []
+inner_blocks (Write o e) = []
+inner_blocks (If e a b) = a ∷ b ∷ []
+inner_blocks (While e b) = b ∷ []
+
+-- the blocks right inside a block, in the order of their opening braces
+abbrev pub children : List (List Statement) → ℕ → List ℕ
+children blocks b = flat_map inner_blocks (block_at blocks b)
+
+-- ---- 1: a limit is passed: 64 variables, 16 ports each way, 4,096 nodes
+
+-- the nodes of an expression: each number, name and operator is one
+abbrev pub nodes : Term → ℕ
+nodes (Num z) = 1
+nodes (Var x) = 1
+nodes (Neg e) = nodes e + 1
+nodes (Not e) = nodes e + 1
+nodes (Bin op a b) = nodes a + nodes b + 1
+
+-- a statement is a node beside those of its expressions
+abbrev pub statement_nodes : Statement → ℕ
+statement_nodes s = sum_by nodes (expressions s) + 1
+
+-- what is left of a budget after so many nodes; nothing where there are more
+abbrev pub left_of : (budget count : ℕ) → Option ℕ
+left_of budget count = if nat_le count budget then Some (budget - count) else None
+
+abbrev pub is_too_large : Parts → Bool
+is_too_large p =
+    nat_lt 64 p.vars || nat_lt 16 p.ins || nat_lt 16 p.outs || nat_lt 4096 (sum_by (sum_by statement_nodes) p.blocks)
+
+-- ---- 2: there is no body, or a block is named that is not there
+
+-- a block of this number or above is named
+abbrev pub names_from : ℕ → Statement → Bool
+names_from count s = list_any (nat_le count) (inner_blocks s)
+
+abbrev pub lacks_a_block : Parts → Bool
+lacks_a_block p = nat_lt (length p.blocks) 1 || list_any (list_any (names_from (length p.blocks))) p.blocks
+
+-- ---- 3: the blocks are not numbered in the order of their opening braces, each used once
+
+-- a block and the blocks inside it in the order of their opening braces, down to a number of levels
+abbrev pub order_to : List (List Statement) → ℕ → ℕ → List ℕ
+order_to blocks zero b = b ∷ []
+order_to blocks (suc levels) b = b ∷ flat_map (order_to blocks levels) (children blocks b)
+
+-- from the body on they are 0, 1, 2 and so on, to the last
+abbrev pub is_in_order : Parts → Bool
+is_in_order p = pointwise nat_eq (order_to p.blocks (length p.blocks) 0) (range_with_len 0 (length p.blocks))
+
+-- the number after a list, where the list counts up from a number
+abbrev pub counted : List ℕ → ℕ → Option ℕ
+counted [] next = Some next
+counted (b ∷ bs) next = if nat_eq b next then counted bs (next + 1) else None
+
+-- ---- 4: a variable is named that is not there
+
+abbrev pub names_variables_below : ℕ → Statement → Bool
+names_variables_below n (Assign x e) = nat_lt x n && names_below n e
+names_variables_below n (Read i x) = nat_lt x n
+names_variables_below n (Write o e) = names_below n e
+names_variables_below n (If e a b) = names_below n e
+names_variables_below n (While e b) = names_below n e
+
+-- ---- 5: a port is named that is not there
+
+abbrev pub names_ports_below : (ins outs : ℕ) → Statement → Bool
+names_ports_below ins outs (Assign x e) = true
+names_ports_below ins outs (Read i x) = nat_lt i ins
+names_ports_below ins outs (Write o e) = nat_lt o outs
+names_ports_below ins outs (If e a b) = true
+names_ports_below ins outs (While e b) = true
+
+-- ---- 6: blocks or expressions nest deeper than 32 levels
+
+-- a number or a name is at level 1, an operator one above its operands
+abbrev pub depth : Term → ℕ
+depth (Num z) = 1
+depth (Var x) = 1
+depth (Neg e) = depth e + 1
+depth (Not e) = depth e + 1
+depth (Bin op a b) = max (depth a) (depth b) + 1
+
+-- a block and the blocks inside it go down at most this many levels
+abbrev pub is_within : List (List Statement) → ℕ → ℕ → Bool
+is_within blocks zero b = false
+is_within blocks (suc levels) b = list_all (is_within blocks levels) (children blocks b)
+
+-- ---- the rules together
+
+-- each statement of each block passes a test
+abbrev pub each_statement : (Statement → Bool) → List (List Statement) → Bool
+each_statement test blocks = list_all (list_all test) blocks
+
+abbrev pub nests_too_deep : Parts → Bool
+nests_too_deep p =
+    not (is_within p.blocks 32 0) || not (each_statement (λ s. list_all (λ e. nat_le (depth e) 32) (expressions s)) p.blocks)
+
+-- the first rule that the parts break, in the order of the faults' numbers
+abbrev pub first_fault : Parts → Option ProgramFault
+first_fault p =
+    if is_too_large p then Some TooMany else
+    (if lacks_a_block p then Some NoSuchBlock else
+    (if not (is_in_order p) then Some BlockOrder else
+    (if not (each_statement (names_variables_below p.vars) p.blocks) then Some NoSuchVar else
+    (if not (each_statement (names_ports_below p.ins p.outs) p.blocks) then Some NoSuchPort else
+    (if nests_too_deep p then Some TooDeep else None)))))
+
+-- the parts keep each rule, and the parameters are among the variables
+pub record IsProgram (parts : Parts) : Type 0 where
+  pub sound : first_fault parts ≡ None
+  pub counted : parts.pars ≤ parts.vars
+
+-- the parts where no rule is broken, else the first that is
+abbrev pub parts_unless : Parts → Option ProgramFault → Result Parts ProgramFault
+parts_unless p None = Ok p
+parts_unless p (Some fault) = Err fault

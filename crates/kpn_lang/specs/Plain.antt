@@ -1,0 +1,50 @@
+-- Where the plain program stands in a run, and what a part of it has done there.
+use Rattle.std.specs.Prelude.{◌≡◌, ℕ, ℤ, List, [], ◌∷◌, ◌++◌, length, drop, Option, Some, None, Result, Ok, Err, Bool, not}
+use Rattle.kpn_lang.specs.declared.value.Fault.{Fault}
+use Rattle.kpn_lang.specs.declared.talk.Said.{Said}
+use Rattle.kpn_lang.specs.declared.talk.Ending.{Ending}
+use Rattle.kpn_lang.specs.Value.{is_zero}
+use Rattle.kpn_lang.specs.Parts.{Parts, IsProgram}
+use Rattle.kpn_lang.specs.Run.{Ran, Next, Lists, ends}
+
+-- the variables, what remains of the lists, and what was said so far
+pub record Standing : Type 0 where
+  pub variables : List ℤ
+  pub lists : Lists
+  pub talk : List Said
+
+-- what remains of each list behind its place
+abbrev pub remaining : Lists → (places : List ℕ) → Lists
+remaining [] places = []
+remaining (items ∷ lists) [] = []
+remaining (items ∷ lists) (place ∷ places) = drop place items ∷ remaining lists places
+
+-- what was said before, in front of a run
+abbrev pub said_before : List Said → Ran → Ran
+said_before talk ran = record { ending = ran.ending; variables = ran.variables; rest = ran.rest; talk = talk ++ ran.talk }
+
+-- what was said so far and what a run from here on gives
+abbrev pub run_from : Standing → Next → Ran
+run_from here next = said_before here.talk (next here.variables here.lists)
+
+-- what follows where a part came to its end, or ended the run
+abbrev pub goes_on : Option Ending → Next → Next
+goes_on None next = next
+goes_on (Some ending) next = ends ending
+
+-- a part of a run was done, and what is left of it, before whatever follows
+pub record LeadsTo (part left : Next → Next) (before after : Standing) : Type 0 where
+  pub runs : (next : Next) → run_from before (part next) ≡ run_from after (left next)
+  pub variables : length after.variables ≡ length before.variables
+  pub lists : length after.lists ≡ length before.lists
+
+-- the program keeps the rules, and there are as many variables and lists as it has
+pub record Fits (parts : Parts) (here : Standing) : Type 0 where
+  pub program : IsProgram parts
+  pub variables : length here.variables ≡ parts.vars
+  pub lists : length here.lists ≡ parts.ins
+
+-- whether a test holds: its value is not 0
+abbrev pub holds : Result ℤ Fault → Result Bool Fault
+holds (Ok v) = Ok (not (is_zero v))
+holds (Err fault) = Err fault

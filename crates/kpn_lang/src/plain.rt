@@ -1,0 +1,401 @@
+// The plain program: it runs a program alone on whole lists by recursion over its blocks, as the
+// definition of a run says.
+ghost use Rattle.std.specs.Prelude.{◌≡◌, ◌≤◌, ◌<◌, ℤ, List, [], ◌∷◌, ◌++◌, length, drop, IfOk, OnSome, IsTrue, ◌+◌, ◌^◌, slice_get, slice_set, is_ok, if◌then◌else◌};
+ghost use Rattle.kpn_lang.specs.Syntax.{term_of, statement_of, names_below};
+ghost use Rattle.kpn_lang.specs.Value.{value};
+ghost use Rattle.kpn_lang.specs.Parts.{names_variables_below, names_ports_below};
+ghost use Rattle.kpn_lang.specs.Tree.{tree_of, tree_over};
+ghost use Rattle.kpn_lang.specs.Run.{list_at, run, turns};
+ghost use Rattle.kpn_lang.specs.Alone.{alone, start_of};
+ghost use Rattle.kpn_lang.specs.Plain.{remaining, holds, goes_on, LeadsTo, Fits};
+
+use crate::program::Program;
+use crate::sequence::Sequence;
+use crate::syntax::{BlockId, Expr, Stmt};
+use crate::talk::{Ending, Said};
+use crate::value::{Fault, eval};
+use std::alloc::{AllocError, Global};
+use std::marker::Model;
+
+/// What a run gave: how it ended, the variables and what remained of the lists then, and what the
+/// process said, in order.
+#[derive(Debug, Drop)]
+pub struct Run {
+    ending: Ending,
+    variables: Sequence<i64>,
+    rest: Sequence<Sequence<i64>>,
+    talk: Sequence<Said>,
+}
+
+impl Model for Run {
+    ghost use Rattle.kpn_lang.specs.Run.{Ran};
+
+    ghost Value = { Ran };
+
+    ghost view = { λ r. record { ending = r.ending; variables = r.variables; rest = r.rest; talk = r.talk } };
+}
+
+impl Run {
+    /// How the run ended.
+    pub fn ending(&self) -> Ending
+        ensures { result ≡ self.now.ending }
+    {
+        self.ending
+    }
+
+    /// The variables at the end, the parameters first.
+    pub fn variables(&self) -> &[i64]
+        ensures { result.now ≡ self.now.variables }
+    {
+        self.variables.as_slice()
+    }
+
+    /// What remained of the list of each in port, in order of port.
+    pub fn rest(&self) -> &[Sequence<i64>]
+        ensures { result.now ≡ self.now.rest }
+    {
+        self.rest.as_slice()
+    }
+
+    /// What the process said, in order.
+    pub fn talk(&self) -> &[Said]
+        ensures { result.now ≡ self.now.talk }
+    {
+        self.talk.as_slice()
+    }
+}
+
+/// Runs a program alone with these parameters on these lists, one for each in port. Each loop that is
+/// entered has this many turns, and the run is cut where it would begin one more.
+pub fn run_alone(
+    alloc: Global,
+    program: &Program,
+    pars: &[i64],
+    lists: &[Sequence<i64>],
+    turns: u32,
+) -> Result<Run, AllocError>
+    requires pars { length pars.now ≡ program.now.pars }
+    requires lists { length lists.now ≡ program.now.ins }
+    ensures { IfOk result (λ run. run ≡ alone program.now pars.now turns lists.now) }
+{
+    program.known();
+    let mut state = State::start(alloc, program, pars, lists)?;
+    let answer = Interpreter { program, turns }.block(&mut state, 0)?;
+    state.end(alloc, answer.unwrap_or(Ending::Done))
+}
+
+/// A program, and how many turns each loop has that is entered.
+#[derive(Clone, Copy)]
+struct Interpreter<'a> {
+    program: &'a Program,
+    turns: u32,
+}
+
+impl Interpreter<'_> {
+    // Runs a block: `None` where it came to its end, else the ending of the whole run.
+    #[cycle(interpreter)]
+    fn block(&self, state: &mut State<'_>, block: BlockId) -> Result<Option<Ending>, AllocError>
+        requires { Fits self.now.program.now state.old }
+        ensures { IfOk result (λ answer. LeadsTo (run (tree_of self.now.program.now.blocks block) self.now.turns) (goes_on answer) state.old state.new) }
+    {
+        let Some(statements) = self.program.block(block) else {
+            return Ok(None);
+        };
+        for statement in statements {
+            if let Some(ending) = self.statement(state, statement)? {
+                return Ok(Some(ending));
+            }
+        }
+        Ok(None)
+    }
+
+    // Runs a statement, with the blocks inside it.
+    #[cycle(interpreter)]
+    fn statement(
+        &self,
+        state: &mut State<'_>,
+        statement: &Stmt,
+    ) -> Result<Option<Ending>, AllocError>
+        requires fits { Fits self.now.program.now state.old }
+        requires variables { IsTrue (names_variables_below self.now.program.now.vars (statement_of statement.now)) }
+        requires ports { IsTrue (names_ports_below self.now.program.now.ins self.now.program.now.outs (statement_of statement.now)) }
+        ensures { IfOk result (λ answer. LeadsTo (run (tree_over (tree_of self.now.program.now.blocks) (statement_of statement.now ∷ [])) self.now.turns) (goes_on answer) state.old state.new) }
+    {
+        match statement {
+            Stmt::Assign(variable, expr) => match state.value(expr) {
+                Ok(value) => {
+                    state.assign(*variable, value);
+                    Ok(None)
+                }
+                Err(fault) => Ok(Some(Ending::Faulted(fault))),
+            },
+            Stmt::Read(port, variable) => match state.next_item(*port) {
+                Some(item) => {
+                    state.assign(*variable, item);
+                    state.say(Said::Got(*port, item))?;
+                    Ok(None)
+                }
+                None => Ok(Some(Ending::Starved(*port))),
+            },
+            Stmt::Write(port, expr) => match state.value(expr) {
+                Ok(value) => {
+                    state.say(Said::Put(*port, value))?;
+                    Ok(None)
+                }
+                Err(fault) => Ok(Some(Ending::Faulted(fault))),
+            },
+            Stmt::If(test, first, second) => match state.test(test) {
+                Ok(true) => self.block(state, *first),
+                Ok(false) => self.block(state, *second),
+                Err(fault) => Ok(Some(Ending::Faulted(fault))),
+            },
+            Stmt::While(test, body) => self.repeat(state, test, *body),
+        }
+    }
+
+    // Runs a loop that is entered now.
+    #[cycle(interpreter)]
+    fn repeat(
+        &self,
+        state: &mut State<'_>,
+        test: &Expr,
+        body: BlockId,
+    ) -> Result<Option<Ending>, AllocError>
+        requires fits { Fits self.now.program.now state.old }
+        requires variables { IsTrue (names_below self.now.program.now.vars (term_of test.now)) }
+        ensures { IfOk result (λ answer. LeadsTo (turns self.now.turns (term_of test.now) (run (tree_of self.now.program.now.blocks body) self.now.turns)) (goes_on answer) state.old state.new) }
+    {
+        for _turn in 0..self.turns {
+            match state.test(test) {
+                Ok(true) => {}
+                Ok(false) => return Ok(None),
+                Err(fault) => return Ok(Some(Ending::Faulted(fault))),
+            }
+            if let Some(ending) = self.block(state, body)? {
+                return Ok(Some(ending));
+            }
+        }
+        match state.test(test) {
+            Ok(true) => Ok(Some(Ending::Cut)),
+            Ok(false) => Ok(None),
+            Err(fault) => Ok(Some(Ending::Faulted(fault))),
+        }
+    }
+}
+
+/// Where a run stands: the place of the next item in each list, the variables and the talk so far.
+#[derive(Drop)]
+struct State<'a> {
+    lists: &'a [Sequence<i64>],
+    places: Vec<usize>,
+    variables: Vec<i64>,
+    talk: Vec<Said>,
+}
+
+impl<'a> Model for State<'a> {
+    ghost use Rattle.std.specs.Prelude.{◌≡◌, length};
+    ghost use Rattle.kpn_lang.specs.Plain.{Standing, remaining};
+
+    ghost Value = { Standing };
+
+    ghost view = { λ s. record { variables = s.variables.items; lists = remaining s.lists.now s.places.items; talk = s.talk.items } };
+
+    ghost invariant = { λ s. length s.places.items ≡ length s.lists.now };
+}
+
+impl<'a> State<'a> {
+    // The parameters, then zeros, and nothing read or said.
+    fn start(
+        alloc: Global,
+        program: &Program,
+        pars: &[i64],
+        lists: &'a [Sequence<i64>],
+    ) -> Result<Self, AllocError>
+        requires { length pars.now ≤ program.now.vars }
+        ensures { IfOk result (λ state. state ≡ record { variables = start_of program.now pars.now; lists = lists.now; talk = [] }) }
+    {
+        let mut variables = pars.to_vec(alloc)?;
+        variables.resize(program.vars(), 0)?;
+        Ok(State {
+            lists,
+            places: vec![in alloc; 0; lists.len()]?,
+            variables,
+            talk: Vec::new(alloc),
+        })
+    }
+
+    fn value(&self, expr: &Expr) -> Result<i64, Fault>
+        requires { IsTrue (names_below (length self.now.variables) (term_of expr.now)) }
+        ensures { result ≡ value (term_of expr.now) self.now.variables }
+    {
+        eval(expr, &self.variables)
+    }
+
+    // Whether a test holds.
+    fn test(&self, expr: &Expr) -> Result<bool, Fault>
+        requires { IsTrue (names_below (length self.now.variables) (term_of expr.now)) }
+        ensures { result ≡ holds (value (term_of expr.now) self.now.variables) }
+    {
+        Ok(self.value(expr)? != 0)
+    }
+
+    fn assign(&mut self, variable: usize, value: i64)
+        requires { variable < length self.old.variables }
+        ensures { self.new ≡ record self.old { variables = slice_set self.old.variables variable value } }
+    {
+        self.variables[variable] = value;
+    }
+
+    fn say(&mut self, said: Said) -> Result<(), AllocError>
+        ensures { IfOk result (λ _. self.new ≡ record self.old { talk = self.old.talk ++ said ∷ [] }) }
+    {
+        self.talk.push(said)?;
+        Ok(())
+    }
+
+    // The next item of the list of a port, if there is one, which is then read.
+    fn next_item(&mut self, port: usize) -> Option<i64>
+        requires { port < length self.old.lists }
+        ensures first { result ≡ slice_get (list_at self.old.lists port) 0 }
+        ensures rest { self.new ≡ record self.old { lists = slice_set self.old.lists port (drop 1 (list_at self.old.lists port)) } }
+    {
+        let place = self.places[port];
+        let item = item_at(self.lists, port, place)?;
+        self.places[port] = place + 1;
+        Some(item)
+    }
+
+    // The run that ends here.
+    fn end(self, alloc: Global, ending: Ending) -> Result<Run, AllocError>
+        ensures { IfOk result (λ run. run ≡ record { ending = ending; variables = self.entry.variables; rest = self.entry.lists; talk = self.entry.talk }) }
+    {
+        let rest = rest_of(alloc, self.lists, &self.places)?;
+        Ok(Run {
+            ending,
+            variables: Sequence::from_vec(self.variables),
+            rest,
+            talk: Sequence::from_vec(self.talk),
+        })
+    }
+}
+
+// The item at a place of a list.
+fn item_at(lists: &[Sequence<i64>], port: usize, place: usize) -> Option<i64>
+    requires { port < length lists.now }
+    ensures item { result ≡ slice_get (list_at lists.now port) place }
+    ensures room { OnSome result (place + 1 < 2 ^ 64) }
+{
+    let items = lists[port].as_slice();
+    if place < items.len() {
+        Some(items[place])
+    } else {
+        None
+    }
+}
+
+// The items of a list from a place on.
+fn left_of(alloc: Global, items: &[i64], place: usize) -> Result<Sequence<i64>, AllocError>
+    ensures { IfOk result (λ left. left ≡ drop place items.now) }
+{
+    let place = place.min(items.len());
+    Ok(Sequence::from_vec(items[place..].to_vec(alloc)?))
+}
+
+// What remains of each list.
+fn rest_of(
+    alloc: Global,
+    lists: &[Sequence<i64>],
+    places: &[usize],
+) -> Result<Sequence<Sequence<i64>>, AllocError>
+    requires { length places.now ≡ length lists.now }
+    ensures { IfOk result (λ rest. rest ≡ remaining lists.now places.now) }
+{
+    let mut rest = Vec::new(alloc);
+    for (port, list) in lists.iter().enumerate() {
+        rest.push(left_of(alloc, list.as_slice(), places[port])?)?;
+    }
+    Ok(Sequence::from_vec(rest))
+}
+
+#[cfg(test)]
+mod tests {
+    use super::*;
+    use crate::syntax::Op;
+    use std::process::Abort;
+    use std::test::Fail;
+
+    // The run with 3 turns of a program of these blocks, which has an in port, an out port and a variable.
+    fn ran(
+        rt: &impl Abort,
+        alloc: Global,
+        blocks: Vec<Vec<Stmt>>,
+        items: &[i64],
+    ) -> Result<Run, Fail> {
+        let program = Program::new(1, 1, 0, 1, blocks)?;
+        assert!(rt; program.pars() == 0);
+        assert!(rt; program.ins() == 1);
+        let lists = vec![in alloc; Sequence::from_vec(items.to_vec(alloc)?)]?;
+        Ok(run_alone(alloc, &program, &[], &lists, 3)?)
+    }
+
+    #[test]
+    fn copies_until_it_starves(rt: HostRuntime) -> Result<(), Fail> {
+        let alloc = rt.alloc();
+        let body = vec![in alloc; Stmt::While(Expr::Num(1), 1)]?;
+        let copy = vec![in alloc; Stmt::Read(0, 0), Stmt::Write(0, Expr::Var(0))]?;
+        let run = ran(&rt, alloc, vec![in alloc; body, copy]?, &[5])?;
+        assert_eq!(rt; run.ending(), Ending::Starved(0));
+        assert_eq!(rt; run.talk(), [Said::Got(0, 5), Said::Put(0, 5)].as_slice());
+        assert_eq!(rt; run.variables(), [5].as_slice());
+        Ok(())
+    }
+
+    #[test]
+    fn an_empty_body_is_done(rt: HostRuntime) -> Result<(), Fail> {
+        let alloc = rt.alloc();
+        let run = ran(&rt, alloc, vec![in alloc; Vec::new(alloc)]?, &[5, 6])?;
+        assert_eq!(rt; run.ending(), Ending::Done);
+        assert_eq!(rt; run.talk().len(), 0);
+        assert_eq!(rt; run.rest().len(), 1);
+        assert_eq!(rt; run.rest()[0].as_slice(), [5, 6].as_slice());
+        Ok(())
+    }
+
+    #[test]
+    fn a_fault_ends_the_run_after_its_talk(rt: HostRuntime) -> Result<(), Fail> {
+        let alloc = rt.alloc();
+        let quotient = Expr::Bin(
+            Op::Div,
+            Box::new(alloc, Expr::Num(1))?,
+            Box::new(alloc, Expr::Var(0))?,
+        );
+        let body = vec![in alloc; Stmt::Write(0, Expr::Num(7)), Stmt::Write(0, quotient)]?;
+        let run = ran(&rt, alloc, vec![in alloc; body]?, &[])?;
+        assert_eq!(rt; run.ending(), Ending::Faulted(Fault::ZeroDivisor));
+        assert_eq!(rt; run.talk(), [Said::Put(0, 7)].as_slice());
+        Ok(())
+    }
+
+    // The loop `while (v < turns) v = v + 1`, which has 3 turns: it is cut only where it would go on.
+    #[test]
+    fn a_loop_is_cut_where_it_would_go_on(rt: HostRuntime) -> Result<(), Fail> {
+        let alloc = rt.alloc();
+        for (turns, ending) in [(0, Ending::Done), (3, Ending::Done), (4, Ending::Cut)] {
+            let test = Expr::Bin(
+                Op::Lt,
+                Box::new(alloc, Expr::Var(0))?,
+                Box::new(alloc, Expr::Num(turns))?,
+            );
+            let next = Expr::Bin(
+                Op::Add,
+                Box::new(alloc, Expr::Var(0))?,
+                Box::new(alloc, Expr::Num(1))?,
+            );
+            let body = vec![in alloc; Stmt::While(test, 1)]?;
+            let count = vec![in alloc; Stmt::Assign(0, next)]?;
+            let run = ran(&rt, alloc, vec![in alloc; body, count]?, &[])?;
+            assert_eq!(rt; run.ending(), ending, "at {turns}");
+        }
+        Ok(())
+    }
+}

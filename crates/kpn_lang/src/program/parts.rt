@@ -1,0 +1,308 @@
+// The parts of a program before they are known to keep the rules of the language, with a test for
+// each rule.
+ghost use Rattle.std.specs.Prelude.{◌≡◌, ◌<◌, length, nat_le, sum_by, false};
+ghost use Rattle.std.specs.List.{list_all, flat_map};
+ghost use Rattle.kpn_lang.specs.Syntax.{term_of, statement_of, names_below};
+ghost use Rattle.kpn_lang.specs.Parts.{is_too_large, lacks_a_block, is_in_order, names_variables_below, names_ports_below, nests_too_deep, first_fault, nodes, statement_nodes, left_of, depth, expressions, each_statement, names_from, inner_blocks, order_to, counted, is_within};
+ghost use Rattle.kpn_lang.specs.View.{parts_of, statements_of, blocks_of};
+
+use crate::program::ProgramFault;
+use crate::syntax::{BlockId, Expr, Stmt};
+
+const MOST_VARIABLES: usize = 64;
+const MOST_PORTS: usize = 16;
+const MOST_NODES: usize = 4096;
+const MOST_LEVELS: usize = 32;
+
+/// How many in ports, out ports, parameters and variables, and the blocks of statements.
+#[derive(Debug, Drop)]
+pub struct Parts {
+    pub ins: usize,
+    pub outs: usize,
+    pub pars: usize,
+    pub vars: usize,
+    pub blocks: Vec<Vec<Stmt>>,
+}
+
+impl Parts {
+    /// The first rule that the parts break, in the order of the faults' numbers.
+    pub fn first_fault(&self) -> Option<ProgramFault>
+        ensures { result ≡ first_fault (parts_of self.now) }
+    {
+        if self.is_too_large() {
+            Some(ProgramFault::TooMany)
+        } else if self.lacks_a_block() {
+            Some(ProgramFault::NoSuchBlock)
+        } else if !self.is_in_order() {
+            Some(ProgramFault::BlockOrder)
+        } else if !self.names_its_variables() {
+            Some(ProgramFault::NoSuchVar)
+        } else if !self.names_its_ports() {
+            Some(ProgramFault::NoSuchPort)
+        } else if self.nests_too_deep() {
+            Some(ProgramFault::TooDeep)
+        } else {
+            None
+        }
+    }
+
+    /// 1: a limit is passed.
+    fn is_too_large(&self) -> bool
+        ensures { result ≡ is_too_large (parts_of self.now) }
+    {
+        self.vars > MOST_VARIABLES
+            || self.ins > MOST_PORTS
+            || self.outs > MOST_PORTS
+            || blocks_left(&self.blocks, MOST_NODES).is_none()
+    }
+
+    /// 2: there is no body, or a block is named that is not there.
+    fn lacks_a_block(&self) -> bool
+        ensures { result ≡ lacks_a_block (parts_of self.now) }
+    {
+        let count = self.blocks.len();
+        count < 1
+            || self
+                .blocks
+                .iter()
+                .flatten()
+                .any(|stmt| names_from(count, stmt))
+    }
+
+    /// 3 is kept: the blocks are numbered in the order of their opening braces, each used once.
+    fn is_in_order(&self) -> bool
+        requires { lacks_a_block (parts_of self.now) ≡ false }
+        ensures { result ≡ is_in_order (parts_of self.now) }
+    {
+        let count = self.blocks.len();
+        match self.count_block(count, 0, 0) {
+            Some(end) => end == count,
+            None => false,
+        }
+    }
+
+    /// 4 is kept: each variable that is named is there.
+    fn names_its_variables(&self) -> bool
+        ensures { result ≡ each_statement (names_variables_below self.now.vars) (parts_of self.now).blocks }
+    {
+        self.blocks
+            .iter()
+            .flatten()
+            .all(|stmt| names_variables_below(self.vars, stmt))
+    }
+
+    /// 5 is kept: each port that is named is there.
+    fn names_its_ports(&self) -> bool
+        ensures { result ≡ each_statement (names_ports_below self.now.ins self.now.outs) (parts_of self.now).blocks }
+    {
+        self.blocks
+            .iter()
+            .flatten()
+            .all(|stmt| names_ports_below(self.ins, self.outs, stmt))
+    }
+
+    /// 6: blocks or an expression nest deeper than 32 levels.
+    fn nests_too_deep(&self) -> bool
+        requires { lacks_a_block (parts_of self.now) ≡ false }
+        ensures { result ≡ nests_too_deep (parts_of self.now) }
+    {
+        !self.is_within(MOST_LEVELS, 0)
+            || !self
+                .blocks
+                .iter()
+                .flatten()
+                .all(|stmt| is_shallow(MOST_LEVELS, stmt))
+    }
+
+    /// The number after those of a block and of the blocks inside it, where they count up from `next`
+    /// in the order of their opening braces, down to a number of levels.
+    #[cycle(count)]
+    fn count_block(&self, levels: usize, block: BlockId, next: usize) -> Option<usize>
+        requires there { lacks_a_block (parts_of self.now) ≡ false }
+        requires block_in { block < length (parts_of self.now).blocks }
+        ensures { result ≡ counted (order_to (parts_of self.now).blocks levels block) next }
+    {
+        if block != next {
+            return None;
+        }
+        let mut end = next + 1;
+        if levels > 0 {
+            for stmt in &self.blocks[block] {
+                end = self.count_inner(levels - 1, stmt, end)?;
+            }
+        }
+        Some(end)
+    }
+
+    /// The same for the blocks inside a statement.
+    #[cycle(count)]
+    fn count_inner(&self, levels: usize, stmt: &Stmt, next: usize) -> Option<usize>
+        requires there { lacks_a_block (parts_of self.now) ≡ false }
+        requires inner_in { names_from (length (parts_of self.now).blocks) (statement_of stmt.now) ≡ false }
+        ensures { result ≡ counted (flat_map (order_to (parts_of self.now).blocks levels) (inner_blocks (statement_of stmt.now))) next }
+    {
+        match stmt {
+            Stmt::If(_, first, second) => {
+                let between = self.count_block(levels, *first, next)?;
+                self.count_block(levels, *second, between)
+            }
+            Stmt::While(_, body) => self.count_block(levels, *body, next),
+            _ => Some(next),
+        }
+    }
+
+    /// Whether a block and the blocks inside it go down at most a number of levels.
+    #[cycle(within)]
+    fn is_within(&self, levels: usize, block: BlockId) -> bool
+        requires there { lacks_a_block (parts_of self.now) ≡ false }
+        requires block_in { block < length (parts_of self.now).blocks }
+        ensures { result ≡ is_within (parts_of self.now).blocks levels block }
+    {
+        if levels == 0 {
+            return false;
+        }
+        for stmt in &self.blocks[block] {
+            if !self.is_inner_within(levels - 1, stmt) {
+                return false;
+            }
+        }
+        true
+    }
+
+    /// Whether the blocks inside a statement do.
+    #[cycle(within)]
+    fn is_inner_within(&self, levels: usize, stmt: &Stmt) -> bool
+        requires there { lacks_a_block (parts_of self.now) ≡ false }
+        requires inner_in { names_from (length (parts_of self.now).blocks) (statement_of stmt.now) ≡ false }
+        ensures { result ≡ list_all (is_within (parts_of self.now).blocks levels) (inner_blocks (statement_of stmt.now)) }
+    {
+        match stmt {
+            Stmt::If(_, first, second) => {
+                self.is_within(levels, *first) && self.is_within(levels, *second)
+            }
+            Stmt::While(_, body) => self.is_within(levels, *body),
+            _ => true,
+        }
+    }
+}
+
+#[tactic(auto, using(crate::proofs::Rules::some_node))]
+/// What is left of a budget after the nodes of an expression; `None` where it has more.
+fn nodes_left(expr: &Expr, budget: usize) -> Option<usize>
+    ensures { result ≡ left_of budget (nodes (term_of expr.now)) }
+{
+    let left = budget.checked_sub(1)?;
+    match expr {
+        Expr::Num(_) | Expr::Var(_) => Some(left),
+        Expr::Neg(operand) | Expr::Not(operand) => nodes_left(operand, left),
+        Expr::Bin(_, first, second) => nodes_left(second, nodes_left(first, left)?),
+    }
+}
+
+/// The same for a statement.
+fn statement_left(stmt: &Stmt, budget: usize) -> Option<usize>
+    ensures { result ≡ left_of budget (statement_nodes (statement_of stmt.now)) }
+{
+    let left = budget.checked_sub(1)?;
+    match stmt {
+        Stmt::Read(_, _) => Some(left),
+        Stmt::Assign(_, expr) | Stmt::Write(_, expr) | Stmt::If(expr, _, _) | Stmt::While(expr, _) => {
+            nodes_left(expr, left)
+        }
+    }
+}
+
+/// The same for a block.
+fn block_left(block: &[Stmt], budget: usize) -> Option<usize>
+    ensures { result ≡ left_of budget (sum_by statement_nodes (statements_of block.now)) }
+{
+    let mut left = budget;
+    for stmt in block {
+        left = statement_left(stmt, left)?;
+    }
+    Some(left)
+}
+
+/// The same for blocks.
+fn blocks_left(blocks: &[Vec<Stmt>], budget: usize) -> Option<usize>
+    ensures { result ≡ left_of budget (sum_by (sum_by statement_nodes) (blocks_of blocks.now)) }
+{
+    let mut left = budget;
+    for block in blocks {
+        left = block_left(block, left)?;
+    }
+    Some(left)
+}
+
+/// Whether a statement names a block of this number or above.
+fn names_from(count: usize, stmt: &Stmt) -> bool
+    ensures { result ≡ names_from count (statement_of stmt.now) }
+{
+    match stmt {
+        Stmt::If(_, first, second) => count <= *first || count <= *second,
+        Stmt::While(_, body) => count <= *body,
+        _ => false,
+    }
+}
+
+fn names_below(count: usize, expr: &Expr) -> bool
+    ensures { result ≡ names_below count (term_of expr.now) }
+{
+    match expr {
+        Expr::Num(_) => true,
+        Expr::Var(variable) => *variable < count,
+        Expr::Neg(operand) | Expr::Not(operand) => names_below(count, operand),
+        Expr::Bin(_, left, right) => names_below(count, left) && names_below(count, right),
+    }
+}
+
+fn names_variables_below(count: usize, stmt: &Stmt) -> bool
+    ensures { result ≡ names_variables_below count (statement_of stmt.now) }
+{
+    match stmt {
+        Stmt::Assign(variable, expr) => *variable < count && names_below(count, expr),
+        Stmt::Read(_, variable) => *variable < count,
+        Stmt::Write(_, expr) | Stmt::If(expr, _, _) | Stmt::While(expr, _) => {
+            names_below(count, expr)
+        }
+    }
+}
+
+fn names_ports_below(ins: usize, outs: usize, stmt: &Stmt) -> bool
+    ensures { result ≡ names_ports_below ins outs (statement_of stmt.now) }
+{
+    match stmt {
+        Stmt::Read(port, _) => *port < ins,
+        Stmt::Write(port, _) => *port < outs,
+        _ => true,
+    }
+}
+
+#[tactic(auto, using(crate::proofs::Rules::no_depth_at_zero))]
+/// Whether an expression goes down at most a number of levels.
+fn is_depth_within(levels: usize, expr: &Expr) -> bool
+    ensures { result ≡ nat_le (depth (term_of expr.now)) levels }
+{
+    if levels == 0 {
+        return false;
+    }
+    match expr {
+        Expr::Num(_) | Expr::Var(_) => true,
+        Expr::Neg(operand) | Expr::Not(operand) => is_depth_within(levels - 1, operand),
+        Expr::Bin(_, left, right) => {
+            is_depth_within(levels - 1, left) && is_depth_within(levels - 1, right)
+        }
+    }
+}
+
+/// Whether the expressions of a statement do.
+fn is_shallow(levels: usize, stmt: &Stmt) -> bool
+    ensures { result ≡ list_all (λ e. nat_le (depth e) levels) (expressions (statement_of stmt.now)) }
+{
+    match stmt {
+        Stmt::Read(_, _) => true,
+        Stmt::Assign(_, expr) | Stmt::Write(_, expr) | Stmt::If(expr, _, _) | Stmt::While(expr, _) => {
+            is_depth_within(levels, expr)
+        }
+    }
+}

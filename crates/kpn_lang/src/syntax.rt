@@ -1,0 +1,52 @@
+// The syntax of processes: expressions as trees, statements that name blocks by number.
+
+/// An operator of two operands.
+#[derive(Clone, Copy, Debug, PartialEq, Eq)]
+pub enum Op {
+    Add,
+    Sub,
+    Mul,
+    Div,
+    Rem,
+    Lt,
+    Le,
+    Gt,
+    Ge,
+    Eq,
+    Ne,
+    And,
+    Or,
+}
+
+/// An expression over the variables of a process, which it names by number.
+#[derive(Debug, Drop)]
+pub enum Expr {
+    /// A whole number.
+    Num(i64),
+    /// The value of a variable.
+    Var(usize),
+    /// The number with its sign turned.
+    Neg(Box<Expr>),
+    /// 1 where the operand is 0, else 0.
+    Not(Box<Expr>),
+    /// An operator between its left and its right side.
+    Bin(Op, Box<Expr>, Box<Expr>),
+}
+
+/// The number of a block of statements in its program. Block 0 is the body of the process.
+pub type BlockId = usize;
+
+/// A statement. A block inside it is named by its number.
+#[derive(Debug, Drop)]
+pub enum Stmt {
+    /// Sets a variable to the value of an expression.
+    Assign(usize, Expr),
+    /// Reads an item at an in port into a variable: `Read(port, variable)`.
+    Read(usize, usize),
+    /// Writes the value of an expression to an out port.
+    Write(usize, Expr),
+    /// The first block where the expression is not 0, else the second.
+    If(Expr, BlockId, BlockId),
+    /// The block again and again, as long as the expression is not 0.
+    While(Expr, BlockId),
+}

@@ -1,0 +1,67 @@
+// The value of an expression.
+ghost use Rattle.std.specs.Prelude.{◌≡◌, length, IsTrue};
+ghost use Rattle.kpn_lang.specs.Syntax.{term_of, names_below};
+ghost use Rattle.kpn_lang.specs.Value.{value, result_of, truth_of};
+
+use crate::syntax::{Expr, Op};
+
+/// Why an expression has no value.
+#[derive(Clone, Copy, Debug, PartialEq, Eq)]
+pub enum Fault {
+    /// The exact value is below -2^63 or above 2^63 - 1.
+    Overflow,
+    /// A division or a remainder by 0.
+    ZeroDivisor,
+}
+
+fn truth(holds: bool) -> i64
+    ensures { result ≡ truth_of holds }
+{
+    if holds { 1 } else { 0 }
+}
+
+fn apply(op: Op, left: i64, right: i64) -> Result<i64, Fault>
+    ensures { result ≡ result_of op left right }
+{
+    match op {
+        Op::Add => left.checked_add(right).ok_or(Fault::Overflow),
+        Op::Sub => left.checked_sub(right).ok_or(Fault::Overflow),
+        Op::Mul => left.checked_mul(right).ok_or(Fault::Overflow),
+        Op::Div if right == 0 => Err(Fault::ZeroDivisor),
+        Op::Div => left.checked_div(right).ok_or(Fault::Overflow),
+        Op::Rem if right == 0 => Err(Fault::ZeroDivisor),
+        Op::Rem => left.checked_rem(right).ok_or(Fault::Overflow),
+        Op::Lt => Ok(truth(left < right)),
+        Op::Le => Ok(truth(left <= right)),
+        Op::Gt => Ok(truth(left > right)),
+        Op::Ge => Ok(truth(left >= right)),
+        Op::Eq => Ok(truth(left == right)),
+        Op::Ne => Ok(truth(left != right)),
+        Op::And => Ok(truth(left != 0 && right != 0)),
+        Op::Or => Ok(truth(left != 0 || right != 0)),
+    }
+}
+
+/// The value of an expression where the variables have these values. The left side comes first, and
+/// the first fault is the fault; `&&` and `||` leave out a right side that cannot matter.
+pub fn eval(expr: &Expr, variables: &[i64]) -> Result<i64, Fault>
+    requires { IsTrue (names_below (length variables.now) (term_of expr.now)) }
+    ensures { result ≡ value (term_of expr.now) variables.now }
+{
+    match expr {
+        Expr::Num(number) => Ok(*number),
+        Expr::Var(variable) => Ok(variables[*variable]),
+        Expr::Neg(operand) => eval(operand, variables)?
+            .checked_neg()
+            .ok_or(Fault::Overflow),
+        Expr::Not(operand) => Ok(truth(eval(operand, variables)? == 0)),
+        Expr::Bin(op, left, right) => {
+            let left = eval(left, variables)?;
+            match op {
+                Op::And if left == 0 => Ok(0),
+                Op::Or if left != 0 => Ok(1),
+                _ => apply(*op, left, eval(right, variables)?),
+            }
+        }
+    }
+}

@@ -1,0 +1,14 @@
+pub mod Blocks
+pub mod Sameness
+pub mod Turns
+pub mod Places
+pub mod Remains
+pub mod Stands
+pub mod Walked
+pub mod Levels
+pub mod Starts
+pub mod Leaving
+pub mod MayTurn
+pub mod Taking
+pub mod Same
+pub mod Along

@@ -1,0 +1,46 @@
+-- Codes of stops and of what an advance holds.
+use Rattle.std.specs.Prelude.{◌≡◌, ℕ, zero, suc, ℤ, pos, refl}
+use Rattle.std.specs.Coded.{Coded, code_by, coded_ℕ, coded_ℤ, coded×}
+use Rattle.kpn_lang.specs.declared.value.Fault.TheVariants.{Overflow, ZeroDivisor}
+use Rattle.kpn_lang.specs.Parts.{Parts}
+use Rattle.kpn_lang.specs.Codes.{parts_code}
+use Rattle.kpn_step.specs.declared.stop.Stop.{Stop}
+use Rattle.kpn_step.specs.declared.stop.Stop.TheVariants.{WantRead, WantWrite, Done, Faulted, Paused}
+use Rattle.kpn_step.specs.Frame.{Frame, frame_code}
+use Rattle.kpn_step.specs.Stops.{Advanced}
+
+-- a stop is stored as its kind, a port and an item
+abbrev kind_of : Stop → ℕ × (ℕ × ℤ)
+kind_of (WantRead port) = (0, (port, pos 0))
+kind_of (WantWrite port v) = (1, (port, v))
+kind_of Done = (2, (0, pos 0))
+kind_of (Faulted Overflow) = (3, (0, pos 0))
+kind_of (Faulted ZeroDivisor) = (4, (0, pos 0))
+kind_of Paused = (5, (0, pos 0))
+
+abbrev of_kind : ℕ → ℕ → ℤ → Stop
+of_kind zero port v = WantRead port
+of_kind (suc zero) port v = WantWrite port v
+of_kind (suc (suc zero)) port v = Done
+of_kind (suc (suc (suc zero))) port v = Faulted Overflow
+of_kind (suc (suc (suc (suc zero)))) port v = Faulted ZeroDivisor
+of_kind (suc (suc (suc (suc (suc kind))))) port v = Paused
+
+pub of_kind-kind_of : (s : Stop) → of_kind (kind_of s).0 (kind_of s).1.0 (kind_of s).1.1 ≡ s
+of_kind-kind_of (WantRead port) = refl
+of_kind-kind_of (WantWrite port v) = refl
+of_kind-kind_of Done = refl
+of_kind-kind_of (Faulted Overflow) = refl
+of_kind-kind_of (Faulted ZeroDivisor) = refl
+of_kind-kind_of Paused = refl
+
+abbrev pub stop_code : Coded Stop
+stop_code = code_by (ℕ × (ℕ × ℤ)) (coded× coded_ℕ (coded× coded_ℕ coded_ℤ)) kind_of (λ t. of_kind t.0 t.1.0 t.1.1) of_kind-kind_of
+
+abbrev pub advanced_code : Coded Advanced
+advanced_code =
+    code_by (Parts × (Frame × (Frame × (ℕ × Stop))))
+    (coded× parts_code (coded× frame_code (coded× frame_code (coded× coded_ℕ stop_code))))
+    (λ a. (a.program, (a.from, (a.to, (a.steps, a.stop)))))
+    (λ t. record { program = t.0; from = t.1.0; to = t.1.1.0; steps = t.1.1.1.0; stop = t.1.1.1.1 })
+    (λ _. refl)

@@ -1,0 +1,89 @@
+// What an advance of a process holds: it names its own input, so that it can be judged later.
+ghost use Rattle.std.specs.Prelude.{◌≡◌};
+ghost use Rattle.kpn_step.specs.Stops.{IsAdvance};
+
+use crate::frame::Frame;
+use crate::stop::Stop;
+use kpn_lang::Program;
+use std::marker::Model;
+
+/// Steps that a process made: its program, the frames before and after, how many steps lie between,
+/// and the stop at which they ended.
+#[derive(Debug, Drop)]
+pub struct Advance<'p> {
+    program: &'p Program,
+    from: Frame,
+    to: Frame,
+    steps: u32,
+    stop: Stop,
+}
+
+impl<'p> Model for Advance<'p> {
+    ghost use Rattle.kpn_step.specs.Stops.{Advanced, IsAdvance};
+    ghost use Rattle.kpn_step.specs.Codes.{advanced_code};
+
+    ghost Value = { Advanced };
+
+    ghost coded = { advanced_code };
+
+    ghost view = { λ a. record { program = a.program.now; from = a.from; to = a.to; steps = a.steps; stop = a.stop } };
+
+    ghost invariant = { λ a. IsAdvance (record { program = a.program.now; from = a.from; to = a.to; steps = a.steps; stop = a.stop }) };
+}
+
+impl<'p> Advance<'p> {
+    pub(crate) fn new(program: &'p Program, from: Frame, to: Frame, steps: u32, stop: Stop) -> Self
+        requires { IsAdvance (record { program = program.now; from = from; to = to; steps = steps; stop = stop }) }
+        ensures { result ≡ record { program = program.now; from = from; to = to; steps = steps; stop = stop } }
+    {
+        Advance {
+            program,
+            from,
+            to,
+            steps,
+            stop,
+        }
+    }
+
+    /// The program that was handed in.
+    pub fn program(&self) -> &'p Program
+        ensures { result.now ≡ self.now.program }
+    {
+        self.program
+    }
+
+    /// The frame that was handed in.
+    pub fn from(&self) -> &Frame
+        ensures { result.now ≡ self.now.from }
+    {
+        &self.from
+    }
+
+    /// The frame after the steps.
+    pub fn to(&self) -> &Frame
+        ensures { result.now ≡ self.now.to }
+    {
+        &self.to
+    }
+
+    /// How many steps were made.
+    pub fn steps(&self) -> u32
+        ensures { result ≡ self.now.steps }
+    {
+        self.steps
+    }
+
+    /// Why they ended: what stands at the frame after them.
+    pub fn stop(&self) -> Stop
+        ensures { result ≡ self.now.stop }
+    {
+        self.stop
+    }
+
+    /// Nothing: it tells a caller's proof what the steps are.
+    pub fn known(&self)
+        ensures { IsAdvance self.now }
+    {
+        let _ = &self.steps;
+    }
+}

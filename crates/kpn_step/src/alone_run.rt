@@ -1,0 +1,10 @@
+// What a process does that is stepped alone on whole lists.
+use crate::stop::AloneStop;
+use kpn_lang::{Said, Sequence};
+
+/// What the process said, in order, and how it ended.
+#[derive(Debug, Drop)]
+pub struct AloneRun {
+    pub talk: Sequence<Said>,
+    pub stop: AloneStop,
+}

@@ -1,0 +1,113 @@
+// A process stepped alone on whole lists, without any other.
+ghost use Rattle.std.specs.Prelude.{◌≡◌, ◌+◌, ◌<◌, ◌≤◌, ◌^◌, length, slice_get, IsTrue, IfSome, IfOk, MatchResult};
+ghost use Rattle.arrayvec.specs.ArrayVec.{array_vec_len};
+ghost use Rattle.kpn_step.specs.Frame.{fits};
+ghost use Rattle.kpn_step.specs.Stops.{StandsAt};
+ghost use Rattle.kpn_step.specs.Walk.{AloneGives, Speaks};
+ghost use Rattle.kpn_step.specs.Taken.{remaining, Takes, EndsAs};
+
+use crate::alone_run::AloneRun;
+use crate::element::set_element;
+use crate::frame::Frame;
+use crate::stop::{AloneStop, Stop};
+use crate::walk::walk;
+use arrayvec::ArrayVec;
+use kpn_lang::{Program, Said, Sequence};
+use std::alloc::{AllocError, Global};
+
+/// Steps a program from its start, on a list for each in port, until it ends or has made `quota` steps.
+/// There are as many values as parameters. It wants memory for the talk alone.
+pub fn alone(
+    alloc: Global,
+    program: &Program,
+    pars: &[i64],
+    lists: &[Sequence<i64>],
+    quota: u64,
+) -> Result<AloneRun, AllocError>
+    requires pars { length pars.now ≡ program.now.pars }
+    requires lists { length lists.now ≡ program.now.ins }
+    ensures { IfOk result (λ r. AloneGives program.now pars.now lists.now quota r.talk r.stop) }
+{
+    program.known();
+    let mut frame = Frame::start(program, pars);
+    let mut taken = none_taken(lists);
+    let mut talk = Sequence::new(alloc);
+    let mut left = quota;
+    'says: loop {
+        let (steps, stop) = walk(program, &mut frame, left);
+        left -= steps;
+        match say(program, &mut frame, lists, &mut taken, stop) {
+            Ok(said) => talk.push(said)?,
+            Err(stop) => return Ok(AloneRun { talk, stop }),
+        }
+    }
+}
+
+/// What the frame says where it stopped, and goes past; or how the process ended there.
+fn say(
+    program: &Program,
+    frame: &mut Frame,
+    lists: &[Sequence<i64>],
+    taken: &mut ArrayVec<usize, 16>,
+    stop: Stop,
+) -> Result<Said, AloneStop>
+    requires lists { length lists.now ≡ program.now.ins }
+    requires taken { array_vec_len taken.old ≡ length lists.now }
+    requires fits { IsTrue (fits program.now frame.old) }
+    requires stands { StandsAt program.now.blocks frame.old stop }
+    ensures says { MatchResult result
+        (λ said. Speaks program.now.blocks frame.old (remaining taken.old.items lists.now) said
+        frame.new (remaining taken.new.items lists.now))
+        (λ ended. EndsAs stop (remaining taken.old.items lists.now) ended) }
+    ensures taken { array_vec_len taken.new ≡ array_vec_len taken.old }
+{
+    program.known();
+    match stop {
+        Stop::WantRead(port) => match next_item(lists, taken, port) {
+            Some(item) => {
+                frame.pass_read(program, item);
+                Ok(Said::Got(port, item))
+            }
+            None => Err(AloneStop::Starved(port)),
+        },
+        Stop::WantWrite(port, item) => {
+            frame.pass_write(program);
+            Ok(Said::Put(port, item))
+        }
+        Stop::Done => Err(AloneStop::Done),
+        Stop::Faulted(fault) => Err(AloneStop::Faulted(fault)),
+        Stop::Paused => Err(AloneStop::Paused),
+    }
+}
+
+/// The first item that was not yet taken at a port, which it takes.
+fn next_item(lists: &[Sequence<i64>], taken: &mut ArrayVec<usize, 16>, port: usize) -> Option<i64>
+    requires port { port < length lists.now }
+    requires taken { array_vec_len taken.old ≡ length lists.now }
+    ensures takes { Takes port (remaining taken.old.items lists.now) result (remaining taken.new.items lists.now) }
+    ensures taken { array_vec_len taken.new ≡ array_vec_len taken.old }
+{
+    let place = taken[port];
+    let item = item_at(&lists[port], place)?;
+    set_element(taken, port, place + 1);
+    Some(item)
+}
+
+fn item_at(list: &Sequence<i64>, place: usize) -> Option<i64>
+    ensures item { result ≡ slice_get list.now place }
+    ensures room { IfSome result (λ _. place + 1 < 2 ^ 64) }
+{
+    list.as_slice().get(place).copied()
+}
+
+fn none_taken(lists: &[Sequence<i64>]) -> ArrayVec<usize, 16>
+    requires { length lists.now ≤ 16 }
+    ensures remaining { remaining result.items lists.now ≡ lists.now }
+    ensures len { array_vec_len result ≡ length lists.now }
+{
+    let mut taken = ArrayVec::new();
+    for _ in lists {
+        taken.push(0);
+    }
+    taken
+}

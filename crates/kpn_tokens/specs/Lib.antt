@@ -1,0 +1,5 @@
+-- The definitions that contracts cite: how tokens are spelled, what a scan gives, the rules of the format, and the laws.
+pub mod Laws
+pub mod Lexing
+pub mod Rules
+pub mod Spelling

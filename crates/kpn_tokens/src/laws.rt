@@ -1,0 +1,61 @@
+//! The laws of the tokens. Each is a function without code: its contract is the law, and the proof of the function is
+//! the proof of the law.
+
+ghost use Rattle.kpn_tokens.specs.Laws.{
+  DecimalIsSpelled,
+  EmptyTextHasNoTokens,
+  ReadTokensAreSpelled,
+  ScanFollowsTheRules,
+  ShortTextIsScanned,
+  SpelledTokenIsRead,
+  TokensKeepTheirKind,
+  WhiteSpaceIsDropped,
+  WhiteSpaceParts,
+  WhiteSpacePartsTokens,
+};
+
+/// A scan of a text gives what the rules of the format say, and they say no more than one thing.
+pub fn scan_follows_the_rules()
+    ensures { ScanFollowsTheRules }
+{}
+
+/// A text within the limit is scanned from its first byte.
+pub fn short_text_is_scanned()
+    ensures { ShortTextIsScanned }
+{}
+
+/// A text that white space parts is read as its parts are, one after the other.
+pub fn white_space_parts()
+    ensures lexemes { WhiteSpaceParts }
+    ensures tokens { WhiteSpacePartsTokens }
+{}
+
+/// Where a text begins changes the places of its tokens and nothing else.
+pub fn tokens_keep_their_kind()
+    ensures { TokensKeepTheirKind }
+{}
+
+/// A text of no bytes has no tokens.
+pub fn empty_text_has_no_tokens()
+    ensures { EmptyTextHasNoTokens }
+{}
+
+/// A spelled token that what follows does not go on with is read as that token.
+pub fn spelled_token_is_read()
+    ensures { SpelledTokenIsRead }
+{}
+
+/// White space is no token.
+pub fn white_space_is_dropped()
+    ensures { WhiteSpaceIsDropped }
+{}
+
+/// A number in canonical decimal is spelled.
+pub fn decimal_is_spelled()
+    ensures { DecimalIsSpelled }
+{}
+
+/// A token that was read has a spelling.
+pub fn read_tokens_are_spelled()
+    ensures { ReadTokensAreSpelled }
+{}

@@ -1,0 +1,112 @@
+//! What the definition of lexing is held against: the format's own lists of marks and reserved
+//! words, and worked texts, each with its tokens or its first fault.
+
+use super::*;
+use std::alloc::Global;
+use std::fmt::Write;
+use std::test::Fail;
+
+// The lexemes in words: `start name a`, `start number 1`, `start LessOrEqual`, `start Process`, each with a `;`.
+fn described(alloc: Global, lexemes: &[Lexeme<'_>]) -> Result<String, Fail> {
+    let mut words = String::new(alloc);
+    for lexeme in lexemes {
+        let start = lexeme.start;
+        match &lexeme.token {
+            Token::Name(name) => {
+                let text = str::from_utf8(name.bytes())?;
+                write!(words, "{start} name {text};")?;
+            }
+            Token::Number(number) => {
+                let value = number.value();
+                write!(words, "{start} number {value};")?;
+            }
+            Token::Mark(mark) => write!(words, "{start} {mark:?};")?,
+            Token::Keyword(keyword) => write!(words, "{start} {keyword:?};")?,
+        }
+    }
+    Ok(words)
+}
+
+#[test]
+fn cuts_texts_into_tokens(rt: HostRuntime) -> Result<(), Fail> {
+    let rows: [(&[u8], &str); 13] = [
+        (b"", ""),
+        (b" \t\r\n", ""),
+        (b"a", "0 name a;"),
+        (b"# \0 & \xc8 |", ""),
+        (b"a#\xc8&\n;", "0 name a;5 Semicolon;"),
+        (
+            b"( ) { } ; , = + - * / % < <= > >= == != && || !",
+            "0 LeftParen;2 RightParen;4 LeftBrace;6 RightBrace;8 Semicolon;10 Comma;12 Assign;14 Plus;16 Minus;18 Star;20 Slash;22 Percent;24 Less;26 LessOrEqual;29 Greater;31 GreaterOrEqual;34 Equal;37 NotEqual;40 And;43 Or;46 Not;",
+        ),
+        (
+            b"process in out par read write if else while network limit channel cap source sink policy grow",
+            "0 Process;8 In;11 Out;15 Par;19 Read;24 Write;30 If;33 Else;38 While;44 Network;52 Limit;58 Channel;66 Cap;70 Source;77 Sink;82 Policy;89 Grow;",
+        ),
+        (
+            b"<=<<==>>=!!====&&&&",
+            "0 LessOrEqual;2 Less;3 LessOrEqual;5 Assign;6 Greater;7 GreaterOrEqual;9 Not;10 NotEqual;12 Equal;14 Assign;15 And;17 And;",
+        ),
+        (b"12abc", "0 number 12;2 name abc;"),
+        (b"a12 _ _9", "0 name a12;4 name _;6 name _9;"),
+        (b"Process processes", "0 name Process;8 name processes;"),
+        (
+            b"0 007 9223372036854775807 0000000000000000007",
+            "0 number 0;2 number 7;6 number 9223372036854775807;26 number 7;",
+        ),
+        (
+            b"z23456789012345678901234567890_2",
+            "0 name z23456789012345678901234567890_2;",
+        ),
+    ];
+    for (text, wanted) in rows {
+        let found = lexemes(rt.alloc(), text)?;
+        let words = described(rt.alloc(), &found)?;
+        assert_eq!(rt; words.as_str(), wanted);
+    }
+    Ok(())
+}
+
+#[test]
+fn tells_the_first_fault(rt: HostRuntime) {
+    let rows: [(&[u8], LexFault); 12] = [
+        (b"network { & }", LexFault::Token(10)),
+        (
+            b"network { source aaaaaaaaaaaaaaaaaaaaaaaaaaaaaaaaa; }",
+            LexFault::TooLong(17),
+        ),
+        (b"a | b", LexFault::Token(2)),
+        (b"a &| b", LexFault::Token(2)),
+        (b"x = 9223372036854775808;", LexFault::Token(4)),
+        (b"00000000000000000001", LexFault::Token(0)),
+        (b"a 12345678901234567890b", LexFault::Token(2)),
+        (b"in\0out", LexFault::Token(2)),
+        (b"# \xc8\n \xc8", LexFault::Token(5)),
+        (b"a.b", LexFault::Token(1)),
+        (b"99999999999999999999 \x80", LexFault::Token(0)),
+        (
+            b"\x80 aaaaaaaaaaaaaaaaaaaaaaaaaaaaaaaaa",
+            LexFault::Token(0),
+        ),
+    ];
+    for (text, wanted) in rows {
+        assert_eq!(rt; lexemes(rt.alloc(), text).err(), Some(wanted));
+    }
+}
+
+#[test]
+fn takes_a_mebibyte_and_no_more(rt: HostRuntime) -> Result<(), Fail> {
+    let mut comment = vec![in rt.alloc(); b'#'; MAX_TEXT_BYTES]?;
+    assert_eq!(rt; lexemes(rt.alloc(), &comment)?.len(), 0);
+    comment.push(b'#')?;
+    assert_eq!(rt;
+        lexemes(rt.alloc(), &comment).err(),
+        Some(LexFault::TooLong(MAX_TEXT_BYTES))
+    );
+    let digits = vec![in rt.alloc(); b'7'; MAX_TEXT_BYTES]?;
+    assert_eq!(rt;
+        lexemes(rt.alloc(), &digits).err(),
+        Some(LexFault::Token(0))
+    );
+    Ok(())
+}

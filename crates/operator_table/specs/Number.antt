@@ -1,0 +1,10 @@
+-- What an operand of the table is.
+use Rattle.kpn_lang.specs.Syntax.{Term, Num, Var, Neg, Not, Bin}
+
+-- a number, and no name
+abbrev pub IsNumber : Term → Type 0
+IsNumber (Num z) = Unit {0}
+IsNumber (Var x) = ⊥
+IsNumber (Neg e) = ⊥
+IsNumber (Not e) = ⊥
+IsNumber (Bin op a b) = ⊥
