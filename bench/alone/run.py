@@ -58,7 +58,9 @@ def main():
         measured = programs(folder)
         for count in counts:
             source = folder / 'items'
-            source.write_text(''.join(f'{item}\n' for item in items(count)))
+            # written as a stream, since a child's peak memory counts what its parent held when it was started
+            with source.open('w') as lines:
+                lines.writelines(f'{item}\n' for item in items(count))
             print(f'{count} items')
             digests = set()
             own = None

@@ -103,7 +103,7 @@ gets process vs items v g rest budget port variable left steps stands few at_por
       steps = steps;
       stands = rw (to, at_variable) stands;
       left = rw (remains, at_port) refl;
-      enough = omega arith
+      enough = omega arith;
     }
 
 -- an item is put: it stands past the write

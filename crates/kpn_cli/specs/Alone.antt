@@ -38,7 +38,7 @@ IsRefusalOfInput came_in NoMemory = Unit {0}
 -- what `kpn alone NAME` does with an input and an output, given as they were and as they are after it, and the
 -- status that it answers
 pub record RunsAlone {I O : Type 0} (remaining : I → Option (List ℕ)) (contents : O → Option (List ℕ)) (name : List ℕ)
-  (input read : I) (out written : O) (status : ℕ) : Type 0 where
+    (input read : I) (out written : O) (status : ℕ) : Type 0 where
   -- under 0 an answer went out
   pub answered : status ≡ 0 → (text : List ℕ) × IsAnswer name (remaining input) text × Appends (contents out) (contents written) text
   -- under 2, and only there, no process has the name; the input was not read

@@ -13,7 +13,12 @@ const OUT: usize = 0;
 
 /// The items put on the one out port, each on a line of its own, and then `fault NAME CAUSE` where
 /// the process faulted.
-pub fn text_of(alloc: Global, name: &str, talk: &[Said], stop: AloneStop) -> Result<Vec<u8>, AllocError>
+pub fn text_of(
+    alloc: Global,
+    name: &str,
+    talk: &[Said],
+    stop: AloneStop,
+) -> Result<Vec<u8>, AllocError>
     ensures { IfOk result (λ text. text.items ≡ alone_text name.now talk.now stop) }
 {
     let mut text = Vec::new(alloc);

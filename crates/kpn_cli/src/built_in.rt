@@ -18,7 +18,9 @@ pub enum BuiltIn {
 
 // The one port on either side, and the variables in order of first target.
 const PORT: usize = 0;
+
 const X: usize = 0;
+
 const T: usize = 1;
 
 impl BuiltIn {

@@ -10,6 +10,5 @@ pub mod fault_line;
 pub mod laws;
 pub mod refusal;
 pub mod shelf;
-
 #[cfg(test)]
 mod tests;

@@ -57,11 +57,29 @@ fn run<R: Read>(alloc: Global, line: &str, input: &mut R) -> Result<Answer, Allo
 fn answers_rows(rt: HostRuntime) -> Result<(), Fail> {
     let rows = [
         ("kpn alone sum", "1\n2\n3\n", 0, "1\n3\n6\n", ""),
-        ("kpn alone double", "4\n9223372036854775807\n", 0, "8\nfault double overflow\n", ""),
-        ("kpn alone copy", "-0\n007\r\n-9223372036854775808", 0, "0\n7\n-9223372036854775808\n", ""),
+        (
+            "kpn alone double",
+            "4\n9223372036854775807\n",
+            0,
+            "8\nfault double overflow\n",
+            "",
+        ),
+        (
+            "kpn alone copy",
+            "-0\n007\r\n-9223372036854775808",
+            0,
+            "0\n7\n-9223372036854775808\n",
+            "",
+        ),
         ("kpn alone copy", "", 0, "", ""),
         ("kpn alone copy", "1\nx\n", 1, "", "kpn: 25 BadItem at 2\n"),
-        ("kpn alone product", "x\n", 2, "", "kpn: usage: copy, double or sum\n"),
+        (
+            "kpn alone product",
+            "x\n",
+            2,
+            "",
+            "kpn: usage: copy, double or sum\n",
+        ),
         ("kpn --version", "", 0, "kpn 0.1.0\n", ""),
     ];
     for (line, input, status, out, err) in rows {
@@ -75,7 +93,13 @@ fn answers_rows(rt: HostRuntime) -> Result<(), Fail> {
 
 #[test]
 fn tells_usage_and_help(rt: HostRuntime) -> Result<(), Fail> {
-    for line in ["kpn", "kpn alone", "kpn run two.kpn", "kpn alone sum 3", "kpn --flag"] {
+    for line in [
+        "kpn",
+        "kpn alone",
+        "kpn run two.kpn",
+        "kpn alone sum 3",
+        "kpn --flag",
+    ] {
         let answer = run(rt.alloc(), line, &mut Broken)?;
         assert_eq!(rt; answer.status, 2, "{line}");
         assert!(rt; answer.out.is_empty() && !answer.err.is_empty(), "{line}");
@@ -91,7 +115,11 @@ fn tells_usage_and_help(rt: HostRuntime) -> Result<(), Fail> {
 #[test]
 fn tells_devices_that_fail(rt: HostRuntime) -> Result<(), Fail> {
     let unread = run(rt.alloc(), "kpn alone product", &mut Broken)?;
-    assert_eq!(rt; unread.status, 2, "the name is looked at before the input is read");
+    assert_eq!(rt;
+        unread.status,
+        2,
+        "the name is looked at before the input is read"
+    );
     let answer = run(rt.alloc(), "kpn alone sum", &mut Broken)?;
     assert_eq!(rt; answer.status, 1);
     assert_eq!(rt; answer.out.len(), 0);
@@ -99,7 +127,14 @@ fn tells_devices_that_fail(rt: HostRuntime) -> Result<(), Fail> {
     for line in ["kpn alone sum", "kpn --help"] {
         let words = words_of(rt.alloc(), line)?;
         let mut err = Vec::new(rt.alloc());
-        let status = command(rt.alloc(), &words, &mut MemoryShelf::new(rt.alloc()), &mut b"1\n".as_slice(), &mut Broken, &mut err);
+        let status = command(
+            rt.alloc(),
+            &words,
+            &mut MemoryShelf::new(rt.alloc()),
+            &mut b"1\n".as_slice(),
+            &mut Broken,
+            &mut err,
+        );
         assert_eq!(rt; status, 1, "{line}");
         assert_eq!(rt; err.as_slice(), b"kpn: 27 Write\n".as_slice(), "{line}");
     }

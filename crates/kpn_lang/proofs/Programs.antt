@@ -177,8 +177,8 @@ module _ (blocks : List (List Statement)) where
         here = here;
         rises = omega arith;
         nested = λ x low high. elim (cases_lt next x) [
-          inl k ↦ w.nested x (omega arith) high
-        | inr k ↦ let same : b ≡ x = omega arith in subst IsNested same (each_weaker (λ c. next + 1 ≤ c) (λ c. b < c) (λ c k. omega arith) (children blocks b) w.above)
+          | inl k ↦ w.nested x (omega arith) high
+          | inr k ↦ let same : b ≡ x = omega arith in subst IsNested same (each_weaker (λ c. next + 1 ≤ c) (λ c. b < c) (λ c k. omega arith) (children blocks b) w.above)
         ];
       }
 

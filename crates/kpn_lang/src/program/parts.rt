@@ -10,8 +10,11 @@ use crate::program::ProgramFault;
 use crate::syntax::{BlockId, Expr, Stmt};
 
 const MOST_VARIABLES: usize = 64;
+
 const MOST_PORTS: usize = 16;
+
 const MOST_NODES: usize = 4096;
+
 const MOST_LEVELS: usize = 32;
 
 /// How many in ports, out ports, parameters and variables, and the blocks of statements.
@@ -206,9 +209,10 @@ fn statement_left(stmt: &Stmt, budget: usize) -> Option<usize>
     let left = budget.checked_sub(1)?;
     match stmt {
         Stmt::Read(_, _) => Some(left),
-        Stmt::Assign(_, expr) | Stmt::Write(_, expr) | Stmt::If(expr, _, _) | Stmt::While(expr, _) => {
-            nodes_left(expr, left)
-        }
+        Stmt::Assign(_, expr)
+        | Stmt::Write(_, expr)
+        | Stmt::If(expr, _, _)
+        | Stmt::While(expr, _) => { nodes_left(expr, left) }
     }
 }
 
@@ -301,8 +305,9 @@ fn is_shallow(levels: usize, stmt: &Stmt) -> bool
 {
     match stmt {
         Stmt::Read(_, _) => true,
-        Stmt::Assign(_, expr) | Stmt::Write(_, expr) | Stmt::If(expr, _, _) | Stmt::While(expr, _) => {
-            is_depth_within(levels, expr)
-        }
+        Stmt::Assign(_, expr)
+        | Stmt::Write(_, expr)
+        | Stmt::If(expr, _, _)
+        | Stmt::While(expr, _) => { is_depth_within(levels, expr) }
     }
 }

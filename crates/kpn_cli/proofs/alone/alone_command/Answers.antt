@@ -16,14 +16,14 @@ module _ {I O : Type 0} (remaining : I → Option (List ℕ)) (contents : O → 
     unknown = (λ e. absurd (omega arith), λ u. absurd (known u));
     unread = λ e. absurd (omega arith);
     silent = λ _. inl refl;
-    statuses = rw one refl
+    statuses = rw one refl;
   }
   RunsAlone-known status (inr six) known = record {
     answered = λ e. absurd (omega arith);
     unknown = (λ e. absurd (omega arith), λ u. absurd (known u));
     unread = λ e. absurd (omega arith);
     silent = λ _. inl refl;
-    statuses = rw six refl
+    statuses = rw six refl;
   }
 
   RunsAlone-refused : (came_in : Option (List ℕ)) (refusal : Refusal) → (refusal ≡ UnknownProcess) ↔ IsUnknown name → (refusal ≡ UnknownProcess → read ≡ input) → IsRefusalOfInput came_in refusal → RunsAlone remaining contents name input read out out (status_of refusal)
@@ -33,7 +33,7 @@ module _ {I O : Type 0} (remaining : I → Option (List ℕ)) (contents : O → 
     unknown = (λ _. unknown.0 refl, λ _. refl);
     unread = λ _. unread refl;
     silent = λ _. inl refl;
-    statuses = refl
+    statuses = refl;
   }
   RunsAlone-refused came_in (Input Read) unknown unread h = RunsAlone-known 1 (inl refl) (λ u. let e = unknown.1 u in cc)
   RunsAlone-refused came_in (Input (BadItem line)) unknown unread h = RunsAlone-known 1 (inl refl) (λ u. let e = unknown.1 u in cc)
