@@ -15,7 +15,7 @@ use Rattle.kpn_step.specs.declared.stop.AloneStop.TheVariants.{Done, Faulted, St
 use Rattle.kpn_cli.specs.declared.built_in.BuiltIn.{BuiltIn}
 use Rattle.kpn_cli.specs.declared.built_in.BuiltIn.TheVariants.{Copy, Double, Sum}
 use Rattle.kpn_cli.specs.BuiltIn.{program_of}
-use Rattle.kpn_cli.specs.Plain.{either, values, stop_of}
+use Rattle.kpn_cli.specs.Plain.{either, values, stop_of, TalksPlainly}
 use Rattle.kpn_cli.specs.Laws.{PutsPlainly}
 
 -- the end of a run that a stop stands for
@@ -98,10 +98,10 @@ stop_at Paused (Starved q) e = absurd (cc)
 stop_at Paused Paused e = refl
 
 -- what a process that comes to an end has said and comes to
-came_to : (process : BuiltIn) (items : List ℤ) (stop : AloneStop) (talk : List Said) → ComesTo (alone (program_of process) []) (items ∷ []) (ending_of stop) talk → (put_at talk 0 ≡ values process (pos 0) items) × (stop ≡ stop_of process (pos 0) items)
+came_to : (process : BuiltIn) (items : List ℤ) (stop : AloneStop) (talk : List Said) → ComesTo (alone (program_of process) []) (items ∷ []) (ending_of stop) talk → TalksPlainly process items talk stop
 came_to process items stop talk came =
     let plain = plain_run process came.turns items (alone (program_of process) [] came.turns (items ∷ [])) refl (λ cut. came.whole (sym came.ended ∙ cut)) in
-    (ap (λ t. put_at t 0) (sym came.said) ∙ plain.put, stop_at stop (stop_of process (pos 0) items) (sym came.ended ∙ plain.stop))
+    record { put = ap (λ t. put_at t 0) (sym came.said) ∙ plain.put; stopped = stop_at stop (stop_of process (pos 0) items) (sym came.ended ∙ plain.stop) }
 
 pub puts_plainly : PutsPlainly
 puts_plainly process items quota talk Done gives unpaused = came_to process items Done talk gives.outcome

@@ -10,6 +10,7 @@ use Rattle.kpn_cli.specs.declared.refusal.Refusal.{Refusal}
 use Rattle.kpn_cli.specs.declared.refusal.Refusal.TheVariants.{NotText, UnknownProcess, Input, Output, NoMemory}
 use Rattle.kpn_cli.specs.BuiltIn.{name_of, program_of}
 use Rattle.kpn_cli.specs.AloneText.{alone_text}
+use Rattle.kpn_cli.specs.Plain.{plain_text}
 
 -- no process has this name
 abbrev pub IsUnknown : List ℕ → Type 0
@@ -26,6 +27,8 @@ pub record IsAnswer (name : List ℕ) (came_in : Option (List ℕ)) (text : List
   pub stop : AloneStop
   pub ran : AloneGives (program_of process) [] (items ∷ []) (2 ^ 64 - 1) talk stop
   pub made : text ≡ alone_text name talk stop
+  -- which is plainly this
+  pub plain : text ≡ plain_text process items
 
 -- a refusal that comes before anything is written: a line that it names is the first that spells no item
 abbrev pub IsRefusalOfInput : Option (List ℕ) → Refusal → Type 0

@@ -1,6 +1,7 @@
 -- Fault lines: how the program tells a fault on standard error, without the line feed after it.
 use Rattle.std.specs.Prelude.{ℕ, List, [], ◌++◌, Option, Some, None, codes}
 use Rattle.std.specs.Fmt.{decimal}
+use Rattle.kpn_cli.specs.declared.fault_line.FaultLine.{FaultLine}
 use Rattle.kpn_items.specs.declared.fault.ItemFault.{ItemFault}
 use Rattle.kpn_items.specs.declared.fault.ItemFault.TheVariants as item
 use Rattle.kpn_items.specs.declared.fault.WriteFault.{WriteFault}
@@ -14,6 +15,10 @@ place_text (Some place) = codes " at " ++ decimal place
 -- `kpn: NUMBER NAME`, and ` at PLACE` where the fault has a place
 abbrev pub fault_line : (number : ℕ) (name : List ℕ) (place : Option ℕ) → List ℕ
 fault_line number name place = codes "kpn: " ++ decimal number ++ codes " " ++ name ++ place_text place
+
+-- what the program tells of a fault
+abbrev pub told : FaultLine → List ℕ
+told fault = fault_line fault.number fault.name.now fault.place
 
 -- a fault of an input
 abbrev pub input_fault_line : ItemFault → List ℕ

@@ -1,6 +1,7 @@
 pub mod FaultLine
 pub mod Refusal
 pub mod Shelf
+pub mod MemoryShelf
 pub mod BuiltIn
 pub mod AloneText
 pub mod Alone

@@ -1,7 +1,9 @@
 -- What the built-in processes make of a list of items, said plainly.
-use Rattle.std.specs.Prelude.{ℕ, ℤ, pos, ◌+ℤ◌, ◌*ℤ◌, List, [], ◌∷◌, ◌++◌, Result, Ok, Err}
+use Rattle.std.specs.Prelude.{◌≡◌, ℕ, ℤ, pos, ◌+ℤ◌, ◌*ℤ◌, List, [], ◌∷◌, ◌++◌, Result, Ok, Err}
 use Rattle.kpn_lang.specs.declared.value.Fault.{Fault}
+use Rattle.kpn_lang.specs.declared.talk.Said.{Said}
 use Rattle.kpn_lang.specs.Value.{in_range}
+use Rattle.kpn_lang.specs.Alone.{put_at}
 use Rattle.kpn_step.specs.declared.stop.AloneStop.{AloneStop}
 use Rattle.kpn_step.specs.declared.stop.AloneStop.TheVariants.{Faulted, Starved}
 use Rattle.kpn_items.specs.ItemFile.{item_text}
@@ -34,3 +36,8 @@ stop_of process last (item ∷ items) = either (next_value process last item) (�
 -- copy: the items; double: twice each; sum: the sums of the items so far; each on a line of its own, and then the fault
 abbrev pub plain_text : BuiltIn → List ℤ → List ℕ
 plain_text process items = item_text (values process (pos 0) items) ++ fault_text (name_of process) (stop_of process (pos 0) items)
+
+-- a talk and a stop that are plainly those
+pub record TalksPlainly (process : BuiltIn) (items : List ℤ) (talk : List Said) (stop : AloneStop) : Type 0 where
+  pub put : put_at talk 0 ≡ values process (pos 0) items
+  pub stopped : stop ≡ stop_of process (pos 0) items

@@ -1,8 +1,6 @@
--- What a shelf in memory holds.
-use Rattle.std.specs.Prelude.{ℕ, List, Option, option_map}
-use Rattle.std.specs.BTreeMap.{get_by_text}
-use Rattle.kpn_cli.specs.declared.shelf.memory.MemoryShelf.{MemoryShelf}
+-- What a shelf may give, before and after something is stored.
+use Rattle.std.specs.Prelude.{◌≢◌, ℕ, List}
 
--- the bytes that it holds under a name
-abbrev pub held : MemoryShelf → List ℕ → Option (List ℕ)
-held shelf name = option_map (λ bytes. bytes.items) (get_by_text shelf.files name)
+-- under each other name it gives nothing but what it might have given before
+abbrev pub KeepsOthers : (before after : List ℕ → List ℕ → Type 0) (name : List ℕ) → Type 0
+KeepsOthers before after name = (other bytes : List ℕ) → other ≢ name → after other bytes → before other bytes

@@ -1,21 +1,22 @@
 // `kpn alone NAME`: the items of an input go to a process alone, and what it puts goes out.
-ghost use Rattle.std.specs.Prelude.{◌≡◌, ◌≢◌, ◌↔◌, ◌-◌, ◌^◌, [], ◌∷◌, Err, IfOk, IfErr, OnOk, IsErrOf};
+ghost use Rattle.std.specs.Prelude.{◌≡◌, ◌≢◌, ◌↔◌, ◌-◌, ◌^◌, ◌≤◌, [], ◌∷◌, vec_len, IfOk, IfErr, OnOk, IsErrOf};
 ghost use Rattle.std.specs.Io.KnownBytes.{Appends};
 ghost use Rattle.kpn_step.specs.Walk.{AloneGives};
 ghost use Rattle.kpn_cli.specs.BuiltIn.{program_of};
+ghost use Rattle.kpn_cli.specs.Plain.{TalksPlainly};
 ghost use Rattle.kpn_cli.specs.Alone.{IsAnswer, IsRefusalOfInput, IsUnknown, RunsAlone};
 
 use crate::alone_text::text_of;
 use crate::built_in::BuiltIn;
 use crate::refusal::Refusal;
-use kpn_items::{WriteFault, read_items};
+use kpn_items::{READ_LIMIT, WriteFault, read_items};
 use kpn_lang::Sequence;
 use kpn_step::{AloneRun, alone};
 use std::alloc::{AllocError, Global};
 use std::io::{Read, Write};
 
-/// The command `kpn alone NAME` over an input, an output and a place for faults. It answers the status
-/// that the program ends with.
+/// The command `kpn alone NAME` over an input, an output and a place for faults. It answers the
+/// status that the program ends with.
 pub fn alone_command<I: Read, O: Write, E: Write>(
     alloc: Global,
     name: &str,
@@ -45,14 +46,16 @@ fn answer<I: Read>(alloc: Global, name: &str, input: &mut I) -> Result<Vec<u8>, 
     let process = BuiltIn::named(name).ok_or(Refusal::UnknownProcess)?;
     let items = read_items(alloc, input).map_err(Refusal::Input)?;
     let run = run_on(alloc, process, items)?;
-    let text = text_of(alloc, name, run.talk.as_slice(), run.stop)?;
+    let text = text_of(alloc, process.name(), run.talk.as_slice(), run.stop)?;
     Ok(text)
 }
 
-// The run of a process on these items. No input of a permitted size, at most 2^28 items, pauses it:
-// it makes at most 3 steps an item and one more.
+// The run of a process on these items, of which so few never pause it.
 fn run_on(alloc: Global, process: BuiltIn, items: Vec<i64>) -> Result<AloneRun, AllocError>
-    ensures { IfOk result (λ run. AloneGives (program_of process) [] (items.items ∷ []) (2 ^ 64 - 1) run.talk run.stop) }
+    requires { vec_len items ≤ READ_LIMIT }
+    ensures alone { IfOk result (λ run.
+        AloneGives (program_of process) [] (items.items ∷ []) (2 ^ 64 - 1) run.talk run.stop) }
+    ensures plain { IfOk result (λ run. TalksPlainly process items.items run.talk run.stop) }
 {
     let program = process.program(alloc)?;
     let lists = [Sequence::from_vec(items)];

@@ -45,7 +45,8 @@ fn push_item(text: &mut Vec<u8>, item: i64) -> Result<(), AllocError>
 
 // The line that tells how a process faulted.
 fn push_fault(text: &mut Vec<u8>, name: &str, fault: Fault) -> Result<(), AllocError>
-    ensures { OnOk result (text.new.items ≡ text.old.items ++ fault_text name.now (AloneStop.Faulted fault)) }
+    ensures { OnOk result
+        (text.new.items ≡ text.old.items ++ fault_text name.now (AloneStop.Faulted fault)) }
 {
     text.extend_from_slice(b"fault ")?;
     text.extend_from_slice(name.as_bytes())?;

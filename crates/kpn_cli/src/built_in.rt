@@ -28,7 +28,8 @@ impl BuiltIn {
 
     /// The process of this name.
     pub fn named(name: &str) -> Option<BuiltIn>
-        ensures { MatchOption result ((process : _) → name_of process ≢ name.now) (λ process. name_of process ≡ name.now) }
+        ensures { MatchOption result ((process : _) → name_of process ≢ name.now)
+            (λ process. name_of process ≡ name.now) }
     {
         match name {
             "copy" => Some(BuiltIn::Copy),
@@ -49,17 +50,18 @@ impl BuiltIn {
         }
     }
 
-    /// Its program.
-    ///
-    /// One turn of the loop takes 2 steps in `copy` and `double` and 3 in `sum`: the test, what is
-    /// assigned, and the leaving of the finished block. So it makes at most 3 steps an item and one
-    /// test more.
+    /// Its program. A turn of its loop takes 2 steps, and 3 in `sum`: the test, what is assigned,
+    /// and the leaving of the finished block.
     pub fn program(self, alloc: Global) -> Result<Program, AllocError>
         ensures { IfOk result (λ program. program ≡ program_of self) }
     {
         let body = vec![in alloc; Stmt::While(Expr::Num(1), 1)]?;
         let blocks = vec![in alloc; body, self.turn(alloc)?]?;
-        Program::new(1, 1, 0, self.variables(), blocks).map_err(|_| AllocError)
+        match Program::new(1, 1, 0, self.variables(), blocks) {
+            Ok(program) => Ok(program),
+            // These parts keep each rule of the language.
+            Err(_) => unreachable!(),
+        }
     }
 
     // How many variables it has: `x`, and in `sum` the total `t`.

@@ -21,10 +21,10 @@ enum Request<'a> {
     Alone(&'a str),
 }
 
-/// The program over a shelf of files, an input, an output and a place for faults. The first of the words is
-/// the name that the program was called by. It answers the status that the program ends with: 0 for
-/// success and for help, 1 for a refused input or a device's fault, 2 for words that are not
-/// understood, 6 for want of memory.
+/// The program over a shelf of files, an input, an output and a place for faults. The first of the
+/// words is the name that the program was called by. It answers the status that the program ends
+/// with: 0 for success and for help, 1 for a refused input or a device's fault, 2 for words that are
+/// not understood, 6 for want of memory.
 pub fn command<S: Shelf, I: Read, O: Write, E: Write>(
     alloc: Global,
     words: &[String],
@@ -33,8 +33,10 @@ pub fn command<S: Shelf, I: Read, O: Write, E: Write>(
     out: &mut O,
     err: &mut E,
 ) -> u8
+    // What the words mean is shown by tests: either nothing is read, or it is `alone` of some name.
     ensures { (input.new ≡ input.old)
-        ⊎ ((name : List ℕ) × RunsAlone I.remaining O.contents name input.old input.new out.old out.new result) }
+        ⊎ ((name : List ℕ)
+        × RunsAlone I.remaining O.contents name input.old input.new out.old out.new result) }
 {
     match read_words(alloc, words) {
         Ok(Request::Alone(name)) => alone_command(alloc, name, input, out, err),

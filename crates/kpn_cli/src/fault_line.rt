@@ -1,6 +1,6 @@
 // Fault lines: how the program tells a fault on standard error.
 ghost use Rattle.std.specs.Prelude.{◌≡◌, None};
-ghost use Rattle.kpn_cli.specs.FaultLine.{fault_line, input_fault_line, output_fault_line};
+ghost use Rattle.kpn_cli.specs.FaultLine.{told, input_fault_line, output_fault_line};
 
 use kpn_items::{ItemFault, WriteFault};
 use std::fmt;
@@ -18,9 +18,9 @@ pub struct FaultLine {
 
 impl fmt::Display for FaultLine {
     ghost use Rattle.std.specs.Prelude.{Some};
-    ghost use Rattle.kpn_cli.specs.FaultLine.{fault_line};
+    ghost use Rattle.kpn_cli.specs.FaultLine.{told};
 
-    ghost output = { λ told. Some (fault_line told.number told.name.now told.place) };
+    ghost output = { λ fault. Some (told fault) };
 
     fn fmt<W: fmt::Write>(&self, f: &mut fmt::Formatter<W>) -> fmt::Result {
         write!(f, "kpn: {} {}", self.number, self.name)?;
@@ -45,7 +45,7 @@ impl FaultLine {
 
     /// How a fault of an input is told.
     pub fn of_input(fault: &ItemFault) -> FaultLine
-        ensures { fault_line result.number result.name.now result.place ≡ input_fault_line fault.now }
+        ensures { told result ≡ input_fault_line fault.now }
     {
         match fault {
             ItemFault::BadItem(line) => FaultLine {
@@ -60,7 +60,7 @@ impl FaultLine {
 
     /// How a fault of an output is told.
     pub fn of_output(fault: &WriteFault) -> FaultLine
-        ensures { fault_line result.number result.name.now result.place ≡ output_fault_line fault.now }
+        ensures { told result ≡ output_fault_line fault.now }
     {
         match fault {
             WriteFault::Write => FaultLine::new(27, "Write"),

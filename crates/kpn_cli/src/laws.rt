@@ -1,5 +1,5 @@
-// Laws of the built-in processes: facts on the definitions alone, each the contract of a function that
-// does nothing.
+// Laws of the built-in processes: facts on the definitions alone, each the contract of a function
+// that does nothing.
 ghost use Rattle.kpn_cli.specs.Laws.{IsNeverPaused, PutsPlainly};
 
 /// What a process puts on a list of items, and how it stops, is what its name says.

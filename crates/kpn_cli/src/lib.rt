@@ -1,5 +1,5 @@
-// The program `kpn`: its commands over a shelf of files, a reader and two writers. What it writes is
-// tied by contracts to what it read.
+// The program `kpn`: its commands over a shelf of files, a reader and two writers. What it writes
+// is tied by contracts to what it read.
 #![tactic(auto)]
 
 pub mod alone;

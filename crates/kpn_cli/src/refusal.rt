@@ -1,4 +1,5 @@
-// Refusals: why a command gives no answer, how that is told, and the status that the program ends with.
+// Refusals: why a command gives no answer, how that is told, and the status that the program then
+// ends with.
 ghost use Rattle.std.specs.Prelude.{◌≡◌, ◌++◌, [], ◌∷◌, OnOk};
 ghost use Rattle.std.specs.Io.KnownBytes.{Appends};
 
@@ -68,7 +69,8 @@ impl Refusal {
 
     /// Writes the one line that tells the refusal.
     pub fn tell<E: Write>(&self, err: &mut E) -> Result<(), WriteFault>
-        ensures { OnOk result (Appends (E.contents err.old) (E.contents err.new) (refusal_line self.now ++ 10 ∷ [])) }
+        ensures { OnOk result
+            (Appends (E.contents err.old) (E.contents err.new) (refusal_line self.now ++ 10 ∷ [])) }
     {
         writeln!(err, "{self}").map_err(|_| WriteFault::Write)
     }

@@ -1,6 +1,7 @@
 // Shelves: where the program finds and keeps files by name.
-ghost use Rattle.std.specs.Prelude.{◌≡◌, ◌≢◌, ◌≤◌, ℕ, List, IfOk, IfErr, OnOk, vec_len};
+ghost use Rattle.std.specs.Prelude.{◌≤◌, ℕ, List, IfOk, IfErr, OnOk, vec_len};
 ghost use Rattle.kpn_items.specs.Input.{NamesNoLine};
+ghost use Rattle.kpn_cli.specs.Shelf.{KeepsOthers};
 
 use kpn_items::{ItemFault, READ_LIMIT, WriteFault};
 use std::alloc::Global;
@@ -22,9 +23,9 @@ pub trait Shelf {
         ensures within { IfOk result (λ bytes. vec_len bytes ≤ READ_LIMIT) }
         ensures fault { IfErr result NamesNoLine };
 
-    /// Keeps bytes under a name, in place of what the name had. After a refusal what the name has is
-    /// not known; other names keep what they had.
+    /// Keeps bytes under a name, in place of what the name had. After a refusal it is not said what
+    /// the name has. Other names keep what they had.
     fn store(&mut self, name: &str, bytes: &[u8]) -> Result<(), WriteFault>
         ensures stored { OnOk result (may_give self.new name.now bytes.now) }
-        ensures others { (other held : List ℕ) → other ≢ name.now → may_give self.new other held → may_give self.old other held };
+        ensures others { KeepsOthers (may_give self.old) (may_give self.new) name.now };
 }

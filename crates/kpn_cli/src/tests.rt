@@ -1,12 +1,12 @@
 // The program on command lines, with readers and writers in memory and some that fail.
 use crate::command::command;
 use crate::refusal::Refusal;
-use crate::shelf::{MemoryShelf, Shelf};
+use crate::shelf::{FileShelf, MemoryShelf, Shelf};
 use kpn_items::{ItemFault, WriteFault};
 use std::alloc::{AllocError, Global};
-use std::io;
 use std::io::{ErrorKind, Read, Write};
 use std::test::Fail;
+use std::{env, fs, io, process};
 
 // What a command line answered and wrote.
 #[derive(Drop)]
@@ -151,6 +151,21 @@ fn tells_want_of_memory(rt: HostRuntime) {
         assert_eq!(rt; refusal.report(&mut err), 6);
         assert_eq!(rt; err.as_slice(), line.as_bytes());
     }
+}
+
+#[test]
+fn files_give_what_was_stored(rt: HostRuntime) -> Result<(), Fail> {
+    let folder = env::temp_dir(&rt)?;
+    let id = process::id(rt.process());
+    let name = format!(in rt.alloc(); "{}/kpn_shelf_{id}", folder.as_str())?;
+    let mut shelf = FileShelf::new(&rt);
+    assert_eq!(rt; shelf.load(rt.alloc(), &name).err(), Some(ItemFault::Read));
+    shelf.store(&name, b"1\n2\n")?;
+    let loaded = shelf.load(rt.alloc(), &name);
+    fs::remove_file(&rt, &name)?;
+    assert_eq!(rt; loaded?.as_slice(), b"1\n2\n".as_slice());
+    assert_eq!(rt; shelf.store("/", b"1\n"), Err(WriteFault::Write));
+    Ok(())
 }
 
 #[test]

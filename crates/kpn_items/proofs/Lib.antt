@@ -4,3 +4,4 @@ pub mod FileLemmas
 pub mod DigitLemmas
 pub mod ReaderLemmas
 pub mod LawLemmas
+pub mod CountLemmas

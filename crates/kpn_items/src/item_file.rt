@@ -1,5 +1,5 @@
 // A whole item file: its items read, from bytes at hand or from a reader, and written.
-ghost use Rattle.std.specs.Prelude.{◌≡◌, ◌≢◌, ◌==◌, ◌<◌, ◌∷◌, length, position, Err, IfOk, IfErr, OnOk, IfSome, IsErrAnd};
+ghost use Rattle.std.specs.Prelude.{◌≡◌, ◌≢◌, ◌==◌, ◌<◌, ◌∷◌, length, position, Err, IfOk, IfErr, OnOk, IfSome, IsErrAnd, ◌≤◌, vec_len};
 ghost use Rattle.std.specs.Str.Lines.{lines, strip_carriage_return};
 ghost use Rattle.std.specs.Io.KnownBytes.{Appends, IsAtEnd};
 ghost use Rattle.kpn_items.specs.ItemFile.{Spells, TellsFirstBadLine, item_text};
@@ -45,6 +45,9 @@ pub fn read_items<R: Read>(alloc: Global, reader: &mut R) -> Result<Vec<i64>, It
     // More of them than the limit are refused whatever they spell.
     ensures too_long { IfSome (R.remaining reader.old) (λ bytes.
         READ_LIMIT < length bytes → IsErrAnd result NamesNoLine) }
+
+    // There are no more items than bytes.
+    ensures few { IfOk result (λ items. vec_len items ≤ READ_LIMIT) }
 
     // Items and lines are told only once all was read, and no byte is lost but those read.
     ensures at_end { OnOk result (IsAtEnd (R.remaining reader.new)) }

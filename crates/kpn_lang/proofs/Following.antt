@@ -1,18 +1,14 @@
 -- How the parts of a run follow one another: a statement after the other, a turn after the other.
-use Rattle.std.proofs.Common.{◌≡◌, ℕ, zero, suc, ◌+◌, ◌-◌, ℤ, Bool, true, false, cond, not, Result, Ok, Err, Option, Some, None, List, [], ◌∷◌, ◌++◌, length, set, drop, refl, sym, ap, ◌∙◌, append_assoc, arith}
-use Rattle.std.proofs.lemmas.List.{append-nil, length-set, set-get_or}
-use Rattle.std.specs.Prelude.{slice_get}
+use Rattle.std.proofs.Common.{◌≡◌, ℕ, zero, suc, ℤ, Bool, true, false, cond, not, Result, Ok, Err, Some, None, List, [], ◌∷◌, refl, ap, ◌∙◌, arith}
 use Rattle.kpn_lang.specs.declared.value.Fault.{Fault}
-use Rattle.kpn_lang.specs.declared.talk.Said.{Said}
-use Rattle.kpn_lang.specs.declared.talk.Said.TheVariants.{Got, Put}
 use Rattle.kpn_lang.specs.declared.talk.Ending.{Ending}
-use Rattle.kpn_lang.specs.declared.talk.Ending.TheVariants.{Faulted, Starved, Cut}
+use Rattle.kpn_lang.specs.declared.talk.Ending.TheVariants.{Faulted, Cut}
 use Rattle.kpn_lang.specs.Syntax.{Term, Statement}
 use Rattle.kpn_lang.specs.Syntax as syntax
 use Rattle.kpn_lang.specs.Value.{value, is_zero}
-use Rattle.kpn_lang.specs.Tree.{Tree, End, tree_over}
-use Rattle.kpn_lang.specs.Run.{Ran, Next, Lists, list_at, ends, says, with_value, with_item, choose, turns, run}
-use Rattle.kpn_lang.specs.Plain.{Standing, said_before, run_from, goes_on, holds, LeadsTo}
+use Rattle.kpn_lang.specs.Tree.{Tree, tree_over}
+use Rattle.kpn_lang.specs.Run.{Ran, Next, Lists, ends, with_value, choose, turns, run}
+use Rattle.kpn_lang.specs.Plain.{Standing, said_before, goes_on, holds, LeadsTo}
 
 pub LeadsTo-refl : (part : Next → Next) (here : Standing) → LeadsTo part part here here
 LeadsTo-refl part here = record { runs = λ next. refl; variables = refl; lists = refl }
@@ -115,3 +111,13 @@ module _ (test : Term) (body : Next → Next) (here : Standing) where
         variables = refl;
         lists = refl;
       }
+
+  -- with no turns left
+  pub LeadsTo-cut : (left : ℕ) → left ≡ 0 → holds (value test here.variables) ≡ Ok true → LeadsTo (turns left test body) (goes_on (Some Cut)) here here
+  LeadsTo-cut zero none h =
+      record {
+        runs = λ next. ap (said_before here.talk) (test_ok (value test here.variables) true here.variables here.lists _ _ h);
+        variables = refl;
+        lists = refl;
+      }
+  LeadsTo-cut (suc left) none h = absurd (omega arith)

@@ -1,6 +1,6 @@
 -- With longer lists and more turns a run goes further, and with more turns alone one that was not cut stays the
 -- same: each law is kept by whatever puts runs together, so it is kept by the run of a tree.
-use Rattle.std.proofs.Common.{◌≡◌, ◌≢◌, ℕ, zero, suc, ◌≤◌, ℤ, cond, Bool, true, false, Result, Ok, Err, List, [], ◌∷◌, ◌++◌, set, refl, sym, ap, ◌∙◌, arith}
+use Rattle.std.proofs.Common.{◌≡◌, ◌≢◌, ℕ, zero, suc, ◌≤◌, ℤ, cond, Bool, true, false, Result, Ok, Err, List, [], ◌∷◌, ◌++◌, set, refl, ap, ◌∙◌, arith}
 use Rattle.kpn_lang.specs.declared.value.Fault.{Fault}
 use Rattle.kpn_lang.specs.declared.talk.Said.{Said}
 use Rattle.kpn_lang.specs.declared.talk.Said.TheVariants.{Got, Put}

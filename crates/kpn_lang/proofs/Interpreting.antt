@@ -1,21 +1,19 @@
 -- The steps of the plain program: why its calls go to greater block numbers, and what a block has done after one
 -- statement more and a loop after one turn more.
-use Rattle.std.proofs.Common.{◌≡◌, ℕ, zero, suc, ◌+◌, ◌-◌, ◌*◌, ◌<◌, max, Bool, true, false, ◌&&◌, ltb, Ok, Option, Some, None, List, [], ◌∷◌, length, get_or, map, drop, refl, sym, ap, ◌∙◌, arith, lt-ltb, ℤ, pos, ◌++◌, replicate, unwrap_or, length-append}
-use Rattle.std.proofs.lemmas.List.{drop_more, get_or-map, length-map, append-nil, length-replicate}
+use Rattle.std.proofs.Common.{◌≡◌, ℕ, suc, ◌+◌, ◌-◌, ◌*◌, ◌<◌, max, true, Ok, Some, None, List, [], ◌∷◌, length, get_or, drop, refl, sym, ap, ◌∙◌, arith, lt-ltb}
+use Rattle.std.proofs.lemmas.List.{drop_more, get_or-map, length-map}
 use Rattle.std.proofs.lemmas.Bool.{and_from}
 use Rattle.kpn_lang.specs.declared.syntax.Stmt.{Stmt}
 use Rattle.kpn_lang.specs.declared.talk.Ending.{Ending}
-use Rattle.kpn_lang.specs.declared.talk.Ending.TheVariants.{Done}
 use Rattle.kpn_lang.specs.Syntax.{Term, Statement, Assign, Read, Write, If, While, statement_of}
 use Rattle.kpn_lang.specs.Value.{value}
 use Rattle.kpn_lang.specs.Parts.{Parts, IsProgram, names_variables_below, names_ports_below}
 use Rattle.kpn_lang.specs.View.{statements_of}
 use Rattle.kpn_lang.specs.Tree.{Tree, block_at, tree_of, tree_over}
-use Rattle.kpn_lang.specs.Run.{Ran, Next, Lists, ends, run, turns}
-use Rattle.kpn_lang.specs.Alone.{start_of, alone}
-use Rattle.kpn_lang.specs.Plain.{Standing, said_before, goes_on, holds, LeadsTo, Fits}
+use Rattle.kpn_lang.specs.Run.{Next, run, turns}
+use Rattle.kpn_lang.specs.Plain.{Standing, goes_on, holds, LeadsTo, Fits}
 use Rattle.kpn_lang.proofs.Programs.{KeepsRules, rules_read, tree_of_block}
-use Rattle.kpn_lang.proofs.Following.{LeadsTo-refl, LeadsTo-trans, LeadsTo-next, LeadsTo-next_ends, LeadsTo-turn, LeadsTo-turn_ends, LeadsTo-leave, LeadsTo-turn_fault}
+use Rattle.kpn_lang.proofs.Following.{LeadsTo-refl, LeadsTo-trans, LeadsTo-next, LeadsTo-next_ends, LeadsTo-turn, LeadsTo-turn_ends}
 
 -- ---- measures
 

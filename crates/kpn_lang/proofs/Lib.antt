@@ -3,6 +3,7 @@ pub mod Families
 pub mod Following
 pub mod Further
 pub mod Interpreting
+pub mod Pairs
 pub mod Prefixes
 pub mod Processes
 pub mod Programs

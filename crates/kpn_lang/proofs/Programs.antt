@@ -1,8 +1,8 @@
 -- What a program's keeping the rules says of its blocks and statements, for the layers above.
-use Rattle.std.proofs.Common.{◌≡◌, ℕ, zero, suc, ◌+◌, ◌<◌, ◌≤◌, Bool, true, false, not, ◌&&◌, ◌||◌, cond, List, [], ◌∷◌, ◌++◌, length, Option, Some, None, refl, sym, ◌∙◌, ap, subst, arith, inl, inr, eqb, ltb, leb}
-use Rattle.std.specs.Prelude.{nat_eq, nat_lt, nat_le, slice_index_or, slice_get}
+use Rattle.std.proofs.Common.{◌≡◌, ℕ, zero, suc, ◌+◌, ◌<◌, ◌≤◌, Bool, true, false, not, ◌&&◌, ◌||◌, cond, List, [], ◌∷◌, ◌++◌, length, Option, Some, None, refl, sym, ◌∙◌, ap, subst, arith, inl, inr, eqb}
+use Rattle.std.specs.Prelude.{nat_lt, nat_le, slice_index_or, slice_get}
 use Rattle.std.specs.List.{list_any, list_all, flat_map, range_with_len, AllByRecursion as Each}
-use Rattle.std.specs.Cmp.Lexicographic.{pointwise, bytes_decides}
+use Rattle.std.specs.Cmp.Lexicographic.{bytes_decides}
 use Rattle.std.specs.Option.{option_and_then}
 use Rattle.std.proofs.lemmas.Bool.Decides.{nat_tests}
 use Rattle.std.proofs.lemmas.Bool.{cases_lt}
@@ -13,7 +13,7 @@ use Rattle.kpn_lang.specs.declared.program.ProgramFault.TheVariants.{TooMany, No
 use Rattle.kpn_lang.specs.Syntax.{Statement, Assign, Read, Write, If, While, names_below}
 use Rattle.kpn_lang.specs.Tree as tree
 use Rattle.kpn_lang.specs.Tree.{Tree, End, tree_over, block_at, tree_to, tree_of}
-use Rattle.kpn_lang.specs.Parts.{Parts, IsProgram, inner_blocks, children, order_to, counted, is_in_order, is_within, is_too_large, names_from, lacks_a_block, each_statement, names_variables_below, names_ports_below, nests_too_deep, first_fault}
+use Rattle.kpn_lang.specs.Parts.{Parts, IsProgram, inner_blocks, children, order_to, counted, is_in_order, is_within, is_too_large, names_from, lacks_a_block, each_statement, names_variables_below, names_ports_below, nests_too_deep}
 
 -- ---- the rules one by one
 

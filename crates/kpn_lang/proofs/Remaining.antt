@@ -1,6 +1,6 @@
 -- What remains of lists at places, and how a read moves a place on.
-use Rattle.std.proofs.Common.{◌≡◌, ℕ, zero, suc, ◌+◌, ◌<◌, ◌≤◌, ℤ, List, [], ◌∷◌, ◌++◌, length, replicate, set, get_or, drop, Option, Some, None, refl, sym, ap, ◌∙◌, arith, add-one}
-use Rattle.std.proofs.lemmas.List.{drop_all, drop_more, drop-drop, set-get_or, get_or_read}
+use Rattle.std.proofs.Common.{◌≡◌, ℕ, zero, suc, ◌+◌, ◌<◌, ℤ, List, [], ◌∷◌, length, replicate, set, get_or, drop, None, refl, sym, ap, ◌∙◌, arith}
+use Rattle.std.proofs.lemmas.List.{drop-drop, set-get_or, get_or_read}
 use Rattle.std.specs.Prelude.{slice_get}
 use Rattle.kpn_lang.specs.declared.talk.Said.{Said}
 use Rattle.kpn_lang.specs.Run.{Lists, list_at}

@@ -1,5 +1,5 @@
 -- What the code's tests of the rules compute, in steps as the code takes them.
-use Rattle.std.proofs.Common.{◌≡◌, ℕ, zero, suc, ◌+◌, ◌-◌, ◌<◌, ◌≤◌, max, Bool, true, false, not, ◌&&◌, ◌||◌, cond, List, [], ◌∷◌, ◌++◌, length, Option, Some, None, refl, sym, ◌∙◌, ap, subst, arith, inl, inr, map, take, drop, get_or, zero-add}
+use Rattle.std.proofs.Common.{◌≡◌, ℕ, zero, suc, ◌+◌, ◌-◌, ◌<◌, Bool, true, false, not, ◌&&◌, ◌||◌, cond, List, [], ◌∷◌, ◌++◌, length, Option, Some, None, refl, sym, ◌∙◌, ap, arith, map, drop, get_or, zero-add}
 use Rattle.std.specs.Prelude.{nat_eq, nat_lt, nat_le, slice_get}
 use Rattle.std.specs.List.{list_any, list_all, flat_map, range_with_len}
 use Rattle.std.proofs.lemmas.Bool.Decides.{nat_tests}
@@ -10,11 +10,11 @@ use Rattle.std.proofs.lemmas.Option.{slice_get-map, slice_get-get_or}
 use Rattle.std.specs.Option.{option_and_then, option_map}
 use Rattle.std.specs.Global.{Vec}
 use Rattle.kpn_lang.specs.declared.syntax.Stmt.{Stmt}
-use Rattle.kpn_lang.specs.Syntax.{Term, Num, Var, Neg, Not, Bin, Statement, Assign, Read, Write, If, While, statement_of}
+use Rattle.kpn_lang.specs.Syntax.{Term, Num, Var, Neg, Not, Bin, Statement, statement_of}
 use Rattle.kpn_lang.proofs.Programs.{counted-append, neither, any_at, any_blocks, not_past}
 use Rattle.kpn_lang.specs.Tree.{block_at}
 use Rattle.kpn_lang.specs.View.{statements_of, blocks_of}
-use Rattle.kpn_lang.specs.Parts.{Parts, nodes, left_of, depth, each_statement, inner_blocks, children, order_to, counted, is_in_order, is_within, lacks_a_block, names_from}
+use Rattle.kpn_lang.specs.Parts.{Parts, nodes, depth, each_statement, inner_blocks, children, order_to, counted, is_in_order, is_within, lacks_a_block, names_from}
 
 -- an expression is at least one level deep
 pub no_depth_at_zero : (e : Term) → nat_le (depth e) 0 ≡ false
@@ -34,9 +34,11 @@ some_node (Bin op a b) = omega arith
 
 -- ---- a test of each statement that the code holds, block after block
 
+-- the statements of all blocks
 abbrev pub statements : List (Vec Stmt) → List Stmt
 statements blocks = flat_map (λ block. block.items) blocks
 
+-- a test of each, and of some, by the statements that contracts see
 pub all_statements : (test : Statement → Bool) (blocks : List (Vec Stmt)) → list_all (λ s. test (statement_of s)) (statements blocks) ≡ each_statement test (blocks_of blocks)
 all_statements test [] = refl
 all_statements test (block ∷ blocks) =
@@ -53,7 +55,7 @@ any_statement test (block ∷ blocks) =
 
 -- ---- the blocks inside statements
 
--- in the order of their opening braces, each with those inside it
+-- those blocks in the order of their opening braces, each with the blocks inside it
 abbrev pub order_of : List (List Statement) → ℕ → List Stmt → List ℕ
 order_of blocks levels block = flat_map (order_to blocks levels) (flat_map inner_blocks (statements_of block))
 
@@ -65,6 +67,7 @@ flat_map-append f (x ∷ xs) ys = ap (λ zs. f x ++ zs) (flat_map-append f xs ys
 rest_of : {X Y : Type 0} (f : X → Y) (xs : List X) (i : ℕ) (x : X) → i < length xs → x ≡ get_or xs i x → map f (drop i xs) ≡ f x ∷ map f (drop (i + 1) xs)
 rest_of f xs i x h e = ap (map f) (drop_more xs i x h) ∙ ap (λ y. f y ∷ map f (drop (i + 1) xs)) (sym e)
 
+-- the count of what is left of a block goes over its next statement, and then over those after it
 pub counted_rest : (blocks : List (List Statement)) (levels : ℕ) (block : List Stmt) (i : ℕ) (s : Stmt) (next : ℕ) → i < length block → s ≡ get_or block i s →
     counted (order_of blocks levels (drop i block)) next ≡ option_and_then (counted (order_of blocks levels (drop (i + 1) block))) (counted (flat_map (order_to blocks levels) (inner_blocks (statement_of s))) next)
 counted_rest blocks levels block i s next h e =
@@ -73,35 +76,10 @@ counted_rest blocks levels block i s next h e =
     ∙ ap (λ bs. counted bs next) (flat_map-append (order_to blocks levels) (inner_blocks (statement_of s)) rest)
     ∙ counted-append (flat_map (order_to blocks levels) (inner_blocks (statement_of s))) (flat_map (order_to blocks levels) rest) next
 
-pub within_rest : (test : ℕ → Bool) (block : List Stmt) (i : ℕ) (s : Stmt) → i < length block → s ≡ get_or block i s →
-    list_all test (flat_map inner_blocks (statements_of (drop i block))) ≡ (list_all test (inner_blocks (statement_of s)) && list_all test (flat_map inner_blocks (statements_of (drop (i + 1) block))))
-within_rest test block i s h e =
-    ap (λ ss. list_all test (flat_map inner_blocks ss)) (rest_of statement_of block i s h e)
-    ∙ list_all-append test (inner_blocks (statement_of s)) (flat_map inner_blocks (statements_of (drop (i + 1) block)))
-
 -- the statements of a block that is there
 pub block_read : (blocks : List (Vec Stmt)) (b : ℕ) (block : Vec Stmt) → b < length blocks → block ≡ get_or blocks b block → statements_of block.items ≡ block_at (blocks_of blocks) b
 block_read blocks b block h e =
     ap (λ v. statements_of v.items) e ∙ sym (get_or-map (λ v. statements_of v.items) blocks b block [] h)
-
--- a block that is counted: itself, and then the blocks inside it
-pub counted_block : (blocks : List (List Statement)) (levels b next : ℕ) (block : List Stmt) → 0 < levels → b ≡ next → statements_of block ≡ block_at blocks b →
-    counted (order_of blocks (levels - 1) block) (next + 1) ≡ counted (order_to blocks levels b) next
-counted_block blocks zero b next block h same e = absurd (omega arith)
-counted_block blocks (suc levels) b next block h same e =
-    let here : nat_eq b next ≡ true = grind (arith, nat_tests) in
-    let less : suc levels - 1 ≡ levels = omega arith in
-    ap (λ l. counted (order_of blocks l block) (next + 1)) less
-    ∙ ap (λ ss. counted (flat_map (order_to blocks levels) (flat_map inner_blocks ss)) (next + 1)) e
-    ∙ ap (λ t. cond t (counted (flat_map (order_to blocks levels) (children blocks b)) (next + 1)) None) (sym here)
-
-pub within_block : (blocks : List (List Statement)) (levels b : ℕ) (block : List Stmt) → 0 < levels → statements_of block ≡ block_at blocks b →
-    list_all (is_within blocks (levels - 1)) (flat_map inner_blocks (statements_of block)) ≡ is_within blocks levels b
-within_block blocks zero b block h e = absurd (omega arith)
-within_block blocks (suc levels) b block h e =
-    let less : suc levels - 1 ≡ levels = omega arith in
-    ap (λ l. list_all (is_within blocks l) (flat_map inner_blocks (statements_of block))) less
-    ∙ ap (λ ss. list_all (is_within blocks levels) (flat_map inner_blocks ss)) e
 
 -- no statement names a block that is not there
 pub inner_in : (parts : Parts) → lacks_a_block parts ≡ false → (b : ℕ) (block : List Stmt) → statements_of block ≡ block_at parts.blocks b →
@@ -112,16 +90,6 @@ inner_in parts h b block e i s k at =
     (any_blocks (list_any (names_from (length parts.blocks))) parts.blocks b missing.1 refl)
     (ap (λ ss. slice_get ss i) (sym e) ∙ slice_get-map statement_of block i ∙ ap (option_map statement_of) (slice_get-get_or block i s k ∙ ap (λ x. Some x) (sym at)))
 
--- the blocks inside a statement are there
-pub first_in : (n a c : ℕ) → (nat_le n a || (nat_le n c || false)) ≡ false → (a < n) × (c < n)
-first_in n a c h =
-    let first = neither (nat_le n a) (nat_le n c || false) h in
-    let second = neither (nat_le n c) false first.1 in
-    (not_past n a first.0, not_past n c second.0)
-
-pub only_in : (n c : ℕ) → (nat_le n c || false) ≡ false → c < n
-only_in n c h = not_past n c (neither (nat_le n c) false h).0
-
 -- the same, read in the code's program
 pub inner_read : (parts : Parts) (blocks : List (Vec Stmt)) → parts.blocks ≡ blocks_of blocks → lacks_a_block parts ≡ false →
     (b : ℕ) (block : Vec Stmt) (items : List Stmt) → b < length parts.blocks → block ≡ get_or blocks b block → items ≡ block.items →
@@ -131,7 +99,7 @@ inner_read parts blocks same h b block items k at held i s within e =
     let read : statements_of items ≡ block_at parts.blocks b = ap (λ xs. statements_of xs) held ∙ block_read blocks b block long at ∙ ap (λ bs. block_at bs b) (sym same) in
     inner_in parts h b items read i s within e
 
--- a block after the other
+-- one block after the other
 pub counted_pair : (xs ys : List ℕ) (next : ℕ) → counted (xs ++ (ys ++ [])) next ≡ option_and_then (counted ys) (counted xs next)
 counted_pair xs ys next = ap (λ zs. counted (xs ++ zs) next) (append-nil ys) ∙ counted-append xs ys next
 
@@ -142,10 +110,12 @@ abbrev pub ends_at : ℕ → Option ℕ → Bool
 ends_at m None = false
 ends_at m (Some end) = nat_eq end m
 
+-- a count never comes to a number below its start
 ends_past : (bs : List ℕ) (a m : ℕ) → m < a → ends_at m (counted bs a) ≡ false
 ends_past [] a m h = grind (arith, nat_tests)
 ends_past (b ∷ bs) a m h = elim (nat_eq b a) as (λ t. ends_at m (cond t (counted bs (a + 1)) None) ≡ false) [ true ↦ ends_past bs (a + 1) m (omega arith) | false ↦ refl ]
 
+-- a list is a, a + 1, .., a + k - 1 exactly where its count from a comes to a + k
 pub in_order : (bs : List ℕ) (a k : ℕ) → ends_at (a + k) (counted bs a) ≡ pointwise nat_eq bs (range_with_len a k)
 in_order [] a zero = grind (arith, nat_tests)
 in_order [] a (suc k) = grind (arith, nat_tests)
@@ -156,6 +126,7 @@ in_order (b ∷ bs) a (suc k) =
     let rest : ends_at (a + suc k) (counted bs (a + 1)) ≡ pointwise nat_eq bs (range_with_len (a + 1) k) = ap (λ m. ends_at m (counted bs (a + 1))) (sym sum) ∙ in_order bs (a + 1) k in
     elim (nat_eq b a) as (λ t. ends_at (a + suc k) (cond t (counted bs (a + 1)) None) ≡ (t && pointwise nat_eq bs (range_with_len (a + 1) k))) [ true ↦ rest | false ↦ refl ]
 
+-- what the code's count says of the order
 pub order_read : (parts : Parts) (count : ℕ) (o : Option ℕ) → count ≡ length parts.blocks → o ≡ counted (order_to parts.blocks count 0) 0 → ends_at count o ≡ is_in_order parts
 order_read parts count o same e =
     let n = length parts.blocks in
@@ -166,6 +137,7 @@ order_read parts count o same e =
 
 -- ---- levels
 
+-- where the blocks are within their levels, the expressions decide
 pub too_deep : (within all : Bool) → within ≡ true → not all ≡ (not within || not all)
 too_deep true all h = refl
 too_deep false all h = absurd (cc)

@@ -1,14 +1,14 @@
 -- A run is a sequential process wherever what follows it is one.
-use Rattle.std.proofs.Common.{◌≡◌, ◌≢◌, ℕ, ◌≤◌, ℤ, List, refl, sym}
+use Rattle.std.proofs.Common.{ℕ, ◌≤◌, ℤ, List, refl}
 use Rattle.kpn_lang.specs.declared.talk.Ending.{Ending}
-use Rattle.kpn_lang.specs.declared.talk.Ending.TheVariants.{Done, Cut}
+use Rattle.kpn_lang.specs.declared.talk.Ending.TheVariants.{Done}
 use Rattle.kpn_lang.specs.Parts.{Parts}
 use Rattle.kpn_lang.specs.Tree.{Tree, tree_of}
-use Rattle.kpn_lang.specs.Run.{Ran, Next, Lists, ends, run}
-use Rattle.kpn_lang.specs.Alone.{Process, start_of, alone}
-use Rattle.kpn_lang.specs.Laws.{Grows, GoesOn, IsSequential}
-use Rattle.kpn_lang.proofs.Further.{Follows, Follows-run, GoesOn-ends, Stays, Stays-run, StaysUncut-refl}
-use Rattle.kpn_lang.proofs.Alike.{AccountsNext, Accounts-run, Accounts-ends, LocalNext, Local-run, SaysAlike-silent}
+use Rattle.kpn_lang.specs.Run.{Next, ends, run}
+use Rattle.kpn_lang.specs.Alone.{start_of, alone}
+use Rattle.kpn_lang.specs.Laws.{IsSequential}
+use Rattle.kpn_lang.proofs.Further.{Follows, Follows-run, GoesOn-ends, Stays, Stays-run}
+use Rattle.kpn_lang.proofs.Alike.{AccountsNext, Accounts-run, LocalNext, Local-run, SaysAlike-silent}
 
 -- what follows, by the number of turns, is a sequential process at each start of the variables
 pub record AreSequential (next : ℕ → Next) : Type 0 where

@@ -1,5 +1,5 @@
 -- What a talk got and put, of talks one after the other and of beginnings.
-use Rattle.std.proofs.Common.{◌≡◌, ℕ, ℤ, cond, eqb, Bool, true, false, List, [], ◌∷◌, ◌++◌, refl, sym, ap, ◌∙◌}
+use Rattle.std.proofs.Common.{◌≡◌, ℕ, ℤ, cond, eqb, Bool, true, false, List, [], ◌∷◌, ◌++◌, refl, ap}
 use Rattle.kpn_lang.specs.declared.talk.Said.{Said}
 use Rattle.kpn_lang.specs.declared.talk.Said.TheVariants.{Got, Put}
 use Rattle.kpn_lang.specs.Prefix.{IsPrefix}

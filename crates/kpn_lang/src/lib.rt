@@ -11,7 +11,7 @@ pub mod talk;
 pub mod value;
 
 pub use plain::{Run, run_alone};
-pub use program::{Program, ProgramFault};
+pub use program::{Program, ProgramFault, same};
 pub use sequence::Sequence;
 pub use syntax::{BlockId, Expr, Op, Stmt};
 pub use talk::{Ending, Said};

@@ -1,6 +1,6 @@
 // The plain program: it runs a program alone on whole lists by recursion over its blocks, as the
 // definition of a run says.
-ghost use Rattle.std.specs.Prelude.{◌≡◌, ◌≤◌, ◌<◌, ℤ, List, [], ◌∷◌, ◌++◌, length, drop, IfOk, OnSome, IsTrue, ◌+◌, ◌^◌, slice_get, slice_set, is_ok, if◌then◌else◌};
+ghost use Rattle.std.specs.Prelude.{◌≡◌, ◌≤◌, ◌<◌, [], ◌∷◌, ◌++◌, length, drop, IfOk, OnSome, IsTrue, ◌+◌, ◌^◌, slice_get, slice_set};
 ghost use Rattle.kpn_lang.specs.Syntax.{term_of, statement_of, names_below};
 ghost use Rattle.kpn_lang.specs.Value.{value};
 ghost use Rattle.kpn_lang.specs.Parts.{names_variables_below, names_ports_below};

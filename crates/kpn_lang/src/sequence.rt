@@ -1,10 +1,11 @@
-// The small list type of fields and inner lists, which contracts see as a list.
-ghost use Rattle.std.specs.Prelude.{◌≡◌, ◌==◌, [], ◌∷◌, ◌++◌, length, OnOk, OnErr};
+// A small list type over `Vec` that contracts see as a list: for fields, and for lists inside lists.
+ghost use Rattle.std.specs.Prelude.{◌≡◌, ◌↔◌, [], ◌∷◌, ◌++◌, length, IsTrue, if◌then◌else◌, is_ok, IfErr};
+ghost use Rattle.std.specs.Cmp.Lexicographic.{pointwise, lists_per, lists_equiv};
 
-use std::alloc::{AllocError, Global};
+use std::alloc::{AllocFailed, Global};
 use std::marker::Model;
 
-/// A list of values, kept in a vector. Contracts see it as the list of its values.
+/// A list of items. It is made from a `Vec` and gives it back without taking memory.
 #[derive(Debug, Drop)]
 pub struct Sequence<T> {
     items: Vec<T>,
@@ -18,8 +19,23 @@ impl<T> Model for Sequence<T> {
     ghost view = { λ s. s.items.items };
 }
 
+/// Lists are equal where they are as long and each pair of items is equal.
+impl<T: PartialEq> PartialEq for Sequence<T> {
+    ghost eq = { pointwise T.eq };
+
+    ghost laws = { lists_per T.laws };
+
+    fn eq(&self, other: &Self) -> bool {
+        self.items.as_slice() == other.items.as_slice()
+    }
+}
+
+impl<T: Eq> Eq for Sequence<T> {
+    ghost laws = { lists_equiv T.Eq.laws };
+}
+
 impl<T> Sequence<T> {
-    /// An empty list. It takes no memory.
+    /// The empty list, which takes no memory yet.
     pub fn new(alloc: Global) -> Self
         ensures { result ≡ [] }
     {
@@ -28,49 +44,48 @@ impl<T> Sequence<T> {
         }
     }
 
-    /// The list of what a vector holds. It takes no memory.
+    /// The items of a `Vec`, in its order.
     pub fn from_vec(items: Vec<T>) -> Self
         ensures { result ≡ items.items }
     {
         Sequence { items }
     }
 
-    /// The vector of what the list holds. It takes no memory.
+    /// The `Vec` of the items.
     pub fn into_vec(self) -> Vec<T>
         ensures { result.items ≡ self }
     {
-        self.items
+        let Sequence { items } = self;
+        items
     }
 
-    /// The values, in order.
+    /// The items in order.
     pub fn as_slice(&self) -> &[T]
         ensures { result.now ≡ self.now }
     {
         self.items.as_slice()
     }
 
-    /// How many values there are.
+    /// How many items there are.
     pub fn len(&self) -> usize
         ensures { result ≡ length self.now }
     {
-        self.as_slice().len()
+        self.items.len()
     }
 
-    /// Whether there is no value.
+    /// Whether there is no item.
     pub fn is_empty(&self) -> bool
-        ensures { result ≡ (length self.now == 0) }
+        ensures { IsTrue result ↔ (self.now ≡ []) }
     {
-        self.as_slice().is_empty()
+        self.items.is_empty()
     }
-}
 
-impl<T: Drop> Sequence<T> {
-    /// Appends a value. Without memory for it the list stays as it was, and the value is dropped.
-    pub fn push(&mut self, value: T) -> Result<(), AllocError>
-        ensures ok { OnOk result (self.new ≡ self.old ++ value ∷ []) }
-        ensures err { OnErr result (self.new ≡ self.old) }
+    /// Puts an item at the end. The error gives the item back where memory ran out; the list is then
+    /// as before.
+    pub fn push(&mut self, item: T) -> Result<(), AllocFailed<T>>
+        ensures items { self.new ≡ (if is_ok result then self.old ++ item ∷ [] else self.old) }
+        ensures value_returned { IfErr result (λ failed. failed.value ≡ item) }
     {
-        self.items.push(value)?;
-        Ok(())
+        self.items.push(item)
     }
 }

@@ -1,5 +1,5 @@
 -- A process along its way through whole lists: what it did so far, and that it comes to an end.
-use Rattle.std.proofs.Common.{◌≡◌, ℕ, zero, suc, ◌+◌, ◌-◌, ◌*◌, ◌<◌, ◌≤◌, ℤ, nat_eq, List, [], ◌∷◌, ◌++◌, length, get_or, Option, Some, IsTrue, refl, sym, ap, subst, ◌∙◌, arith, slice_get}
+use Rattle.std.proofs.Common.{◌≡◌, ℕ, zero, suc, ◌+◌, ◌-◌, ◌*◌, ◌<◌, ◌≤◌, ℤ, nat_eq, List, [], ◌∷◌, ◌++◌, length, IsTrue, ap, subst, ◌∙◌, arith}
 use Rattle.std.specs.List.{sum_by}
 use Rattle.std.proofs.lemmas.List.Sums.{sum_by-cons}
 use Rattle.std.proofs.lemmas.Option.{slice_get_within}
@@ -10,12 +10,11 @@ use Rattle.kpn_lang.specs.Tree.{block_at}
 use Rattle.kpn_lang.specs.Run.{Lists}
 use Rattle.kpn_lang.specs.Parts.{Parts, IsProgram}
 use Rattle.kpn_step.specs.declared.stop.Stop.{Stop}
-use Rattle.kpn_step.specs.declared.stop.Stop.TheVariants as stop
 use Rattle.kpn_step.specs.declared.stop.AloneStop.{AloneStop}
 use Rattle.kpn_step.specs.declared.stop.AloneStop.TheVariants.{Done, Faulted, Starved, Paused}
 use Rattle.kpn_step.specs.Frame.{Frame, start_frame, fits}
-use Rattle.kpn_step.specs.Step.{Stops, turn_of, Steps, statement_at}
-use Rattle.kpn_step.specs.Stops.{StandsAt, stop_at}
+use Rattle.kpn_step.specs.Step.{Steps}
+use Rattle.kpn_step.specs.Stops.{StandsAt}
 use Rattle.kpn_step.specs.Walk.{Speaks, Walks, AloneGives}
 use Rattle.kpn_step.specs.Turn.{Walked}
 use Rattle.kpn_step.specs.Taken.{remaining, EndsAs}

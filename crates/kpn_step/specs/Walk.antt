@@ -6,7 +6,7 @@ use Rattle.kpn_lang.specs.declared.talk.Ending.TheVariants as ending
 use Rattle.kpn_lang.specs.Syntax.{Statement, Read}
 use Rattle.kpn_lang.specs.Parts.{Parts}
 use Rattle.kpn_lang.specs.Run.{Lists, list_at}
-use Rattle.kpn_lang.specs.Alone.{Process, CanSay, ComesTo, alone}
+use Rattle.kpn_lang.specs.Alone.{CanSay, ComesTo, alone}
 use Rattle.kpn_step.specs.declared.stop.Stop.TheVariants.{WantWrite}
 use Rattle.kpn_step.specs.declared.stop.AloneStop.{AloneStop}
 use Rattle.kpn_step.specs.declared.stop.AloneStop.TheVariants.{Done, Faulted, Starved, Paused}

@@ -1,6 +1,6 @@
 // What an advance of a process holds: it names its own input, so that it can be judged later.
 ghost use Rattle.std.specs.Prelude.{◌≡◌};
-ghost use Rattle.kpn_step.specs.Stops.{IsAdvance};
+ghost use Rattle.kpn_step.specs.Stops.{IsAdvance, advanced_of};
 
 use crate::frame::Frame;
 use crate::stop::Stop;
@@ -19,22 +19,22 @@ pub struct Advance<'p> {
 }
 
 impl<'p> Model for Advance<'p> {
-    ghost use Rattle.kpn_step.specs.Stops.{Advanced, IsAdvance};
+    ghost use Rattle.kpn_step.specs.Stops.{Advanced, advanced_of, IsAdvance};
     ghost use Rattle.kpn_step.specs.Codes.{advanced_code};
 
     ghost Value = { Advanced };
 
     ghost coded = { advanced_code };
 
-    ghost view = { λ a. record { program = a.program.now; from = a.from; to = a.to; steps = a.steps; stop = a.stop } };
+    ghost view = { λ a. advanced_of a.program.now a.from a.to a.steps a.stop };
 
-    ghost invariant = { λ a. IsAdvance (record { program = a.program.now; from = a.from; to = a.to; steps = a.steps; stop = a.stop }) };
+    ghost invariant = { λ a. IsAdvance (advanced_of a.program.now a.from a.to a.steps a.stop) };
 }
 
 impl<'p> Advance<'p> {
     pub(crate) fn new(program: &'p Program, from: Frame, to: Frame, steps: u32, stop: Stop) -> Self
-        requires { IsAdvance (record { program = program.now; from = from; to = to; steps = steps; stop = stop }) }
-        ensures { result ≡ record { program = program.now; from = from; to = to; steps = steps; stop = stop } }
+        requires { IsAdvance (advanced_of program.now from to steps stop) }
+        ensures { result ≡ advanced_of program.now from to steps stop }
     {
         Advance {
             program,

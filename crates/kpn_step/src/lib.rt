@@ -8,7 +8,7 @@ mod element;
 mod frame;
 mod place;
 mod stepper;
-mod stop;
+pub mod stop;
 #[cfg(test)]
 mod tests;
 mod walk;

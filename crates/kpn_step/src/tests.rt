@@ -1,5 +1,8 @@
 // Rows of the stepper: how many steps are allowed, and what is said within them.
-use crate::{AloneStop, Frame, Stop, advance, alone};
+ghost use Rattle.std.specs.Prelude.{IsTrue};
+ghost use Rattle.kpn_step.specs.Frame.{fits};
+
+use crate::{Advance, AloneStop, Frame, Stop, advance, alone};
 use kpn_lang::{Expr, Fault, Op, Program, Said, Sequence, Stmt};
 use std::alloc::Global;
 use std::process::Abort;
@@ -92,6 +95,27 @@ fn faults_after_exactly_the_quota(rt: HostRuntime) -> Result<(), Fail> {
     check_alone(&rt, rt.alloc(), &program, &[], 1, &[], fault)
 }
 
+// The frame past the read, or past the write, where an advance stopped.
+fn given(rt: &impl Abort, reading: &Advance<'_>, item: i64) -> Frame
+    ensures { IsTrue (fits reading.now.program result) }
+{
+    reading.known();
+    match reading.stop() {
+        Stop::WantRead(_) => reading.to().copy().give(reading.program(), item),
+        stop => panic!(rt; "no read: {stop:?}"),
+    }
+}
+
+fn written(rt: &impl Abort, writing: &Advance<'_>) -> Frame
+    ensures { IsTrue (fits writing.now.program result) }
+{
+    writing.known();
+    match writing.stop() {
+        Stop::WantWrite(..) => writing.to().copy().wrote(writing.program()),
+        stop => panic!(rt; "no write: {stop:?}"),
+    }
+}
+
 #[test]
 fn advances_from_stop_to_stop(rt: HostRuntime) -> Result<(), Fail> {
     let program = copy_program(rt.alloc())?;
@@ -102,16 +126,12 @@ fn advances_from_stop_to_stop(rt: HostRuntime) -> Result<(), Fail> {
     assert!(rt; *reading.from() == start);
     assert_eq!(rt; reading.steps(), 1);
     assert_eq!(rt; reading.stop(), Stop::WantRead(0));
-    reading.known();
-    let given = reading.to().copy().give(&program, 5);
-    let writing = advance(&program, given, 9);
+    let writing = advance(&program, given(&rt, &reading, 5), 9);
     assert_eq!(rt; writing.steps(), 0);
     assert_eq!(rt; writing.stop(), Stop::WantWrite(0, 5));
-    writing.known();
-    let wrote = writing.to().copy().wrote(&program);
-    let paused = advance(&program, wrote, 1);
+    let paused = advance(&program, written(&rt, &writing), 1);
+    assert_eq!(rt; paused.steps(), 1);
     assert_eq!(rt; paused.stop(), Stop::Paused);
-    assert_eq!(rt; paused.program().ins(), 1);
     Ok(())
 }
 
@@ -121,13 +141,13 @@ fn frames_differ_by_each_field(rt: HostRuntime) -> Result<(), Fail> {
     assert_eq!(rt; program.pars(), 0);
     let start = Frame::start(&program, &[]);
     let reading = advance(&program, start.copy(), 9);
-    assert_eq!(rt; reading.stop(), Stop::WantRead(0));
-    reading.known();
-    let five = reading.to().copy().give(&program, 5);
-    let six = reading.to().copy().give(&program, 6);
+    let five = given(&rt, &reading, 5);
     assert!(rt; *reading.to() == reading.to().copy());
     assert!(rt; *reading.to() != start, "by the places");
-    assert!(rt; *reading.to() != five, "by the innermost place");
-    assert!(rt; five != six, "by the variables");
+    assert!(rt;
+        *reading.to() != given(&rt, &reading, 0),
+        "by the innermost place"
+    );
+    assert!(rt; five != given(&rt, &reading, 6), "by the variables");
     Ok(())
 }

@@ -84,7 +84,8 @@ fn say(
 fn next_item(lists: &[Sequence<i64>], taken: &mut ArrayVec<usize, 16>, port: usize) -> Option<i64>
     requires port { port < length lists.now }
     requires taken { array_vec_len taken.old ≡ length lists.now }
-    ensures takes { Takes port (remaining taken.old.items lists.now) result (remaining taken.new.items lists.now) }
+    ensures takes { Takes port (remaining taken.old.items lists.now) result
+        (remaining taken.new.items lists.now) }
     ensures taken { array_vec_len taken.new ≡ array_vec_len taken.old }
 {
     let place = taken[port];

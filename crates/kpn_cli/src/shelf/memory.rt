@@ -1,13 +1,15 @@
 // A shelf in memory.
-ghost use Rattle.std.specs.Prelude.{◌≡◌, ◌≢◌, ◌≤◌, ◌<◌, ◌⊎◌, ℕ, List, Some, None, Err, IfOk, IfErr, OnOk, OnErr, vec_len, length};
+ghost use Rattle.std.specs.Prelude.{◌≡◌, ◌≢◌, ◌≤◌, ℕ, List, Some, None, Err, IfOk, IfErr, OnOk, OnErr, vec_len, length};
 ghost use Rattle.kpn_items.specs.Input.{NamesNoLine};
+ghost use Rattle.kpn_cli.specs.Shelf.{KeepsOthers};
+ghost use Rattle.kpn_cli.specs.MemoryShelf.{held, may_give_held, HoldsTheSame, HoldsTheSameBut};
 
 use crate::shelf::Shelf;
 use kpn_items::{ItemFault, READ_LIMIT, WriteFault};
 use std::alloc::{AllocError, Global};
 use std::collections::BTreeMap;
 
-/// Files that are held in memory.
+/// Files that are held in memory, which the allocator of the constructor gives.
 #[derive(Drop)]
 pub struct MemoryShelf {
     alloc: Global,
@@ -15,9 +17,7 @@ pub struct MemoryShelf {
 }
 
 impl MemoryShelf {
-    ghost use Rattle.kpn_cli.specs.Shelf.{held};
-
-    /// A shelf that holds nothing.
+    /// A shelf that holds nothing. It takes no memory.
     pub fn new(alloc: Global) -> MemoryShelf
         ensures { (name : List ℕ) → held result name ≡ None }
     {
@@ -29,8 +29,8 @@ impl MemoryShelf {
 
     fn put(&mut self, name: &str, bytes: &[u8]) -> Result<(), AllocError>
         ensures stored { OnOk result (held self.new name.now ≡ Some bytes.now) }
-        ensures unchanged { OnErr result ((other : List ℕ) → held self.new other ≡ held self.old other) }
-        ensures others { (other : List ℕ) → other ≢ name.now → held self.new other ≡ held self.old other }
+        ensures unchanged { OnErr result (HoldsTheSame self.old self.new) }
+        ensures others { HoldsTheSameBut name.now self.old self.new }
     {
         let name = String::from_str(self.alloc, name)?;
         let bytes = Vec::from_slice(self.alloc, bytes)?;
@@ -40,16 +40,15 @@ impl MemoryShelf {
 }
 
 impl Shelf for MemoryShelf {
-    ghost use Rattle.kpn_cli.specs.Shelf.{held};
-
-    ghost may_give = { λ shelf name bytes. held shelf name ≡ Some bytes };
+    ghost may_give = { may_give_held };
 
     /// What it holds; `Read` where it holds nothing under the name, or more than `READ_LIMIT` bytes.
     fn load(&self, alloc: Global, name: &str) -> Result<Vec<u8>, ItemFault>
         ensures given { IfOk result (λ bytes. held self.now name.now ≡ Some bytes.items) }
         ensures within { IfOk result (λ bytes. vec_len bytes ≤ READ_LIMIT) }
         ensures fault { IfErr result NamesNoLine }
-        ensures found { (bytes : List ℕ) → held self.now name.now ≡ Some bytes → length bytes ≤ READ_LIMIT → result ≢ Err ItemFault.Read }
+        ensures found { (bytes : List ℕ) → held self.now name.now ≡ Some bytes
+            → length bytes ≤ READ_LIMIT → result ≢ Err ItemFault.Read }
     {
         let bytes = self.files.get(name).ok_or(ItemFault::Read)?;
         if bytes.len() > READ_LIMIT {
@@ -58,12 +57,12 @@ impl Shelf for MemoryShelf {
         Vec::from_slice(alloc, bytes).map_err(|_| ItemFault::NoMemory)
     }
 
-    /// Puts the bytes under the name; without memory it holds what it held.
+    /// Puts the bytes under the name. Without memory it holds what it held.
     fn store(&mut self, name: &str, bytes: &[u8]) -> Result<(), WriteFault>
         ensures stored { OnOk result (held self.new name.now ≡ Some bytes.now) }
-        ensures others { (other held_bytes : List ℕ) → other ≢ name.now → held self.new other ≡ Some held_bytes → held self.old other ≡ Some held_bytes }
-        ensures kept { (other : List ℕ) → other ≢ name.now → held self.new other ≡ held self.old other }
-        ensures unchanged { OnErr result ((other : List ℕ) → held self.new other ≡ held self.old other) }
+        ensures others { KeepsOthers (may_give_held self.old) (may_give_held self.new) name.now }
+        ensures kept { HoldsTheSameBut name.now self.old self.new }
+        ensures unchanged { OnErr result (HoldsTheSame self.old self.new) }
     {
         self.put(name, bytes).map_err(|_| WriteFault::Write)
     }

@@ -9,12 +9,16 @@ ghost use Rattle.kpn_lang.specs.View.{parts_of, statements_of, blocks_of};
 use crate::program::ProgramFault;
 use crate::syntax::{BlockId, Expr, Stmt};
 
+/// Variables of a process, the parameters among them.
 const MOST_VARIABLES: usize = 64;
 
+/// Ports of a process in each direction.
 const MOST_PORTS: usize = 16;
 
+/// Statements and expression nodes of a program together.
 const MOST_NODES: usize = 4096;
 
+/// Levels of blocks, where the body is one, and levels of an expression, where a name is one.
 const MOST_LEVELS: usize = 32;
 
 /// How many in ports, out ports, parameters and variables, and the blocks of statements.
@@ -86,7 +90,8 @@ impl Parts {
 
     /// 4 is kept: each variable that is named is there.
     fn names_its_variables(&self) -> bool
-        ensures { result ≡ each_statement (names_variables_below self.now.vars) (parts_of self.now).blocks }
+        ensures { let parts = parts_of self.now in
+            result ≡ each_statement (names_variables_below parts.vars) parts.blocks }
     {
         self.blocks
             .iter()
@@ -96,7 +101,8 @@ impl Parts {
 
     /// 5 is kept: each port that is named is there.
     fn names_its_ports(&self) -> bool
-        ensures { result ≡ each_statement (names_ports_below self.now.ins self.now.outs) (parts_of self.now).blocks }
+        ensures { let parts = parts_of self.now in
+            result ≡ each_statement (names_ports_below parts.ins parts.outs) parts.blocks }
     {
         self.blocks
             .iter()
@@ -141,8 +147,10 @@ impl Parts {
     #[cycle(count)]
     fn count_inner(&self, levels: usize, stmt: &Stmt, next: usize) -> Option<usize>
         requires there { lacks_a_block (parts_of self.now) ≡ false }
-        requires inner_in { names_from (length (parts_of self.now).blocks) (statement_of stmt.now) ≡ false }
-        ensures { result ≡ counted (flat_map (order_to (parts_of self.now).blocks levels) (inner_blocks (statement_of stmt.now))) next }
+        requires inner_in { let count = length (parts_of self.now).blocks in
+            names_from count (statement_of stmt.now) ≡ false }
+        ensures { let order = order_to (parts_of self.now).blocks levels in
+            result ≡ counted (flat_map order (inner_blocks (statement_of stmt.now))) next }
     {
         match stmt {
             Stmt::If(_, first, second) => {
@@ -176,8 +184,10 @@ impl Parts {
     #[cycle(within)]
     fn is_inner_within(&self, levels: usize, stmt: &Stmt) -> bool
         requires there { lacks_a_block (parts_of self.now) ≡ false }
-        requires inner_in { names_from (length (parts_of self.now).blocks) (statement_of stmt.now) ≡ false }
-        ensures { result ≡ list_all (is_within (parts_of self.now).blocks levels) (inner_blocks (statement_of stmt.now)) }
+        requires inner_in { let count = length (parts_of self.now).blocks in
+            names_from count (statement_of stmt.now) ≡ false }
+        ensures { let inner = inner_blocks (statement_of stmt.now) in
+            result ≡ list_all (is_within (parts_of self.now).blocks levels) inner }
     {
         match stmt {
             Stmt::If(_, first, second) => {
@@ -189,8 +199,9 @@ impl Parts {
     }
 }
 
+/// What is left of a budget after the nodes of an expression; `None` where it has more. The budget
+/// also bounds how deep this recurses.
 #[tactic(auto, using(crate::proofs::Rules::some_node))]
-/// What is left of a budget after the nodes of an expression; `None` where it has more.
 fn nodes_left(expr: &Expr, budget: usize) -> Option<usize>
     ensures { result ≡ left_of budget (nodes (term_of expr.now)) }
 {
@@ -249,6 +260,7 @@ fn names_from(count: usize, stmt: &Stmt) -> bool
     }
 }
 
+/// Whether each variable that an expression names is below this number.
 fn names_below(count: usize, expr: &Expr) -> bool
     ensures { result ≡ names_below count (term_of expr.now) }
 {
@@ -260,6 +272,7 @@ fn names_below(count: usize, expr: &Expr) -> bool
     }
 }
 
+/// Whether each variable that a statement names is below this number.
 fn names_variables_below(count: usize, stmt: &Stmt) -> bool
     ensures { result ≡ names_variables_below count (statement_of stmt.now) }
 {
@@ -272,6 +285,7 @@ fn names_variables_below(count: usize, stmt: &Stmt) -> bool
     }
 }
 
+/// Whether the port of a statement is below the number of in or of out ports.
 fn names_ports_below(ins: usize, outs: usize, stmt: &Stmt) -> bool
     ensures { result ≡ names_ports_below ins outs (statement_of stmt.now) }
 {
@@ -282,8 +296,8 @@ fn names_ports_below(ins: usize, outs: usize, stmt: &Stmt) -> bool
     }
 }
 
-#[tactic(auto, using(crate::proofs::Rules::no_depth_at_zero))]
 /// Whether an expression goes down at most a number of levels.
+#[tactic(auto, using(crate::proofs::Rules::no_depth_at_zero))]
 fn is_depth_within(levels: usize, expr: &Expr) -> bool
     ensures { result ≡ nat_le (depth (term_of expr.now)) levels }
 {
@@ -301,7 +315,8 @@ fn is_depth_within(levels: usize, expr: &Expr) -> bool
 
 /// Whether the expressions of a statement do.
 fn is_shallow(levels: usize, stmt: &Stmt) -> bool
-    ensures { result ≡ list_all (λ e. nat_le (depth e) levels) (expressions (statement_of stmt.now)) }
+    ensures { let exprs = expressions (statement_of stmt.now) in
+        result ≡ list_all (λ e. nat_le (depth e) levels) exprs }
 {
     match stmt {
         Stmt::Read(_, _) => true,

@@ -1,5 +1,5 @@
 -- One list more remains after the others.
-use Rattle.std.proofs.Common.{◌≡◌, ◌+◌, ◌++◌, [], ◌∷◌, length, drop, get_or, take, sym, ap, ◌∙◌, arith, rules}
+use Rattle.std.proofs.Common.{[], arith}
 use Rattle.std.proofs.lemmas.List.{take_all, take_more}
 use Rattle.std.proofs.lemmas.Grind.{common_steps}
 use Rattle.kpn_lang.specs.Plain.{remaining}

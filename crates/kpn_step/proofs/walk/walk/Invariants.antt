@@ -1,3 +1,4 @@
+-- The steps so far, within the quota, lead to the frame, which fits.
 use Rattle.std.proofs.Common.{◌≤◌, ◌-◌, IsTrue}
 use Rattle.kpn_step.specs.Frame.{fits}
 use Rattle.kpn_step.specs.Step.{Steps}

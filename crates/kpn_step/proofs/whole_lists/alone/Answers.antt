@@ -27,7 +27,7 @@ says-smaller c =
 
 pub says-preserved : goal.says-preserved
 says-preserved c =
-    rw c.in_ok-push-in-Ok.ensures.ok
+    rw c.in_ok-push-in-Ok.ensures.items
     (Along-said c.args.program.now c.known.ensures c.args.pars.now c.args.lists.now c.requires.pars c.args.quota c.says.left c.says.talk c.says.frame c.says.taken.items c.says.invariant
     c.walk-steps.result.0 c.walk-steps.result.1 c.walk-steps.new.frame c.walk-steps.ensures c.in-Ok.said c.say.new.frame c.say.new.taken.items c.in-Ok.ensures.says c.in-Ok.ensures.taken)
 

@@ -1,3 +1,4 @@
+-- The process is along its way, of which less is left after each thing said.
 use Rattle.kpn_step.proofs.Along.{Along, way_left}
 use Rattle.kpn_step.proofs.whole_lists.alone.Given as goal
 

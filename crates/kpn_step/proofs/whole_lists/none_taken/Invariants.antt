@@ -1,3 +1,4 @@
+-- A count of nothing for each list so far.
 use Rattle.std.proofs.Common.{◌≡◌, replicate}
 use Rattle.kpn_step.proofs.whole_lists.none_taken.Given as goal
 

@@ -1,7 +1,7 @@
 -- A block does its statements one after the other, a loop its turns.
-use Rattle.std.proofs.Common.{◌≡◌, ◌-◌, Ok, sym, ap, ◌∙◌, arith, rules}
+use Rattle.std.proofs.Common.{◌-◌, Ok, sym, ap, ◌∙◌, arith}
 use Rattle.kpn_lang.specs.Syntax.{term_of}
-use Rattle.kpn_lang.proofs.Following.{LeadsTo-trans, LeadsTo-leave, LeadsTo-turn_fault}
+use Rattle.kpn_lang.proofs.Following.{LeadsTo-trans, LeadsTo-leave, LeadsTo-cut, LeadsTo-turn_fault}
 use Rattle.kpn_lang.proofs.Interpreting.{body_at, IsReady-read, LeadsTo-block, LeadsTo-statement, LeadsTo-statement_ends, LeadsTo-one_turn, LeadsTo-turn_that_ends, Fits-does}
 use Rattle.kpn_lang.proofs.plain.Interpreter.+interpreter.Goals as goal
 
@@ -55,3 +55,27 @@ repeat-loop-turn-preserved t c =
     let body = body_at c.args.self.now.program.now c.args.body n in
     LeadsTo-one_turn _ test body n c.loop-turn._turn _ c.loop-turn.state _ c.loop-turn-test.true c.loop-turn.invariant
     (sym c.in-Ok-true.ensures ∙ ap Ok c.in-Ok-true.field-0-test) (rw c.in_default.is at c.in_ok-ending.ensures)
+
+pub repeat-returns-in-Ok-true-test : goal.repeat-returns-in-Ok-true-test
+repeat-returns-in-Ok-true-test t c =
+    let n = c.args.self.now.turns in
+    let test = term_of c.args.test.now in
+    let body = body_at c.args.self.now.program.now c.args.body n in
+    LeadsTo-trans _ _ _ _ _ _ c.loop-turn.invariant
+    (LeadsTo-cut test body c.loop-turn.state (n - c.loop-turn._turn) (omega arith) (sym c.in-Ok-true-test.ensures ∙ ap Ok c.in-Ok-true-test.field-0-test))
+
+pub repeat-returns-in-Ok-false-test : goal.repeat-returns-in-Ok-false-test
+repeat-returns-in-Ok-false-test t c =
+    let n = c.args.self.now.turns in
+    let test = term_of c.args.test.now in
+    let body = body_at c.args.self.now.program.now c.args.body n in
+    LeadsTo-trans _ _ _ _ _ _ c.loop-turn.invariant
+    (LeadsTo-leave test body c.loop-turn.state (n - c.loop-turn._turn) (sym c.in-Ok-false-test.ensures ∙ ap Ok c.in-Ok-false-test.field-0-test))
+
+pub repeat-returns-in-Err-test : goal.repeat-returns-in-Err-test
+repeat-returns-in-Err-test t c =
+    let n = c.args.self.now.turns in
+    let test = term_of c.args.test.now in
+    let body = body_at c.args.self.now.program.now c.args.body n in
+    LeadsTo-trans _ _ _ _ _ _ c.loop-turn.invariant
+    (LeadsTo-turn_fault test body c.loop-turn.state (n - c.loop-turn._turn) c.in-Err-test.fault (sym c.in-Err-test.ensures))

@@ -1,8 +1,8 @@
 -- A read moves the place of its list on.
-use Rattle.std.proofs.Common.{rules, Some, SFits, w64, ◌≡◌, ◌+◌, ◌<◌, length, drop, sym, ap, ◌∙◌, slice_get, set, arith}
+use Rattle.std.proofs.Common.{rules, Some, SFits, w64, sym, ap, ◌∙◌, slice_get, arith}
 use Rattle.std.proofs.lemmas.Int.{to_z-of_z}
 use Rattle.kpn_lang.specs.Run.{list_at}
-use Rattle.kpn_lang.specs.Plain.{Standing, remaining}
+use Rattle.kpn_lang.specs.Plain.{Standing}
 use Rattle.kpn_lang.proofs.Remaining.{first_of_remaining, rest_of_remaining, rest_of_nothing, port_of_remaining}
 use Rattle.kpn_lang.proofs.plain.State.next_item.Goals as goal
 

@@ -1,5 +1,5 @@
 -- The parameters, then zeros; all places are at the start of their lists.
-use Rattle.std.proofs.Common.{◌≡◌, ◌++◌, ◌-◌, length, replicate, take, pos, arith, rules}
+use Rattle.std.proofs.Common.{◌≡◌, arith}
 use Rattle.std.proofs.lemmas.List.{take_all}
 use Rattle.std.proofs.lemmas.Grind.{common_steps}
 use Rattle.kpn_lang.specs.Alone.{start_of}

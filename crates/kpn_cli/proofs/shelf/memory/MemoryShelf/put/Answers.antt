@@ -2,7 +2,6 @@
 use Rattle.std.proofs.Common.{arith, ◌≡◌, option_map, ap}
 use Rattle.std.proofs.lemmas.Map.Text.{text_keys}
 use Rattle.std.specs.BTreeMap.{get_by_text}
-use Rattle.kpn_cli.specs.Shelf.{held}
 use Rattle.kpn_cli.proofs.shelf.memory.MemoryShelf.put.Goals as goal
 
 pub returns-clause-others : goal.returns-clause-others

@@ -1,5 +1,5 @@
 -- The chain's answer is that of the statements that the code holds, block after block.
-use Rattle.std.proofs.Common.{◌≡◌, ◌∙◌, sym, ap, not, rules, tests, Bool}
+use Rattle.std.proofs.Common.{◌∙◌, sym, ap, not, rules, tests, Bool}
 use Rattle.std.specs.Prelude.{nat_le}
 use Rattle.std.specs.List.{list_all}
 use Rattle.std.proofs.lemmas.Iterator.{YieldsList-from_slice}

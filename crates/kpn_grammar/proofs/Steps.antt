@@ -1,0 +1,217 @@
+-- Steps of reading: what a chain of steps gives, and the laws of the readers of one token.
+use Rattle.std.proofs.Common.{◌≡◌, ℕ, zero, suc, Bool, true, false, cond, nat_eq, List, [], ◌∷◌, length, slice_index_or, map, Option, Some, None, Result, Ok, Err, IfOk, refl, sym, ap, subst, ◌∙◌, arith, rules}
+use Rattle.std.proofs.lemmas.Bool.Decides.{nat_tests}
+use Rattle.kpn_tokens.specs.declared.tokens.Lexeme.{Lexeme}
+use Rattle.kpn_tokens.specs.declared.tokens.Token.{Token}
+use Rattle.kpn_tokens.specs.declared.tokens.Token.TheVariants as token
+use Rattle.kpn_tokens.specs.declared.tokens.Mark.{Mark}
+use Rattle.kpn_tokens.specs.declared.tokens.Mark.TheVariants as mark_
+use Rattle.kpn_grammar.specs.declared.fault.GrammarFault.{GrammarFault}
+use Rattle.kpn_grammar.specs.declared.fault.GrammarFault.TheVariants as fault
+use Rattle.kpn_grammar.specs.declared.reader.Scope.{Scope}
+use Rattle.kpn_grammar.specs.declared.tree.BinaryOperator.{BinaryOperator}
+use Rattle.kpn_grammar.specs.declared.tree.BinaryOperator.TheVariants as operator_
+use Rattle.kpn_grammar.specs.Spelling.{kinds, operator_mark, operator_of}
+use Rattle.kpn_grammar.specs.Reading.{Fails, Gives, OkOrNoMemory, Read, and_then, next, mark_number, is_mark, mark, token_operator, or_fault_at, operator}
+
+-- the value of a step that had no fault
+pub bind_ok : {A B : Type 0} (r : Result A GrammarFault) (f : A → Result B GrammarFault) (y : B) → and_then r f ≡ Ok y → (x : A) × (r ≡ Ok x) × (f x ≡ Ok y)
+unfolding and_then
+bind_ok (Ok x) f y e = (x, refl, e)
+bind_ok (Err d) f y e = absurd cc
+
+pub ok_is : {A : Type 0} (x y : A) → ◌≡◌ {A = Result A GrammarFault} (Ok x) (Ok y) → x ≡ y
+ok_is x y e = cc
+
+some_is : {A : Type 0} (x y : A) → ◌≡◌ {A = Option A} (Some x) (Some y) → x ≡ y
+some_is x y e = cc
+
+-- a fault that a call tells
+pub fails_with : {A : Type 0} (e : GrammarFault) (read : Result A GrammarFault) → read ≡ Err e → Fails e read
+fails_with fault.NoMemory read h = tt
+fails_with (fault.Grammar at) read h = h
+fails_with (fault.TooDeep p) read h = h
+
+-- a test that was passed
+pub test_ok : {A : Type 0} (b : Bool) (x y : A) (d : GrammarFault) → cond b (Ok x) (Err d) ≡ Ok y → (b ≡ true) × (x ≡ y)
+test_ok true x y d e = (refl, cc)
+test_ok false x y d e = absurd cc
+
+-- a fault is no value
+pub no_value : {A : Type 0} (d : GrammarFault) (y : A) → ◌≡◌ {A = Result A GrammarFault} (Err d) (Ok y) → ⊥
+no_value d y e = cc
+
+-- ---- marks are told apart by their numbers
+
+marks_by_number : List Mark
+marks_by_number = mark_.LeftParen ∷ mark_.RightParen ∷ mark_.LeftBrace ∷ mark_.RightBrace ∷ mark_.Semicolon ∷ mark_.Comma ∷ mark_.Assign ∷ mark_.Plus ∷ mark_.Minus ∷ mark_.Star ∷ mark_.Slash ∷ mark_.Percent ∷ mark_.Less ∷ mark_.LessOrEqual ∷ mark_.Greater ∷ mark_.GreaterOrEqual ∷ mark_.Equal ∷ mark_.NotEqual ∷ mark_.And ∷ mark_.Or ∷ mark_.Not ∷ []
+
+mark_back : (m : Mark) → slice_index_or marks_by_number (mark_number m) mark_.Not ≡ m
+unfolding marks_by_number
+mark_back mark_.LeftParen = refl
+mark_back mark_.RightParen = refl
+mark_back mark_.LeftBrace = refl
+mark_back mark_.RightBrace = refl
+mark_back mark_.Semicolon = refl
+mark_back mark_.Comma = refl
+mark_back mark_.Assign = refl
+mark_back mark_.Plus = refl
+mark_back mark_.Minus = refl
+mark_back mark_.Star = refl
+mark_back mark_.Slash = refl
+mark_back mark_.Percent = refl
+mark_back mark_.Less = refl
+mark_back mark_.LessOrEqual = refl
+mark_back mark_.Greater = refl
+mark_back mark_.GreaterOrEqual = refl
+mark_back mark_.Equal = refl
+mark_back mark_.NotEqual = refl
+mark_back mark_.And = refl
+mark_back mark_.Or = refl
+mark_back mark_.Not = refl
+
+same_number : (a b : ℕ) → nat_eq a b ≡ true → a ≡ b
+same_number a b h = grind (arith, nat_tests)
+
+number_same : (a : ℕ) → nat_eq a a ≡ true
+number_same a = grind (arith, nat_tests)
+
+pub is_mark_true : (m : Mark) (t : Token) → is_mark m t ≡ true → t ≡ token.Mark m
+is_mark_true m (token.Mark n) h =
+    ap token.Mark (sym (mark_back n) ∙ ap (λ k. slice_index_or marks_by_number k mark_.Not) (same_number (mark_number n) (mark_number m) h) ∙ mark_back m)
+is_mark_true m (token.Name x) h = absurd cc
+is_mark_true m (token.Number n) h = absurd cc
+is_mark_true m (token.Keyword k) h = absurd cc
+
+pub is_mark_same : (m : Mark) → is_mark m (token.Mark m) ≡ true
+is_mark_same m = number_same (mark_number m)
+
+-- ---- tokens at the front
+
+-- there is a token at the front, of this kind, and these are those after it
+pub record Front (ls : List Lexeme) (t : Token) (more : List Token) : Type 0 where
+  pub lexeme : Lexeme
+  pub rest : List Lexeme
+  pub whole : ls ≡ lexeme ∷ rest
+  pub kind : lexeme.token ≡ t
+  pub after : kinds rest ≡ more
+
+head_of : Token → List Token → Token
+head_of t [] = t
+head_of t (u ∷ us) = u
+
+tail_of : List Token → List Token
+tail_of [] = []
+tail_of (u ∷ us) = us
+
+pub kind_of : (l : Lexeme) (ls : List Lexeme) (t : Token) (more : List Token) → kinds (l ∷ ls) ≡ t ∷ more → l.token ≡ t
+unfolding head_of
+kind_of l ls t more h = ap (head_of t) h
+
+pub kinds_of : (l : Lexeme) (ls : List Lexeme) (t : Token) (more : List Token) → kinds (l ∷ ls) ≡ t ∷ more → kinds ls ≡ more
+unfolding tail_of
+kinds_of l ls t more h = ap tail_of h
+
+pub front : (ls : List Lexeme) (t : Token) (more : List Token) → kinds ls ≡ t ∷ more → Front ls t more
+unfolding head_of tail_of
+front [] t more h = absurd cc
+front (l ∷ ls) t more h = record { lexeme = l; rest = ls; whole = refl; kind = ap (head_of t) h; after = ap tail_of h }
+
+pub next_takes : (s : Scope) (ls : List Lexeme) (l : Lexeme) (rest : List Lexeme) → next s ls ≡ Ok (l, rest) → ls ≡ l ∷ rest
+unfolding next
+next_takes s [] l rest h = absurd cc
+next_takes s (m ∷ ls) l rest h = ap (λ (p : Lexeme × List Lexeme). p.0 ∷ p.1) (ok_is (m, ls) (l, rest) h)
+
+pub next_again : (s : Scope) (l : Lexeme) (rest : List Lexeme) → next s (l ∷ rest) ≡ Ok (l, rest)
+unfolding next
+next_again s l rest = refl
+
+-- ---- a mark, an operator
+
+pub mark_takes : (s : Scope) (m : Mark) (ls rest : List Lexeme) → mark s m ls ≡ Ok rest → kinds ls ≡ token.Mark m ∷ kinds rest
+unfolding mark
+mark_takes s m ls rest h =
+    let b = bind_ok (next s ls) (λ x. cond (is_mark m x.0.token) (Ok x.1) (Err (fault.Grammar x.0.start))) rest h in
+    let t = test_ok (is_mark m b.0.0.token) b.0.1 rest (fault.Grammar b.0.0.start) b.2 in
+    ap kinds (next_takes s ls b.0.0 b.0.1 b.1) ∙ ap (λ (k : Token). k ∷ kinds b.0.1) (is_mark_true m b.0.0.token t.0) ∙ ap (λ (r : List Lexeme). token.Mark m ∷ kinds r) t.1
+
+mark_at : (s : Scope) (m : Mark) (ls : List Lexeme) (l : Lexeme) (rest : List Lexeme) → ls ≡ l ∷ rest → is_mark m l.token ≡ true → mark s m ls ≡ Ok rest
+unfolding mark and_then
+mark_at s m ls l rest e t = rw (e, next_again s l rest, t) refl
+
+pub mark_again : (s : Scope) (m : Mark) (ls : List Lexeme) (more : List Token) → kinds ls ≡ token.Mark m ∷ more → (rest : List Lexeme) × (mark s m ls ≡ Ok rest) × (kinds rest ≡ more)
+mark_again s m ls more h =
+    let f = front ls (token.Mark m) more h in
+    (f.rest, mark_at s m ls f.lexeme f.rest f.whole (ap (is_mark m) f.kind ∙ is_mark_same m), f.after)
+
+operator_is : (m : Mark) (o : BinaryOperator) → operator_of m ≡ Some o → m ≡ operator_mark o
+operator_is mark_.Plus o h = ap operator_mark (some_is operator_.Add o h)
+operator_is mark_.Minus o h = ap operator_mark (some_is operator_.Subtract o h)
+operator_is mark_.Star o h = ap operator_mark (some_is operator_.Multiply o h)
+operator_is mark_.Slash o h = ap operator_mark (some_is operator_.Divide o h)
+operator_is mark_.Percent o h = ap operator_mark (some_is operator_.Remainder o h)
+operator_is mark_.Less o h = ap operator_mark (some_is operator_.Less o h)
+operator_is mark_.LessOrEqual o h = ap operator_mark (some_is operator_.LessOrEqual o h)
+operator_is mark_.Greater o h = ap operator_mark (some_is operator_.Greater o h)
+operator_is mark_.GreaterOrEqual o h = ap operator_mark (some_is operator_.GreaterOrEqual o h)
+operator_is mark_.Equal o h = ap operator_mark (some_is operator_.Equal o h)
+operator_is mark_.NotEqual o h = ap operator_mark (some_is operator_.NotEqual o h)
+operator_is mark_.And o h = ap operator_mark (some_is operator_.And o h)
+operator_is mark_.Or o h = ap operator_mark (some_is operator_.Or o h)
+operator_is _ o h = absurd cc
+
+operator_back : (o : BinaryOperator) → operator_of (operator_mark o) ≡ Some o
+operator_back operator_.Add = refl
+operator_back operator_.Subtract = refl
+operator_back operator_.Multiply = refl
+operator_back operator_.Divide = refl
+operator_back operator_.Remainder = refl
+operator_back operator_.Less = refl
+operator_back operator_.LessOrEqual = refl
+operator_back operator_.Greater = refl
+operator_back operator_.GreaterOrEqual = refl
+operator_back operator_.Equal = refl
+operator_back operator_.NotEqual = refl
+operator_back operator_.And = refl
+operator_back operator_.Or = refl
+
+found_is : (found : Option BinaryOperator) (start : ℕ) (ls : List Lexeme) (o : BinaryOperator) (rest : List Lexeme) → or_fault_at start ls found ≡ Ok (o, rest) → (found ≡ Some o) × (ls ≡ rest)
+found_is (Some p) start ls o rest h =
+    (ap (λ (q : BinaryOperator × List Lexeme). Some q.0) (ok_is (p, ls) (o, rest) h), ap (λ (q : BinaryOperator × List Lexeme). q.1) (ok_is (p, ls) (o, rest) h))
+found_is None start ls o rest h = absurd cc
+
+token_operator_is : (t : Token) (o : BinaryOperator) → token_operator t ≡ Some o → t ≡ token.Mark (operator_mark o)
+token_operator_is (token.Mark m) o h = ap token.Mark (operator_is m o h)
+token_operator_is (token.Name x) o h = absurd cc
+token_operator_is (token.Number n) o h = absurd cc
+token_operator_is (token.Keyword k) o h = absurd cc
+
+pub operator_takes : (s : Scope) (ls : List Lexeme) (o : BinaryOperator) (rest : List Lexeme) → operator s ls ≡ Ok (o, rest) → kinds ls ≡ token.Mark (operator_mark o) ∷ kinds rest
+unfolding operator
+operator_takes s ls o rest h =
+    let b = bind_ok (next s ls) (λ x. or_fault_at x.0.start x.1 (token_operator x.0.token)) (o, rest) h in
+    let f = found_is (token_operator b.0.0.token) b.0.0.start b.0.1 o rest b.2 in
+    ap kinds (next_takes s ls b.0.0 b.0.1 b.1) ∙ ap (λ (t : Token). t ∷ kinds b.0.1) (token_operator_is b.0.0.token o f.0) ∙ ap (λ (r : List Lexeme). token.Mark (operator_mark o) ∷ kinds r) f.1
+
+operator_at : (s : Scope) (o : BinaryOperator) (ls : List Lexeme) (l : Lexeme) (rest : List Lexeme) → ls ≡ l ∷ rest → l.token ≡ token.Mark (operator_mark o) → operator s ls ≡ Ok (o, rest)
+unfolding operator and_then
+operator_at s o ls l rest e t = rw (e, next_again s l rest, t, operator_back o) refl
+
+pub operator_again : (s : Scope) (ls : List Lexeme) (o : BinaryOperator) (more : List Token) → kinds ls ≡ token.Mark (operator_mark o) ∷ more → (rest : List Lexeme) × (operator s ls ≡ Ok (o, rest)) × (kinds rest ≡ more)
+operator_again s ls o more h =
+    let f = front ls (token.Mark (operator_mark o)) more h in
+    (f.rest, operator_at s o ls f.lexeme f.rest f.whole f.kind, f.after)
+
+-- ---- calls beside what reading gives
+
+-- what a call returned was read
+pub was_read : {A B : Type 0} (view : A → B) (P : A → Type 0) (r : Result A GrammarFault) (read : Result B GrammarFault) → Gives view r read → ((x : A) → read ≡ Ok (view x) → P x) → IfOk r P
+was_read view P (Ok x) read g k = k x g
+was_read view P (Err e) read g k = tt
+
+-- what can be read was returned, unless memory ran out
+pub is_returned : {A B : Type 0} (view : A → B) (P : A → Type 0) (r : Result A GrammarFault) (read : Result B GrammarFault) (y : B) → Gives view r read → read ≡ Ok y → ((x : A) → view x ≡ y → P x) → OkOrNoMemory r P
+is_returned view P (Ok x) read y g h k = k x (ok_is (view x) y (sym g ∙ h))
+is_returned view P (Err fault.NoMemory) read y g h k = refl
+is_returned {A} {B} view P (Err (fault.Grammar at)) read y g h k = absurd (no_value (fault.Grammar at) y (sym g ∙ h))
+is_returned {A} {B} view P (Err (fault.TooDeep p)) read y g h k = absurd (no_value (fault.TooDeep p) y (sym g ∙ h))

@@ -1,0 +1,33 @@
+//! Why tokens are no description.
+
+ghost use Rattle.std.specs.Prelude.{◌≡◌};
+
+use std::alloc::AllocFailed;
+use thiserror::Error;
+
+/// Why tokens cannot be read as the grammar has it, with the place.
+#[derive(Clone, Copy, Debug, PartialEq, Eq, Error)]
+pub enum GrammarFault {
+    /// The token that begins at this byte cannot stand there; or the text ends too early, at its
+    /// length.
+    #[error("no such token can stand at byte {0}")]
+    Grammar(usize),
+    /// An expression of the process with this number nests deeper than
+    /// [`MAX_DEPTH`](crate::MAX_DEPTH).
+    #[error("process {0} nests too deep")]
+    TooDeep(usize),
+    /// Memory ran out.
+    #[error("out of memory")]
+    NoMemory,
+}
+
+impl<T: Drop> From<AllocFailed<T>> for GrammarFault {
+    ghost use Rattle.std.specs.Prelude.{◌≡◌};
+    ghost use Rattle.kpn_grammar.specs.declared.fault.GrammarFault.TheVariants.{NoMemory};
+
+    ghost from_gives = { λ _ fault. fault ≡ NoMemory };
+
+    fn from(_failed: AllocFailed<T>) -> GrammarFault {
+        GrammarFault::NoMemory
+    }
+}

@@ -1,0 +1,21 @@
+-- As many blocks are equal where each pair is.
+use Rattle.std.proofs.Common.{rules, tests, List}
+use Rattle.std.specs.Global.{Vec}
+use Rattle.std.proofs.lemmas.Iterator.{YieldsList-from_slice, YieldsList-from_zip, cases_from_all}
+use Rattle.kpn_lang.specs.declared.syntax.Stmt.{Stmt}
+use Rattle.kpn_lang.specs.Syntax.{Statement}
+use Rattle.kpn_lang.specs.View.{statements_of}
+use Rattle.kpn_lang.proofs.Pairs.{Alike, Differ, same_by_pairs}
+use Rattle.kpn_lang.proofs.program.equality.same_blocks.Goals as goal
+
+abbrev statements : Vec Stmt → List Statement
+statements block = statements_of block.items
+
+pub returns-then-left-right : goal.returns-then-left-right
+returns-then-left-right c =
+    let left = c.args.left.now in
+    let right = c.args.right.now in
+    same_by_pairs statements left right c.all.result c.if-left-right.true
+    (cases_from_all c.all.new.self _ c.all.result (Alike statements) (Differ statements) c.all.ensures.ran
+    (YieldsList-from_zip (YieldsList-from_slice left (cc)) (YieldsList-from_slice right (cc)))
+    (λ x q k. search (rules, tests)) (λ x q k. search (rules, tests)))

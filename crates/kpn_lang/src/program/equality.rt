@@ -1,0 +1,64 @@
+// Equality of the parts of programs by value: where they lie in memory does not count.
+ghost use Rattle.std.specs.Prelude.{◌≡◌, ◌↔◌, IsTrue};
+ghost use Rattle.kpn_lang.specs.Syntax.{term_of, statement_of};
+ghost use Rattle.kpn_lang.specs.View.{parts_of, blocks_of, statements_of};
+
+use crate::program::parts::Parts;
+use crate::syntax::{Expr, Op, Stmt};
+
+/// Whether two programs are made of the same parts.
+pub fn same_parts(left: &Parts, right: &Parts) -> bool
+    ensures { IsTrue result ↔ (parts_of left.now ≡ parts_of right.now) }
+{
+    left.ins == right.ins
+        && left.outs == right.outs
+        && left.pars == right.pars
+        && left.vars == right.vars
+        && same_blocks(&left.blocks, &right.blocks)
+}
+
+fn same_blocks(left: &[Vec<Stmt>], right: &[Vec<Stmt>]) -> bool
+    ensures { IsTrue result ↔ (blocks_of left.now ≡ blocks_of right.now) }
+{
+    left.len() == right.len() && left.iter().zip(right).all(|(x, y)| same_block(x, y))
+}
+
+fn same_block(left: &[Stmt], right: &[Stmt]) -> bool
+    ensures { IsTrue result ↔ (statements_of left.now ≡ statements_of right.now) }
+{
+    left.len() == right.len() && left.iter().zip(right).all(|(x, y)| same_stmt(x, y))
+}
+
+fn same_stmt(left: &Stmt, right: &Stmt) -> bool
+    ensures { IsTrue result ↔ (statement_of left.now ≡ statement_of right.now) }
+{
+    match (left, right) {
+        (Stmt::Assign(x, e), Stmt::Assign(y, f)) => x == y && same_expr(e, f),
+        (Stmt::Read(i, x), Stmt::Read(j, y)) => i == j && x == y,
+        (Stmt::Write(o, e), Stmt::Write(p, f)) => o == p && same_expr(e, f),
+        (Stmt::If(e, a, b), Stmt::If(f, c, d)) => a == c && b == d && same_expr(e, f),
+        (Stmt::While(e, a), Stmt::While(f, b)) => a == b && same_expr(e, f),
+        _ => false,
+    }
+}
+
+fn same_expr(left: &Expr, right: &Expr) -> bool
+    ensures { IsTrue result ↔ (term_of left.now ≡ term_of right.now) }
+{
+    match (left, right) {
+        (Expr::Num(x), Expr::Num(y)) => x == y,
+        (Expr::Var(x), Expr::Var(y)) => x == y,
+        (Expr::Neg(x), Expr::Neg(y)) => same_expr(x, y),
+        (Expr::Not(x), Expr::Not(y)) => same_expr(x, y),
+        (Expr::Bin(op, a, b), Expr::Bin(other, c, d)) => {
+            same_op(*op, *other) && same_expr(a, c) && same_expr(b, d)
+        }
+        _ => false,
+    }
+}
+
+fn same_op(left: Op, right: Op) -> bool
+    ensures { IsTrue result ↔ (left ≡ right) }
+{
+    left == right
+}
