@@ -65,3 +65,6 @@ pub fn eval(expr: &Expr, variables: &[i64]) -> Result<i64, Fault>
         }
     }
 }
+
+#[cfg(test)]
+mod tests;
