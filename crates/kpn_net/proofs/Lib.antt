@@ -1,0 +1,6 @@
+pub mod Growth
+pub mod SideLemmas
+pub mod Networks
+pub mod Ports
+pub mod RoundLemmas
+pub mod Pairs

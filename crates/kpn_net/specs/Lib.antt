@@ -1,0 +1,7 @@
+pub mod Tables
+pub mod Faults
+pub mod Process
+pub mod Iteration
+pub mod Waits
+pub mod Sides
+pub mod View

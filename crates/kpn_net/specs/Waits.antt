@@ -1,0 +1,60 @@
+-- What processes wait for, and cycles of waiting processes (this project's rule, after Geilen and Basten 2003: each
+-- process waits on one channel, which has one other end, so it waits for at most one process).
+use Rattle.std.specs.Prelude.{◌≡◌, ℕ, ◌<◌, ◌≤◌, ◌⊎◌, List, [], ◌∷◌, Option, Some, None, Contains, slice_index_or}
+use Rattle.std.specs.List.{filter_map}
+use Rattle.kpn_net.specs.declared.wait.Wait.{Wait}
+use Rattle.kpn_net.specs.declared.wait.Wait.TheVariants.{Nobody, Empty, Full}
+use Rattle.kpn_net.specs.declared.tables.End.{End}
+use Rattle.kpn_net.specs.declared.tables.End.TheVariants.{Process, Source, Sink}
+use Rattle.kpn_net.specs.Tables.{Tables, writer_of, reader_of}
+
+-- the wait of a process in a wait table
+abbrev pub wait_at : List Wait → ℕ → Wait
+wait_at waits p = slice_index_or waits p Nobody
+
+-- the process at an end of a channel, where it is one
+abbrev pub process_at : End → Option ℕ
+process_at (Process p) = Some p
+process_at Source = None
+process_at Sink = None
+
+-- the process that is waited for: on an empty channel its writer, on a full one its reader, where that is a process
+abbrev pub awaited : Tables → Wait → Option ℕ
+awaited t Nobody = None
+awaited t (Empty c) = process_at (writer_of t c)
+awaited t (Full c) = process_at (reader_of t c)
+
+-- the channel that is waited on as full
+abbrev pub full_channel : Wait → Option ℕ
+full_channel Nobody = None
+full_channel (Empty c) = None
+full_channel (Full c) = Some c
+
+-- one process waits for another
+pub record WaitsFor (t : Tables) (waits : List Wait) (p q : ℕ) : Type 0 where
+  pub awaited : awaited t (wait_at waits p) ≡ Some q
+
+-- p waits for the first of these, each of them for the next, and the last of all for q
+abbrev pub WaitInTurn : Tables → List Wait → (p : ℕ) → List ℕ → (q : ℕ) → Type 0
+WaitInTurn t waits p [] q = WaitsFor t waits p q
+WaitInTurn t waits p (r ∷ rest) q = WaitsFor t waits p r × WaitInTurn t waits r rest q
+
+-- no two are the same
+abbrev pub AreDistinct : List ℕ → Type 0
+AreDistinct [] = Unit {0}
+AreDistinct (p ∷ rest) = (¬ Contains rest p) × AreDistinct rest
+
+-- a cycle through p: distinct processes, p first and then the others, each of which waits for the next, and the last
+-- for p
+pub record IsCycle (t : Tables) (waits : List Wait) (p : ℕ) (others : List ℕ) : Type 0 where
+  pub distinct : AreDistinct (p ∷ others)
+  pub turn : WaitInTurn t waits p others p
+
+-- the full channels of a cycle: those on which its members wait as full
+abbrev pub full_channels : List Wait → List ℕ → List ℕ
+full_channels waits members = filter_map (λ p. full_channel (wait_at waits p)) members
+
+-- the smallest of these channels: the one of least capacity, on a tie that of least number
+pub record IsSmallest (cap : ℕ → ℕ) (channels : List ℕ) (c : ℕ) : Type 0 where
+  pub among : Contains channels c
+  pub least : (d : ℕ) → Contains channels d → (cap c < cap d) ⊎ ((cap c ≡ cap d) × (c ≤ d))

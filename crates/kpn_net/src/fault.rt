@@ -1,0 +1,39 @@
+// The rules that the tables of a network may break.
+ghost use Rattle.std.specs.Prelude.{◌≡◌};
+ghost use Rattle.kpn_net.specs.declared.fault.NetFault.TheVariants.{NoMemory};
+
+use std::alloc::AllocError;
+
+/// The first rule that the tables of a network break, with its number.
+#[derive(Clone, Copy, Debug, PartialEq, Eq)]
+pub enum NetFault {
+    /// 10: more than 256 programs, 256 instances or 1,024 channels.
+    TooMany,
+    /// 11: this instance names a program that is not there.
+    NoSuchProgram(usize),
+    /// 12: this instance has not as many in ports, out ports or parameters as its program.
+    PortCount(usize),
+    /// 19: this instance names a channel that is not there.
+    NoSuchChannel(usize),
+    /// 13: nothing writes this channel.
+    NoWriter(usize),
+    /// 14: more than one end writes this channel.
+    TwoWriters(usize),
+    /// 15: nothing reads this channel.
+    NoReader(usize),
+    /// 16: more than one end reads this channel.
+    TwoReaders(usize),
+    /// 17: the capacity of this channel is 0 or above the limit; the number of channels where the limit
+    /// itself is 0 or above 1,048,576.
+    Capacity(usize),
+    /// 18: memory ran out.
+    NoMemory,
+}
+
+impl From<AllocError> for NetFault {
+    ghost from_gives = { λ _ fault. fault ≡ NoMemory };
+
+    fn from(_error: AllocError) -> NetFault {
+        NetFault::NoMemory
+    }
+}

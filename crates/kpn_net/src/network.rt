@@ -1,0 +1,226 @@
+// Networks: tables that keep the rules, made once and read many times.
+ghost use Rattle.std.specs.Prelude.{◌≡◌, ◌<◌, ◌↔◌, IsTrue, length, IfSome, IfNone, MatchResult};
+ghost use Rattle.kpn_net.specs.Tables.{instance_at, program_at, program_of, channel_at, is_source, writer_of, reader_of, capacity};
+ghost use Rattle.kpn_net.specs.Faults.{first_fault, IsNetwork};
+ghost use Rattle.kpn_net.specs.Iteration.{sources};
+ghost use Rattle.kpn_net.specs.View.{tables_with};
+
+use crate::fault::NetFault;
+use crate::tables::{ChannelSpec, End, Instance};
+use kpn_lang::Program;
+use std::alloc::{AllocError, Global};
+use std::marker::Model;
+
+mod equality;
+mod parts;
+mod sides;
+
+use equality::same_parts;
+use parts::{MAX_CHANNELS, Parts};
+use sides::Side;
+
+/// A network: programs, instances of them, and channels that join them. Each channel has one writer and
+/// one reader, and a capacity from 1 to the limit unless it is a source.
+#[derive(Debug, Drop)]
+pub struct Network {
+    parts: Parts,
+    writers: Vec<End>,
+    readers: Vec<End>,
+}
+
+impl Model for Network {
+    ghost use Rattle.std.specs.Coded.{codes};
+    ghost use Rattle.kpn_lang.specs.Codes.{parts_code};
+    ghost use Rattle.kpn_net.specs.Tables.{Tables};
+    ghost use Rattle.kpn_net.specs.View.{tables_of, IsKept};
+
+    ghost Value = { Tables };
+
+    ghost coded = { Prim.hlevel (codes, parts_code) };
+
+    ghost view = { λ n. tables_of n.parts };
+
+    ghost invariant = { λ n. IsKept (tables_of n.parts) n.writers.items n.readers.items };
+}
+
+impl Network {
+    /// The network of these tables.
+    ///
+    /// `limit` bounds each capacity and is 1 to 1,048,576. The fault is that of the first rule that the
+    /// tables break, each looked for in the whole network before the next, at the least number. The order
+    /// is that of `NetFault`. Memory is asked for last. The work grows no faster than the network's size.
+    pub fn new(
+        alloc: Global,
+        programs: Vec<Program>,
+        instances: Vec<Instance>,
+        channels: Vec<ChannelSpec>,
+        limit: u32,
+    ) -> Result<Network, NetFault>
+        ensures refused { let t = tables_with programs.items instances.items channels.items limit in
+            IfSome (first_fault t) (λ fault. result ≡ Err fault) }
+        ensures made { let t = tables_with programs.items instances.items channels.items limit in
+            IfNone (first_fault t) (MatchResult result (λ network. network ≡ t) (λ fault. fault ≡ NetFault.NoMemory)) }
+    {
+        let parts = Parts {
+            programs,
+            instances,
+            channels,
+            limit,
+        };
+        if let Some(fault) = parts.instances_fault() {
+            return Err(fault);
+        }
+        let mut writers = [Side::Nobody; MAX_CHANNELS];
+        let mut readers = [Side::Nobody; MAX_CHANNELS];
+        let count = parts.channels.len();
+        let writers = &mut writers[..count];
+        let readers = &mut readers[..count];
+        parts.count_ends(writers, readers);
+        if let Some(fault) = parts.channels_fault(writers, readers) {
+            return Err(fault);
+        }
+        parts.known_programs();
+        let writers = sides::ends(alloc, writers, End::Sink)?;
+        let readers = sides::ends(alloc, readers, End::Source)?;
+        Ok(Network {
+            parts,
+            writers,
+            readers,
+        })
+    }
+
+    /// How many programs there are.
+    pub fn programs(&self) -> usize
+        ensures { result ≡ length self.now.programs }
+    {
+        self.parts.programs.len()
+    }
+
+    /// The program with this number, with or without an instance.
+    pub fn program_at(&self, i: usize) -> &Program
+        requires { i < length self.now.programs }
+        ensures { result.now ≡ program_at self.now i }
+    {
+        &self.parts.programs[i]
+    }
+
+    /// The number of the program of process `p`.
+    pub fn program_number(&self, p: usize) -> usize
+        requires { p < length self.now.instances }
+        ensures { result ≡ (instance_at self.now p).program }
+    {
+        self.parts.instances[p].program
+    }
+
+    /// How many instances there are: these are the processes.
+    pub fn instances(&self) -> usize
+        ensures { result ≡ length self.now.instances }
+    {
+        self.parts.instances.len()
+    }
+
+    /// How many channels there are.
+    pub fn channels(&self) -> usize
+        ensures { result ≡ length self.now.channels }
+    {
+        self.parts.channels.len()
+    }
+
+    /// The program of process `p`.
+    pub fn program(&self, p: usize) -> &Program
+        requires { p < length self.now.instances }
+        ensures { result.now ≡ program_of self.now p }
+    {
+        &self.parts.programs[self.parts.instances[p].program]
+    }
+
+    /// The channels at the in ports of process `p`.
+    pub fn ins(&self, p: usize) -> &[usize]
+        requires { p < length self.now.instances }
+        ensures { result.now ≡ (instance_at self.now p).ins }
+    {
+        self.parts.instances[p].ins.as_slice()
+    }
+
+    /// The channels at the out ports of process `p`.
+    pub fn outs(&self, p: usize) -> &[usize]
+        requires { p < length self.now.instances }
+        ensures { result.now ≡ (instance_at self.now p).outs }
+    {
+        self.parts.instances[p].outs.as_slice()
+    }
+
+    /// The values of the parameters of process `p`.
+    pub fn pars(&self, p: usize) -> &[i64]
+        requires { p < length self.now.instances }
+        ensures { result.now ≡ (instance_at self.now p).pars }
+    {
+        self.parts.instances[p].pars.as_slice()
+    }
+
+    /// What writes channel `c`.
+    pub fn writer_of(&self, c: usize) -> End
+        requires { c < length self.now.channels }
+        ensures { result ≡ writer_of self.now c }
+    {
+        self.writers[c]
+    }
+
+    /// What reads channel `c`.
+    pub fn reader_of(&self, c: usize) -> End
+        requires { c < length self.now.channels }
+        ensures { result ≡ reader_of self.now c }
+    {
+        self.readers[c]
+    }
+
+    pub(crate) fn is_source(&self, c: usize) -> bool
+        requires { c < length self.now.channels }
+        ensures { result ≡ is_source (channel_at self.now c) }
+    {
+        matches!(self.parts.channels[c], ChannelSpec::Source)
+    }
+
+    /// How many sources there are. It looks at each channel.
+    pub fn sources(&self) -> usize
+        ensures { result ≡ sources self.now }
+    {
+        self.parts
+            .channels
+            .iter()
+            .filter(|channel| matches!(channel, ChannelSpec::Source))
+            .count()
+    }
+
+    /// The capacity of channel `c`; none for a source.
+    pub fn cap_of(&self, c: usize) -> Option<u32>
+        requires { c < length self.now.channels }
+        ensures { result ≡ capacity (channel_at self.now c) }
+    {
+        match self.parts.channels[c] {
+            ChannelSpec::Inner(cap) | ChannelSpec::Sink(cap) => Some(cap),
+            ChannelSpec::Source => None,
+        }
+    }
+
+    /// The greatest capacity that a channel may have.
+    pub fn limit(&self) -> u32
+        ensures { result ≡ self.now.limit }
+    {
+        self.parts.limit
+    }
+
+    /// Nothing: it tells a caller's proof that the network keeps the rules.
+    pub fn known(&self)
+        ensures { IsNetwork self.now }
+    {
+        let _ = &self.parts;
+    }
+}
+
+/// Whether two networks are equal by value: the same programs, instances, channels and limit.
+pub fn same(left: &Network, right: &Network) -> bool
+    ensures { IsTrue result ↔ (left.now ≡ right.now) }
+{
+    same_parts(&left.parts, &right.parts)
+}

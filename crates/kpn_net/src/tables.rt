@@ -1,0 +1,37 @@
+// What the tables of a network are made of.
+use kpn_lang::Sequence;
+
+/// A channel of a network, by what stands at its outer end.
+#[derive(Clone, Copy, Debug, PartialEq, Eq)]
+pub enum ChannelSpec {
+    /// From process to process, with this capacity.
+    Inner(u32),
+    /// Fed by the outside. It has no capacity.
+    Source,
+    /// Emptied by the outside, with this capacity.
+    Sink(u32),
+}
+
+/// A process of a network: an instance of a program.
+#[derive(Debug, Drop)]
+pub struct Instance {
+    /// The number of the program.
+    pub program: usize,
+    /// The channels at the in ports, in order of port.
+    pub ins: Sequence<usize>,
+    /// The channels at the out ports, in order of port.
+    pub outs: Sequence<usize>,
+    /// The values of the parameters.
+    pub pars: Sequence<i64>,
+}
+
+/// What writes a channel or reads it.
+#[derive(Clone, Copy, Debug, PartialEq, Eq)]
+pub enum End {
+    /// The process with this number.
+    Process(usize),
+    /// The outside, which feeds a source.
+    Source,
+    /// The outside, which empties a sink.
+    Sink,
+}

@@ -1,0 +1,12 @@
+// What a process waits for.
+
+/// What a process waits for. A wait table has a wait for each process.
+#[derive(Clone, Copy, Debug, PartialEq, Eq)]
+pub enum Wait {
+    /// For nobody.
+    Nobody,
+    /// For an item on this empty channel.
+    Empty(usize),
+    /// For room on this full channel.
+    Full(usize),
+}
