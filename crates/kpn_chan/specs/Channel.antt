@@ -1,0 +1,64 @@
+-- A channel as contracts see it: a journal of every item that was put, of which the first ones were read.
+use Rattle.std.specs.Prelude.{ℕ, ◌+◌, ℤ, Bool, true, false, not, ◌&&◌, nat_le, if◌then◌else◌, List, [], ◌∷◌, ◌++◌, length, take, drop, Option, Some, None, slice_get}
+
+pub record ChannelState : Type 0 where
+  -- every item that was put, oldest first
+  pub journal : List ℤ
+  -- how many of them were read
+  pub read : ℕ
+  -- how many unread items fill the channel; none for a source
+  pub capacity : Option ℕ
+  -- whether the reader is gone
+  pub is_retired : Bool
+  -- whether the next item is sure of its room in memory
+  pub is_reserved : Bool
+
+-- the items that were read
+abbrev pub already_read : ChannelState → List ℤ
+already_read c = take c.read c.journal
+
+-- the items that wait for the reader, oldest first
+abbrev pub unread : ChannelState → List ℤ
+unread c = drop c.read c.journal
+
+-- whether so many unread items fill a channel of this capacity
+abbrev pub fills : ℕ → Option ℕ → Bool
+fills count None = false
+fills count (Some capacity) = nat_le capacity count
+
+-- whether a writer has to wait: the reader is there, and the unread items have reached the capacity
+abbrev pub is_full : ChannelState → Bool
+is_full c = not c.is_retired && fills (length (unread c)) c.capacity
+
+-- the item that a read gives: the oldest unread one, and none once the reader is gone
+abbrev pub next_item : ChannelState → Option ℤ
+next_item c = if c.is_retired then None else slice_get (unread c) 0
+
+-- a channel on which nothing happened yet
+abbrev pub opened : Option ℕ → Bool → ChannelState
+opened capacity reserved = record { journal = []; read = 0; capacity = capacity; is_retired = false; is_reserved = reserved }
+
+-- the channel with room for its next item
+abbrev pub with_room : ChannelState → ChannelState
+with_room c = record c { is_reserved = true }
+
+-- the channel after a put; whether a further item is reserved stands apart
+abbrev pub after_put : ℤ → Bool → ChannelState → ChannelState
+after_put item reserved c = record c { journal = c.journal ++ item ∷ []; is_reserved = reserved }
+
+-- the channel after a read that gave this
+abbrev pub after_get : Option ℤ → ChannelState → ChannelState
+after_get None c = c
+after_get (Some item) c = record c { read = c.read + 1 }
+
+-- the channel whose reader is gone
+abbrev pub retired : ChannelState → ChannelState
+retired c = record c { is_retired = true }
+
+abbrev pub one_more : Option ℕ → Option ℕ
+one_more None = None
+one_more (Some capacity) = Some (capacity + 1)
+
+-- the channel with a capacity larger by one
+abbrev pub grown : ChannelState → ChannelState
+grown c = record c { capacity = one_more c.capacity }
