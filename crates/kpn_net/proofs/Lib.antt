@@ -4,3 +4,4 @@ pub mod Networks
 pub mod Ports
 pub mod RoundLemmas
 pub mod Pairs
+pub mod Cycles

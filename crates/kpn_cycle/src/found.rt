@@ -1,0 +1,27 @@
+// What a search for a cycle finds.
+ghost use Rattle.std.specs.Prelude.{◌≡◌};
+ghost use Rattle.kpn_cycle.specs.SoFar.{found_on};
+
+/// What a search for a cycle of waiting processes finds.
+#[derive(Clone, Copy, Debug, PartialEq, Eq)]
+pub enum Found {
+    /// There is no cycle.
+    NoCycle,
+    /// There is a cycle, and each of its members waits on an empty channel.
+    AllEmpty,
+    /// There is a cycle, and this is the smallest of the channels on which its members wait as full:
+    /// that of least capacity, on a tie that of least number.
+    Full(usize),
+}
+
+impl Found {
+    /// What is found on a cycle with this smallest full channel.
+    pub(crate) fn on_cycle(smallest: Option<usize>) -> Found
+        ensures { result ≡ found_on smallest }
+    {
+        match smallest {
+            Some(c) => Found::Full(c),
+            None => Found::AllEmpty,
+        }
+    }
+}

@@ -1,0 +1,107 @@
+// The cycle through a process, found by a walk along the waits, and a scan of all processes.
+ghost use Rattle.std.specs.Prelude.{◌≡◌, ℕ, ◌<◌, ◌++◌, List, [], ◌∷◌, length, IfSome};
+ghost use Rattle.std.specs.Option.{option_to_list};
+ghost use Rattle.kpn_net.specs.Waits.{awaited, full_channel, IsSmallest};
+ghost use Rattle.kpn_cycle.specs.Conditions.{AreWaits, cap_in};
+ghost use Rattle.kpn_cycle.specs.Finding.{Finds, ScanFinds};
+ghost use Rattle.kpn_cycle.specs.SoFar.{IsSmallestSoFar, IsOnChannelBelow};
+
+use crate::found::Found;
+use crate::waits::Waits;
+use kpn_net::{End, Network, Wait};
+
+/// The cycle of waiting processes in which process `p` waits for the next and the last for `p`, and its
+/// smallest full channel, whether below the limit or not.
+///
+/// `caps` has the capacity of each channel; the entry of a source is not looked at. The walk makes at most
+/// as many steps as there are processes.
+pub fn cycle_through(network: &Network, waits: &Waits, caps: &[u32], p: usize) -> Found
+    requires process { p < length network.now.instances }
+    requires waits { AreWaits network.now waits.now }
+    requires caps { length caps.now ≡ length network.now.channels }
+    ensures exact { Finds network.now waits.now (cap_in caps.now) p result }
+    ensures channel { (c : ℕ) → result ≡ Found.Full c → c < length network.now.channels }
+{
+    network.known();
+    let mut at = p;
+    let mut smallest = None;
+    for _step in 0..network.instances() {
+        let wait = waits.get(at);
+        smallest = smallest_with(caps, smallest, wait);
+        let Some(next) = awaited(network, wait) else {
+            return Found::NoCycle;
+        };
+        if next == p {
+            return Found::on_cycle(smallest);
+        }
+        at = next;
+    }
+    Found::NoCycle
+}
+
+/// The first `Full` of a cycle through process 0, 1, .. whose channel is below the limit, else `NoCycle`.
+///
+/// `caps` has the capacity of each channel; the entry of a source is not looked at. It makes a walk from
+/// each process.
+pub fn scan_all(network: &Network, waits: &Waits, caps: &[u32]) -> Found
+    requires waits { AreWaits network.now waits.now }
+    requires caps { length caps.now ≡ length network.now.channels }
+    ensures { ScanFinds network.now waits.now (cap_in caps.now) result }
+{
+    for p in 0..network.instances() {
+        if let Found::Full(c) = cycle_through(network, waits, caps, p) {
+            if caps[c] < network.limit() {
+                return Found::Full(c);
+            }
+        }
+    }
+    Found::NoCycle
+}
+
+/// The process that is waited for: on an empty channel its writer, on a full one its reader. It is `None`
+/// where that is the outside.
+fn awaited(network: &Network, wait: Wait) -> Option<usize>
+    requires { IsOnChannelBelow (length network.now.channels) wait }
+    ensures { result ≡ awaited network.now wait }
+{
+    let end = match wait {
+        Wait::Nobody => return None,
+        Wait::Empty(c) => network.writer_of(c),
+        Wait::Full(c) => network.reader_of(c),
+    };
+    match end {
+        End::Process(q) => Some(q),
+        End::Source | End::Sink => None,
+    }
+}
+
+/// The smallest full channel, where one wait more has been met.
+fn smallest_with(caps: &[u32], smallest: Option<usize>, wait: Wait) -> Option<usize>
+    requires wait { IsOnChannelBelow (length caps.now) wait }
+    requires smallest { IfSome smallest (λ c. c < length caps.now) }
+    ensures smallest { (channels : List ℕ) → IsSmallestSoFar (cap_in caps.now) channels smallest
+        → IsSmallestSoFar (cap_in caps.now) (channels ++ option_to_list (full_channel wait)) result }
+    ensures channel { IfSome result (λ c. c < length caps.now) }
+{
+    let Wait::Full(d) = wait else {
+        return smallest;
+    };
+    match smallest {
+        Some(c) => Some(smaller(caps, c, d)),
+        None => Some(d),
+    }
+}
+
+/// The smaller of two channels: that of less capacity, on a tie that of less number.
+fn smaller(caps: &[u32], c: usize, d: usize) -> usize
+    requires c { c < length caps.now }
+    requires d { d < length caps.now }
+    ensures smallest { IsSmallest (cap_in caps.now) (c ∷ d ∷ []) result }
+    ensures channel { result < length caps.now }
+{
+    if caps[d] < caps[c] || (caps[d] == caps[c] && d < c) {
+        d
+    } else {
+        c
+    }
+}

@@ -1,0 +1,17 @@
+pub mod Events
+pub mod Legality
+pub mod Running
+pub mod Ownership
+pub mod Journals
+pub mod OneMore
+pub mod WaitsAfter
+pub mod Below
+pub mod Above
+pub mod Kahn
+pub mod StandingWaits
+pub mod Growth
+pub mod Stops
+pub mod Searching
+pub mod Checking
+pub mod EndTests
+pub mod Worked

@@ -1,0 +1,12 @@
+-- Without a full channel in a blocked cycle no growth is owed.
+use Rattle.kpn_trace.proofs.Stops.{waits_for_blocked, without_full_cycle, only_a_leave}
+use Rattle.kpn_trace.proofs.growth_laws.clogged_waits_for_the_blocked.Goals as goal
+
+pub returns-clause-waits : goal.returns-clause-waits
+returns-clause-waits c t network H legal v = waits_for_blocked t network H legal v.0
+
+pub returns-clause-no_cycle : goal.returns-clause-no_cycle
+returns-clause-no_cycle c t H v = v.1
+
+pub returns-clause-last : goal.returns-clause-last
+returns-clause-last c t H v = only_a_leave t H v.0 (without_full_cycle t H v.1)

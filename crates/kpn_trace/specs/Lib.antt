@@ -1,0 +1,11 @@
+pub mod Recorded
+pub mod Talks
+pub mod Channels
+pub mod Waiting
+pub mod Legal
+pub mod OneMore
+pub mod WaitsAfter
+pub mod Ends
+pub mod Views
+pub mod Stops
+pub mod Examples

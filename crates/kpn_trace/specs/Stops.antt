@@ -1,0 +1,39 @@
+-- What growth leaves behind, and what a stop rests on (Parks 1995: an artificial deadlock is a cycle of blocked processes
+-- with a full channel, which a larger capacity resolves; Geilen and Basten 2003: such a cycle may be local).
+use Rattle.std.specs.Prelude.{◌≡◌, ◌≢◌, ℕ, ◌<◌, List, Some, Contains, length}
+use Rattle.kpn_net.specs.declared.wait.Wait.TheVariants.{Nobody}
+use Rattle.kpn_net.specs.Tables.{Tables}
+use Rattle.kpn_net.specs.Waits.{awaited}
+use Rattle.kpn_trace.specs.declared.event.Event.{Event}
+use Rattle.kpn_trace.specs.Channels.{capacity_after, room_after}
+use Rattle.kpn_trace.specs.Waiting.{wait_of, IsBlockedCycle, full_in_cycle}
+use Rattle.kpn_trace.specs.Legal.{OwesGrowth}
+
+-- no growth is owed
+abbrev pub OwesNothing : Tables → List Event → Type 0
+OwesNothing t H = (p d : ℕ) → ¬ OwesGrowth t H p d
+
+-- some blocked cycle has a full channel below the limit
+pub record CanGrow (t : Tables) (H : List Event) : Type 0 where
+  pub process : ℕ
+  pub others : List ℕ
+  pub cycle : IsBlockedCycle t H process others
+  pub channel : ℕ
+  pub full : Contains (full_in_cycle t H process others) channel
+  pub below_limit : room_after t H channel < t.limit
+
+-- some blocked cycle has full channels, and each of them has the limit as its capacity
+pub record IsJammedAtLimit (t : Tables) (H : List Event) : Type 0 where
+  pub process : ℕ
+  pub others : List ℕ
+  pub cycle : IsBlockedCycle t H process others
+  pub channel : ℕ
+  pub full : Contains (full_in_cycle t H process others) channel
+  pub at_limit : (c : ℕ) → Contains (full_in_cycle t H process others) c → capacity_after t H c ≡ Some t.limit
+
+-- a process waits for one that is blocked
+pub record WaitsForBlocked (t : Tables) (H : List Event) (p : ℕ) : Type 0 where
+  pub next : ℕ
+  pub there : next < length t.instances
+  pub awaited : awaited t (wait_of t H p) ≡ Some next
+  pub blocked : wait_of t H next ≢ Nobody

@@ -1,0 +1,58 @@
+// What can be seen of a run at one moment.
+use crate::event::How;
+use kpn_lang::Sequence;
+
+/// Where a process stands in a run.
+#[derive(Clone, Copy, Debug, PartialEq, Eq)]
+pub enum State {
+    /// It can be stepped, and nobody steps it.
+    Ready,
+    /// Somebody steps it.
+    Held,
+    /// It waits for an item on this empty channel.
+    WaitsEmpty(usize),
+    /// It waits for room on this full channel.
+    WaitsFull(usize),
+    /// It has ended.
+    Ended(How),
+}
+
+/// How many processes are in each state.
+#[derive(Clone, Copy, Debug, PartialEq, Eq)]
+pub struct Counts {
+    pub ready: usize,
+    pub held: usize,
+    /// Those that wait on an empty channel.
+    pub empty: usize,
+    /// Those that wait on a full channel.
+    pub full: usize,
+    pub ended: usize,
+}
+
+/// A run as it is seen at one moment: the first four lists have an entry for each channel, `states` has one for each
+/// process.
+#[derive(Debug, Drop)]
+pub struct View {
+    /// All items that were written on the channel, in order.
+    pub journals: Sequence<Sequence<i64>>,
+    /// How many of them were read.
+    pub read: Sequence<usize>,
+    /// How many may lie unread; None for a source.
+    pub caps: Sequence<Option<u32>>,
+    /// Whether the reader has ended or left.
+    pub retired: Sequence<bool>,
+    /// Where each process stands.
+    pub states: Sequence<State>,
+    pub counts: Counts,
+}
+
+/// How a run has come to a stop, once nothing more can happen but that the outside leaves a sink.
+#[derive(Clone, Copy, Debug, PartialEq, Eq)]
+pub enum Verdict {
+    /// Each process has ended or waits on an empty channel.
+    Ended,
+    /// Some process waits on a full channel, and no cycle of waiting processes has a full channel.
+    Clogged,
+    /// Some cycle of waiting processes has a full channel.
+    Jammed,
+}
