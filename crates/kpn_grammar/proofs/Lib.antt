@@ -1,2 +1,10 @@
+pub mod BlockSteps
+pub mod DescriptionLaws
+pub mod HeadLaws
+pub mod ListSteps
+pub mod ManyLaws
+pub mod NetworkLaws
+pub mod StatementLaws
 pub mod Steps
 pub mod TermLaws
+pub mod Turns

@@ -1,18 +1,20 @@
 -- Steps of reading: what a chain of steps gives, and the laws of the readers of one token.
-use Rattle.std.proofs.Common.{◌≡◌, ℕ, zero, suc, Bool, true, false, cond, nat_eq, List, [], ◌∷◌, length, slice_index_or, map, Option, Some, None, Result, Ok, Err, IfOk, refl, sym, ap, subst, ◌∙◌, arith, rules}
+use Rattle.std.proofs.Common.{◌≡◌, ℕ, Bool, true, false, cond, nat_eq, List, [], ◌∷◌, slice_index_or, Option, Some, None, Result, Ok, Err, IfOk, refl, sym, ap, subst, ◌∙◌, arith}
 use Rattle.std.proofs.lemmas.Bool.Decides.{nat_tests}
 use Rattle.kpn_tokens.specs.declared.tokens.Lexeme.{Lexeme}
 use Rattle.kpn_tokens.specs.declared.tokens.Token.{Token}
 use Rattle.kpn_tokens.specs.declared.tokens.Token.TheVariants as token
 use Rattle.kpn_tokens.specs.declared.tokens.Mark.{Mark}
 use Rattle.kpn_tokens.specs.declared.tokens.Mark.TheVariants as mark_
+use Rattle.kpn_tokens.specs.declared.tokens.Keyword.{Keyword}
+use Rattle.kpn_tokens.specs.declared.tokens.Keyword.TheVariants as keyword_
 use Rattle.kpn_grammar.specs.declared.fault.GrammarFault.{GrammarFault}
 use Rattle.kpn_grammar.specs.declared.fault.GrammarFault.TheVariants as fault
 use Rattle.kpn_grammar.specs.declared.reader.Scope.{Scope}
 use Rattle.kpn_grammar.specs.declared.tree.BinaryOperator.{BinaryOperator}
 use Rattle.kpn_grammar.specs.declared.tree.BinaryOperator.TheVariants as operator_
 use Rattle.kpn_grammar.specs.Spelling.{kinds, operator_mark, operator_of}
-use Rattle.kpn_grammar.specs.Reading.{Fails, Gives, OkOrNoMemory, Read, and_then, next, mark_number, is_mark, mark, token_operator, or_fault_at, operator}
+use Rattle.kpn_grammar.specs.Reading.{Fails, Gives, OkOrNoMemory, and_then, next, mark_number, keyword_number, is_mark, is_keyword, mark, keyword, named, name, numbered, number, token_operator, or_fault_at, operator}
 
 -- the value of a step that had no fault
 pub bind_ok : {A B : Type 0} (r : Result A GrammarFault) (f : A → Result B GrammarFault) (y : B) → and_then r f ≡ Ok y → (x : A) × (r ≡ Ok x) × (f x ≡ Ok y)
@@ -37,11 +39,20 @@ pub test_ok : {A : Type 0} (b : Bool) (x y : A) (d : GrammarFault) → cond b (O
 test_ok true x y d e = (refl, cc)
 test_ok false x y d e = absurd cc
 
+-- a choice by a test
+pub by_test : {A : Type 0} {P : Type 0} (b : Bool) (x y z : A) → cond b x y ≡ z → (b ≡ true → x ≡ z → P) → (b ≡ false → y ≡ z → P) → P
+by_test true x y z h f g = f refl h
+by_test false x y z h f g = g refl h
+
+-- what holds of a value that was read
+pub moved : {A : Type 0} (P : A → Type 0) (x y : A) → ◌≡◌ {A = Result A GrammarFault} (Ok x) (Ok y) → P x → P y
+moved P x y h holds = subst P (ok_is x y h) holds
+
 -- a fault is no value
 pub no_value : {A : Type 0} (d : GrammarFault) (y : A) → ◌≡◌ {A = Result A GrammarFault} (Err d) (Ok y) → ⊥
 no_value d y e = cc
 
--- ---- marks are told apart by their numbers
+-- ---- marks and reserved words are told apart by their numbers
 
 marks_by_number : List Mark
 marks_by_number = mark_.LeftParen ∷ mark_.RightParen ∷ mark_.LeftBrace ∷ mark_.RightBrace ∷ mark_.Semicolon ∷ mark_.Comma ∷ mark_.Assign ∷ mark_.Plus ∷ mark_.Minus ∷ mark_.Star ∷ mark_.Slash ∷ mark_.Percent ∷ mark_.Less ∷ mark_.LessOrEqual ∷ mark_.Greater ∷ mark_.GreaterOrEqual ∷ mark_.Equal ∷ mark_.NotEqual ∷ mark_.And ∷ mark_.Or ∷ mark_.Not ∷ []
@@ -70,6 +81,29 @@ mark_back mark_.And = refl
 mark_back mark_.Or = refl
 mark_back mark_.Not = refl
 
+keywords_by_number : List Keyword
+keywords_by_number = keyword_.Process ∷ keyword_.In ∷ keyword_.Out ∷ keyword_.Par ∷ keyword_.Read ∷ keyword_.Write ∷ keyword_.If ∷ keyword_.Else ∷ keyword_.While ∷ keyword_.Network ∷ keyword_.Limit ∷ keyword_.Channel ∷ keyword_.Cap ∷ keyword_.Source ∷ keyword_.Sink ∷ keyword_.Policy ∷ keyword_.Grow ∷ []
+
+keyword_back : (k : Keyword) → slice_index_or keywords_by_number (keyword_number k) keyword_.Grow ≡ k
+unfolding keywords_by_number
+keyword_back keyword_.Process = refl
+keyword_back keyword_.In = refl
+keyword_back keyword_.Out = refl
+keyword_back keyword_.Par = refl
+keyword_back keyword_.Read = refl
+keyword_back keyword_.Write = refl
+keyword_back keyword_.If = refl
+keyword_back keyword_.Else = refl
+keyword_back keyword_.While = refl
+keyword_back keyword_.Network = refl
+keyword_back keyword_.Limit = refl
+keyword_back keyword_.Channel = refl
+keyword_back keyword_.Cap = refl
+keyword_back keyword_.Source = refl
+keyword_back keyword_.Sink = refl
+keyword_back keyword_.Policy = refl
+keyword_back keyword_.Grow = refl
+
 same_number : (a b : ℕ) → nat_eq a b ≡ true → a ≡ b
 same_number a b h = grind (arith, nat_tests)
 
@@ -85,6 +119,16 @@ is_mark_true m (token.Keyword k) h = absurd cc
 
 pub is_mark_same : (m : Mark) → is_mark m (token.Mark m) ≡ true
 is_mark_same m = number_same (mark_number m)
+
+pub is_keyword_true : (k : Keyword) (t : Token) → is_keyword k t ≡ true → t ≡ token.Keyword k
+is_keyword_true k (token.Keyword n) h =
+    ap token.Keyword (sym (keyword_back n) ∙ ap (λ i. slice_index_or keywords_by_number i keyword_.Grow) (same_number (keyword_number n) (keyword_number k) h) ∙ keyword_back k)
+is_keyword_true k (token.Name x) h = absurd cc
+is_keyword_true k (token.Number n) h = absurd cc
+is_keyword_true k (token.Mark m) h = absurd cc
+
+pub is_keyword_same : (k : Keyword) → is_keyword k (token.Keyword k) ≡ true
+is_keyword_same k = number_same (keyword_number k)
 
 -- ---- tokens at the front
 
@@ -126,7 +170,7 @@ pub next_again : (s : Scope) (l : Lexeme) (rest : List Lexeme) → next s (l ∷
 unfolding next
 next_again s l rest = refl
 
--- ---- a mark, an operator
+-- ---- a mark, a reserved word, a name, an operator
 
 pub mark_takes : (s : Scope) (m : Mark) (ls rest : List Lexeme) → mark s m ls ≡ Ok rest → kinds ls ≡ token.Mark m ∷ kinds rest
 unfolding mark
@@ -143,6 +187,43 @@ pub mark_again : (s : Scope) (m : Mark) (ls : List Lexeme) (more : List Token) �
 mark_again s m ls more h =
     let f = front ls (token.Mark m) more h in
     (f.rest, mark_at s m ls f.lexeme f.rest f.whole (ap (is_mark m) f.kind ∙ is_mark_same m), f.after)
+
+pub keyword_takes : (s : Scope) (k : Keyword) (ls rest : List Lexeme) → keyword s k ls ≡ Ok rest → kinds ls ≡ token.Keyword k ∷ kinds rest
+unfolding keyword
+keyword_takes s k ls rest h =
+    let b = bind_ok (next s ls) (λ x. cond (is_keyword k x.0.token) (Ok x.1) (Err (fault.Grammar x.0.start))) rest h in
+    let t = test_ok (is_keyword k b.0.0.token) b.0.1 rest (fault.Grammar b.0.0.start) b.2 in
+    ap kinds (next_takes s ls b.0.0 b.0.1 b.1) ∙ ap (λ (u : Token). u ∷ kinds b.0.1) (is_keyword_true k b.0.0.token t.0) ∙ ap (λ (r : List Lexeme). token.Keyword k ∷ kinds r) t.1
+
+keyword_at : (s : Scope) (k : Keyword) (ls : List Lexeme) (l : Lexeme) (rest : List Lexeme) → ls ≡ l ∷ rest → is_keyword k l.token ≡ true → keyword s k ls ≡ Ok rest
+unfolding keyword and_then
+keyword_at s k ls l rest e t = rw (e, next_again s l rest, t) refl
+
+pub keyword_again : (s : Scope) (k : Keyword) (ls : List Lexeme) (more : List Token) → kinds ls ≡ token.Keyword k ∷ more → (rest : List Lexeme) × (keyword s k ls ≡ Ok rest) × (kinds rest ≡ more)
+keyword_again s k ls more h =
+    let f = front ls (token.Keyword k) more h in
+    (f.rest, keyword_at s k ls f.lexeme f.rest f.whole (ap (is_keyword k) f.kind ∙ is_keyword_same k), f.after)
+
+named_takes : (t : Token) (start : ℕ) (ls : List Lexeme) (x : List ℕ) (rest : List Lexeme) → named t start ls ≡ Ok (x, rest) → t ∷ kinds ls ≡ token.Name x ∷ kinds rest
+named_takes (token.Name y) start ls x rest h = ap (λ (p : List ℕ × List Lexeme). token.Name p.0 ∷ kinds p.1) (ok_is (y, ls) (x, rest) h)
+named_takes (token.Number n) start ls x rest h = absurd cc
+named_takes (token.Mark m) start ls x rest h = absurd cc
+named_takes (token.Keyword k) start ls x rest h = absurd cc
+
+pub name_takes : (s : Scope) (ls : List Lexeme) (x : List ℕ) (rest : List Lexeme) → name s ls ≡ Ok (x, rest) → kinds ls ≡ token.Name x ∷ kinds rest
+unfolding name
+name_takes s ls x rest h =
+    let b = bind_ok (next s ls) (λ f. named f.0.token f.0.start f.1) (x, rest) h in
+    ap kinds (next_takes s ls b.0.0 b.0.1 b.1) ∙ named_takes b.0.0.token b.0.0.start b.0.1 x rest b.2
+
+name_at : (s : Scope) (x : List ℕ) (ls : List Lexeme) (l : Lexeme) (rest : List Lexeme) → ls ≡ l ∷ rest → l.token ≡ token.Name x → name s ls ≡ Ok (x, rest)
+unfolding name and_then
+name_at s x ls l rest e t = rw (e, next_again s l rest, t) refl
+
+pub name_again : (s : Scope) (ls : List Lexeme) (x : List ℕ) (more : List Token) → kinds ls ≡ token.Name x ∷ more → (rest : List Lexeme) × (name s ls ≡ Ok (x, rest)) × (kinds rest ≡ more)
+name_again s ls x more h =
+    let f = front ls (token.Name x) more h in
+    (f.rest, name_at s x ls f.lexeme f.rest f.whole f.kind, f.after)
 
 operator_is : (m : Mark) (o : BinaryOperator) → operator_of m ≡ Some o → m ≡ operator_mark o
 operator_is mark_.Plus o h = ap operator_mark (some_is operator_.Add o h)
@@ -201,6 +282,27 @@ pub operator_again : (s : Scope) (ls : List Lexeme) (o : BinaryOperator) (more :
 operator_again s ls o more h =
     let f = front ls (token.Mark (operator_mark o)) more h in
     (f.rest, operator_at s o ls f.lexeme f.rest f.whole f.kind, f.after)
+
+numbered_takes : (t : Token) (start : ℕ) (ls : List Lexeme) (n : ℕ) (rest : List Lexeme) → numbered t start ls ≡ Ok (n, rest) → t ∷ kinds ls ≡ token.Number n ∷ kinds rest
+numbered_takes (token.Number m) start ls n rest h = ap (λ (p : ℕ × List Lexeme). token.Number p.0 ∷ kinds p.1) (ok_is (m, ls) (n, rest) h)
+numbered_takes (token.Name x) start ls n rest h = absurd cc
+numbered_takes (token.Mark m) start ls n rest h = absurd cc
+numbered_takes (token.Keyword k) start ls n rest h = absurd cc
+
+pub number_takes : (s : Scope) (ls : List Lexeme) (n : ℕ) (rest : List Lexeme) → number s ls ≡ Ok (n, rest) → kinds ls ≡ token.Number n ∷ kinds rest
+unfolding number
+number_takes s ls n rest h =
+    let b = bind_ok (next s ls) (λ f. numbered f.0.token f.0.start f.1) (n, rest) h in
+    ap kinds (next_takes s ls b.0.0 b.0.1 b.1) ∙ numbered_takes b.0.0.token b.0.0.start b.0.1 n rest b.2
+
+number_at : (s : Scope) (n : ℕ) (ls : List Lexeme) (l : Lexeme) (rest : List Lexeme) → ls ≡ l ∷ rest → l.token ≡ token.Number n → number s ls ≡ Ok (n, rest)
+unfolding number and_then
+number_at s n ls l rest e t = rw (e, next_again s l rest, t) refl
+
+pub number_again : (s : Scope) (ls : List Lexeme) (n : ℕ) (more : List Token) → kinds ls ≡ token.Number n ∷ more → (rest : List Lexeme) × (number s ls ≡ Ok (n, rest)) × (kinds rest ≡ more)
+number_again s ls n more h =
+    let f = front ls (token.Number n) more h in
+    (f.rest, number_at s n ls f.lexeme f.rest f.whole f.kind, f.after)
 
 -- ---- calls beside what reading gives
 

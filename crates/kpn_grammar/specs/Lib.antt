@@ -2,3 +2,4 @@ pub mod Syntax
 pub mod Spelling
 pub mod Reading
 pub mod View
+pub mod Laws

@@ -1,11 +1,84 @@
--- The tree of an expression, apart from where their parts stand in the text and in memory.
-use Rattle.std.specs.Prelude.{ℕ, List}
+-- The tree of a description, apart from where its parts stand in the text and in memory. Names are as they are written:
+-- what they mean is for the layer above.
+use Rattle.std.specs.Prelude.{ℕ, ℤ, pos, neg_ℤ, List, [], ◌∷◌, Option}
 use Rattle.kpn_grammar.specs.declared.tree.BinaryOperator.{BinaryOperator}
 
--- an expression, with names as they are written
+-- a name, by its bytes
+abbrev pub Name : Type 0
+Name = List ℕ
+
+-- an expression
 pub data Term : Type 0 where
   numeral : ℕ → Term
-  variable : List ℕ → Term
+  variable : Name → Term
   minus : Term → Term
   negation : Term → Term
   binary : BinaryOperator → Term → Term → Term
+
+mutual
+  -- a statement: x = e;  read i x;  write o e;  if e { .. } else { .. }  while e { .. }
+  pub data Statement : Type 0 where
+    assign : Name → Term → Statement
+    receive : Name → Name → Statement
+    send : Name → Term → Statement
+    choice : Term → Statements → Statements → Statement
+    loop : Term → Statements → Statement
+
+  -- the statements of a block, in order
+  pub data Statements : Type 0 where
+    no_statements : Statements
+    statement : Statement → Statements → Statements
+
+-- a list of statements as a block
+abbrev pub statements_of : List Statement → Statements
+statements_of [] = no_statements
+statements_of (s ∷ ss) = statement s (statements_of ss)
+
+-- a block as a list of its statements
+abbrev pub list_of : Statements → List Statement
+list_of no_statements = []
+list_of (statement s ss) = s ∷ list_of ss
+
+-- a process: its name, its in ports, out ports and parameters, and its body
+pub record Process : Type 0 where
+  pub name : Name
+  pub ins : List Name
+  pub outs : List Name
+  pub pars : List Name
+  pub body : Statements
+
+-- a value as it is written: a number, or a number behind a minus; so 0 and -0 are two spellings of one value
+pub data Literal : Type 0 where
+  plain : ℕ → Literal
+  negated : ℕ → Literal
+
+-- the whole number that it stands for
+abbrev pub literal_value : Literal → ℤ
+literal_value (plain n) = pos n
+literal_value (negated n) = neg_ℤ (pos n)
+
+-- an instance: its name and that of its program, the channels at its in ports and at its out ports, and the values
+-- of its parameters
+pub record Instance : Type 0 where
+  pub name : Name
+  pub program : Name
+  pub ins : List Name
+  pub outs : List Name
+  pub values : List Literal
+
+-- an item of a network: a channel or a sink with its capacity, a source, an instance
+pub data Item : Type 0 where
+  channel : Name → ℕ → Item
+  source : Name → Item
+  sink : Name → ℕ → Item
+  instance : Instance → Item
+
+-- a network: its limit where it is written, and its items in order
+pub record Network : Type 0 where
+  pub limit : Option ℕ
+  pub items : List Item
+
+-- a description: its processes in order, and its network
+pub record Description : Type 0 where
+  pub processes : List Process
+  pub network : Network

@@ -1,16 +1,12 @@
 //! Expressions. A number or a name is an expression of level 1, and each sign and each pair of
 //! parentheses adds a level.
 
-ghost use Rattle.std.specs.Prelude.{◌≡◌, List, IfOk};
-ghost use Rattle.kpn_tokens.specs.declared.tokens.Token.{Token};
-ghost use Rattle.kpn_grammar.specs.Syntax.{Term};
-ghost use Rattle.kpn_grammar.specs.Spelling.{kinds};
-ghost use Rattle.kpn_grammar.specs.Reading.{TermStandsFirst, OkOrNoMemory};
+ghost use Rattle.std.specs.Prelude.{◌≡◌};
 ghost use Rattle.kpn_grammar.specs.Reading as spec;
-ghost use Rattle.kpn_grammar.specs.View.{term};
+ghost use Rattle.kpn_grammar.specs.View.{left, term};
 
 use crate::fault::GrammarFault;
-use crate::reader::{Read, Scope, mark, next, operator};
+use crate::reader::{Read, Scope, Source, mark, next, operator};
 use crate::tree::{Expression, Identifier};
 use kpn_tokens::{Lexeme, Mark, Token};
 use std::alloc::Global;
@@ -41,77 +37,47 @@ fn level_fault(scope: Scope, first: &Lexeme<'_>) -> GrammarFault
 /// The most levels of an expression, and of blocks.
 pub const MAX_DEPTH: usize = 32;
 
-/// The expression at the front of the tokens, of at most [`MAX_DEPTH`] levels, and the tokens after
-/// it.
-///
-/// # Errors
-///
-/// [`GrammarFault::Grammar`] at the first byte of the first token that cannot stand where it stands,
-/// or at `scope.end` where the tokens end too early; [`GrammarFault::TooDeep`] of `scope.process` at
-/// a token that may stand there and begins an expression of a level too many: whichever comes first.
-/// [`GrammarFault::NoMemory`] only where an allocation was refused.
-pub fn expression<'a>(
-    alloc: Global,
-    scope: Scope,
-    tokens: &'a [Lexeme<'a>],
-) -> Result<(Expression<'a>, &'a [Lexeme<'a>]), GrammarFault>
-    // What is read stands at the front.
-    ensures found { IfOk result (λ x. TermStandsFirst (kinds tokens.now) (term x.0) (kinds x.1.now)) }
-    // What stands at the front is read, unless memory runs out.
-    ensures only { (e : Term) (more : List Token) → TermStandsFirst (kinds tokens.now) e more → OkOrNoMemory result (λ x. (term x.0 ≡ e) × (kinds x.1.now ≡ more)) }
-    // Which fault it is.
-    ensures exact { spec.Gives (λ x. (term x.0, x.1.now)) result (spec.expression scope 32 tokens.now) }
-{
-    nested(alloc, scope, MAX_DEPTH, tokens)
-}
-
-/// The expression at the front, of at most `depth` levels, and the tokens after it.
+/// An expression of at most `depth` levels.
 #[cycle(expression)]
-pub(crate) fn nested<'a>(
+pub(crate) fn expression<'a>(
     alloc: Global,
-    scope: Scope,
+    source: Source<'a>,
     depth: usize,
-    tokens: &'a [Lexeme<'a>],
-) -> Read<'a, Expression<'a>>
-    ensures { spec.Gives (λ x. (term x.0, x.1.now)) result (spec.expression scope depth tokens.now) }
+    at: usize,
+) -> Read<Expression<'a>>
+    ensures { spec.Gives (λ x. (term x.0, left source.entry x.1)) result (spec.expression source.entry.scope depth (left source.entry at)) }
 {
-    let (first, rest) = next(scope, tokens)?;
+    let (first, after) = next(source, at)?;
     if depth == 0 {
-        return Err(level_fault(scope, first));
+        return Err(level_fault(source.scope, first));
     }
-    operand(alloc, scope, depth - 1, first, rest)
+    operand(alloc, source, depth - 1, first, after)
 }
 
-/// An expression from its first token on, with at most `depth` levels inside it.
+/// An expression behind its first token, with at most `depth` levels inside it.
 #[cycle(expression)]
 #[tactic(auto, unfolding(crate::specs::Reading::operand, crate::specs::Reading::and_then))]
 fn operand<'a>(
     alloc: Global,
-    scope: Scope,
+    source: Source<'a>,
     depth: usize,
     first: &'a Lexeme<'a>,
-    rest: &'a [Lexeme<'a>],
-) -> Read<'a, Expression<'a>>
-    ensures { spec.Gives (λ x. (term x.0, x.1.now)) result (spec.operand scope (spec.expression scope depth) first.now.token first.now.start rest.now) }
+    at: usize,
+) -> Read<Expression<'a>>
+    ensures { spec.Gives (λ x. (term x.0, left source.entry x.1)) result (spec.operand source.entry.scope (spec.expression source.entry.scope depth) first.now.token first.now.start (left source.entry at)) }
 {
     match &first.token {
-        Token::Number(number) => Ok((Expression::Number(*number), rest)),
-        Token::Name(name) => {
-            let identifier = Identifier {
-                bytes: name.bytes(),
-                start: first.start,
-            };
-            Ok((Expression::Name(identifier), rest))
-        }
+        Token::Number(number) => Ok((Expression::Number(*number), at)),
+        Token::Name(name) => Ok((Expression::Name(Identifier::new(name, first.start)), at)),
         Token::Mark(Mark::Minus) => {
-            let (inner, after) = nested(alloc, scope, depth, rest)?;
+            let (inner, after) = expression(alloc, source, depth, at)?;
             Ok((Expression::Negative(Box::new(alloc, inner)?), after))
         }
         Token::Mark(Mark::Not) => {
-            let (inner, after) = nested(alloc, scope, depth, rest)?;
+            let (inner, after) = expression(alloc, source, depth, at)?;
             Ok((Expression::Not(Box::new(alloc, inner)?), after))
         }
-        Token::Mark(Mark::LeftParen) => binary(alloc, scope, depth, rest),
+        Token::Mark(Mark::LeftParen) => binary(alloc, source, depth, at),
         _ => Err(GrammarFault::Grammar(first.start)),
     }
 }
@@ -119,18 +85,13 @@ fn operand<'a>(
 /// Two expressions with an operator between them, behind the opening parenthesis.
 #[cycle(expression)]
 #[tactic(auto, unfolding(crate::specs::Reading::binary_behind, crate::specs::Reading::and_then))]
-fn binary<'a>(
-    alloc: Global,
-    scope: Scope,
-    depth: usize,
-    tokens: &'a [Lexeme<'a>],
-) -> Read<'a, Expression<'a>>
-    ensures { spec.Gives (λ x. (term x.0, x.1.now)) result (spec.binary_behind scope (spec.expression scope depth) tokens.now) }
+fn binary<'a>(alloc: Global, source: Source<'a>, depth: usize, at: usize) -> Read<Expression<'a>>
+    ensures { spec.Gives (λ x. (term x.0, left source.entry x.1)) result (spec.binary_behind source.entry.scope (spec.expression source.entry.scope depth) (left source.entry at)) }
 {
-    let (left, rest) = nested(alloc, scope, depth, tokens)?;
-    let (sign, rest) = operator(scope, rest)?;
-    let (right, rest) = nested(alloc, scope, depth, rest)?;
-    let rest = mark(scope, Mark::RightParen, rest)?;
+    let (left, at) = expression(alloc, source, depth, at)?;
+    let (sign, at) = operator(source, at)?;
+    let (right, at) = expression(alloc, source, depth, at)?;
+    let at = mark(source, Mark::RightParen, at)?;
     let expression = Expression::Binary(sign, Box::new(alloc, left)?, Box::new(alloc, right)?);
-    Ok((expression, rest))
+    Ok((expression, at))
 }

@@ -12,7 +12,7 @@ pub enum GrammarFault {
     /// length.
     #[error("no such token can stand at byte {0}")]
     Grammar(usize),
-    /// An expression of the process with this number nests deeper than
+    /// A block or an expression of the process with this number nests deeper than
     /// [`MAX_DEPTH`](crate::MAX_DEPTH).
     #[error("process {0} nests too deep")]
     TooDeep(usize),

@@ -1,33 +1,41 @@
-//! Reading the token at the front, and what the rules ask of it. Each reader gives what it read and
-//! the tokens after it.
+//! Reading the token at a place, and what the rules ask of it. Each reader gives what it read and
+//! the place after it. Places count tokens; the tokens themselves stay where they are.
 
 ghost use Rattle.std.specs.Prelude.{◌≡◌};
 ghost use Rattle.kpn_grammar.specs.Reading as spec;
+ghost use Rattle.kpn_grammar.specs.View.{left};
 
 use crate::fault::GrammarFault;
-use crate::tree::BinaryOperator;
-use kpn_tokens::{Lexeme, Mark, Token};
+use crate::tree::{BinaryOperator, Identifier};
+use kpn_tokens::{Keyword, Lexeme, Mark, Number, Token};
 
 /// What faults tell beside the tokens.
 #[derive(Clone, Copy, Debug)]
-pub struct Scope {
+pub(crate) struct Scope {
     /// The length of the text in bytes, where it ends too early.
     pub end: usize,
     /// The number of the process that is read.
     pub process: usize,
 }
 
-/// What was read and the tokens after it, or the first fault.
-pub(crate) type Read<'a, T> = Result<(T, &'a [Lexeme<'a>]), GrammarFault>;
+/// The tokens of a text.
+#[derive(Clone, Copy, Debug)]
+pub(crate) struct Source<'a> {
+    pub tokens: &'a [Lexeme<'a>],
+    pub scope: Scope,
+}
 
-/// The token at the front.
+/// What was read and the place after it, or the first fault.
+pub(crate) type Read<T> = Result<(T, usize), GrammarFault>;
+
+/// The token at a place.
 #[tactic(auto, unfolding(crate::specs::Reading::next))]
-pub(crate) fn next<'a>(scope: Scope, tokens: &'a [Lexeme<'a>]) -> Read<'a, &'a Lexeme<'a>>
-    ensures { spec.Gives (λ x. (x.0.now, x.1.now)) result (spec.next scope tokens.now) }
+pub(crate) fn next<'a>(source: Source<'a>, at: usize) -> Read<&'a Lexeme<'a>>
+    ensures { spec.Gives (λ x. (x.0.now, left source.entry x.1)) result (spec.next source.entry.scope (left source.entry at)) }
 {
-    match tokens {
-        [first, rest @ ..] => Ok((first, rest)),
-        [] => Err(GrammarFault::Grammar(scope.end)),
+    match source.tokens.get(at) {
+        Some(first) => Ok((first, at + 1)),
+        None => Err(GrammarFault::Grammar(source.scope.end)),
     }
 }
 
@@ -41,35 +49,122 @@ fn is_mark(token: &Token<'_>, mark: Mark) -> bool
     }
 }
 
+/// Whether a token is this reserved word.
+fn is_keyword(token: &Token<'_>, keyword: Keyword) -> bool
+    ensures { result ≡ spec.is_keyword keyword token.now }
+{
+    match token {
+        Token::Keyword(found) => *found == keyword,
+        _ => false,
+    }
+}
+
+/// Whether this mark stands at a place.
+pub(crate) fn at_mark(source: Source<'_>, mark: Mark, at: usize) -> bool
+    ensures { result ≡ spec.first_is (spec.is_mark mark) (left source.entry at) }
+{
+    match source.tokens.get(at) {
+        Some(first) => is_mark(&first.token, mark),
+        None => false,
+    }
+}
+
+/// Whether this reserved word stands at a place.
+pub(crate) fn at_keyword(source: Source<'_>, keyword: Keyword, at: usize) -> bool
+    ensures { result ≡ spec.first_is (spec.is_keyword keyword) (left source.entry at) }
+{
+    match source.tokens.get(at) {
+        Some(first) => is_keyword(&first.token, keyword),
+        None => false,
+    }
+}
+
+/// Whether a name stands at a place.
+pub(crate) fn at_name(source: Source<'_>, at: usize) -> bool
+    ensures { result ≡ spec.first_is spec.is_name (left source.entry at) }
+{
+    match source.tokens.get(at) {
+        Some(first) => matches!(&first.token, Token::Name(_)),
+        None => false,
+    }
+}
+
+/// Whether a token other than a closing brace stands at a place.
+pub(crate) fn goes_on(source: Source<'_>, at: usize) -> bool
+    ensures { result ≡ spec.first_is spec.goes_on (left source.entry at) }
+{
+    match source.tokens.get(at) {
+        Some(first) => !is_mark(&first.token, Mark::RightBrace),
+        None => false,
+    }
+}
+
 /// This mark.
 #[tactic(auto, unfolding(crate::specs::Reading::mark, crate::specs::Reading::and_then))]
-pub(crate) fn mark<'a>(
-    scope: Scope,
-    expected: Mark,
-    tokens: &'a [Lexeme<'a>],
-) -> Result<&'a [Lexeme<'a>], GrammarFault>
-    ensures { spec.Gives (λ x. x.now) result (spec.mark scope expected tokens.now) }
+pub(crate) fn mark(source: Source<'_>, expected: Mark, at: usize) -> Result<usize, GrammarFault>
+    ensures { spec.Gives (λ x. left source.entry x) result (spec.mark source.entry.scope expected (left source.entry at)) }
 {
-    let (first, rest) = next(scope, tokens)?;
+    let (first, after) = next(source, at)?;
     if is_mark(&first.token, expected) {
-        Ok(rest)
+        Ok(after)
     } else {
         Err(GrammarFault::Grammar(first.start))
     }
 }
 
+/// This reserved word.
+#[tactic(auto, unfolding(crate::specs::Reading::keyword, crate::specs::Reading::and_then))]
+pub(crate) fn keyword(
+    source: Source<'_>,
+    expected: Keyword,
+    at: usize,
+) -> Result<usize, GrammarFault>
+    ensures { spec.Gives (λ x. left source.entry x) result (spec.keyword source.entry.scope expected (left source.entry at)) }
+{
+    let (first, after) = next(source, at)?;
+    if is_keyword(&first.token, expected) {
+        Ok(after)
+    } else {
+        Err(GrammarFault::Grammar(first.start))
+    }
+}
+
+/// A name.
+#[tactic(auto, unfolding(crate::specs::Reading::name, crate::specs::Reading::and_then))]
+pub(crate) fn name<'a>(source: Source<'a>, at: usize) -> Read<Identifier<'a>>
+    ensures { spec.Gives (λ x. (x.0.bytes.now, left source.entry x.1)) result (spec.name source.entry.scope (left source.entry at)) }
+{
+    let (first, after) = next(source, at)?;
+    match &first.token {
+        Token::Name(name) => Ok((Identifier::new(name, first.start), after)),
+        _ => Err(GrammarFault::Grammar(first.start)),
+    }
+}
+
+/// A number.
+#[tactic(auto, unfolding(crate::specs::Reading::number, crate::specs::Reading::and_then))]
+pub(crate) fn number(source: Source<'_>, at: usize) -> Read<Number>
+    ensures { spec.Gives (λ x. (x.0, left source.entry x.1)) result (spec.number source.entry.scope (left source.entry at)) }
+{
+    let (first, after) = next(source, at)?;
+    match &first.token {
+        Token::Number(number) => Ok((*number, after)),
+        _ => Err(GrammarFault::Grammar(first.start)),
+    }
+}
+
 /// An operator between two expressions.
 #[tactic(auto, unfolding(crate::specs::Reading::operator, crate::specs::Reading::and_then))]
-pub(crate) fn operator<'a>(scope: Scope, tokens: &'a [Lexeme<'a>]) -> Read<'a, BinaryOperator>
-    ensures { spec.Gives (λ x. (x.0, x.1.now)) result (spec.operator scope tokens.now) }
+pub(crate) fn operator(source: Source<'_>, at: usize) -> Read<BinaryOperator>
+    ensures { spec.Gives (λ x. (x.0, left source.entry x.1)) result (spec.operator source.entry.scope (left source.entry at)) }
 {
-    let (first, rest) = next(scope, tokens)?;
+    let (first, after) = next(source, at)?;
     let spelled = match &first.token {
         Token::Mark(mark) => BinaryOperator::spelled(*mark),
         _ => None,
     };
     match spelled {
-        Some(operator) => Ok((operator, rest)),
+        Some(operator) => Ok((operator, after)),
         None => Err(GrammarFault::Grammar(first.start)),
     }
 }

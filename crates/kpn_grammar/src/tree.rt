@@ -1,10 +1,10 @@
-//! The syntax tree of an expression. Its names are as written, each with the byte at which it
+//! The syntax tree of a description. Its names are as written, each with the byte at which it
 //! begins, so that a later fault can be placed.
 
 ghost use Rattle.std.specs.Prelude.{◌≡◌};
 ghost use Rattle.kpn_grammar.specs.Spelling.{operator_of};
 
-use kpn_tokens::{Mark, Number};
+use kpn_tokens::{Mark, Name, Number};
 
 /// A name as written.
 #[derive(Debug, Drop)]
@@ -13,6 +13,17 @@ pub struct Identifier<'a> {
     pub bytes: &'a [u8],
     /// The byte at which it begins.
     pub start: usize,
+}
+
+impl<'a> Identifier<'a> {
+    /// The name of a token that begins at this byte.
+    pub(crate) fn new(name: &'a Name<'a>, start: usize) -> Identifier<'a>
+        ensures bytes { result.bytes.now ≡ name.now }
+        ensures start { result.start ≡ start }
+    {
+        let bytes = name.bytes();
+        Identifier { bytes, start }
+    }
 }
 
 /// An operator between two expressions.
@@ -68,4 +79,87 @@ pub enum Expression<'a> {
     Not(Box<Expression<'a>>),
     /// `(left op right)`
     Binary(BinaryOperator, Box<Expression<'a>>, Box<Expression<'a>>),
+}
+
+/// A statement.
+#[derive(Debug, Drop)]
+pub enum Statement<'a> {
+    /// `target = value;`
+    Assign(Identifier<'a>, Expression<'a>),
+    /// `read port variable;`
+    Read(Identifier<'a>, Identifier<'a>),
+    /// `write port value;`
+    Write(Identifier<'a>, Expression<'a>),
+    /// `if test { .. } else { .. }`
+    If(Expression<'a>, Vec<Statement<'a>>, Vec<Statement<'a>>),
+    /// `while test { .. }`
+    While(Expression<'a>, Vec<Statement<'a>>),
+}
+
+/// The statements between two braces.
+pub type Block<'a> = Vec<Statement<'a>>;
+
+/// Names with commas between them.
+pub type Names<'a> = Vec<Identifier<'a>>;
+
+/// The ports and parameters in the head of a process, each in order.
+#[derive(Debug, Drop)]
+pub struct Parts<'a> {
+    pub ins: Names<'a>,
+    pub outs: Names<'a>,
+    pub pars: Names<'a>,
+}
+
+/// A process: `process name(in ins; out outs; par pars) { body }`.
+#[derive(Debug, Drop)]
+pub struct Process<'a> {
+    pub name: Identifier<'a>,
+    pub parts: Parts<'a>,
+    pub body: Block<'a>,
+}
+
+/// The value of a parameter as written.
+#[derive(Clone, Copy, Debug, PartialEq, Eq)]
+pub enum Literal {
+    Plain(Number),
+    /// A number behind a minus.
+    Negated(Number),
+}
+
+/// An instance of a process: `name = program(ins; outs; values);`.
+#[derive(Debug, Drop)]
+pub struct Instance<'a> {
+    pub name: Identifier<'a>,
+    pub program: Identifier<'a>,
+    /// The channels at its in ports and at its out ports, by place.
+    pub ins: Names<'a>,
+    pub outs: Names<'a>,
+    /// The values of its parameters, by place.
+    pub values: Vec<Literal>,
+}
+
+/// An item of a network.
+#[derive(Debug, Drop)]
+pub enum Item<'a> {
+    /// `channel name cap capacity;`
+    Channel(Identifier<'a>, Number),
+    /// `source name;`
+    Source(Identifier<'a>),
+    /// `sink name cap capacity;`
+    Sink(Identifier<'a>, Number),
+    Instance(Instance<'a>),
+}
+
+/// The network: its limit, where it is written, and its items in order.
+#[derive(Debug, Drop)]
+pub struct Network<'a> {
+    pub limit: Option<Number>,
+    pub items: Vec<Item<'a>>,
+}
+
+/// A description: its processes, numbered from 0 in order, and its network.
+#[derive(Debug, Drop)]
+pub struct Description<'a> {
+    pub processes: Vec<Process<'a>>,
+    pub network: Network<'a>,
 }

@@ -5,8 +5,8 @@ use Rattle.kpn_grammar.proofs.expressions.+expression.Given as goal
 abbrev pub decreases-binary : goal.decreases-binary
 decreases-binary l = 3 * l.depth + 1
 
-abbrev pub decreases-nested : goal.decreases-nested
-decreases-nested l = 3 * l.depth
+abbrev pub decreases-expression : goal.decreases-expression
+decreases-expression l = 3 * l.depth
 
 abbrev pub decreases-operand : goal.decreases-operand
 decreases-operand l = 3 * l.depth + 2

@@ -1,0 +1,155 @@
+//! The network: its limit and its items.
+
+ghost use Rattle.std.specs.Prelude.{◌≡◌};
+ghost use Rattle.kpn_grammar.specs.Reading as spec;
+ghost use Rattle.kpn_grammar.specs.View.{left, instance_seen, item_seen, items_seen, network_seen};
+
+use crate::fault::GrammarFault;
+use crate::lists::{optional_names, optional_values};
+use crate::reader::{Read, Source, at_keyword, goes_on, keyword, mark, name, next, number};
+use crate::tree::{Identifier, Instance, Item, Network};
+use kpn_tokens::{Keyword, Mark, Number, Token};
+use std::alloc::Global;
+
+/// A capacity and the semicolon.
+#[tactic(auto, unfolding(crate::specs::Reading::capacity, crate::specs::Reading::and_then))]
+fn capacity(source: Source<'_>, at: usize) -> Read<Number>
+    ensures { spec.Gives (λ x. (x.0, left source.entry x.1)) result (spec.capacity source.entry.scope (left source.entry at)) }
+{
+    let at = keyword(source, Keyword::Cap, at)?;
+    let (capacity, at) = number(source, at)?;
+    let at = mark(source, Mark::Semicolon, at)?;
+    Ok((capacity, at))
+}
+
+/// The rest of a channel behind `channel`.
+#[tactic(auto, unfolding(crate::specs::Reading::channel_behind, crate::specs::Reading::and_then))]
+fn channel_behind<'a>(source: Source<'a>, at: usize) -> Read<Item<'a>>
+    ensures { spec.Gives (λ x. (item_seen x.0, left source.entry x.1)) result (spec.channel_behind source.entry.scope (left source.entry at)) }
+{
+    let (name, at) = name(source, at)?;
+    let (capacity, at) = capacity(source, at)?;
+    Ok((Item::Channel(name, capacity), at))
+}
+
+/// The rest of a sink behind `sink`.
+#[tactic(auto, unfolding(crate::specs::Reading::sink_behind, crate::specs::Reading::and_then))]
+fn sink_behind<'a>(source: Source<'a>, at: usize) -> Read<Item<'a>>
+    ensures { spec.Gives (λ x. (item_seen x.0, left source.entry x.1)) result (spec.sink_behind source.entry.scope (left source.entry at)) }
+{
+    let (name, at) = name(source, at)?;
+    let (capacity, at) = capacity(source, at)?;
+    Ok((Item::Sink(name, capacity), at))
+}
+
+/// The rest of a source behind `source`.
+#[tactic(auto, unfolding(crate::specs::Reading::source_behind, crate::specs::Reading::and_then))]
+fn source_behind<'a>(source: Source<'a>, at: usize) -> Read<Item<'a>>
+    ensures { spec.Gives (λ x. (item_seen x.0, left source.entry x.1)) result (spec.source_behind source.entry.scope (left source.entry at)) }
+{
+    let (name, at) = name(source, at)?;
+    let at = mark(source, Mark::Semicolon, at)?;
+    Ok((Item::Source(name), at))
+}
+
+/// The program of the instance of this name, its channels and the values of its parameters.
+#[tactic(auto, unfolding(crate::specs::Reading::call, crate::specs::Reading::and_then))]
+fn call<'a>(
+    alloc: Global,
+    source: Source<'a>,
+    name: Identifier<'a>,
+    at: usize,
+) -> Read<Instance<'a>>
+    ensures { spec.Gives (λ x. (instance_seen x.0, left source.entry x.1)) result (spec.call source.entry.scope name.entry.bytes.now (left source.entry at)) }
+{
+    let (program, at) = crate::reader::name(source, at)?;
+    let at = mark(source, Mark::LeftParen, at)?;
+    let (ins, at) = optional_names(alloc, source, at)?;
+    let at = mark(source, Mark::Semicolon, at)?;
+    let (outs, at) = optional_names(alloc, source, at)?;
+    let (values, at) = optional_values(alloc, source, at)?;
+    let at = mark(source, Mark::RightParen, at)?;
+    let instance = Instance {
+        name,
+        program,
+        ins,
+        outs,
+        values,
+    };
+    Ok((instance, at))
+}
+
+/// An instance behind its name.
+#[tactic(auto, unfolding(crate::specs::Reading::instance_behind, crate::specs::Reading::and_then))]
+fn instance_behind<'a>(
+    alloc: Global,
+    source: Source<'a>,
+    name: Identifier<'a>,
+    at: usize,
+) -> Read<Item<'a>>
+    ensures { spec.Gives (λ x. (item_seen x.0, left source.entry x.1)) result (spec.instance_behind source.entry.scope name.entry.bytes.now (left source.entry at)) }
+{
+    let at = mark(source, Mark::Assign, at)?;
+    let (instance, at) = call(alloc, source, name, at)?;
+    let at = mark(source, Mark::Semicolon, at)?;
+    Ok((Item::Instance(instance), at))
+}
+
+/// An item.
+#[tactic(auto, unfolding(crate::specs::Reading::item, crate::specs::Reading::item_behind, crate::specs::Reading::and_then))]
+fn item<'a>(alloc: Global, source: Source<'a>, at: usize) -> Read<Item<'a>>
+    ensures { spec.Gives (λ x. (item_seen x.0, left source.entry x.1)) result (spec.item source.entry.scope 0 (left source.entry at)) }
+{
+    let (first, at) = next(source, at)?;
+    match &first.token {
+        Token::Keyword(Keyword::Channel) => channel_behind(source, at),
+        Token::Keyword(Keyword::Source) => source_behind(source, at),
+        Token::Keyword(Keyword::Sink) => sink_behind(source, at),
+        Token::Name(name) => {
+            let name = Identifier::new(name, first.start);
+            instance_behind(alloc, source, name, at)
+        }
+        _ => Err(GrammarFault::Grammar(first.start)),
+    }
+}
+
+/// The items up to the closing brace.
+fn items<'a>(alloc: Global, source: Source<'a>, at: usize) -> Read<Vec<Item<'a>>>
+    ensures { spec.Gives (λ x. (items_seen x.0.items, left source.entry x.1)) result (spec.items source.entry.scope (left source.entry at)) }
+{
+    let mut found = Vec::new(alloc);
+    let mut place = at;
+    'items: while goes_on(source, place) {
+        let (item, after) = item(alloc, source, place)?;
+        found.push(item)?;
+        place = after;
+    }
+    Ok((found, place))
+}
+
+/// The limit, where it is written.
+#[tactic(auto, unfolding(crate::specs::Reading::limit, crate::specs::Reading::and_then))]
+fn limit(source: Source<'_>, at: usize) -> Read<Option<Number>>
+    ensures { spec.Gives (λ x. (x.0, left source.entry x.1)) result (spec.limit source.entry.scope (left source.entry at)) }
+{
+    if !at_keyword(source, Keyword::Limit, at) {
+        return Ok((None, at));
+    }
+    let at = keyword(source, Keyword::Limit, at)?;
+    let (limit, at) = number(source, at)?;
+    let at = mark(source, Mark::Semicolon, at)?;
+    Ok((Some(limit), at))
+}
+
+/// The network.
+#[tactic(auto, unfolding(crate::specs::Reading::network, crate::specs::Reading::and_then))]
+pub(crate) fn network<'a>(alloc: Global, source: Source<'a>, at: usize) -> Read<Network<'a>>
+    ensures { spec.Gives (λ x. (network_seen x.0, left source.entry x.1)) result (spec.network source.entry.scope (left source.entry at)) }
+{
+    let at = keyword(source, Keyword::Network, at)?;
+    let at = mark(source, Mark::LeftBrace, at)?;
+    let (limit, at) = limit(source, at)?;
+    let (items, at) = items(alloc, source, at)?;
+    let at = mark(source, Mark::RightBrace, at)?;
+    Ok((Network { limit, items }, at))
+}

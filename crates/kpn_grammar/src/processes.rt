@@ -1,0 +1,158 @@
+//! Processes: a head with the ports and parameters, and a body.
+
+ghost use Rattle.std.specs.Prelude.{◌≡◌};
+ghost use Rattle.kpn_grammar.specs.Reading as spec;
+ghost use Rattle.kpn_grammar.specs.View.{left, names_seen, parts_seen, process_seen, processes_seen};
+
+use crate::blocks::block;
+use crate::expressions::MAX_DEPTH;
+use crate::fault::GrammarFault;
+use crate::lists::names;
+use crate::reader::{Read, Scope, Source, at_keyword, at_mark, keyword, mark, name, next};
+use crate::tree::{Names, Parts, Process};
+use kpn_tokens::{Keyword, Lexeme, Mark, Token};
+use std::alloc::Global;
+
+/// The parts of a head behind the in ports and the out ports: parameters, where a semicolon stands.
+#[tactic(auto, unfolding(crate::specs::Reading::after_outs, crate::specs::Reading::and_then))]
+fn after_outs<'a>(
+    alloc: Global,
+    source: Source<'a>,
+    ins: Names<'a>,
+    outs: Names<'a>,
+    at: usize,
+) -> Read<Parts<'a>>
+    ensures { spec.Gives (λ x. (parts_seen x.0, left source.entry x.1)) result (spec.after_outs source.entry.scope (names_seen ins.entry.items) (names_seen outs.entry.items) (left source.entry at)) }
+{
+    if !at_mark(source, Mark::Semicolon, at) {
+        let pars = Vec::new(alloc);
+        return Ok((Parts { ins, outs, pars }, at));
+    }
+    let at = mark(source, Mark::Semicolon, at)?;
+    let at = keyword(source, Keyword::Par, at)?;
+    let (pars, at) = names(alloc, source, at)?;
+    Ok((Parts { ins, outs, pars }, at))
+}
+
+/// The parts of a head behind the in ports, from the word that begins them on: out ports and
+/// parameters, or parameters.
+#[tactic(auto, unfolding(crate::specs::Reading::outs_or_pars, crate::specs::Reading::and_then))]
+fn outs_or_pars<'a>(
+    alloc: Global,
+    source: Source<'a>,
+    ins: Names<'a>,
+    word: &'a Lexeme<'a>,
+    at: usize,
+) -> Read<Parts<'a>>
+    ensures { spec.Gives (λ x. (parts_seen x.0, left source.entry x.1)) result (spec.outs_or_pars source.entry.scope (names_seen ins.entry.items) word.now.token word.now.start (left source.entry at)) }
+{
+    match &word.token {
+        Token::Keyword(Keyword::Out) => {
+            let (outs, at) = names(alloc, source, at)?;
+            after_outs(alloc, source, ins, outs, at)
+        }
+        Token::Keyword(Keyword::Par) => {
+            let outs = Vec::new(alloc);
+            let (pars, at) = names(alloc, source, at)?;
+            Ok((Parts { ins, outs, pars }, at))
+        }
+        _ => Err(GrammarFault::Grammar(word.start)),
+    }
+}
+
+/// The parts of a head behind the in ports: more, where a semicolon stands.
+#[tactic(auto, unfolding(crate::specs::Reading::after_ins, crate::specs::Reading::and_then))]
+fn after_ins<'a>(alloc: Global, source: Source<'a>, ins: Names<'a>, at: usize) -> Read<Parts<'a>>
+    ensures { spec.Gives (λ x. (parts_seen x.0, left source.entry x.1)) result (spec.after_ins source.entry.scope (names_seen ins.entry.items) (left source.entry at)) }
+{
+    if !at_mark(source, Mark::Semicolon, at) {
+        let outs = Vec::new(alloc);
+        let pars = Vec::new(alloc);
+        return Ok((Parts { ins, outs, pars }, at));
+    }
+    let at = mark(source, Mark::Semicolon, at)?;
+    let (word, at) = next(source, at)?;
+    outs_or_pars(alloc, source, ins, word, at)
+}
+
+/// The parts of a head from the word that begins them on.
+#[tactic(auto, unfolding(crate::specs::Reading::parts_behind, crate::specs::Reading::and_then))]
+fn parts_behind<'a>(
+    alloc: Global,
+    source: Source<'a>,
+    word: &'a Lexeme<'a>,
+    at: usize,
+) -> Read<Parts<'a>>
+    ensures { spec.Gives (λ x. (parts_seen x.0, left source.entry x.1)) result (spec.parts_behind source.entry.scope word.now.token word.now.start (left source.entry at)) }
+{
+    match &word.token {
+        Token::Keyword(Keyword::In) => {
+            let (ins, at) = names(alloc, source, at)?;
+            after_ins(alloc, source, ins, at)
+        }
+        _ => outs_or_pars(alloc, source, Vec::new(alloc), word, at),
+    }
+}
+
+/// The ports and parameters up to the closing parenthesis.
+#[tactic(auto, unfolding(crate::specs::Reading::parts, crate::specs::Reading::and_then))]
+fn parts<'a>(alloc: Global, source: Source<'a>, at: usize) -> Read<Parts<'a>>
+    ensures { spec.Gives (λ x. (parts_seen x.0, left source.entry x.1)) result (spec.parts source.entry.scope (left source.entry at)) }
+{
+    if at_mark(source, Mark::RightParen, at) {
+        let parts = Parts {
+            ins: Vec::new(alloc),
+            outs: Vec::new(alloc),
+            pars: Vec::new(alloc),
+        };
+        return Ok((parts, at));
+    }
+    let (word, at) = next(source, at)?;
+    parts_behind(alloc, source, word, at)
+}
+
+/// A process.
+#[tactic(auto, unfolding(crate::specs::Reading::process, crate::specs::Reading::and_then))]
+fn process<'a>(alloc: Global, source: Source<'a>, at: usize) -> Read<Process<'a>>
+    ensures { spec.Gives (λ x. (process_seen x.0, left source.entry x.1)) result (spec.process source.entry.scope (left source.entry at)) }
+{
+    let at = keyword(source, Keyword::Process, at)?;
+    let (name, at) = name(source, at)?;
+    let at = mark(source, Mark::LeftParen, at)?;
+    let (parts, at) = parts(alloc, source, at)?;
+    let at = mark(source, Mark::RightParen, at)?;
+    let (body, at) = block(alloc, source, MAX_DEPTH, at)?;
+    Ok((Process { name, parts, body }, at))
+}
+
+/// The process with a number.
+#[tactic(auto, unfolding(crate::specs::Reading::numbered_process))]
+fn numbered_process<'a>(
+    alloc: Global,
+    source: Source<'a>,
+    number: usize,
+    at: usize,
+) -> Read<Process<'a>>
+    ensures { spec.Gives (λ x. (process_seen x.0, left source.entry x.1)) result (spec.numbered_process source.entry.scope number (left source.entry at)) }
+{
+    let scope = Scope {
+        end: source.scope.end,
+        process: number,
+    };
+    let tokens = source.tokens;
+    process(alloc, Source { tokens, scope }, at)
+}
+
+/// The processes, numbered from 0.
+pub(crate) fn processes<'a>(alloc: Global, source: Source<'a>, at: usize) -> Read<Vec<Process<'a>>>
+    ensures { spec.Gives (λ x. (processes_seen x.0.items, left source.entry x.1)) result (spec.processes source.entry.scope (left source.entry at)) }
+{
+    let mut found = Vec::new(alloc);
+    let mut place = at;
+    'processes: while at_keyword(source, Keyword::Process, place) {
+        let (process, after) = numbered_process(alloc, source, found.len(), place)?;
+        found.push(process)?;
+        place = after;
+    }
+    Ok((found, place))
+}
