@@ -1,0 +1,54 @@
+-- What kind of channel has which capacity and which reader.
+use Rattle.std.proofs.Common.{◌≡◌, ℕ, suc, true, false, cond, List, [], ◌∷◌, ◌++◌, get_or, Some, None, refl}
+use Rattle.std.specs.Prelude.{nat_eq}
+use Rattle.kpn_net.specs.declared.tables.ChannelSpec.{ChannelSpec}
+use Rattle.kpn_net.specs.declared.tables.ChannelSpec.TheVariants as channel
+use Rattle.kpn_net.specs.declared.tables.End.{End}
+use Rattle.kpn_net.specs.declared.tables.End.TheVariants.{Process, Source, Sink}
+use Rattle.kpn_net.specs.declared.tables.Instance.{Instance}
+use Rattle.kpn_net.specs.Tables.{Tables, capacity, channel_at, ends_from, is_sink, places, reader_of}
+
+-- the first of these is not the sink
+abbrev BeginsNoSink : List End → Type 0
+BeginsNoSink ends = get_or ends 0 Source ≡ Sink → ⊥
+
+places_begin : (c p : ℕ) (ds : List ℕ) (ends : List End) → BeginsNoSink ends → BeginsNoSink (places c p ds ++ ends)
+places_begin c p [] ends none = none
+places_begin c p (d ∷ ds) ends none =
+    elim (nat_eq d c) as (λ b. BeginsNoSink (cond b (Process p ∷ places c p ds) (places c p ds) ++ ends)) [
+      | true ↦ λ e. absurd cc
+      | false ↦ places_begin c p ds ends none
+    ]
+
+-- a process is no sink
+ends_begin : (ports : Instance → List ℕ) (c p : ℕ) (instances : List Instance) → BeginsNoSink (ends_from ports c p instances)
+ends_begin ports c p [] = λ e. absurd cc
+ends_begin ports c p (i ∷ instances) = places_begin c p (ports i) (ends_from ports c (suc p) instances) (ends_begin ports c (suc p) instances)
+
+-- the reader of a channel, where these read it besides
+abbrev reader : ChannelSpec → List End → End
+reader spec ends = get_or (cond (is_sink spec) (Sink ∷ []) [] ++ ends) 0 Source
+
+sink_by : (spec : ChannelSpec) (ends : List End) (cap : ℕ) → BeginsNoSink ends → capacity spec ≡ Some cap → reader spec ends ≡ Sink → channel.Sink cap ≡ spec
+sink_by (channel.Inner n) ends cap none h r = absurd (none r)
+sink_by channel.Source ends cap none h r = absurd cc
+sink_by (channel.Sink n) ends cap none h r = cc
+
+inner_by : (spec : ChannelSpec) (ends : List End) (cap : ℕ) → capacity spec ≡ Some cap → (reader spec ends ≡ Sink → ⊥) → channel.Inner cap ≡ spec
+inner_by (channel.Inner n) ends cap h r = cc
+inner_by channel.Source ends cap h r = absurd cc
+inner_by (channel.Sink n) ends cap h r = absurd (r refl)
+
+source_by : (spec : ChannelSpec) → capacity spec ≡ None → channel.Source ≡ spec
+source_by (channel.Inner n) h = absurd cc
+source_by channel.Source h = refl
+source_by (channel.Sink n) h = absurd cc
+
+pub source_is : (t : Tables) (c : ℕ) → capacity (channel_at t c) ≡ None → channel.Source ≡ channel_at t c
+source_is t c h = source_by (channel_at t c) h
+
+pub sink_is : (t : Tables) (c cap : ℕ) → capacity (channel_at t c) ≡ Some cap → reader_of t c ≡ Sink → channel.Sink cap ≡ channel_at t c
+sink_is t c cap h r = sink_by (channel_at t c) (ends_from (λ i. i.ins) c 0 t.instances) cap (ends_begin (λ i. i.ins) c 0 t.instances) h r
+
+pub inner_is : (t : Tables) (c cap : ℕ) → capacity (channel_at t c) ≡ Some cap → (reader_of t c ≡ Sink → ⊥) → channel.Inner cap ≡ channel_at t c
+inner_is t c cap h r = inner_by (channel_at t c) (ends_from (λ i. i.ins) c 0 t.instances) cap h r
