@@ -5,7 +5,7 @@ use Rattle.std.specs.Prelude.{◌==◌}
 use Rattle.std.proofs.lemmas.Bool.{cond-false, cond-true, le-ltb, lt-ltb}
 use Rattle.std.proofs.lemmas.List.{drop_all, drop_more}
 use Rattle.kpn_canonical.specs.Named.{number_named, literal_named, limit_named, paired}
-use Rattle.kpn_canonical.specs.Text.{all_text, further_text, indented, list_text, names_text, outs_text, term_text, literal_text}
+use Rattle.kpn_canonical.specs.Text.{all_text, further_text, indented, names_text, outs_text, term_text, literal_text}
 use Rattle.kpn_canonical.specs.Writing.{Writes}
 
 -- nothing was put
@@ -102,12 +102,3 @@ pub then_five : {X E : Type 0} (r : Result X E) (a b c d e z : List ℕ) (f g h 
     → OnOk r (Writes a z (λ more. f (g (h (k (l more))))))
 then_five r a b c d e z f g h k l p1 p2 p3 p4 p5 =
     then_prints r a b z f _ p1 (then_prints r b c z g _ p2 (then_prints r c d z h _ p3 (then_prints r d e z k l p4 p5)))
-
--- all items of a list that is joined by commas were put
-pub joined_done : {A B : Type 0} (f : A → B) (text : B → List ℕ → List ℕ) (all : List A) (x : A) (xs : List A) (i : ℕ) (a first now : List ℕ) → all ≡ x ∷ xs → length xs ≤ i
-    → Writes a first (text (f x))
-    → ((more : List ℕ) → now ++ all_text (further_text text) (map f (drop i xs)) more ≡ first ++ all_text (further_text text) (map f xs) more)
-    → Writes a now (list_text text (map f all))
-joined_done f text all x xs i a first now is past item so_far more =
-    let none : drop i xs ≡ [] = drop_all i xs past in
-    (rw none at (so_far more)) ∙ item (all_text (further_text text) (map f xs) more) ∙ ap (λ l. a ++ list_text text (map f l) more) (sym is)
