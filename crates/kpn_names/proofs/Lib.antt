@@ -1,0 +1,6 @@
+mod Steps
+mod Turns
+mod Writing
+mod Heads
+mod Trees
+mod Counts

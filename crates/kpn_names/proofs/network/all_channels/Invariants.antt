@@ -1,0 +1,9 @@
+-- The items that are left, taken from here, give what all of them gave.
+use Rattle.std.proofs.Common.{◌≡◌, drop, map, fold}
+use Rattle.kpn_grammar.specs.View.{item_seen}
+use Rattle.kpn_names.specs.Network.{with_channel_name, all_channels}
+use Rattle.kpn_names.proofs.network.all_channels.Given as goal
+
+abbrev pub invariant-loop-item : goal.invariant-loop-item
+invariant-loop-item l =
+    fold with_channel_name l.names (map item_seen (drop l.item-index l.items)) ≡ all_channels (map item_seen l.items)

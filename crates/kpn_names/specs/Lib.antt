@@ -1,0 +1,10 @@
+pub mod Fault
+pub mod Names
+pub mod Scope
+pub mod Body
+pub mod Blocks
+pub mod Network
+pub mod Named
+pub mod Writer
+pub mod View
+pub mod Laws

@@ -1,0 +1,84 @@
+//! A whole description with a number for each name.
+
+ghost use Rattle.std.specs.Prelude.{◌≡◌, IfOk};
+ghost use Rattle.kpn_grammar.specs.View.{document};
+ghost use Rattle.kpn_names.specs.Fault.{Gives};
+ghost use Rattle.kpn_names.specs.Named as spec;
+ghost use Rattle.kpn_names.specs.Network.{limit_of};
+ghost use Rattle.kpn_names.specs.View.{named_seen};
+
+use crate::fault::NameFault;
+use crate::names::NameTable;
+use crate::network::{Wiring, within_32_bits};
+use crate::process::{Processes, ProgramParts};
+use kpn_grammar::Description;
+use kpn_net::{ChannelSpec, Instance};
+use kpn_tokens::Number;
+use std::alloc::Global;
+
+/// What a description names, by number: the parts of its programs, the tables of its network as
+/// `kpn_net::Network::new` takes them, and the names. Each table of names is in the order of
+/// declaration, and goes with the list of the same things.
+#[derive(Debug, Drop)]
+pub struct Named<'a> {
+    /// The names of the processes.
+    pub processes: NameTable<'a>,
+    /// The parts of their programs.
+    pub programs: Vec<ProgramParts<'a>>,
+    /// The names of the instances.
+    pub instance_names: NameTable<'a>,
+    /// The instances.
+    pub instances: Vec<Instance>,
+    /// The names of the channels, sources and sinks among them.
+    pub channel_names: NameTable<'a>,
+    /// The channels.
+    pub channels: Vec<ChannelSpec>,
+    /// The greatest capacity that a channel may come to.
+    pub limit: u32,
+}
+
+/// The limit of a network that writes none.
+const DEFAULT_LIMIT: u32 = 1_048_576;
+
+/// The limit as it is written, or [`DEFAULT_LIMIT`].
+fn limit(written: Option<Number>) -> u32
+    ensures { result ≡ limit_of written }
+{
+    match written {
+        Some(number) => within_32_bits(number),
+        None => DEFAULT_LIMIT,
+    }
+}
+
+/// Looks up each name of a description.
+///
+/// A capacity or a limit that 32 bits do not hold is handed on as the greatest number that they do.
+///
+/// # Errors
+///
+/// What is first wrong with a name, in the order of the text: [`NameFault::UnknownName`] at a name
+/// that is not known where it is used, [`NameFault::DoubleName`] at one that is given a second time in
+/// its table. [`NameFault::NoMemory`] only where an allocation was refused.
+#[tactic(auto, unfolding(crate::specs::Fault::and_then))]
+pub fn resolve<'a>(alloc: Global, description: &Description<'a>) -> Result<Named<'a>, NameFault>
+    ensures exact { Gives named_seen result (spec.resolve (document description.now)) }
+    ensures each { IfOk result (λ n. spec.EachIsNamed (named_seen n)) }
+{
+    let Processes { names, programs } = Processes::read(alloc, description.processes.as_slice())?;
+    let wiring = Wiring::read(alloc, &names, description.network.items.as_slice())?;
+    let Wiring {
+        channel_names,
+        channels,
+        instance_names,
+        instances,
+    } = wiring;
+    Ok(Named {
+        processes: names,
+        programs,
+        instance_names,
+        instances,
+        channel_names,
+        channels,
+        limit: limit(description.network.limit),
+    })
+}

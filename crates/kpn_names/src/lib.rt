@@ -1,0 +1,26 @@
+//! The names of a description.
+//!
+//! The tree of a description names its processes, ports, variables, channels and instances. Here each
+//! name is looked up in its table, and the tree becomes the parts of the programs and the tables of
+//! the network, in which a number stands for each name.
+#![tactic(auto)]
+
+mod document;
+mod expression;
+mod fault;
+mod laws;
+mod names;
+mod network;
+mod process;
+mod scope;
+mod writer;
+
+pub use document::{Named, resolve};
+pub use fault::NameFault;
+pub use laws::blocks_are_the_tree;
+pub use names::NameTable;
+pub use process::ProgramParts;
+pub use scope::Scope;
+
+#[cfg(test)]
+mod tests;

@@ -1,0 +1,182 @@
+-- A document that a text spells is spelled by its canonical text, where that is short enough.
+use Rattle.std.proofs.Common.{◌≡◌, ℕ, ◌<◌, ◌≤◌, Bool, true, false, cond, List, length, map, Option, Some, None, Result, Ok, Err, refl, sym, ap, subst, ◌∙◌, arith}
+use Rattle.std.specs.Prelude.{nat_lt, nat_eq, position, IfOk}
+use Rattle.std.specs.List.{AllByRecursion}
+use Rattle.std.proofs.lemmas.Bool.Decides.{nat_tests}
+use Rattle.kpn_lang.proofs.Programs.{neither}
+use Rattle.kpn_net.specs.declared.fault.NetFault.{NetFault}
+use Rattle.kpn_net.specs.declared.fault.NetFault.TheVariants.{NoWriter, TwoWriters, NoReader, TwoReaders, Capacity}
+use Rattle.kpn_net.specs.Tables.{Tables, writers_of, readers_of}
+use Rattle.kpn_net.specs.Faults.{exceeds, has_no_such_capacity, wrong_capacity, first_at, or_else, instances_fault, channels_fault, channel_numbers, is_none, are_several, IsNetwork}
+use Rattle.kpn_tokens.specs.Laws.{tokens_of}
+use Rattle.kpn_grammar.specs.Syntax.{Description}
+use Rattle.kpn_grammar.specs.Spelling.{spell_description, ProcessFits, IsDescription}
+use Rattle.kpn_names.specs.Fault.{and_then}
+use Rattle.kpn_names.specs.Laws.{BlocksAreTheTree}
+use Rattle.kpn_names.specs.Network.{limit_of, Wiring, wiring}
+use Rattle.kpn_names.specs.Named.{Programs, programs_of, Named, resolve}
+use Rattle.kpn_canonical.specs.declared.names.NetworkNames.{NetworkNames}
+use Rattle.kpn_canonical.specs.Laws.{DescriptionIsRead, ReadDescriptionsAreProper}
+use Rattle.kpn_canonical.specs.Named.{limit_named, description_named}
+use Rattle.kpn_canonical.specs.Proper.{IsProperProcess, IsProperLimit, IsProperItem, IsProper}
+use Rattle.kpn_canonical.specs.Text.{description_text}
+use Rattle.kpn_text.specs.Document.{Document, names_in, canonical_text}
+use Rattle.kpn_text.specs.Spells.{Spells, IsSpelled}
+use Rattle.kpn_text.specs.Again.{PrintedTextSpells}
+use Rattle.kpn_text.proofs.KnownNames.{same_ok, went, then_ok}
+use Rattle.kpn_text.proofs.NamedProcesses.{processes_back}
+use Rattle.kpn_text.proofs.NamedItems.{items_back}
+
+-- ---- the limit
+
+no_fault : (fault : NetFault) {A : Type 0} → ◌≡◌ {A = Option NetFault} (Some fault) None → A
+no_fault fault h = absurd (cc)
+
+none_at : (o : Option ℕ) (fault : ℕ → NetFault) (after : Option NetFault) → first_at o fault after ≡ None → (o ≡ None) × (after ≡ None)
+none_at None fault after h = (refl, h)
+none_at (Some k) fault after h = no_fault (fault k) h
+
+none_either : (o after : Option NetFault) → or_else o after ≡ None → after ≡ None
+none_either None after h = h
+none_either (Some fault) after h = no_fault fault h
+
+not_there : (k : ℕ) {A : Type 0} → ◌≡◌ {A = Option ℕ} (Some k) None → A
+not_there k h = absurd (cc)
+
+limit_if : (b : Bool) (k : ℕ) (o : Option ℕ) → cond b (Some k) o ≡ None → b ≡ false
+limit_if true k o h = not_there k h
+limit_if false k o h = refl
+
+within : (limit cap : ℕ) → exceeds limit cap ≡ false → cap ≤ limit
+within limit cap h =
+    let above : nat_lt limit cap ≡ false = (neither (nat_eq cap 0) (nat_lt limit cap) h).1 in
+    grind (arith, nat_tests, above)
+
+limit_within : (t : Tables) → IsNetwork t → t.limit ≤ 1048576
+limit_within t h =
+    let channels = none_either (instances_fault t) (channels_fault t) h.sound in
+    let a = none_at (position is_none (map (writers_of t) (channel_numbers t))) NoWriter _ channels in
+    let b = none_at (position are_several (map (writers_of t) (channel_numbers t))) TwoWriters _ a.1 in
+    let d = none_at (position is_none (map (readers_of t) (channel_numbers t))) NoReader _ b.1 in
+    let e = none_at (position are_several (map (readers_of t) (channel_numbers t))) TwoReaders _ d.1 in
+    let f = none_at (wrong_capacity t) Capacity None e.1 in
+    within 1048576 t.limit (limit_if (exceeds 1048576 t.limit) (length t.channels) (position (has_no_such_capacity t.limit) t.channels) f.0)
+
+limit_by : (b : Bool) (n : ℕ) → nat_lt n 1048576 ≡ b → n ≤ 1048576 → limit_of (cond b (Some n) None) ≡ n
+limit_by true n h k = let small : n < 1048576 = grind (arith, nat_tests, h) in omega arith
+limit_by false n h k = let large : 1048576 ≤ n = grind (arith, nat_tests, h) in omega arith
+
+limit_again : (n : ℕ) → n ≤ 1048576 → limit_of (limit_named n) ≡ n
+limit_again n h = limit_by (nat_lt n 1048576) n refl h
+
+limit_proper_by : (b : Bool) (n : ℕ) → n ≤ 1048576 → IsProperLimit (cond b (Some n) None)
+limit_proper_by true n h = omega arith
+limit_proper_by false n h = tt
+
+limit_proper : (n : ℕ) → n ≤ 1048576 → IsProperLimit (limit_named n)
+limit_proper n h = limit_proper_by (nat_lt n 1048576) n h
+
+-- ---- what a description names, part by part
+
+abbrev with_limit : (limit : ℕ) → Programs → Wiring → Named
+with_limit limit p w = record {
+  tables = record { programs = map (λ q. q.parts) p.programs; instances = w.instances; channels = w.channels; limit = limit };
+  processes = p.names;
+  scopes = map (λ q. q.names) p.programs;
+  instances = w.instance_names;
+  channels = w.channel_names;
+}
+
+record Resolved (d : Description) (n : Named) : Type 0 where
+  p : Programs
+  w : Wiring
+  has_processes : programs_of d.processes ≡ Ok p
+  has_items : wiring p.names d.network.items ≡ Ok w
+  is : with_limit (limit_of d.network.limit) p w ≡ n
+
+resolved : (d : Description) (n : Named) → resolve d ≡ Ok n → Resolved d n
+resolved d n h =
+    let p = went _ _ n h in
+    let w = went _ _ n p.rest in
+    record { p = p.value; w = w.value; has_processes = p.first; has_items = w.first; is = same_ok _ n w.rest }
+
+resolves : (d : Description) (p : Programs) (w : Wiring) → programs_of d.processes ≡ Ok p → wiring p.names d.network.items ≡ Ok w → resolve d ≡ Ok (with_limit (limit_of d.network.limit) p w)
+resolves d p w hp hw =
+    then_ok (programs_of d.processes) (λ q. and_then (wiring q.names d.network.items) (λ v. Ok (with_limit (limit_of d.network.limit) q v))) p hp
+    ∙ then_ok (wiring p.names d.network.items) (λ v. Ok (with_limit (limit_of d.network.limit) p v)) w hw
+
+-- ---- the description that a document is printed as
+
+abbrev printed : Named → Description
+printed n = description_named (names_in n) n.tables
+
+-- what it keeps of a description that names the document
+pub record Kept (d : Description) (n : Named) : Type 0 where
+  pub processes : d.processes ≡ (printed n).processes
+  pub limit : IsProperLimit (printed n).network.limit
+  pub items : AllByRecursion IsProperItem d.network.items → AllByRecursion IsProperItem (printed n).network.items
+  pub again : resolve (printed n) ≡ Ok n
+
+kept_by : BlocksAreTheTree → (d : Description) (limit : ℕ) (p : Programs) (w : Wiring) → limit ≤ 1048576 → programs_of d.processes ≡ Ok p → wiring p.names d.network.items ≡ Ok w → Kept d (with_limit limit p w)
+kept_by flat d limit p w small hp hw =
+    let n : Named = with_limit limit p w in
+    let a = processes_back flat d.processes p hp in
+    let b = items_back (names_in n) p.names d.network.items w a.names_back refl hw in
+    let read : programs_of (printed n).processes ≡ Ok p = ap (λ ps. programs_of ps) a.back ∙ hp in
+    record {
+      processes = sym a.back;
+      limit = limit_proper limit small;
+      items = b.proper;
+      again = resolves (printed n) p w read b.again ∙ ap (λ l. Ok (with_limit l p w)) (limit_again limit small);
+    }
+
+pub kept : BlocksAreTheTree → (d : Description) (n : Named) → resolve d ≡ Ok n → IsNetwork n.tables → Kept d n
+kept flat d n h net =
+    let r = resolved d n h in
+    let limit : limit_of d.network.limit ≡ n.tables.limit = ap (λ (q : Named). q.tables.limit) r.is in
+    let small : limit_of d.network.limit ≤ 1048576 = subst (λ l. l ≤ 1048576) (sym limit) (limit_within n.tables net) in
+    subst (λ q. Kept d q) r.is (kept_by flat d (limit_of d.network.limit) r.p r.w small r.has_processes r.has_items)
+
+-- ---- the law
+
+-- the printed description is proper
+proper : (text : List ℕ) (d : Document) (s : Spells text d) → ReadDescriptionsAreProper → Kept s.tree s.named → IsProper (printed s.named)
+proper text d s read k =
+    let was : IsProper s.tree = read text s.tree (s.read ∙ ap (λ ts. Some ts) s.spelled.spelled) in
+    record {
+      processes = subst (λ ps. AllByRecursion IsProperProcess ps) k.processes was.processes;
+      network = record { limit = k.limit; items = k.items was.network.items };
+    }
+
+-- each of its processes is within the limits of the grammar
+printed_fits : (text : List ℕ) (d : Document) (s : Spells text d) → Kept s.tree s.named → IsDescription (spell_description (printed s.named)) (printed s.named)
+printed_fits text d s k = record { spelled = refl; fits = subst (λ ps. AllByRecursion ProcessFits ps) k.processes s.spelled.fits }
+
+spelled_kept : BlocksAreTheTree → (text : List ℕ) (d : Document) (s : Spells text d) → Kept s.tree s.named
+spelled_kept flat text d s = kept flat s.tree s.named s.resolved (subst (λ (e : Document). IsNetwork e.tables) (sym s.is) s.keeps)
+
+pub printed_spells : BlocksAreTheTree → DescriptionIsRead → ReadDescriptionsAreProper → PrintedTextSpells
+printed_spells flat is_read are_proper d h short =
+    let text : List ℕ = h.0 in
+    let s = h.1 in
+    let k = spelled_kept flat text d s in
+    let same : description_text (printed s.named) ≡ canonical_text d = ap (λ e. canonical_text e) s.is in
+    record {
+      fits = short;
+      tokens = spell_description (printed s.named);
+      read = ap (λ t. tokens_of t) (sym same) ∙ is_read (printed s.named) (proper text d s are_proper k);
+      tree = printed s.named;
+      spelled = printed_fits text d s k;
+      named = s.named;
+      resolved = k.again;
+      is = s.is;
+      keeps = s.keeps;
+    }
+
+-- what a call that printed the document, by its tables and names, returned is read again
+pub text_reads_again : {V E : Type 0} (items : V → List ℕ) → PrintedTextSpells → (d : Document) → IsSpelled d → (names : NetworkNames) (tables : Tables) → names ≡ d.names → tables ≡ d.tables
+    → (r : Result V E) → IfOk r (λ v. items v ≡ description_text (description_named names tables)) → IfOk r (λ v. length (items v) ≤ 1048576 → Spells (items v) d)
+text_reads_again items law d h names tables same_names same_tables (Ok v) e =
+    let is : items v ≡ canonical_text d = e ∙ (λ i. description_text (description_named (same_names i) (same_tables i))) in
+    λ short. subst (λ bytes. Spells bytes d) (sym is) (law d h (subst (λ bytes. length bytes ≤ 1048576) is short))
+text_reads_again items law d h names tables same_names same_tables (Err x) e = tt

@@ -1,0 +1,11 @@
+-- The programs so far, and the parts that are left.
+use Rattle.std.proofs.Common.{◌≡◌, length, map}
+use Rattle.std.specs.Vec.Iter.{into_iter_items, into_iter_len}
+use Rattle.kpn_names.specs.View.{program_seen}
+use Rattle.kpn_text.proofs.Tables.{Made}
+use Rattle.kpn_text.proofs.network.programs.Given as goal
+
+abbrev pub invariant-loop-process : goal.invariant-loop-process
+invariant-loop-process l =
+    Made (map (λ p. p.parts) (map program_seen l.fn.processes.items)) l.programs.items (map (λ p. p.parts) (map program_seen (into_iter_items l.process-iterator)))
+    × (into_iter_len l.process-iterator ≡ length (into_iter_items l.process-iterator))

@@ -1,0 +1,41 @@
+-- The fault of a text that a fault of a part becomes.
+use Rattle.kpn_lang.specs.declared.program.ProgramFault.TheVariants as program
+use Rattle.kpn_net.specs.declared.fault.NetFault.{NetFault}
+use Rattle.kpn_net.specs.declared.fault.NetFault.TheVariants as net
+use Rattle.kpn_tokens.specs.declared.lexer.LexFault.{LexFault}
+use Rattle.kpn_tokens.specs.declared.lexer.LexFault.TheVariants as lex
+use Rattle.kpn_grammar.specs.declared.fault.GrammarFault.{GrammarFault}
+use Rattle.kpn_grammar.specs.declared.fault.GrammarFault.TheVariants as grammar
+use Rattle.kpn_names.specs.declared.fault.NameFault.{NameFault}
+use Rattle.kpn_names.specs.declared.fault.NameFault.TheVariants as name
+use Rattle.kpn_text.specs.declared.fault.TextFault.{TextFault}
+use Rattle.kpn_text.specs.declared.fault.TextFault.TheVariants as text
+
+abbrev pub lex_fault : LexFault → TextFault
+lex_fault (lex.TooLong at) = text.TooLong at
+lex_fault (lex.Token at) = text.Token at
+lex_fault lex.NoMemory = text.NoMemory
+
+-- a process that nests too deep is a fault of its program
+abbrev pub grammar_fault : GrammarFault → TextFault
+grammar_fault (grammar.Grammar at) = text.Grammar at
+grammar_fault (grammar.TooDeep i) = text.Program i program.TooDeep
+grammar_fault grammar.NoMemory = text.NoMemory
+
+abbrev pub name_fault : NameFault → TextFault
+name_fault (name.UnknownName at) = text.UnknownName at
+name_fault (name.DoubleName at) = text.DoubleName at
+name_fault name.NoMemory = text.NoMemory
+
+-- want of memory is told alike, wherever it comes
+abbrev pub net_fault : NetFault → TextFault
+net_fault net.TooMany = text.Net net.TooMany
+net_fault (net.NoSuchProgram p) = text.Net (net.NoSuchProgram p)
+net_fault (net.PortCount p) = text.Net (net.PortCount p)
+net_fault (net.NoSuchChannel p) = text.Net (net.NoSuchChannel p)
+net_fault (net.NoWriter c) = text.Net (net.NoWriter c)
+net_fault (net.TwoWriters c) = text.Net (net.TwoWriters c)
+net_fault (net.NoReader c) = text.Net (net.NoReader c)
+net_fault (net.TwoReaders c) = text.Net (net.TwoReaders c)
+net_fault (net.Capacity c) = text.Net (net.Capacity c)
+net_fault net.NoMemory = text.NoMemory

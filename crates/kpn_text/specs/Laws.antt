@@ -1,0 +1,13 @@
+-- The laws of reading.
+use Rattle.std.specs.Prelude.{◌≡◌, ◌↔◌, ℕ, List, Ok}
+use Rattle.kpn_text.specs.Document.{Document}
+use Rattle.kpn_text.specs.Spells.{Spells}
+use Rattle.kpn_text.specs.Phases.{document_of}
+
+-- The phases give a document exactly where the text spells it.
+abbrev pub PhasesGiveWhatIsSpelled : Type 0
+PhasesGiveWhatIsSpelled = (text : List ℕ) (d : Document) → (document_of text ≡ Ok d) ↔ Spells text d
+
+-- A text spells one document at most.
+abbrev pub SpelledOnce : Type 0
+SpelledOnce = (text : List ℕ) (d e : Document) → Spells text d → Spells text e → d ≡ e

@@ -1,0 +1,34 @@
+-- What the calls of reading give.
+use Rattle.std.specs.Prelude.{◌≡◌, ◌⊎◌, ℕ, List, Option, Some, None, Result, Ok, Err}
+use Rattle.kpn_lang.specs.declared.program.ProgramFault.{ProgramFault}
+use Rattle.kpn_lang.specs.Parts.{Parts}
+use Rattle.kpn_text.specs.declared.fault.TextFault.{TextFault}
+use Rattle.kpn_text.specs.declared.fault.TextFault.TheVariants as fault
+use Rattle.kpn_text.specs.Document.{Document}
+use Rattle.kpn_text.specs.Phases.{Cause, Tells, Refuses}
+use Rattle.kpn_text.specs.Spells.{Spells}
+
+-- a cause was found, and the fault tells it
+abbrev pub TellsCause : Option Cause → TextFault → Type 0
+TellsCause (Some cause) f = Tells cause f
+TellsCause None f = ⊥
+
+-- a value of which this holds, where there is no cause; else a fault that tells the cause, or memory ran out
+abbrev pub Makes : {A : Type 0} → (A → Type 0) → Result A TextFault → Option Cause → Type 0
+Makes P (Ok x) cause = (cause ≡ None) × P x
+Makes P (Err f) cause = (f ≡ fault.NoMemory) ⊎ TellsCause cause f
+
+-- the fault of the program with this number
+abbrev pub numbered : ℕ → Result Parts ProgramFault → Result Parts TextFault
+numbered number (Ok parts) = Ok parts
+numbered number (Err e) = Err (fault.Program number e)
+
+-- the call gave this document, or memory ran out
+abbrev pub OkOrNoMemory : Document → Result Document TextFault → Type 0
+OkOrNoMemory d (Ok found) = found ≡ d
+OkOrNoMemory d (Err f) = f ≡ fault.NoMemory
+
+-- the document that the text spells, or a fault with which it is refused
+abbrev pub Reads : List ℕ → Result Document TextFault → Type 0
+Reads text (Ok d) = Spells text d
+Reads text (Err f) = Refuses text f

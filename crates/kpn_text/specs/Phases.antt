@@ -1,0 +1,103 @@
+-- The phases of reading: tokens, grammar, names, the programs in order, the network. Each goes on where the one before
+-- it finds no fault, and the first that finds one is the cause of a refusal.
+use Rattle.std.specs.Prelude.{◌≡◌, ◌⊎◌, ℕ, suc, List, [], ◌∷◌, length, Option, Some, None, Result, Ok, Err}
+use Rattle.kpn_lang.specs.declared.program.ProgramFault.{ProgramFault}
+use Rattle.kpn_lang.specs.Parts as lang
+use Rattle.kpn_lang.specs.Parts.{Parts}
+use Rattle.kpn_net.specs.declared.fault.NetFault.{NetFault}
+use Rattle.kpn_net.specs.Tables.{Tables}
+use Rattle.kpn_net.specs.Faults as net
+use Rattle.kpn_tokens.specs.declared.lexer.LexFault.{LexFault}
+use Rattle.kpn_tokens.specs.Lexing.{lexemes_of}
+use Rattle.kpn_grammar.specs.declared.fault.GrammarFault.{GrammarFault}
+use Rattle.kpn_grammar.specs.Reading.{description_of}
+use Rattle.kpn_names.specs.Fault.{NameError, unknown, double}
+use Rattle.kpn_names.specs.Named.{resolve}
+use Rattle.kpn_text.specs.declared.fault.TextFault.{TextFault}
+use Rattle.kpn_text.specs.declared.fault.TextFault.TheVariants as fault
+use Rattle.kpn_text.specs.Document.{Document, document_named}
+use Rattle.kpn_text.specs.Fault.{lex_fault, grammar_fault, net_fault}
+
+-- what a phase finds. Where in the text a name stands is left out
+pub data Cause : Type 0 where
+  in_tokens : LexFault → Cause
+  in_grammar : GrammarFault → Cause
+  in_names : NameError → Cause
+  in_program : ℕ → ProgramFault → Cause
+  in_network : NetFault → Cause
+
+-- what a phase gives, or the cause
+abbrev pub phase : {A E : Type 0} → (E → Cause) → Result A E → Result A Cause
+phase cause (Ok x) = Ok x
+phase cause (Err e) = Err (cause e)
+
+-- a phase that looks for a cause and makes nothing
+abbrev pub unless : {A : Type 0} → Option Cause → A → Result A Cause
+unless None x = Ok x
+unless (Some cause) x = Err cause
+
+-- a phase, and then what follows where it had no fault
+unfoldable pub and_then : {A B : Type 0} → Result A Cause → (A → Result B Cause) → Result B Cause
+and_then (Ok x) f = f x
+and_then (Err cause) f = Err cause
+
+infixl 10 ◌>>=◌
+abbrev pub ◌>>=◌ : {A B : Type 0} → Result A Cause → (A → Result B Cause) → Result B Cause
+r >>= f = and_then r f
+
+-- the fault of a program, else what comes after it
+abbrev pub program_or : ℕ → Option ProgramFault → Option Cause → Option Cause
+program_or i (Some fault) after = Some (in_program i fault)
+program_or i None after = after
+
+-- the first program that breaks a rule, where the first has the number i
+abbrev pub programs_cause : (i : ℕ) → List Parts → Option Cause
+programs_cause i [] = None
+programs_cause i (p ∷ ps) = program_or i (lang.first_fault p) (programs_cause (suc i) ps)
+
+abbrev pub network_cause : Option NetFault → Option Cause
+network_cause (Some fault) = Some (in_network fault)
+network_cause None = None
+
+-- one cause, else the other
+abbrev pub or_else : Option Cause → Option Cause → Option Cause
+or_else (Some cause) after = Some cause
+or_else None after = after
+
+-- the first rule that tables break: the programs in order, then the network
+abbrev pub tables_cause : Tables → Option Cause
+tables_cause t = or_else (programs_cause 0 t.programs) (network_cause (net.first_fault t))
+
+-- the document of a text, or the cause of its refusal
+unfoldable pub document_of : List ℕ → Result Document Cause
+document_of text = do
+  tokens ← phase in_tokens (lexemes_of text)
+  tree ← phase in_grammar (description_of (length text) tokens)
+  named ← phase in_names (resolve tree)
+  unless (tables_cause named.tables) (document_named named)
+
+-- ---- how a cause is told
+
+abbrev pub IsUnknownName : TextFault → Type 0
+IsUnknownName f = (at : ℕ) × (f ≡ fault.UnknownName at)
+
+abbrev pub IsDoubleName : TextFault → Type 0
+IsDoubleName f = (at : ℕ) × (f ≡ fault.DoubleName at)
+
+-- the fault tells the cause: all of it, and of a name some byte
+abbrev pub Tells : Cause → TextFault → Type 0
+Tells (in_tokens e) f = f ≡ lex_fault e
+Tells (in_grammar e) f = f ≡ grammar_fault e
+Tells (in_names unknown) f = IsUnknownName f
+Tells (in_names double) f = IsDoubleName f
+Tells (in_program i e) f = f ≡ fault.Program i e
+Tells (in_network e) f = f ≡ net_fault e
+
+-- the phases find a cause, and the fault tells it
+abbrev pub TellsWhatIsFound : Result Document Cause → TextFault → Type 0
+TellsWhatIsFound (Ok d) f = ⊥
+TellsWhatIsFound (Err cause) f = Tells cause f
+
+-- a text is refused with this fault: memory ran out, or it tells the cause that the first phase finds
+abbrev pub Refuses : List ℕ → TextFault → Type 0
+Refuses text f = (f ≡ fault.NoMemory) ⊎ TellsWhatIsFound (document_of text) f

@@ -1,0 +1,26 @@
+-- What it is for a text to spell a document.
+use Rattle.std.specs.Prelude.{◌≡◌, ℕ, ◌≤◌, List, length, Some, Ok}
+use Rattle.kpn_tokens.specs.declared.tokens.Token.{Token}
+use Rattle.kpn_tokens.specs.Laws.{tokens_of}
+use Rattle.kpn_net.specs.Faults.{IsNetwork}
+use Rattle.kpn_grammar.specs.Syntax.{Description}
+use Rattle.kpn_grammar.specs.Spelling.{IsDescription}
+use Rattle.kpn_names.specs.Named.{Named, resolve}
+use Rattle.kpn_text.specs.Document.{Document, document_named}
+
+-- A text spells a document: it has at most 1,048,576 bytes, its tokens are those of a tree, what the tree names is the
+-- document, and the document's tables keep the rules of programs and networks.
+pub record Spells (text : List ℕ) (d : Document) : Type 0 where
+  pub fits : length text ≤ 1048576
+  pub tokens : List Token
+  pub read : tokens_of text ≡ Some tokens
+  pub tree : Description
+  pub spelled : IsDescription tokens tree
+  pub named : Named
+  pub resolved : resolve tree ≡ Ok named
+  pub is : document_named named ≡ d
+  pub keeps : IsNetwork d.tables
+
+-- some text spells the document
+abbrev pub IsSpelled : Document → Type 0
+IsSpelled d = (text : List ℕ) × Spells text d

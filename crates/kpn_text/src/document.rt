@@ -1,0 +1,102 @@
+//! Documents: networks with the names of their parts.
+
+ghost use Rattle.std.specs.Prelude.{◌≡◌, ◌<◌, length};
+ghost use Rattle.kpn_canonical.specs.Named.{AreNamed, name_at, process_names};
+ghost use Rattle.kpn_names.specs.Names.{number_of};
+ghost use Rattle.kpn_text.specs.Document as spec;
+ghost use Rattle.kpn_text.specs.Spells.{IsSpelled};
+
+use kpn_canonical::NetworkNames;
+use kpn_net::Network;
+use std::marker::Model;
+
+/// A network with the names of its processes, instances and channels. Some text spells it: only
+/// [`read_network`](crate::read_network) makes one. Names are ASCII, and are given as bytes.
+#[derive(Debug, Drop)]
+pub struct Document {
+    network: Network,
+    names: NetworkNames,
+}
+
+impl Model for Document {
+    ghost use Rattle.std.specs.Coded.{codes};
+    ghost use Rattle.kpn_lang.specs.Codes.{parts_code};
+    ghost use Rattle.kpn_text.specs.Document as spec;
+    ghost use Rattle.kpn_text.specs.Spells.{IsSpelled};
+
+    ghost Value = { spec.Document };
+
+    ghost coded = { Prim.hlevel (codes, parts_code) };
+
+    ghost view = { λ d. spec.document_with d.network d.names };
+
+    ghost invariant = { λ d. IsSpelled (spec.document_with d.network d.names) };
+}
+
+impl Document {
+    /// The document of a network with these names, which some text spells.
+    pub(crate) fn new(network: Network, names: NetworkNames) -> Document
+        requires { IsSpelled (spec.document_with network names) }
+        ensures { result ≡ spec.document_with network names }
+    {
+        Document { network, names }
+    }
+
+    /// The network.
+    pub fn network(&self) -> &Network
+        ensures { result.now ≡ self.now.tables }
+    {
+        &self.network
+    }
+
+    /// Nothing: it tells a caller's proof that some text spells the document.
+    pub fn known(&self)
+        ensures { IsSpelled self.now }
+    {
+        let _ = &self.network;
+    }
+
+    /// The names, of which there are as many as there are processes, instances and channels.
+    pub(crate) fn names(&self) -> &NetworkNames
+        ensures names { result.now ≡ self.now.names }
+        ensures named { AreNamed self.now.names self.now.tables }
+    {
+        &self.names
+    }
+
+    /// The name of the process with this number.
+    pub fn process_name(&self, i: usize) -> &[u8]
+        requires { i < length self.now.tables.programs }
+        ensures { result.now ≡ name_at (process_names self.now.names) i }
+    {
+        self.names.processes.as_slice()[i].name.as_slice()
+    }
+
+    /// The name of the instance with this number.
+    pub fn instance_name(&self, p: usize) -> &[u8]
+        requires { p < length self.now.tables.instances }
+        ensures { result.now ≡ name_at self.now.names.instances p }
+    {
+        self.names.instances.as_slice()[p].as_slice()
+    }
+
+    /// The name of the channel with this number.
+    pub fn channel_name(&self, c: usize) -> &[u8]
+        requires { c < length self.now.tables.channels }
+        ensures { result.now ≡ name_at self.now.names.channels c }
+    {
+        self.names.channels.as_slice()[c].as_slice()
+    }
+
+    /// The number of the channel with this name, or `None` where there is none.
+    pub fn find_channel(&self, name: &str) -> Option<usize>
+        ensures { result ≡ number_of self.now.names.channels name.now }
+    {
+        let name = name.as_bytes();
+        self.names
+            .channels
+            .as_slice()
+            .iter()
+            .position(|channel| name == channel.as_slice())
+    }
+}

@@ -1,0 +1,27 @@
+//! The laws of reading. Each is a function without code: its contract is the law, and the proof of the function is
+//! the proof of the law.
+
+ghost use Rattle.kpn_text.specs.Again.{PrintedTextSpells};
+ghost use Rattle.kpn_text.specs.Laws.{PhasesGiveWhatIsSpelled, SpelledOnce};
+
+use kpn_canonical::{description_is_read, read_descriptions_are_proper};
+use kpn_names::blocks_are_the_tree;
+
+/// The phases give a document exactly where the text spells it.
+pub fn phases_give_what_is_spelled()
+    ensures { PhasesGiveWhatIsSpelled }
+{}
+
+/// A text spells one document at most.
+pub fn spelled_once()
+    ensures { SpelledOnce }
+{}
+
+/// A printed document is read again.
+pub fn read_again()
+    ensures { PrintedTextSpells }
+{
+    blocks_are_the_tree();
+    description_is_read();
+    read_descriptions_are_proper();
+}

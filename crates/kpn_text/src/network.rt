@@ -1,0 +1,55 @@
+//! The network of the tables that a description names: the last two phases of reading.
+
+ghost use Rattle.std.specs.Prelude.{◌≡◌, length, map};
+ghost use Rattle.kpn_lang.specs.Parts.{first_fault, parts_unless};
+ghost use Rattle.kpn_names.specs.View.{named_seen, program_seen};
+ghost use Rattle.kpn_text.specs.Phases.{programs_cause, tables_cause};
+ghost use Rattle.kpn_text.specs.Making.{Makes, numbered};
+
+use crate::fault::TextFault;
+use kpn_lang::Program;
+use kpn_names::{Named, ProgramParts};
+use kpn_net::Network;
+use std::alloc::Global;
+
+/// The program of the process with this number.
+fn program(number: usize, process: ProgramParts<'_>) -> Result<Program, TextFault>
+    ensures { let parts = (program_seen process.entry).parts in result ≡ numbered number (parts_unless parts (first_fault parts)) }
+{
+    let ins = process.scope.ins.len();
+    let outs = process.scope.outs.len();
+    match Program::new(ins, outs, process.pars, process.locals, process.blocks) {
+        Ok(program) => Ok(program),
+        Err(fault) => Err(TextFault::Program(number, fault)),
+    }
+}
+
+/// The programs of the processes in order.
+fn programs(alloc: Global, processes: Vec<ProgramParts<'_>>) -> Result<Vec<Program>, TextFault>
+    ensures { let parts = map (λ p. p.parts) (map program_seen processes.entry.items) in Makes (λ programs. programs.items ≡ parts) result (programs_cause 0 parts) }
+{
+    let mut programs = Vec::new(alloc);
+    for process in processes {
+        let program = program(programs.len(), process)?;
+        programs.push(program)?;
+    }
+    Ok(programs)
+}
+
+/// The network of the tables, or the first rule that they break: of the programs in order, then of the network.
+pub(crate) fn network(alloc: Global, named: Named<'_>) -> Result<Network, TextFault>
+    ensures { let tables = (named_seen named.entry).tables in Makes (λ network. network ≡ tables) result (tables_cause tables) }
+{
+    let Named {
+        processes: _,
+        programs: processes,
+        instance_names: _,
+        instances,
+        channel_names: _,
+        channels,
+        limit,
+    } = named;
+    let programs = programs(alloc, processes)?;
+    let network = Network::new(alloc, programs, instances, channels, limit)?;
+    Ok(network)
+}

@@ -1,0 +1,22 @@
+//! Printing a document as the canonical text of its description.
+
+ghost use Rattle.std.specs.Prelude.{◌≡◌, ◌≤◌, length, IfOk};
+ghost use Rattle.kpn_text.specs.Document as spec;
+ghost use Rattle.kpn_text.specs.Spells.{Spells};
+
+use crate::document::Document;
+use crate::laws::read_again;
+use kpn_canonical::canonical_text;
+use std::alloc::{AllocError, Global};
+
+/// The canonical text of a document: two spaces for each level, one statement or item on each line, a
+/// line feed after each line, no comments, numbers without leading zeros, and no more words than it needs.
+/// Where it is no longer than a description may be, it is read as the same document.
+pub fn print_network(alloc: Global, document: &Document) -> Result<Vec<u8>, AllocError>
+    ensures canonical { IfOk result (λ text. text.items ≡ spec.canonical_text document.now) }
+    ensures again { IfOk result (λ text. length text.items ≤ 1048576 → Spells text.items document.now) }
+{
+    document.known();
+    read_again();
+    canonical_text(alloc, document.network(), document.names())
+}

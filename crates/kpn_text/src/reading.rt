@@ -1,0 +1,50 @@
+//! Reading a description, phase by phase.
+
+ghost use Rattle.std.specs.Prelude.{◌≡◌, IfOk, IfErr};
+ghost use Rattle.kpn_text.specs.Document as spec;
+ghost use Rattle.kpn_text.specs.Spells.{Spells};
+ghost use Rattle.kpn_text.specs.Phases.{Refuses};
+ghost use Rattle.kpn_text.specs.Making.{OkOrNoMemory, Reads};
+
+use crate::document::Document;
+use crate::fault::TextFault;
+use crate::names::names_of;
+use crate::network::network;
+use kpn_grammar::description;
+use kpn_names::resolve;
+use kpn_tokens::lexemes;
+use std::alloc::Global;
+
+/// The document that a text spells, phase by phase.
+fn read_text(alloc: Global, text: &[u8]) -> Result<Document, TextFault>
+    ensures { Reads text.now result }
+{
+    let tokens = lexemes(alloc, text)?;
+    let tree = description(alloc, tokens.as_slice(), text.len())?;
+    let named = resolve(alloc, &tree)?;
+    let names = names_of(alloc, &named)?;
+    let network = network(alloc, named)?;
+    network.known();
+    Ok(Document::new(network, names))
+}
+
+/// The document that a text spells.
+///
+/// # Errors
+///
+/// The fault of the first phase that finds one. [`TextFault::TooLong`] where the text has more than
+/// 1,048,576 bytes; then the first in the text of [`TextFault::Token`] and, at a name,
+/// [`TextFault::TooLong`]; then [`TextFault::Grammar`] or a process that nests too deep, whichever comes
+/// first; then the first in the text of [`TextFault::UnknownName`] and [`TextFault::DoubleName`]; then
+/// [`TextFault::Program`] of the first process that is no program; then [`TextFault::Net`].
+/// [`TextFault::NoMemory`] only where an allocation was refused. A refused call leaves nothing.
+pub fn read_network(alloc: Global, text: &[u8]) -> Result<Document, TextFault>
+    // What is returned is what the text spells.
+    ensures found { IfOk result (λ d. Spells text.now d) }
+    // What the text spells is returned, unless memory runs out.
+    ensures only { (d : spec.Document) → Spells text.now d → OkOrNoMemory d result }
+    // Which fault it is.
+    ensures fault { IfErr result (Refuses text.now) }
+{
+    read_text(alloc, text)
+}
