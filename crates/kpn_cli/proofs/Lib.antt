@@ -1,2 +1,5 @@
 pub mod Plain
 pub mod Pauses
+pub mod Texts
+pub mod SourceLemmas
+pub mod RefusalLemmas

@@ -1,5 +1,5 @@
 -- How many steps the built-in processes make on a list of items.
-use Rattle.std.proofs.Common.{◌≡◌, ◌≢◌, ℕ, zero, suc, ◌+◌, ◌*◌, ◌≤◌, ◌<◌, ℤ, pos, List, [], ◌∷◌, length, Result, Ok, Err, Some, None, refl, ap, sym, ◌∙◌, arith, slice_set}
+use Rattle.std.proofs.Common.{◌≡◌, ℕ, zero, suc, ◌+◌, ◌*◌, ◌≤◌, ℤ, List, [], ◌∷◌, length, Result, Ok, Err, Some, refl, ap, sym, arith, slice_set}
 use Rattle.kpn_lang.specs.declared.value.Fault.{Fault}
 use Rattle.kpn_lang.specs.declared.talk.Said.{Said}
 use Rattle.kpn_lang.specs.declared.talk.Said.TheVariants.{Got, Put}
@@ -7,11 +7,10 @@ use Rattle.kpn_lang.specs.Syntax.{Read}
 use Rattle.kpn_lang.specs.Run.{Lists, list_at}
 use Rattle.kpn_lang.specs.Alone.{start_of}
 use Rattle.kpn_step.specs.declared.stop.Stop.{Stop}
-use Rattle.kpn_step.specs.declared.stop.Stop.TheVariants.{WantRead, WantWrite}
-use Rattle.kpn_step.specs.declared.stop.AloneStop.{AloneStop}
+use Rattle.kpn_step.specs.declared.stop.Stop.TheVariants.{WantWrite}
 use Rattle.kpn_step.specs.declared.stop.AloneStop.TheVariants.{Done, Faulted, Starved, Paused}
 use Rattle.kpn_step.specs.Frame.{Frame}
-use Rattle.kpn_step.specs.Step.{Turn, Stops, Faults, Goes, turn_of, tested, written, Steps}
+use Rattle.kpn_step.specs.Step.{Stops, Goes, turn_of, tested, written, Steps}
 use Rattle.kpn_step.specs.Walk.{Speaks, Walks}
 use Rattle.kpn_cli.specs.declared.built_in.BuiltIn.{BuiltIn}
 use Rattle.kpn_cli.specs.declared.built_in.BuiltIn.TheVariants.{Copy, Double, Sum}

@@ -7,7 +7,7 @@ use Rattle.kpn_step.specs.Walk.{AloneGives}
 use Rattle.kpn_items.specs.ItemFile.{Spells, TellsFirstBadLine}
 use Rattle.kpn_cli.specs.declared.built_in.BuiltIn.{BuiltIn}
 use Rattle.kpn_cli.specs.declared.refusal.Refusal.{Refusal}
-use Rattle.kpn_cli.specs.declared.refusal.Refusal.TheVariants.{NotText, UnknownProcess, Input, Output, NoMemory}
+use Rattle.kpn_cli.specs.declared.refusal.Refusal.TheVariants.{NotText, UnknownProcess, SourceWord, Input, Description, Sources, Output, NoMemory}
 use Rattle.kpn_cli.specs.BuiltIn.{name_of, program_of}
 use Rattle.kpn_cli.specs.AloneText.{alone_text}
 use Rattle.kpn_cli.specs.Plain.{plain_text}
@@ -34,7 +34,10 @@ pub record IsAnswer (name : List ℕ) (came_in : Option (List ℕ)) (text : List
 abbrev pub IsRefusalOfInput : Option (List ℕ) → Refusal → Type 0
 IsRefusalOfInput came_in NotText = ⊥
 IsRefusalOfInput came_in UnknownProcess = Unit {0}
+IsRefusalOfInput came_in SourceWord = ⊥
 IsRefusalOfInput came_in (Input fault) = IfSome came_in (λ bytes. TellsFirstBadLine bytes fault)
+IsRefusalOfInput came_in (Description fault) = ⊥
+IsRefusalOfInput came_in (Sources fault) = ⊥
 IsRefusalOfInput came_in (Output fault) = ⊥
 IsRefusalOfInput came_in NoMemory = Unit {0}
 

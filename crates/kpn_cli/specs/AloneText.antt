@@ -1,5 +1,5 @@
 -- The text that `kpn alone` writes, as a function of the process's name, its talk and its stop.
-use Rattle.std.specs.Prelude.{ℕ, List, [], ◌∷◌, ◌++◌, codes}
+use Rattle.std.specs.Prelude.{ℕ, List, [], ◌++◌, codes}
 use Rattle.kpn_lang.specs.declared.value.Fault.{Fault}
 use Rattle.kpn_lang.specs.declared.value.Fault.TheVariants.{Overflow, ZeroDivisor}
 use Rattle.kpn_lang.specs.declared.talk.Said.{Said}

@@ -7,3 +7,10 @@ pub mod AloneText
 pub mod Alone
 pub mod Plain
 pub mod Laws
+pub mod CheckText
+pub mod RoundsText
+pub mod Sources
+pub mod Description
+pub mod Answer
+pub mod SourceRefusals
+pub mod Commands

@@ -2,10 +2,15 @@
 // ends with.
 ghost use Rattle.std.specs.Prelude.{◌≡◌, ◌++◌, [], ◌∷◌, OnOk};
 ghost use Rattle.std.specs.Io.KnownBytes.{Appends};
+ghost use Rattle.kpn_cli.specs.Refusal.{wants_memory};
 
 use crate::fault_line::FaultLine;
+use crate::sources::SourceFault;
 use kpn_items::{ItemFault, WriteFault};
-use std::alloc::AllocError;
+use kpn_lang::ProgramFault;
+use kpn_net::NetFault;
+use kpn_text::TextFault;
+use std::alloc::{AllocError, AllocFailed};
 use std::fmt;
 use std::io::Write;
 
@@ -16,8 +21,15 @@ pub enum Refusal {
     NotText,
     /// `kpn alone` knows no process of this name.
     UnknownProcess,
-    /// The input could not be read, or spells no items, or memory was refused while it was read.
+    /// A word behind `--source` has no `=`.
+    SourceWord,
+    /// An input or a file could not be read, or spells no items, or memory was refused while it was
+    /// read.
     Input(ItemFault),
+    /// A text is no description of a network.
+    Description(TextFault),
+    /// A `--source` option names no source of the network, or one that was named before.
+    Sources(SourceFault),
     /// The output could not be written.
     Output(WriteFault),
     /// Memory was refused elsewhere.
@@ -35,6 +47,17 @@ impl From<AllocError> for Refusal {
     }
 }
 
+impl<T: Drop> From<AllocFailed<T>> for Refusal {
+    ghost use Rattle.std.specs.Prelude.{◌≡◌};
+    ghost use Rattle.kpn_cli.specs.declared.refusal.Refusal.TheVariants.{NoMemory};
+
+    ghost from_gives = { λ _ refusal. refusal ≡ NoMemory };
+
+    fn from(_failed: AllocFailed<T>) -> Refusal {
+        Refusal::NoMemory
+    }
+}
+
 impl fmt::Display for Refusal {
     ghost use Rattle.std.specs.Prelude.{Some};
     ghost use Rattle.kpn_cli.specs.Refusal.{refusal_line};
@@ -45,7 +68,10 @@ impl fmt::Display for Refusal {
         match self {
             Refusal::NotText => write!(f, "kpn: usage: words of UTF-8 text"),
             Refusal::UnknownProcess => write!(f, "kpn: usage: copy, double or sum"),
+            Refusal::SourceWord => write!(f, "kpn: usage: --source NAME=FILE"),
             Refusal::Input(fault) => write!(f, "{}", FaultLine::of_input(fault)),
+            Refusal::Description(fault) => write!(f, "{}", FaultLine::of_text(*fault)),
+            Refusal::Sources(fault) => write!(f, "{}", FaultLine::of_source(*fault)),
             Refusal::Output(fault) => write!(f, "{}", FaultLine::of_output(fault)),
             Refusal::NoMemory => write!(f, "{}", FaultLine::new(42, "NoMemory")),
         }
@@ -61,9 +87,11 @@ impl Refusal {
         ensures { result ≡ status_of self.now }
     {
         match self {
-            Refusal::NotText | Refusal::UnknownProcess => 2,
-            Refusal::Input(ItemFault::BadItem(_) | ItemFault::Read) | Refusal::Output(_) => 1,
-            Refusal::Input(ItemFault::NoMemory) | Refusal::NoMemory => 6,
+            Refusal::NotText | Refusal::UnknownProcess | Refusal::SourceWord => 2,
+            Refusal::Input(ItemFault::BadItem(_) | ItemFault::Read) => 1,
+            Refusal::Description(fault) if !is_want_of_memory(*fault) => 1,
+            Refusal::Sources(_) | Refusal::Output(_) => 1,
+            Refusal::Input(ItemFault::NoMemory) | Refusal::Description(_) | Refusal::NoMemory => 6,
         }
     }
 
@@ -83,4 +111,16 @@ impl Refusal {
         let _ = self.tell(err);
         self.status()
     }
+}
+
+// Whether a description was refused for want of memory.
+fn is_want_of_memory(fault: TextFault) -> bool
+    ensures { result ≡ wants_memory fault }
+{
+    matches!(
+        fault,
+        TextFault::NoMemory
+            | TextFault::Program(_, ProgramFault::NoMemory)
+            | TextFault::Net(NetFault::NoMemory)
+    )
 }

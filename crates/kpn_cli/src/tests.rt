@@ -8,6 +8,8 @@ use std::io::{ErrorKind, Read, Write};
 use std::test::Fail;
 use std::{env, fs, io, process};
 
+mod networks;
+
 // What a command line answered and wrote.
 #[derive(Drop)]
 struct Answer {
@@ -97,6 +99,14 @@ fn tells_usage_and_help(rt: HostRuntime) -> Result<(), Fail> {
         "kpn",
         "kpn alone",
         "kpn run two.kpn",
+        "kpn audit two.kpn trace",
+        "kpn check",
+        "kpn print one.kpn two.kpn",
+        "kpn rounds two.kpn",
+        "kpn rounds two.kpn 1001",
+        "kpn rounds two.kpn -1",
+        "kpn rounds two.kpn three",
+        "kpn rounds two.kpn 3 --source",
         "kpn alone sum 3",
         "kpn --flag",
     ] {
@@ -104,7 +114,14 @@ fn tells_usage_and_help(rt: HostRuntime) -> Result<(), Fail> {
         assert_eq!(rt; answer.status, 2, "{line}");
         assert!(rt; answer.out.is_empty() && !answer.err.is_empty(), "{line}");
     }
-    for line in ["kpn --help", "kpn alone --help", "kpn help"] {
+    for line in [
+        "kpn --help",
+        "kpn help",
+        "kpn alone --help",
+        "kpn check --help",
+        "kpn print --help",
+        "kpn rounds --help",
+    ] {
         let answer = run(rt.alloc(), line, &mut Broken)?;
         assert_eq!(rt; answer.status, 0, "{line}");
         assert!(rt; answer.err.is_empty() && !answer.out.is_empty(), "{line}");

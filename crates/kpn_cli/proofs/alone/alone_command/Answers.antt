@@ -3,7 +3,7 @@ use Rattle.std.proofs.Common.{◌≡◌, ◌↔◌, ◌⊎◌, ℕ, List, Option
 use Rattle.kpn_items.specs.declared.fault.ItemFault.TheVariants.{Read, BadItem}
 use Rattle.kpn_items.specs.declared.fault.ItemFault.TheVariants as item
 use Rattle.kpn_cli.specs.declared.refusal.Refusal.{Refusal}
-use Rattle.kpn_cli.specs.declared.refusal.Refusal.TheVariants.{NotText, UnknownProcess, Input, Output, NoMemory}
+use Rattle.kpn_cli.specs.declared.refusal.Refusal.TheVariants.{NotText, UnknownProcess, SourceWord, Input, Description, Sources, Output, NoMemory}
 use Rattle.kpn_cli.specs.Refusal.{status_of}
 use Rattle.kpn_cli.specs.Alone.{IsRefusalOfInput, IsUnknown, RunsAlone}
 use Rattle.kpn_cli.proofs.alone.alone_command.Goals as goal
@@ -35,9 +35,12 @@ module _ {I O : Type 0} (remaining : I → Option (List ℕ)) (contents : O → 
     silent = λ _. inl refl;
     statuses = refl;
   }
+  RunsAlone-refused came_in SourceWord unknown unread h = absurd h
   RunsAlone-refused came_in (Input Read) unknown unread h = RunsAlone-known 1 (inl refl) (λ u. let e = unknown.1 u in cc)
   RunsAlone-refused came_in (Input (BadItem line)) unknown unread h = RunsAlone-known 1 (inl refl) (λ u. let e = unknown.1 u in cc)
   RunsAlone-refused came_in (Input item.NoMemory) unknown unread h = RunsAlone-known 6 (inr refl) (λ u. let e = unknown.1 u in cc)
+  RunsAlone-refused came_in (Description fault) unknown unread h = absurd h
+  RunsAlone-refused came_in (Sources fault) unknown unread h = absurd h
   RunsAlone-refused came_in (Output fault) unknown unread h = absurd h
   RunsAlone-refused came_in NoMemory unknown unread h = RunsAlone-known 6 (inr refl) (λ u. let e = unknown.1 u in cc)
 

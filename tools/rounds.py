@@ -1,0 +1,240 @@
+#!/usr/bin/env python3
+"""Kahn's n-th iterate of a network description, computed by another program than the proved one.
+
+Words: the description's file, n, and NAME=FILE for each source that has items. Prints a line for each channel, as
+`kpn rounds` does. The tests' expected values come from here. It trusts its input: it is no checker of descriptions.
+"""
+import pathlib
+import re
+import sys
+
+TOKEN = re.compile(r'\s+|#[^\n]*|([A-Za-z_]\w*|\d+|<=|>=|==|!=|&&|\|\||[-(){};,=+*/%<>!])')
+SMALLEST, LARGEST = -2**63, 2**63 - 1
+
+
+class Fault(Exception):
+    """An expression has no value, which ends its process."""
+
+
+class Starved(Exception):
+    """A read found its list used up."""
+
+
+class Cut(Exception):
+    """A loop has no turns left."""
+
+
+class Parser:
+    def __init__(self, text):
+        self.tokens = [token for token in TOKEN.findall(text) if token]
+        self.place = 0
+
+    def peek(self):
+        return self.tokens[self.place] if self.place < len(self.tokens) else None
+
+    def next(self, wanted=None):
+        token = self.tokens[self.place]
+        assert wanted is None or token == wanted, (token, wanted)
+        self.place += 1
+        return token
+
+    def took(self, token):
+        if self.peek() == token:
+            self.place += 1
+            return True
+        return False
+
+    def names(self):
+        found = []
+        while self.peek() not in (';', ')'):
+            found.append(self.next())
+            self.took(',')
+        return found
+
+    def description(self):
+        processes = {}
+        while self.took('process'):
+            name = self.next()
+            processes[name] = self.process()
+        return processes, self.network()
+
+    def process(self):
+        parts = {'in': [], 'out': [], 'par': []}
+        self.next('(')
+        while not self.took(')'):
+            part = self.next()
+            parts[part] = self.names()
+            self.took(';')
+        return parts, self.block()
+
+    def block(self):
+        self.next('{')
+        found = []
+        while not self.took('}'):
+            found.append(self.statement())
+        return found
+
+    def statement(self):
+        word = self.next()
+        if word == 'if':
+            test, first = self.expression(), self.block()
+            self.next('else')
+            return word, test, first, self.block()
+        if word == 'while':
+            return word, self.expression(), self.block()
+        if word == 'read':
+            found = word, self.next(), self.next()
+        elif word == 'write':
+            found = word, self.next(), self.expression()
+        else:
+            self.next('=')
+            found = 'assign', word, self.expression()
+        self.next(';')
+        return found
+
+    def expression(self):
+        token = self.next()
+        if token in ('-', '!'):
+            return token, self.expression()
+        if token == '(':
+            left, mark, right = self.expression(), self.next(), self.expression()
+            self.next(')')
+            return mark, left, right
+        return int(token) if token.isdigit() else token
+
+    def network(self):
+        self.next('network')
+        self.next('{')
+        channels, instances = {}, []
+        if self.took('limit'):
+            self.next()
+            self.next(';')
+        while not self.took('}'):
+            word = self.next()
+            if word in ('channel', 'sink', 'source'):
+                channels[self.next()] = word
+                if self.took('cap'):
+                    self.next()
+            else:
+                self.next('=')
+                instances.append(self.instance())
+            self.next(';')
+        return channels, instances
+
+    def instance(self):
+        program = self.next()
+        self.next('(')
+        ins = self.names()
+        self.next(';')
+        outs = self.names()
+        values = []
+        if self.took(';'):
+            while self.peek() != ')':
+                sign = -1 if self.took('-') else 1
+                values.append(sign * int(self.next()))
+                self.took(',')
+        self.next(')')
+        return program, ins, outs, values
+
+
+def exact(value):
+    if not SMALLEST <= value <= LARGEST:
+        raise Fault
+    return value
+
+
+def quotient(a, b):
+    if b == 0:
+        raise Fault
+    whole = abs(a) // abs(b)
+    return exact(whole if (a < 0) == (b < 0) else -whole)
+
+
+MARKS = {
+    '+': lambda a, b: exact(a + b),
+    '-': lambda a, b: exact(a - b),
+    '*': lambda a, b: exact(a * b),
+    '/': quotient,
+    '%': lambda a, b: a - quotient(a, b) * b,
+    '<': lambda a, b: int(a < b),
+    '<=': lambda a, b: int(a <= b),
+    '>': lambda a, b: int(a > b),
+    '>=': lambda a, b: int(a >= b),
+    '==': lambda a, b: int(a == b),
+    '!=': lambda a, b: int(a != b),
+}
+
+
+def value(tree, variables):
+    if isinstance(tree, int):
+        return tree
+    if isinstance(tree, str):
+        return variables.get(tree, 0)
+    mark, *parts = tree
+    left = value(parts[0], variables)
+    if mark == '!':
+        return int(left == 0)
+    if mark == '-' and len(parts) == 1:
+        return exact(-left)
+    if mark == '&&':
+        return int(left != 0 and value(parts[1], variables) != 0)
+    if mark == '||':
+        return int(left != 0 or value(parts[1], variables) != 0)
+    return MARKS[mark](left, value(parts[1], variables))
+
+
+def run(turns, block, variables, ins, outs):
+    for statement in block:
+        word = statement[0]
+        if word == 'assign':
+            variables[statement[1]] = value(statement[2], variables)
+        elif word == 'read':
+            if not ins[statement[1]]:
+                raise Starved
+            variables[statement[2]] = ins[statement[1]].pop(0)
+        elif word == 'write':
+            outs[statement[1]].append(value(statement[2], variables))
+        elif word == 'if':
+            taken = statement[2] if value(statement[1], variables) else statement[3]
+            run(turns, taken, variables, ins, outs)
+        else:
+            left = turns
+            while value(statement[1], variables):
+                if left == 0:
+                    raise Cut
+                left -= 1
+                run(turns, statement[2], variables, ins, outs)
+
+
+def rounds(text, turns, sources):
+    processes, (channels, instances) = Parser(text).description()
+    start = {name: sources.get(name, []) if kind == 'source' else [] for name, kind in channels.items()}
+    now = start
+    for _ in range(turns):
+        following = dict(start)
+        for program, ins, outs, values in instances:
+            parts, body = processes[program]
+            put = {port: [] for port in parts['out']}
+            try:
+                run(turns, body, dict(zip(parts['par'], values)),
+                    {port: list(now[channel]) for port, channel in zip(parts['in'], ins)}, put)
+            except (Fault, Starved, Cut):
+                pass
+            for port, channel in zip(parts['out'], outs):
+                following[channel] = put[port]
+        now = following
+    return now
+
+
+def main():
+    file, turns, *given = sys.argv[1:]
+    sources = {}
+    for word in given:
+        name, _, items = word.partition('=')
+        sources[name] = [int(line) for line in pathlib.Path(items).read_text().split()]
+    for name, items in rounds(pathlib.Path(file).read_text(), int(turns), sources).items():
+        print(name + ':' + ''.join(f' {item}' for item in items))
+
+
+if __name__ == '__main__':
+    main()
