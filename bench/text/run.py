@@ -2,9 +2,8 @@
 """Megabytes per second of `kpn check` on large descriptions and of reading 10,000,000 items, beside `wc -l` and a plain
 Rust reader, and the seconds of `kpn rounds` on Kahn's example with 1,000 rounds.
 
-Items are read by `kpn rounds` with no round and with one source, whose list it writes too; the plain reader only reads
-them, so its share is told for reading alone: the time of the same command on an empty file is taken off. It is no part of the gate.
-The best of three runs is told.
+Items are read by `kpn rounds` with no round and one source, which writes them too, while the plain reader only reads
+them. It is no part of the gate. The best of three runs is told.
 """
 import pathlib
 import subprocess
