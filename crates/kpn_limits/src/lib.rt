@@ -1,0 +1,32 @@
+//! The limits of the product, each with its one name. Code and definitions of all other crates cite them.
+#![tactic(auto)]
+
+/// The most variables that a process may have, parameters included.
+pub const MAX_VARIABLES: usize = 64;
+
+/// The most in ports that a process may have, and the most out ports.
+pub const MAX_PORTS: usize = 16;
+
+/// The most levels to which blocks may nest (the body is the first), and expressions (a number or a name is the first).
+pub const MAX_LEVELS: usize = 32;
+
+/// The most nodes that a program may have: each statement is one, and each node of an expression.
+pub const MAX_NODES: usize = 4_096;
+
+/// The most programs that a network may have, and the most processes, which are instances of them.
+pub const MAX_PROCESSES: usize = 256;
+
+/// The most channels that a network may have.
+pub const MAX_CHANNELS: usize = 1_024;
+
+/// The greatest capacity that a channel may have, and the greatest limit that a network may set on its capacities.
+pub const MAX_CAPACITY: u32 = 1_048_576;
+
+/// The most bytes of a name in a description.
+pub const MAX_NAME_BYTES: usize = 32;
+
+/// The most bytes of a description.
+pub const MAX_TEXT_BYTES: usize = 1_048_576;
+
+/// The most bytes of a file or an input that the program reads.
+pub const MAX_INPUT_BYTES: usize = 268_435_456;
