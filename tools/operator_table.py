@@ -1,5 +1,5 @@
 #!/usr/bin/env python3
-"""Writes the stored table of crates/operator_table: each operator on pairs at the ends of the range, with what it
+"""Writes the stored table of crates/check_operators: each operator on pairs at the ends of the range, with what it
 must give, computed by whole numbers that have no bound."""
 import pathlib
 
@@ -50,7 +50,7 @@ def rows():
 
 
 def main():
-    folder = pathlib.Path(__file__).resolve().parent.parent / 'crates/operator_table'
+    folder = pathlib.Path(__file__).resolve().parent.parent / 'crates/check_operators'
     table = list(rows())
     (folder / 'stdin').write_text(''.join(f'{line}\n' for line, _ in table))
     (folder / 'stdout').write_text(''.join(f'{wanted}\n' for _, wanted in table))

@@ -21,7 +21,8 @@ use Rattle.kpn_lang.proofs.Families.{port_is_there, list_at-set_same, list_at-se
 pub got_at-got_same : (port : ℕ) (v : ℤ) (talk : List Said) → got_at (Got port v ∷ talk) port ≡ v ∷ got_at talk port
 got_at-got_same port v talk = rw (eq-eqb port port refl)
 
-pub got_at-got_other : (port : ℕ) (v : ℤ) (talk : List Said) (other : ℕ) → (other ≡ port → ⊥) → got_at (Got port v ∷ talk) other ≡ got_at talk other
+pub got_at-got_other : (port : ℕ) (v : ℤ) (talk : List Said) (other : ℕ) → (other ≡ port → ⊥) →
+    got_at (Got port v ∷ talk) other ≡ got_at talk other
 got_at-got_other port v talk other h = rw (ne_eqb port other (λ e. h (sym e)))
 
 -- ---- each list is what was got from it and what remains
@@ -32,13 +33,16 @@ pub record Accounts (lists : Lists) (ran : Ran) : Type 0 where
 pub record AccountsNext (next : Next) : Type 0 where
   pub accounts : (variables : List ℤ) (lists : Lists) → Accounts lists (next variables lists)
 
-pub Accounts-ends : (ending : Ending) (variables : List ℤ) (lists : Lists) → Accounts lists (ends ending variables lists)
+pub Accounts-ends : (ending : Ending) (variables : List ℤ) (lists : Lists) →
+    Accounts lists (ends ending variables lists)
 Accounts-ends ending variables lists = record { each = λ port. refl }
 
-pub Accounts-put : (port : ℕ) (v : ℤ) (lists : Lists) (ran : Ran) → Accounts lists ran → Accounts lists (says (Put port v) ran)
+pub Accounts-put : (port : ℕ) (v : ℤ) (lists : Lists) (ran : Ran) → Accounts lists ran →
+    Accounts lists (says (Put port v) ran)
 Accounts-put port v lists ran h = record { each = λ other. h.each other }
 
-pub Accounts-got : (port : ℕ) (v : ℤ) (rest : List ℤ) (lists : Lists) (ran : Ran) → list_at lists port ≡ v ∷ rest → Accounts (set lists port rest) ran → Accounts lists (says (Got port v) ran)
+pub Accounts-got : (port : ℕ) (v : ℤ) (rest : List ℤ) (lists : Lists) (ran : Ran) → list_at lists port ≡ v ∷ rest →
+    Accounts (set lists port rest) ran → Accounts lists (says (Got port v) ran)
 Accounts-got port v rest lists ran e h =
     let there = port_is_there lists port v rest e in
     record {
@@ -55,22 +59,28 @@ Accounts-got port v rest lists ran e h =
       ];
     }
 
-pub Accounts-choose : (v : ℤ) (lists : Lists) (first second : Ran) → Accounts lists first → Accounts lists second → Accounts lists (choose v first second)
+pub Accounts-choose : (v : ℤ) (lists : Lists) (first second : Ran) → Accounts lists first → Accounts lists second →
+    Accounts lists (choose v first second)
 Accounts-choose v lists first second h k = which (is_zero v)
   where
     which : (b : Bool) → Accounts lists (cond b second first)
     which true = k
     which false = h
 
-pub Accounts-with_value : (r : Result ℤ Fault) (variables : List ℤ) (lists : Lists) (go : ℤ → Ran) → ((v : ℤ) → Accounts lists (go v)) → Accounts lists (with_value r variables lists go)
+pub Accounts-with_value : (r : Result ℤ Fault) (variables : List ℤ) (lists : Lists) (go : ℤ → Ran) →
+    ((v : ℤ) → Accounts lists (go v)) → Accounts lists (with_value r variables lists go)
 Accounts-with_value (Ok v) variables lists go h = h v
 Accounts-with_value (Err fault) variables lists go h = Accounts-ends (Faulted fault) variables lists
 
-pub Accounts-with_item : (items : List ℤ) (port : ℕ) (variables : List ℤ) (lists : Lists) (go : ℤ → List ℤ → Ran) → list_at lists port ≡ items → ((v : ℤ) (rest : List ℤ) → list_at lists port ≡ v ∷ rest → Accounts lists (go v rest)) → Accounts lists (with_item items port variables lists go)
+pub Accounts-with_item : (items : List ℤ) (port : ℕ) (variables : List ℤ) (lists : Lists) (go : ℤ → List ℤ → Ran) →
+    list_at lists port ≡ items → ((v : ℤ) (rest : List ℤ) → list_at lists port ≡ v ∷ rest →
+    Accounts lists (go v rest)) → Accounts lists (with_item items port variables lists go)
 Accounts-with_item [] port variables lists go e h = Accounts-ends _ variables lists
 Accounts-with_item (v ∷ rest) port variables lists go e h = h v rest e
 
-pub Accounts-turns : (test : Term) (body : Next → Next) → ((next : Next) → AccountsNext next → AccountsNext (body next)) → (left : ℕ) (next : Next) → AccountsNext next → AccountsNext (turns left test body next)
+pub Accounts-turns : (test : Term) (body : Next → Next) →
+    ((next : Next) → AccountsNext next → AccountsNext (body next)) → (left : ℕ) (next : Next) → AccountsNext next →
+    AccountsNext (turns left test body next)
 Accounts-turns test body b zero next h =
     record {
       accounts = λ variables lists.
@@ -126,72 +136,96 @@ pub record SaysAlike (others : Lists) (ran other : Ran) : Type 0 where
   pub says_too : (talk : List Said) → IsPrefix talk ran.talk → BeginsWithGot talk others → IsPrefix talk other.talk
 
 pub record LocalNext (next : Next) : Type 0 where
-  pub local : (variables : List ℤ) (lists others : Lists) → SaysAlike others (next variables lists) (next variables others)
+  pub local : (variables : List ℤ) (lists others : Lists) →
+      SaysAlike others (next variables lists) (next variables others)
 
 -- who said nothing
-pub SaysAlike-silent : (ending : Ending) (variables : List ℤ) (lists others : Lists) (other : Ran) → SaysAlike others (ends ending variables lists) other
+pub SaysAlike-silent : (ending : Ending) (variables : List ℤ) (lists others : Lists) (other : Ran) →
+    SaysAlike others (ends ending variables lists) other
 SaysAlike-silent ending variables lists others other = record { says_too = silent }
   where
     silent : (talk : List Said) → IsPrefix talk [] → BeginsWithGot talk others → IsPrefix talk other.talk
     silent [] p b = tt
     silent (said ∷ talk) p b = absurd p
 
-pub SaysAlike-put : (port : ℕ) (v : ℤ) (others : Lists) (ran other : Ran) → SaysAlike others ran other → SaysAlike others (says (Put port v) ran) (says (Put port v) other)
+pub SaysAlike-put : (port : ℕ) (v : ℤ) (others : Lists) (ran other : Ran) → SaysAlike others ran other →
+    SaysAlike others (says (Put port v) ran) (says (Put port v) other)
 SaysAlike-put port v others ran other h = record { says_too = begins }
   where
-    begins : (talk : List Said) → IsPrefix talk (Put port v ∷ ran.talk) → BeginsWithGot talk others → IsPrefix talk (Put port v ∷ other.talk)
+    begins : (talk : List Said) → IsPrefix talk (Put port v ∷ ran.talk) → BeginsWithGot talk others →
+        IsPrefix talk (Put port v ∷ other.talk)
     begins [] p b = tt
     begins (said ∷ talk) p b =
         (p.0, h.says_too talk p.1 (record { each = (rw p.0 at b).each }))
 
 -- the lists that begin with what a talk got, after its first get
-pub BeginsWithGot-first : (port : ℕ) (v : ℤ) (talk : List Said) (others : Lists) → BeginsWithGot (Got port v ∷ talk) others → IsPrefix (v ∷ got_at talk port) (list_at others port)
+pub BeginsWithGot-first : (port : ℕ) (v : ℤ) (talk : List Said) (others : Lists) →
+    BeginsWithGot (Got port v ∷ talk) others → IsPrefix (v ∷ got_at talk port) (list_at others port)
 BeginsWithGot-first port v talk others b = rw (eq-eqb port port refl) at (b.each port)
 
-pub BeginsWithGot-rest : (port : ℕ) (v : ℤ) (rest : List ℤ) (talk : List Said) (others : Lists) → BeginsWithGot (Got port v ∷ talk) others → list_at others port ≡ v ∷ rest → BeginsWithGot talk (set others port rest)
+pub BeginsWithGot-rest : (port : ℕ) (v : ℤ) (rest : List ℤ) (talk : List Said) (others : Lists) →
+    BeginsWithGot (Got port v ∷ talk) others → list_at others port ≡ v ∷ rest →
+    BeginsWithGot talk (set others port rest)
 BeginsWithGot-rest port v rest talk others b e =
     let there = port_is_there others port v rest e in
     let first = rw e at (BeginsWithGot-first port v talk others b) in
     record {
       each = λ other. elim (cases_eq other port) [
         | inl same ↦ rw (same, list_at-set_same others port rest there) first.1
-        | inr differ ↦ rw (list_at-set_other others port other rest differ, ← got_at-got_other port v talk other differ) (b.each other)
+        | inr differ ↦ rw (
+          list_at-set_other others port other rest differ,
+          ← got_at-got_other port v talk other differ,
+        ) (b.each other)
       ];
     }
 
-pub SaysAlike-got : (port : ℕ) (v : ℤ) (variables : List ℤ) (others : Lists) (ran : Ran) (go : ℤ → List ℤ → Ran) → ((rest : List ℤ) → list_at others port ≡ v ∷ rest → SaysAlike (set others port rest) ran (go v rest)) → SaysAlike others (says (Got port v) ran) (with_item (list_at others port) port variables others (λ w rest. says (Got port w) (go w rest)))
+pub SaysAlike-got : (port : ℕ) (v : ℤ) (variables : List ℤ) (others : Lists) (ran : Ran) (go : ℤ → List ℤ → Ran) →
+    ((rest : List ℤ) → list_at others port ≡ v ∷ rest → SaysAlike (set others port rest) ran (go v rest)) →
+    SaysAlike others (says (Got port v) ran) (with_item (list_at others port) port variables others
+    (λ w rest. says (Got port w) (go w rest)))
 SaysAlike-got port v variables others ran go h = record { says_too = begins }
   where
-    reads : (items : List ℤ) (talk : List Said) → list_at others port ≡ items → IsPrefix talk ran.talk → BeginsWithGot (Got port v ∷ talk) others → IsPrefix (v ∷ got_at talk port) items → IsPrefix (Got port v ∷ talk) (with_item items port variables others (λ w rest. says (Got port w) (go w rest))).talk
+    reads : (items : List ℤ) (talk : List Said) → list_at others port ≡ items → IsPrefix talk ran.talk →
+        BeginsWithGot (Got port v ∷ talk) others → IsPrefix (v ∷ got_at talk port) items →
+        IsPrefix (Got port v ∷ talk) (with_item items port variables others
+        (λ w rest. says (Got port w) (go w rest))).talk
     reads [] talk e p b q = absurd q
     reads (w ∷ rest) talk e p b q =
         let e' : list_at others port ≡ v ∷ rest = e ∙ ap (λ u. u ∷ rest) (sym q.0) in
         let said = (h rest e').says_too talk p (BeginsWithGot-rest port v rest talk others b e') in
         rw (← q.0) (refl, said)
 
-    begins : (talk : List Said) → IsPrefix talk (Got port v ∷ ran.talk) → BeginsWithGot talk others → IsPrefix talk (with_item (list_at others port) port variables others (λ w rest. says (Got port w) (go w rest))).talk
+    begins : (talk : List Said) → IsPrefix talk (Got port v ∷ ran.talk) → BeginsWithGot talk others →
+        IsPrefix talk (with_item (list_at others port) port variables others
+        (λ w rest. says (Got port w) (go w rest))).talk
     begins [] p b = tt
     begins (said ∷ talk) p b =
         let b' : BeginsWithGot (Got port v ∷ talk) others = rw p.0 at b in
         rw (p.0) (reads (list_at others port) talk refl p.1 b' (BeginsWithGot-first port v talk others b'))
 
-pub SaysAlike-choose : (v : ℤ) (others : Lists) (first second first' second' : Ran) → SaysAlike others first first' → SaysAlike others second second' → SaysAlike others (choose v first second) (choose v first' second')
+pub SaysAlike-choose : (v : ℤ) (others : Lists) (first second first' second' : Ran) → SaysAlike others first first' →
+    SaysAlike others second second' → SaysAlike others (choose v first second) (choose v first' second')
 SaysAlike-choose v others first second first' second' h k = which (is_zero v)
   where
     which : (b : Bool) → SaysAlike others (cond b second first) (cond b second' first')
     which true = k
     which false = h
 
-pub SaysAlike-with_value : (r : Result ℤ Fault) (variables : List ℤ) (lists others : Lists) (go go' : ℤ → Ran) → ((v : ℤ) → SaysAlike others (go v) (go' v)) → SaysAlike others (with_value r variables lists go) (with_value r variables others go')
+pub SaysAlike-with_value : (r : Result ℤ Fault) (variables : List ℤ) (lists others : Lists) (go go' : ℤ → Ran) →
+    ((v : ℤ) → SaysAlike others (go v) (go' v)) → SaysAlike others (with_value r variables lists go)
+    (with_value r variables others go')
 SaysAlike-with_value (Ok v) variables lists others go go' h = h v
-SaysAlike-with_value (Err fault) variables lists others go go' h = SaysAlike-silent (Faulted fault) variables lists others _
+SaysAlike-with_value (Err fault) variables lists others go go' h =
+    SaysAlike-silent (Faulted fault) variables lists others _
 
-pub Local-turns : (test : Term) (body : Next → Next) → ((next : Next) → LocalNext next → LocalNext (body next)) → (left : ℕ) (next : Next) → LocalNext next → LocalNext (turns left test body next)
+pub Local-turns : (test : Term) (body : Next → Next) → ((next : Next) → LocalNext next → LocalNext (body next)) →
+    (left : ℕ) (next : Next) → LocalNext next → LocalNext (turns left test body next)
 Local-turns test body b zero next h =
     record {
       local = λ variables lists others.
           SaysAlike-with_value (value test variables) variables lists others _ _ (λ v.
-          SaysAlike-choose v others _ _ _ _ (SaysAlike-silent Cut variables lists others _) (h.local variables lists others));
+          SaysAlike-choose v others _ _ _ _ (SaysAlike-silent Cut variables lists others _)
+          (h.local variables lists others));
     }
 Local-turns test body b (suc left) next h =
     let again = b _ (Local-turns test body b left next h) in
@@ -202,7 +236,11 @@ Local-turns test body b (suc left) next h =
     }
 
 -- a read, by what the first list has
-reads_alike : (items : List ℤ) (i x : ℕ) (variables : List ℤ) (lists others : Lists) (next : Next) → LocalNext next → SaysAlike others (with_item items i variables lists (λ v rest. says (Got i v) (next (set variables x v) (set lists i rest)))) (with_item (list_at others i) i variables others (λ v rest. says (Got i v) (next (set variables x v) (set others i rest))))
+reads_alike : (items : List ℤ) (i x : ℕ) (variables : List ℤ) (lists others : Lists) (next : Next) → LocalNext next →
+    SaysAlike others (with_item items i variables lists
+    (λ v rest. says (Got i v) (next (set variables x v) (set lists i rest))))
+    (with_item (list_at others i) i variables others
+    (λ v rest. says (Got i v) (next (set variables x v) (set others i rest))))
 reads_alike [] i x variables lists others next h = SaysAlike-silent _ variables lists others _
 reads_alike (v ∷ items) i x variables lists others next h =
     SaysAlike-got i v variables others _ (λ w rest. next (set variables x w) (set others i rest)) (λ rest e.
@@ -214,11 +252,15 @@ Local-run (Assign x e rest) n next h =
     let after = Local-run rest n next h in
     record {
       local = λ variables lists others.
-          SaysAlike-with_value (value e variables) variables lists others _ _ (λ v. after.local (set variables x v) lists others);
+          SaysAlike-with_value (value e variables) variables lists others _ _
+          (λ v. after.local (set variables x v) lists others);
     }
 Local-run (Read i x rest) n next h =
     let after = Local-run rest n next h in
-    record { local = λ variables lists others. reads_alike (list_at lists i) i x variables lists others (run rest n next) after }
+    record {
+      local = λ variables lists others. reads_alike (list_at lists i) i x variables lists others
+          (run rest n next) after;
+    }
 Local-run (Write o e rest) n next h =
     let after = Local-run rest n next h in
     record {
@@ -233,7 +275,8 @@ Local-run (If e first second rest) n next h =
     record {
       local = λ variables lists others.
           SaysAlike-with_value (value e variables) variables lists others _ _ (λ v.
-          SaysAlike-choose v others _ _ _ _ (first'.local variables lists others) (second'.local variables lists others));
+          SaysAlike-choose v others _ _ _ _ (first'.local variables lists others)
+          (second'.local variables lists others));
     }
 Local-run (While e body rest) n next h =
     Local-turns e (run body n) (λ k f. Local-run body n k f) n (run rest n next) (Local-run rest n next h)

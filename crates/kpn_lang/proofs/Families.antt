@@ -10,8 +10,10 @@ use Rattle.kpn_lang.proofs.Prefixes.{IsPrefix-refl, IsPrefix-trans, IsPrefix-fro
 pub ArePrefixes-refl : (lists : Lists) → ArePrefixes lists lists
 ArePrefixes-refl lists = λ port. IsPrefix-refl (list_at lists port)
 
-pub ArePrefixes-trans : (lists longer longest : Lists) → ArePrefixes lists longer → ArePrefixes longer longest → ArePrefixes lists longest
-ArePrefixes-trans lists longer longest p q = λ port. IsPrefix-trans (list_at lists port) (list_at longer port) (list_at longest port) (p port) (q port)
+pub ArePrefixes-trans : (lists longer longest : Lists) → ArePrefixes lists longer → ArePrefixes longer longest →
+    ArePrefixes lists longest
+ArePrefixes-trans lists longer longest p q =
+    λ port. IsPrefix-trans (list_at lists port) (list_at longer port) (list_at longest port) (p port) (q port)
 
 -- no items behind any list
 abbrev pub nothing : ℕ → List ℤ
@@ -24,13 +26,16 @@ Grows-refl lists = record { each = λ port. sym (append-nil (list_at lists port)
 abbrev pub both : (more extra : ℕ → List ℤ) → ℕ → List ℤ
 both more extra port = more port ++ extra port
 
-pub Grows-trans : (more extra : ℕ → List ℤ) (lists longer longest : Lists) → Grows more lists longer → Grows extra longer longest → Grows (both more extra) lists longest
+pub Grows-trans : (more extra : ℕ → List ℤ) (lists longer longest : Lists) → Grows more lists longer →
+    Grows extra longer longest → Grows (both more extra) lists longest
 Grows-trans more extra lists longer longest g h =
     record {
-      each = λ port. h.each port ∙ ap (λ xs. xs ++ extra port) (g.each port) ∙ append_assoc (list_at lists port) (more port) (extra port);
+      each = λ port. h.each port ∙ ap (λ xs. xs ++ extra port) (g.each port)
+          ∙ append_assoc (list_at lists port) (more port) (extra port);
     }
 
-pub Grows-then : (more : ℕ → List ℤ) (lists longer longest : Lists) → Grows more lists longer → Grows nothing longer longest → Grows more lists longest
+pub Grows-then : (more : ℕ → List ℤ) (lists longer longest : Lists) → Grows more lists longer →
+    Grows nothing longer longest → Grows more lists longest
 Grows-then more lists longer longest g h =
     record { each = λ port. h.each port ∙ append-nil (list_at longer port) ∙ g.each port }
 
@@ -39,14 +44,17 @@ pub nil_from_append : (xs ys : List ℤ) → xs ++ ys ≡ [] → (xs ≡ []) × 
 nil_from_append [] ys e = (refl, e)
 nil_from_append (x ∷ xs) ys e = absurd cc
 
-pub ArePrefixes-from_grows : (more : ℕ → List ℤ) (lists longer : Lists) → Grows more lists longer → ArePrefixes lists longer
-ArePrefixes-from_grows more lists longer g = λ port. IsPrefix-from_rest (list_at lists port) (more port) (list_at longer port) (sym (g.each port))
+pub ArePrefixes-from_grows : (more : ℕ → List ℤ) (lists longer : Lists) → Grows more lists longer →
+    ArePrefixes lists longer
+ArePrefixes-from_grows more lists longer g =
+    λ port. IsPrefix-from_rest (list_at lists port) (more port) (list_at longer port) (sym (g.each port))
 
 -- what stands behind each list of a longer family
 abbrev pub added : (lists longer : Lists) → ArePrefixes lists longer → ℕ → List ℤ
 added lists longer p port = (rest_of_prefix (list_at lists port) (list_at longer port) (p port)).0
 
-pub Grows-from_prefixes : (lists longer : Lists) (p : ArePrefixes lists longer) → Grows (added lists longer p) lists longer
+pub Grows-from_prefixes : (lists longer : Lists) (p : ArePrefixes lists longer) →
+    Grows (added lists longer p) lists longer
 Grows-from_prefixes lists longer p =
     record { each = λ port. sym (rest_of_prefix (list_at lists port) (list_at longer port) (p port)).1 }
 
@@ -54,11 +62,13 @@ Grows-from_prefixes lists longer p =
 pub nil_from_same : (xs rest : List ℤ) → xs ≡ xs ++ rest → rest ≡ []
 nil_from_same xs rest e = append_cancel_left xs rest [] (sym e ∙ sym (append-nil xs))
 
-pub nil_from_grows : (more : ℕ → List ℤ) (lists longer : Lists) → Grows more lists longer → (port : ℕ) → list_at longer port ≡ list_at lists port → more port ≡ []
+pub nil_from_grows : (more : ℕ → List ℤ) (lists longer : Lists) → Grows more lists longer → (port : ℕ) →
+    list_at longer port ≡ list_at lists port → more port ≡ []
 nil_from_grows more lists longer g port e = nil_from_same (list_at lists port) (more port) (sym e ∙ g.each port)
 
 -- a port that has items is there
-pub port_is_there : (lists : Lists) (port : ℕ) (v : ℤ) (items : List ℤ) → list_at lists port ≡ v ∷ items → port < length lists
+pub port_is_there : (lists : Lists) (port : ℕ) (v : ℤ) (items : List ℤ) → list_at lists port ≡ v ∷ items →
+    port < length lists
 port_is_there lists port v items e =
     elim (cases_lt port (length lists)) [
       | inl h ↦ h
@@ -66,14 +76,18 @@ port_is_there lists port v items e =
     ]
 
 -- after a list is replaced
-pub list_at-set_same : (lists : Lists) (port : ℕ) (items : List ℤ) → port < length lists → list_at (set lists port items) port ≡ items
+pub list_at-set_same : (lists : Lists) (port : ℕ) (items : List ℤ) → port < length lists →
+    list_at (set lists port items) port ≡ items
 list_at-set_same lists port items h = get_or-set_same lists port items [] h
 
-pub list_at-set_other : (lists : Lists) (port other : ℕ) (items : List ℤ) → (other ≡ port → ⊥) → list_at (set lists port items) other ≡ list_at lists other
+pub list_at-set_other : (lists : Lists) (port other : ℕ) (items : List ℤ) → (other ≡ port → ⊥) →
+    list_at (set lists port items) other ≡ list_at lists other
 list_at-set_other lists port other items h = get_or-set_other lists port other items [] h
 
 -- a read takes the first item of both, and as much more remains
-pub Grows-read : (more : ℕ → List ℤ) (lists longer : Lists) → Grows more lists longer → (port : ℕ) (v : ℤ) (items : List ℤ) → list_at lists port ≡ v ∷ items → Grows more (set lists port items) (set longer port (items ++ more port))
+pub Grows-read : (more : ℕ → List ℤ) (lists longer : Lists) → Grows more lists longer →
+    (port : ℕ) (v : ℤ) (items : List ℤ) → list_at lists port ≡ v ∷ items →
+    Grows more (set lists port items) (set longer port (items ++ more port))
 Grows-read more lists longer g port v items e =
     let there = port_is_there lists port v items e in
     let there' = port_is_there longer port v (items ++ more port) (g.each port ∙ ap (λ xs. xs ++ more port) e) in

@@ -18,17 +18,20 @@ use Rattle.kpn_lang.proofs.Families.{nothing, both, nil_from_append, Grows-refl,
 
 -- what follows goes further wherever the lists are longer
 pub record Follows (more : ℕ → List ℤ) (next further : Next) : Type 0 where
-  pub goes : (variables : List ℤ) (lists longer : Lists) → Grows more lists longer → GoesOn more (next variables lists) (further variables longer)
+  pub goes : (variables : List ℤ) (lists longer : Lists) → Grows more lists longer →
+      GoesOn more (next variables lists) (further variables longer)
 
 module _ (more : ℕ → List ℤ) where
   pub GoesOn-cut : (variables : List ℤ) (lists : Lists) (further : Ran) → GoesOn more (ends Cut variables lists) further
   GoesOn-cut variables lists further = record { talk = tt; final = λ h. absurd h }
 
-  pub GoesOn-ends : (ending : Ending) (variables : List ℤ) (lists longer : Lists) → Grows more lists longer → GoesOn more (ends ending variables lists) (ends ending variables longer)
+  pub GoesOn-ends : (ending : Ending) (variables : List ℤ) (lists longer : Lists) → Grows more lists longer →
+      GoesOn more (ends ending variables lists) (ends ending variables longer)
   GoesOn-ends ending variables lists longer g =
       record { talk = tt; final = λ h. record { ending = refl; variables = refl; talk = refl; rest = g } }
 
-  pub GoesOn-says : (said : Said) (ran further : Ran) → GoesOn more ran further → GoesOn more (says said ran) (says said further)
+  pub GoesOn-says : (said : Said) (ran further : Ran) → GoesOn more ran further →
+      GoesOn more (says said ran) (says said further)
   GoesOn-says said ran further h =
       record {
         talk = (refl, h.talk);
@@ -42,18 +45,24 @@ module _ (more : ℕ → List ℤ) where
             };
       }
 
-  pub GoesOn-choose : (v : ℤ) (first second first' second' : Ran) → GoesOn more first first' → GoesOn more second second' → GoesOn more (choose v first second) (choose v first' second')
+  pub GoesOn-choose : (v : ℤ) (first second first' second' : Ran) → GoesOn more first first' →
+      GoesOn more second second' → GoesOn more (choose v first second) (choose v first' second')
   GoesOn-choose v first second first' second' h k = which (is_zero v)
     where
       which : (b : Bool) → GoesOn more (cond b second first) (cond b second' first')
       which true = k
       which false = h
 
-  pub GoesOn-with_value : (r : Result ℤ Fault) (variables : List ℤ) (lists longer : Lists) (go go' : ℤ → Ran) → Grows more lists longer → ((v : ℤ) → GoesOn more (go v) (go' v)) → GoesOn more (with_value r variables lists go) (with_value r variables longer go')
+  pub GoesOn-with_value : (r : Result ℤ Fault) (variables : List ℤ) (lists longer : Lists) (go go' : ℤ → Ran) →
+      Grows more lists longer → ((v : ℤ) → GoesOn more (go v) (go' v)) →
+      GoesOn more (with_value r variables lists go) (with_value r variables longer go')
   GoesOn-with_value (Ok v) variables lists longer go go' g h = h v
   GoesOn-with_value (Err fault) variables lists longer go go' g h = GoesOn-ends (Faulted fault) variables lists longer g
 
-  with_items : (items : List ℤ) (port : ℕ) (variables : List ℤ) (lists longer : Lists) (go go' : ℤ → List ℤ → Ran) → Grows more lists longer → list_at lists port ≡ items → ((v : ℤ) (rest : List ℤ) → list_at lists port ≡ v ∷ rest → GoesOn more (go v rest) (go' v (rest ++ more port))) → GoesOn more (with_item items port variables lists go) (with_item (items ++ more port) port variables longer go')
+  with_items : (items : List ℤ) (port : ℕ) (variables : List ℤ) (lists longer : Lists) (go go' : ℤ → List ℤ → Ran) →
+      Grows more lists longer → list_at lists port ≡ items →
+      ((v : ℤ) (rest : List ℤ) → list_at lists port ≡ v ∷ rest → GoesOn more (go v rest) (go' v (rest ++ more port))) →
+      GoesOn more (with_item items port variables lists go) (with_item (items ++ more port) port variables longer go')
   with_items [] port variables lists longer go go' g e h =
       record {
         talk = tt;
@@ -61,11 +70,18 @@ module _ (more : ℕ → List ℤ) where
       }
   with_items (v ∷ rest) port variables lists longer go go' g e h = h v rest e
 
-  pub GoesOn-with_item : (port : ℕ) (variables : List ℤ) (lists longer : Lists) (go go' : ℤ → List ℤ → Ran) → Grows more lists longer → ((v : ℤ) (rest : List ℤ) → list_at lists port ≡ v ∷ rest → GoesOn more (go v rest) (go' v (rest ++ more port))) → GoesOn more (with_item (list_at lists port) port variables lists go) (with_item (list_at longer port) port variables longer go')
+  pub GoesOn-with_item : (port : ℕ) (variables : List ℤ) (lists longer : Lists) (go go' : ℤ → List ℤ → Ran) →
+      Grows more lists longer → ((v : ℤ) (rest : List ℤ) → list_at lists port ≡ v ∷ rest →
+      GoesOn more (go v rest) (go' v (rest ++ more port))) →
+      GoesOn more (with_item (list_at lists port) port variables lists go)
+      (with_item (list_at longer port) port variables longer go')
   GoesOn-with_item port variables lists longer go go' g h =
       rw (g.each port) (with_items (list_at lists port) port variables lists longer go go' g refl h)
 
-  pub Follows-turns : (test : Term) (body body' : Next → Next) → ((next further : Next) → Follows more next further → Follows more (body next) (body' further)) → (left left' : ℕ) → left ≤ left' → (next further : Next) → Follows more next further → Follows more (turns left test body next) (turns left' test body' further)
+  pub Follows-turns : (test : Term) (body body' : Next → Next) →
+      ((next further : Next) → Follows more next further → Follows more (body next) (body' further)) →
+      (left left' : ℕ) → left ≤ left' → (next further : Next) → Follows more next further →
+      Follows more (turns left test body next) (turns left' test body' further)
   Follows-turns test body body' b zero zero le next further h =
       record {
         goes = λ variables lists longer g.
@@ -88,7 +104,8 @@ module _ (more : ℕ → List ℤ) where
       }
 
   -- the run of a tree with more turns, before what goes further, goes further
-  pub Follows-run : (tree : Tree) (n m : ℕ) → n ≤ m → (next further : Next) → Follows more next further → Follows more (run tree n next) (run tree m further)
+  pub Follows-run : (tree : Tree) (n m : ℕ) → n ≤ m → (next further : Next) → Follows more next further →
+      Follows more (run tree n next) (run tree m further)
   Follows-run End n m le next further h = h
   Follows-run (Assign x e rest) n m le next further h =
       let after = Follows-run rest n m le next further h in
@@ -102,7 +119,8 @@ module _ (more : ℕ → List ℤ) where
       record {
         goes = λ variables lists longer g.
             GoesOn-with_item i variables lists longer _ _ g (λ v items e.
-            GoesOn-says (Got i v) _ _ (after.goes (set variables x v) (set lists i items) (set longer i (items ++ more i)) (Grows-read more lists longer g i v items e)));
+            GoesOn-says (Got i v) _ _ (after.goes (set variables x v) (set lists i items)
+            (set longer i (items ++ more i)) (Grows-read more lists longer g i v items e)));
       }
   Follows-run (Write o e rest) n m le next further h =
       let after = Follows-run rest n m le next further h in
@@ -134,13 +152,15 @@ IsFinal-nothing more (Starved port) h = refl
 IsFinal-nothing more Cut h = absurd h
 
 -- an end that stays with both stays with each
-pub IsFinal-both : (more extra : ℕ → List ℤ) (ending : Ending) → IsFinal (both more extra) ending → IsFinal more ending × IsFinal extra ending
+pub IsFinal-both : (more extra : ℕ → List ℤ) (ending : Ending) → IsFinal (both more extra) ending →
+    IsFinal more ending × IsFinal extra ending
 IsFinal-both more extra Done h = (tt, tt)
 IsFinal-both more extra (Faulted fault) h = (tt, tt)
 IsFinal-both more extra (Starved port) h = nil_from_append (more port) (extra port) h
 IsFinal-both more extra Cut h = absurd h
 
-pub EndsAlike-trans : (more extra : ℕ → List ℤ) (ran further furthest : Ran) → EndsAlike more ran further → EndsAlike extra further furthest → EndsAlike (both more extra) ran furthest
+pub EndsAlike-trans : (more extra : ℕ → List ℤ) (ran further furthest : Ran) → EndsAlike more ran further →
+    EndsAlike extra further furthest → EndsAlike (both more extra) ran furthest
 EndsAlike-trans more extra ran further furthest h k =
     record {
       ending = k.ending ∙ h.ending;
@@ -149,7 +169,8 @@ EndsAlike-trans more extra ran further furthest h k =
       rest = Grows-trans more extra ran.rest further.rest furthest.rest h.rest k.rest;
     }
 
-pub GoesOn-trans : (more extra : ℕ → List ℤ) (ran further furthest : Ran) → GoesOn more ran further → GoesOn extra further furthest → GoesOn (both more extra) ran furthest
+pub GoesOn-trans : (more extra : ℕ → List ℤ) (ran further furthest : Ran) → GoesOn more ran further →
+    GoesOn extra further furthest → GoesOn (both more extra) ran furthest
 GoesOn-trans more extra ran further furthest h k =
     record {
       talk = IsPrefix-trans ran.talk further.talk furthest.talk h.talk k.talk;
@@ -160,7 +181,8 @@ GoesOn-trans more extra ran further furthest h k =
     }
 
 -- further on the same lists, before or after
-pub GoesOn-then : (more : ℕ → List ℤ) (ran further furthest : Ran) → GoesOn more ran further → GoesOn nothing further furthest → GoesOn more ran furthest
+pub GoesOn-then : (more : ℕ → List ℤ) (ran further furthest : Ran) → GoesOn more ran further →
+    GoesOn nothing further furthest → GoesOn more ran furthest
 GoesOn-then more ran further furthest h k =
     record {
       talk = IsPrefix-trans ran.talk further.talk furthest.talk h.talk k.talk;
@@ -195,28 +217,38 @@ pub record Stays (next further : Next) : Type 0 where
 pub StaysUncut-refl : (ran : Ran) → StaysUncut ran ran
 StaysUncut-refl ran = record { same = λ h. refl }
 
-pub StaysUncut-cut : (variables : List ℤ) (lists : Lists) (further : Ran) → StaysUncut (ends Cut variables lists) further
+pub StaysUncut-cut : (variables : List ℤ) (lists : Lists) (further : Ran) →
+    StaysUncut (ends Cut variables lists) further
 StaysUncut-cut variables lists further = record { same = λ h. absurd (h refl) }
 
-pub StaysUncut-says : (said : Said) (ran further : Ran) → StaysUncut ran further → StaysUncut (says said ran) (says said further)
+pub StaysUncut-says : (said : Said) (ran further : Ran) → StaysUncut ran further →
+    StaysUncut (says said ran) (says said further)
 StaysUncut-says said ran further h = record { same = λ u. ap (says said) (h.same u) }
 
-pub StaysUncut-choose : (v : ℤ) (first second first' second' : Ran) → StaysUncut first first' → StaysUncut second second' → StaysUncut (choose v first second) (choose v first' second')
+pub StaysUncut-choose : (v : ℤ) (first second first' second' : Ran) → StaysUncut first first' →
+    StaysUncut second second' → StaysUncut (choose v first second) (choose v first' second')
 StaysUncut-choose v first second first' second' h k = which (is_zero v)
   where
     which : (b : Bool) → StaysUncut (cond b second first) (cond b second' first')
     which true = k
     which false = h
 
-pub StaysUncut-with_value : (r : Result ℤ Fault) (variables : List ℤ) (lists : Lists) (go go' : ℤ → Ran) → ((v : ℤ) → StaysUncut (go v) (go' v)) → StaysUncut (with_value r variables lists go) (with_value r variables lists go')
+pub StaysUncut-with_value : (r : Result ℤ Fault) (variables : List ℤ) (lists : Lists) (go go' : ℤ → Ran) →
+    ((v : ℤ) → StaysUncut (go v) (go' v)) → StaysUncut (with_value r variables lists go)
+    (with_value r variables lists go')
 StaysUncut-with_value (Ok v) variables lists go go' h = h v
 StaysUncut-with_value (Err fault) variables lists go go' h = StaysUncut-refl _
 
-pub StaysUncut-with_item : (items : List ℤ) (port : ℕ) (variables : List ℤ) (lists : Lists) (go go' : ℤ → List ℤ → Ran) → ((v : ℤ) (rest : List ℤ) → StaysUncut (go v rest) (go' v rest)) → StaysUncut (with_item items port variables lists go) (with_item items port variables lists go')
+pub StaysUncut-with_item : (items : List ℤ) (port : ℕ) (variables : List ℤ) (lists : Lists)
+    (go go' : ℤ → List ℤ → Ran) → ((v : ℤ) (rest : List ℤ) → StaysUncut (go v rest) (go' v rest)) →
+    StaysUncut (with_item items port variables lists go) (with_item items port variables lists go')
 StaysUncut-with_item [] port variables lists go go' h = StaysUncut-refl _
 StaysUncut-with_item (v ∷ rest) port variables lists go go' h = h v rest
 
-pub Stays-turns : (test : Term) (body body' : Next → Next) → ((next further : Next) → Stays next further → Stays (body next) (body' further)) → (left left' : ℕ) → left ≤ left' → (next further : Next) → Stays next further → Stays (turns left test body next) (turns left' test body' further)
+pub Stays-turns : (test : Term) (body body' : Next → Next) →
+    ((next further : Next) → Stays next further → Stays (body next) (body' further)) → (left left' : ℕ) →
+    left ≤ left' → (next further : Next) → Stays next further →
+    Stays (turns left test body next) (turns left' test body' further)
 Stays-turns test body body' b zero zero le next further h =
     record {
       stays = λ variables lists.
@@ -239,7 +271,8 @@ Stays-turns test body body' b (suc left) (suc left') le next further h =
     }
 
 -- the run of a tree with more turns, before what stays, stays
-pub Stays-run : (tree : Tree) (n m : ℕ) → n ≤ m → (next further : Next) → Stays next further → Stays (run tree n next) (run tree m further)
+pub Stays-run : (tree : Tree) (n m : ℕ) → n ≤ m → (next further : Next) → Stays next further →
+    Stays (run tree n next) (run tree m further)
 Stays-run End n m le next further h = h
 Stays-run (Assign x e rest) n m le next further h =
     let after = Stays-run rest n m le next further h in

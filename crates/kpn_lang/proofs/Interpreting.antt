@@ -11,7 +11,7 @@ use Rattle.kpn_lang.specs.Parts.{Parts, IsProgram, names_variables_below, names_
 use Rattle.kpn_lang.specs.View.{statements_of}
 use Rattle.kpn_lang.specs.Tree.{Tree, block_at, tree_of, tree_over}
 use Rattle.kpn_lang.specs.Run.{Next, run, turns}
-use Rattle.kpn_lang.specs.Plain.{Standing, goes_on, holds, LeadsTo, Fits}
+use Rattle.kpn_lang.specs.Plain.{Standing, goes_on, holds, LeadsTo, MayRun}
 use Rattle.kpn_lang.proofs.Programs.{KeepsRules, rules_read, tree_of_block}
 use Rattle.kpn_lang.proofs.Following.{LeadsTo-refl, LeadsTo-trans, LeadsTo-next, LeadsTo-next_ends, LeadsTo-turn, LeadsTo-turn_ends}
 
@@ -31,7 +31,8 @@ pub record IsReady (parts : Parts) (b : ℕ) (s : Statement) : Type 0 where
   pub ports : names_ports_below parts.ins parts.outs s ≡ true
   pub falls : 3 * blocks_inside (length parts.blocks) s + 2 < 3 * (length parts.blocks - b)
 
-ready_by_rules : (parts : Parts) (b : ℕ) (s : Statement) → b < length parts.blocks → KeepsRules parts b s → IsReady parts b s
+ready_by_rules : (parts : Parts) (b : ℕ) (s : Statement) → b < length parts.blocks → KeepsRules parts b s →
+    IsReady parts b s
 ready_by_rules parts b (Assign x e) h k =
     record { variables = and_from _ _ (lt-ltb x parts.vars k.0) k.1; ports = refl; falls = omega arith }
 ready_by_rules parts b (Read i x) h k =
@@ -46,7 +47,8 @@ ready_by_rules parts b (While e c) h k =
     let after_c = k.1 in
     record { variables = k.0; ports = refl; falls = omega arith }
 
-module _ (statements : List Stmt) (i : ℕ) (s : Stmt) (within : i < length statements) (read : s ≡ get_or statements i s) where
+module _ (statements : List Stmt) (i : ℕ) (s : Stmt) (within : i < length statements)
+    (read : s ≡ get_or statements i s) where
   -- the statement that was read, among those of its block
   pub statement_read : get_or (statements_of statements) i (statement_of s) ≡ statement_of s
   statement_read = get_or-map statement_of statements i s (statement_of s) within ∙ ap statement_of (sym read)
@@ -54,9 +56,11 @@ module _ (statements : List Stmt) (i : ℕ) (s : Stmt) (within : i < length stat
   pub statements_left : drop i (statements_of statements) ≡ statement_of s ∷ drop (i + 1) (statements_of statements)
   statements_left =
       let within' : i < length (statements_of statements) = omega (arith, length-map statements statement_of) in
-      drop_more (statements_of statements) i (statement_of s) within' ∙ ap (λ t. t ∷ drop (i + 1) (statements_of statements)) statement_read
+      drop_more (statements_of statements) i (statement_of s) within'
+      ∙ ap (λ t. t ∷ drop (i + 1) (statements_of statements)) statement_read
 
-  pub IsReady-read : (parts : Parts) (b : ℕ) → IsProgram parts → b < length parts.blocks → statements_of statements ≡ block_at parts.blocks b → IsReady parts b (statement_of s)
+  pub IsReady-read : (parts : Parts) (b : ℕ) → IsProgram parts → b < length parts.blocks →
+      statements_of statements ≡ block_at parts.blocks b → IsReady parts b (statement_of s)
   IsReady-read parts b program h e =
       let within' : i < length (statements_of statements) = omega (arith, length-map statements statement_of) in
       ready_by_rules parts b (statement_of s) h
@@ -65,39 +69,56 @@ module _ (statements : List Stmt) (i : ℕ) (s : Stmt) (within : i < length stat
 -- ---- a block
 
 -- nothing is done at its start
-pub LeadsTo-block : (parts : Parts) → IsProgram parts → (b n : ℕ) (statements : List Stmt) (here : Standing) → statements_of statements ≡ block_at parts.blocks b → LeadsTo (run (tree_of parts.blocks b) n) (run (tree_over (tree_of parts.blocks) (statements_of statements)) n) here here
+pub LeadsTo-block : (parts : Parts) → IsProgram parts → (b n : ℕ) (statements : List Stmt) (here : Standing) →
+    statements_of statements ≡ block_at parts.blocks b →
+    LeadsTo (run (tree_of parts.blocks b) n) (run (tree_over (tree_of parts.blocks) (statements_of statements)) n) here
+    here
 LeadsTo-block parts program b n statements here e =
-    rw (tree_of_block parts program b, e) (LeadsTo-refl (run (tree_over (tree_of parts.blocks) (block_at parts.blocks b)) n) here)
+    rw (tree_of_block parts program b, e) (LeadsTo-refl
+    (run (tree_over (tree_of parts.blocks) (block_at parts.blocks b)) n) here)
 
-module _ (whole : Next → Next) (inner : ℕ → Tree) (n : ℕ) (statements : List Stmt) (i : ℕ) (s : Stmt) (here before after : Standing) (within : i < length statements) (read : s ≡ get_or statements i s) (so_far : LeadsTo whole (run (tree_over inner (drop i (statements_of statements))) n) here before) where
-  so_far_left : LeadsTo whole (run (tree_over inner (statement_of s ∷ drop (i + 1) (statements_of statements))) n) here before
+module _ (whole : Next → Next) (inner : ℕ → Tree) (n : ℕ) (statements : List Stmt) (i : ℕ) (s : Stmt)
+    (here before after : Standing) (within : i < length statements) (read : s ≡ get_or statements i s)
+    (so_far : LeadsTo whole (run (tree_over inner (drop i (statements_of statements))) n) here before) where
+  so_far_left : LeadsTo whole (run (tree_over inner (statement_of s ∷ drop (i + 1) (statements_of statements))) n) here
+      before
   so_far_left = rw (statements_left statements i s within read) at so_far
 
-  pub LeadsTo-statement : LeadsTo (run (tree_over inner (statement_of s ∷ [])) n) (goes_on None) before after → LeadsTo whole (run (tree_over inner (drop (i + 1) (statements_of statements))) n) here after
+  pub LeadsTo-statement : LeadsTo (run (tree_over inner (statement_of s ∷ [])) n) (goes_on None) before after →
+      LeadsTo whole (run (tree_over inner (drop (i + 1) (statements_of statements))) n) here after
   LeadsTo-statement d =
       LeadsTo-trans _ _ _ here before after so_far_left
       (LeadsTo-next inner n (statement_of s) (drop (i + 1) (statements_of statements)) before after d)
 
-  pub LeadsTo-statement_ends : (ending : Ending) → LeadsTo (run (tree_over inner (statement_of s ∷ [])) n) (goes_on (Some ending)) before after → LeadsTo whole (goes_on (Some ending)) here after
+  pub LeadsTo-statement_ends : (ending : Ending) →
+      LeadsTo (run (tree_over inner (statement_of s ∷ [])) n) (goes_on (Some ending)) before after →
+      LeadsTo whole (goes_on (Some ending)) here after
   LeadsTo-statement_ends ending d =
       LeadsTo-trans _ _ _ here before after so_far_left
       (LeadsTo-next_ends inner n (statement_of s) (drop (i + 1) (statements_of statements)) ending before after d)
 
 -- ---- a loop
 
-module _ (whole : Next → Next) (test : Term) (body : Next → Next) (n i : ℕ) (here before after : Standing) (below : i < n) (so_far : LeadsTo whole (turns (n - i) test body) here before) (on : holds (value test before.variables) ≡ Ok true) where
+module _ (whole : Next → Next) (test : Term) (body : Next → Next) (n i : ℕ) (here before after : Standing)
+    (below : i < n) (so_far : LeadsTo whole (turns (n - i) test body) here before)
+    (on : holds (value test before.variables) ≡ Ok true) where
   turn_left : LeadsTo whole (turns (suc (n - (i + 1))) test body) here before
   turn_left = let e : n - i ≡ suc (n - (i + 1)) = omega arith in rw e at so_far
 
-  pub LeadsTo-one_turn : LeadsTo body (goes_on None) before after → LeadsTo whole (turns (n - (i + 1)) test body) here after
-  LeadsTo-one_turn d = LeadsTo-trans _ _ _ here before after turn_left (LeadsTo-turn test body before (n - (i + 1)) after on d)
+  pub LeadsTo-one_turn : LeadsTo body (goes_on None) before after →
+      LeadsTo whole (turns (n - (i + 1)) test body) here after
+  LeadsTo-one_turn d =
+      LeadsTo-trans _ _ _ here before after turn_left (LeadsTo-turn test body before (n - (i + 1)) after on d)
 
-  pub LeadsTo-turn_that_ends : (ending : Ending) → LeadsTo body (goes_on (Some ending)) before after → LeadsTo whole (goes_on (Some ending)) here after
+  pub LeadsTo-turn_that_ends : (ending : Ending) → LeadsTo body (goes_on (Some ending)) before after →
+      LeadsTo whole (goes_on (Some ending)) here after
   LeadsTo-turn_that_ends ending d =
-      LeadsTo-trans _ _ _ here before after turn_left (LeadsTo-turn_ends test body before (n - (i + 1)) ending after on d)
+      LeadsTo-trans _ _ _ here before after turn_left
+      (LeadsTo-turn_ends test body before (n - (i + 1)) ending after on d)
 
-pub Fits-does : (parts : Parts) (part left : Next → Next) (before after : Standing) → LeadsTo part left before after → Fits parts before → Fits parts after
-Fits-does parts part left before after d f =
+pub MayRun-does : (parts : Parts) (part left : Next → Next) (before after : Standing) → LeadsTo part left before after →
+    MayRun parts before → MayRun parts after
+MayRun-does parts part left before after d f =
     record { program = f.program; variables = d.variables ∙ f.variables; lists = d.lists ∙ f.lists }
 
 -- the body of a loop

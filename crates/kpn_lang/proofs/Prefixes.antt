@@ -1,4 +1,5 @@
--- What holds of beginnings of lists. `IsPrefix` computes by recursion on both lists, so the lists are explicit arguments.
+-- What holds of beginnings of lists. `IsPrefix` computes by recursion on both lists, so the lists are explicit
+-- arguments.
 use Rattle.std.proofs.Common.{◌≡◌, ◌≤◌, ◌⊎◌, List, [], ◌∷◌, ◌++◌, length, refl, sym, ◌∙◌, inl, inr, arith}
 use Rattle.kpn_lang.specs.Prefix.{IsPrefix}
 
@@ -54,7 +55,8 @@ prefix_after [] xs ys p = p
 prefix_after (x ∷ front) xs ys p = prefix_after front xs ys p.1
 
 -- of two beginnings of one list one begins with the other
-pub prefixes_of_one : {A : Type 0} (xs ys zs : List A) → IsPrefix xs zs → IsPrefix ys zs → IsPrefix xs ys ⊎ IsPrefix ys xs
+pub prefixes_of_one : {A : Type 0} (xs ys zs : List A) → IsPrefix xs zs → IsPrefix ys zs →
+    IsPrefix xs ys ⊎ IsPrefix ys xs
 prefixes_of_one [] ys zs p q = inl tt
 prefixes_of_one (x ∷ xs) [] zs p q = inr tt
 prefixes_of_one (x ∷ xs) (y ∷ ys) [] p q = absurd p
@@ -65,7 +67,8 @@ prefixes_of_one (x ∷ xs) (y ∷ ys) (z ∷ zs) p q =
     ]
 
 -- the shorter of two beginnings of one list
-pub IsPrefix-shorter : {A : Type 0} (xs ys zs : List A) → IsPrefix xs zs → IsPrefix ys zs → length xs ≤ length ys → IsPrefix xs ys
+pub IsPrefix-shorter : {A : Type 0} (xs ys zs : List A) → IsPrefix xs zs → IsPrefix ys zs → length xs ≤ length ys →
+    IsPrefix xs ys
 IsPrefix-shorter [] ys zs p q h = tt
 IsPrefix-shorter (x ∷ xs) [] zs p q h = absurd (omega arith)
 IsPrefix-shorter (x ∷ xs) (y ∷ ys) [] p q h = absurd p
@@ -79,7 +82,8 @@ same_from_prefix (x ∷ xs) [] p h = absurd p
 same_from_prefix (x ∷ xs) (y ∷ ys) p h = let e = p.0 in let r = same_from_prefix xs ys p.1 (omega arith) in cc
 
 -- what begins a list with one more item is that list or begins the list before
-pub prefix_of_push : {A : Type 0} (xs ys : List A) (y : A) → IsPrefix xs (ys ++ y ∷ []) → IsPrefix xs ys ⊎ (xs ≡ ys ++ y ∷ [])
+pub prefix_of_push : {A : Type 0} (xs ys : List A) (y : A) → IsPrefix xs (ys ++ y ∷ []) →
+    IsPrefix xs ys ⊎ (xs ≡ ys ++ y ∷ [])
 prefix_of_push [] ys y p = inl tt
 prefix_of_push (x ∷ xs) [] y p = let e = p.0 in let r = nil_from_prefix xs p.1 in inr cc
 prefix_of_push (x ∷ xs) (z ∷ ys) y p =

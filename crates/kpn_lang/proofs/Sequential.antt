@@ -22,7 +22,8 @@ AreSequential-ends ending =
             grows = λ n m le more lists longer g. GoesOn-ends more ending variables lists longer g;
             stays = λ n m le lists h. refl;
             accounts = λ n lists port. refl;
-            local = λ n lists others. (SaysAlike-silent ending variables lists others (ends ending variables others)).says_too;
+            local = λ n lists others. (SaysAlike-silent ending variables lists others
+                (ends ending variables others)).says_too;
           };
     }
 
@@ -41,7 +42,9 @@ module _ (next : ℕ → Next) (sequential : AreSequential next) where
 
   pub Local-next : (n : ℕ) → LocalNext (next n)
   Local-next n =
-      record { local = λ variables lists others. record { says_too = (sequential.from variables).local n lists others } }
+      record {
+        local = λ variables lists others. record { says_too = (sequential.from variables).local n lists others };
+      }
 
   -- the run of a tree and of what follows it
   pub AreSequential-run : (tree : Tree) → AreSequential (λ n. run tree n (next n))
@@ -50,7 +53,8 @@ module _ (next : ℕ → Next) (sequential : AreSequential next) where
         from = λ variables.
             record {
               grows = λ n m le more lists longer g.
-                  (Follows-run more tree n m le (next n) (next m) (Follows-next more n m le)).goes variables lists longer g;
+                  (Follows-run more tree n m le (next n) (next m) (Follows-next more n m le)).goes variables lists
+                  longer g;
               stays = λ n m le lists.
                   ((Stays-run tree n m le (next n) (next m) (Stays-next n m le)).stays variables lists).same;
               accounts = λ n lists.

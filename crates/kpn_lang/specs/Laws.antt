@@ -38,10 +38,13 @@ pub record BeginsWithGot (talk : List Said) (lists : Lists) : Type 0 where
 -- what holds of a sequential process
 pub record IsSequential (process : Process) : Type 0 where
   -- with more turns and longer lists it goes further
-  pub grows : (n m : ℕ) → n ≤ m → (more : ℕ → List ℤ) (lists longer : Lists) → Grows more lists longer → GoesOn more (process n lists) (process m longer)
+  pub grows : (n m : ℕ) → n ≤ m → (more : ℕ → List ℤ) (lists longer : Lists) → Grows more lists longer →
+      GoesOn more (process n lists) (process m longer)
   -- with more turns a run that was not cut is the same
   pub stays : (n m : ℕ) → n ≤ m → (lists : Lists) → (process n lists).ending ≢ Cut → process m lists ≡ process n lists
   -- each list is the items that were got from it and those that remain
-  pub accounts : (n : ℕ) (lists : Lists) (port : ℕ) → list_at lists port ≡ got_at (process n lists).talk port ++ list_at (process n lists).rest port
+  pub accounts : (n : ℕ) (lists : Lists) (port : ℕ) →
+      list_at lists port ≡ got_at (process n lists).talk port ++ list_at (process n lists).rest port
   -- what it says on lists it says on any lists that begin with the items that it got
-  pub local : (n : ℕ) (lists others : Lists) (talk : List Said) → IsPrefix talk (process n lists).talk → BeginsWithGot talk others → IsPrefix talk (process n others).talk
+  pub local : (n : ℕ) (lists others : Lists) (talk : List Said) → IsPrefix talk (process n lists).talk →
+      BeginsWithGot talk others → IsPrefix talk (process n others).talk

@@ -9,3 +9,4 @@ pub mod Laws
 pub mod View
 pub mod Codes
 pub mod Plain
+pub mod Counting

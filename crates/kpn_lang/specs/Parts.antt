@@ -1,7 +1,8 @@
 -- What a program is made of, the rules that it keeps, and the first rule that parts break.
-use Rattle.std.specs.Prelude.{ℕ, zero, suc, ◌+◌, ◌-◌, max, Bool, true, false, not, ◌&&◌, ◌||◌, nat_lt, nat_le, nat_eq, ◌≡◌, ◌≤◌, if◌then◌else◌, List, [], ◌∷◌, length, Option, Some, None, Result, Ok, Err, sum_by}
+use Rattle.std.specs.Prelude.{ℕ, zero, suc, ◌+◌, max, Bool, true, false, not, ◌&&◌, ◌||◌, nat_lt, nat_le, nat_eq, ◌≡◌, ◌≤◌, if◌then◌else◌, List, [], ◌∷◌, length, Option, Some, None, Result, Ok, Err, sum_by}
 use Rattle.std.specs.List.{list_any, list_all, flat_map, range_with_len}
 use Rattle.std.specs.Cmp.Lexicographic.{pointwise}
+use Rattle.kpn_limits.specs.declared.TheConstants.{MAX_VARIABLES, MAX_PORTS, MAX_NODES, MAX_LEVELS}
 use Rattle.kpn_lang.specs.declared.program.ProgramFault.{ProgramFault}
 use Rattle.kpn_lang.specs.declared.program.ProgramFault.TheVariants.{TooMany, NoSuchBlock, BlockOrder, NoSuchVar, NoSuchPort, TooDeep}
 use Rattle.kpn_lang.specs.Syntax.{Term, Num, Var, Neg, Not, Bin, Statement, Assign, Read, Write, If, While, names_below}
@@ -35,7 +36,7 @@ inner_blocks (While e b) = b ∷ []
 abbrev pub children : List (List Statement) → ℕ → List ℕ
 children blocks b = flat_map inner_blocks (block_at blocks b)
 
--- ---- 1: a limit is passed: 64 variables, 16 ports each way, 4,096 nodes
+-- ---- 1: a limit is passed: of the variables, of the ports each way, of the nodes
 
 -- the nodes of an expression: each number, name and operator is one
 abbrev pub nodes : Term → ℕ
@@ -49,13 +50,10 @@ nodes (Bin op a b) = nodes a + nodes b + 1
 abbrev pub statement_nodes : Statement → ℕ
 statement_nodes s = sum_by nodes (expressions s) + 1
 
--- what is left of a budget after so many nodes; nothing where there are more
-abbrev pub left_of : (budget count : ℕ) → Option ℕ
-left_of budget count = if nat_le count budget then Some (budget - count) else None
-
 abbrev pub is_too_large : Parts → Bool
 is_too_large p =
-    nat_lt 64 p.vars || nat_lt 16 p.ins || nat_lt 16 p.outs || nat_lt 4096 (sum_by (sum_by statement_nodes) p.blocks)
+    nat_lt MAX_VARIABLES p.vars || nat_lt MAX_PORTS p.ins || nat_lt MAX_PORTS p.outs
+    || nat_lt MAX_NODES (sum_by (sum_by statement_nodes) p.blocks)
 
 -- ---- 2: there is no body, or a block is named that is not there
 
@@ -77,11 +75,6 @@ order_to blocks (suc levels) b = b ∷ flat_map (order_to blocks levels) (childr
 abbrev pub is_in_order : Parts → Bool
 is_in_order p = pointwise nat_eq (order_to p.blocks (length p.blocks) 0) (range_with_len 0 (length p.blocks))
 
--- the number after a list, where the list counts up from a number
-abbrev pub counted : List ℕ → ℕ → Option ℕ
-counted [] next = Some next
-counted (b ∷ bs) next = if nat_eq b next then counted bs (next + 1) else None
-
 -- ---- 4: a variable is named that is not there
 
 abbrev pub names_variables_below : ℕ → Statement → Bool
@@ -100,7 +93,7 @@ names_ports_below ins outs (Write o e) = nat_lt o outs
 names_ports_below ins outs (If e a b) = true
 names_ports_below ins outs (While e b) = true
 
--- ---- 6: blocks or expressions nest deeper than 32 levels
+-- ---- 6: blocks or expressions nest too deep
 
 -- a number or a name is at level 1, an operator one above its operands
 abbrev pub depth : Term → ℕ
@@ -123,7 +116,8 @@ each_statement test blocks = list_all (list_all test) blocks
 
 abbrev pub nests_too_deep : Parts → Bool
 nests_too_deep p =
-    not (is_within p.blocks 32 0) || not (each_statement (λ s. list_all (λ e. nat_le (depth e) 32) (expressions s)) p.blocks)
+    not (is_within p.blocks MAX_LEVELS 0)
+    || not (each_statement (λ s. list_all (λ e. nat_le (depth e) MAX_LEVELS) (expressions s)) p.blocks)
 
 -- the first rule that the parts break, in the order of the faults' numbers
 abbrev pub first_fault : Parts → Option ProgramFault

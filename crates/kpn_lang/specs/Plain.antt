@@ -1,4 +1,5 @@
--- Where the plain program stands in a run, and what a part of it has done there.
+-- Scaffolding: where the plain program stands in a run, and what a part of it has done there. The contracts of private
+-- functions speak of it, and nobody needs it to read what a run is.
 use Rattle.std.specs.Prelude.{◌≡◌, ℕ, ℤ, List, [], ◌∷◌, ◌++◌, length, drop, Option, Some, None, Result, Ok, Err, Bool, not}
 use Rattle.kpn_lang.specs.declared.value.Fault.{Fault}
 use Rattle.kpn_lang.specs.declared.talk.Said.{Said}
@@ -21,7 +22,8 @@ remaining (items ∷ lists) (place ∷ places) = drop place items ∷ remaining 
 
 -- what was said before, in front of a run
 abbrev pub said_before : List Said → Ran → Ran
-said_before talk ran = record { ending = ran.ending; variables = ran.variables; rest = ran.rest; talk = talk ++ ran.talk }
+said_before talk ran =
+    record { ending = ran.ending; variables = ran.variables; rest = ran.rest; talk = talk ++ ran.talk }
 
 -- what was said so far and what a run from here on gives
 abbrev pub run_from : Standing → Next → Ran
@@ -32,14 +34,14 @@ abbrev pub goes_on : Option Ending → Next → Next
 goes_on None next = next
 goes_on (Some ending) next = ends ending
 
--- a part of a run was done, and what is left of it, before whatever follows
-pub record LeadsTo (part left : Next → Next) (before after : Standing) : Type 0 where
-  pub runs : (next : Next) → run_from before (part next) ≡ run_from after (left next)
+-- a part of a run was done up to a residual, before whatever follows
+pub record LeadsTo (part residual : Next → Next) (before after : Standing) : Type 0 where
+  pub runs : (next : Next) → run_from before (part next) ≡ run_from after (residual next)
   pub variables : length after.variables ≡ length before.variables
   pub lists : length after.lists ≡ length before.lists
 
 -- the program keeps the rules, and there are as many variables and lists as it has
-pub record Fits (parts : Parts) (here : Standing) : Type 0 where
+pub record MayRun (parts : Parts) (here : Standing) : Type 0 where
   pub program : IsProgram parts
   pub variables : length here.variables ≡ parts.vars
   pub lists : length here.lists ≡ parts.ins

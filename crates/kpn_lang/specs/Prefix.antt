@@ -1,5 +1,5 @@
 -- Beginnings of lists.
-use Rattle.std.specs.Prelude.{◌≡◌, ℕ, ℤ, List, [], ◌∷◌}
+use Rattle.std.specs.Prelude.{◌≡◌, ℕ, List, [], ◌∷◌}
 use Rattle.kpn_lang.specs.Run.{Lists, list_at}
 
 -- the second list begins with the first

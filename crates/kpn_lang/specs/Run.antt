@@ -6,7 +6,7 @@ use Rattle.kpn_lang.specs.declared.value.Fault.{Fault}
 use Rattle.kpn_lang.specs.declared.talk.Said.{Said}
 use Rattle.kpn_lang.specs.declared.talk.Said.TheVariants.{Got, Put}
 use Rattle.kpn_lang.specs.declared.talk.Ending.{Ending}
-use Rattle.kpn_lang.specs.declared.talk.Ending.TheVariants.{Done, Faulted, Starved, Cut}
+use Rattle.kpn_lang.specs.declared.talk.Ending.TheVariants.{Faulted, Starved, Cut}
 use Rattle.kpn_lang.specs.Syntax.{Term}
 use Rattle.kpn_lang.specs.Value.{value, is_zero}
 use Rattle.kpn_lang.specs.Tree.{Tree, End, Assign, Read, Write, If, While}
@@ -52,12 +52,14 @@ with_item (v ∷ items) port variables lists go = go v items
 abbrev pub choose : ℤ → Ran → Ran → Ran
 choose v first second = if is_zero v then second else first
 
--- a loop that has this many turns left: its test is evaluated once more, and it is cut only where it would go on
+-- a loop that may go round this many times more, each a turn: its test is evaluated once more, and it is cut only where
+-- it would go on
 abbrev pub turns : ℕ → Term → (Next → Next) → Next → Next
 turns zero test body next variables lists =
     with_value (value test variables) variables lists (λ v. choose v (ends Cut variables lists) (next variables lists))
-turns (suc left) test body next variables lists =
-    with_value (value test variables) variables lists (λ v. choose v (body (turns left test body next) variables lists) (next variables lists))
+turns (suc more) test body next variables lists =
+    with_value (value test variables) variables lists
+    (λ v. choose v (body (turns more test body next) variables lists) (next variables lists))
 
 -- the run of a tree, where each loop that is entered has n turns, and of what follows it
 abbrev pub run : Tree → ℕ → Next → Next

@@ -20,4 +20,5 @@ parts_of p = record { ins = p.ins; outs = p.outs; pars = p.pars; vars = p.vars; 
 
 -- the parts that are handed in
 abbrev pub parts_with : (ins outs pars vars : ℕ) → List (Vec Stmt) → Parts
-parts_with ins outs pars vars blocks = record { ins = ins; outs = outs; pars = pars; vars = vars; blocks = blocks_of blocks }
+parts_with ins outs pars vars blocks =
+    record { ins = ins; outs = outs; pars = pars; vars = vars; blocks = blocks_of blocks }

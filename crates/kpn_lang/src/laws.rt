@@ -1,4 +1,4 @@
-// What holds of every process, as the contracts of functions with nothing to do: the layers above cite them.
+//! What holds of every process, as the contracts of functions with nothing to do: the layers above cite them.
 ghost use Rattle.std.specs.Prelude.{◌≡◌, ◌≢◌, ◌⊎◌, ◌↔◌, ℕ, ◌≤◌, ℤ, List, ◌++◌};
 ghost use Rattle.kpn_lang.specs.declared.value.Fault.{Fault};
 ghost use Rattle.kpn_lang.specs.declared.talk.Said.{Said};
@@ -35,11 +35,13 @@ pub fn longer_lists()
         → (process n lists).ending ≡ Done → EndsAlike more (process n lists) (process m longer) }
     ensures faulted { (process : Process) → IsSequential process → (n m : ℕ) → n ≤ m
         → (more : ℕ → List ℤ) (lists longer : Lists) → Grows more lists longer → (fault : Fault)
-        → (process n lists).ending ≡ Faulted fault → EndsAlike more (process n lists) (process m longer) }
+        → (process n lists).ending ≡ Faulted fault
+        → EndsAlike more (process n lists) (process m longer) }
     ensures starved { (process : Process) → IsSequential process → (n m : ℕ) → n ≤ m
         → (more : ℕ → List ℤ) (lists longer : Lists) → Grows more lists longer → (port : ℕ)
         → list_at longer port ≡ list_at lists port
-        → (process n lists).ending ≡ Starved port → EndsAlike more (process n lists) (process m longer) }
+        → (process n lists).ending ≡ Starved port
+        → EndsAlike more (process n lists) (process m longer) }
 {}
 
 /// Lists that begin with others are those with some items behind them.
@@ -63,9 +65,11 @@ pub fn can_say()
         → (lists others : Lists) (talk : List Said) → CanSay process lists talk
         → BeginsWithGot talk others → CanSay process others talk }
     ensures got { (process : Process) → IsSequential process
-        → (lists : Lists) (talk : List Said) → CanSay process lists talk → BeginsWithGot talk lists }
+        → (lists : Lists) (talk : List Said) → CanSay process lists talk
+        → BeginsWithGot talk lists }
     ensures one_talk { (process : Process) → IsSequential process
-        → (lists : Lists) (talk other : List Said) → CanSay process lists talk → CanSay process lists other
+        → (lists : Lists) (talk other : List Said)
+        → CanSay process lists talk → CanSay process lists other
         → (IsPrefix talk other ⊎ IsPrefix other talk) }
 {}
 

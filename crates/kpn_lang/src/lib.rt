@@ -1,18 +1,18 @@
-// The process language of Kahn networks: expressions, statements and programs, the value of an
-// expression, and what a process does when it runs alone on whole lists of items.
+//! The process language of Kahn networks: expressions, statements and programs, the value of an
+//! expression, and what a process does when it runs alone on whole lists of items.
 #![tactic(auto)]
 
 pub mod laws;
-pub mod plain;
-pub mod program;
-pub mod sequence;
-pub mod syntax;
-pub mod talk;
-pub mod value;
+mod plain;
+mod program;
+mod sequence;
+mod syntax;
+mod talk;
+mod value;
 
 pub use plain::{Run, run_alone};
 pub use program::{Program, ProgramFault, same};
-pub use sequence::Sequence;
+pub use sequence::{Sequence, item_at};
 pub use syntax::{BlockId, Expr, Op, Stmt};
 pub use talk::{Ending, Said};
 pub use value::{Fault, eval};

@@ -1,5 +1,5 @@
-// The plain program: it runs a program alone on whole lists by recursion over its blocks, as the
-// definition of a run says.
+//! The plain program: it runs a program alone on whole lists by recursion over its blocks, as the
+//! definition of a run says.
 ghost use Rattle.std.specs.Prelude.{◌≡◌, ◌≤◌, ◌<◌, [], ◌∷◌, ◌++◌, length, drop, IfOk, OnSome, IsTrue, ◌+◌, ◌^◌, slice_get, slice_set};
 ghost use Rattle.kpn_lang.specs.Syntax.{term_of, statement_of, names_below};
 ghost use Rattle.kpn_lang.specs.Value.{value};
@@ -7,10 +7,10 @@ ghost use Rattle.kpn_lang.specs.Parts.{names_variables_below, names_ports_below}
 ghost use Rattle.kpn_lang.specs.Tree.{tree_of, tree_over};
 ghost use Rattle.kpn_lang.specs.Run.{list_at, run, turns};
 ghost use Rattle.kpn_lang.specs.Alone.{alone, start_of};
-ghost use Rattle.kpn_lang.specs.Plain.{remaining, holds, goes_on, LeadsTo, Fits};
+ghost use Rattle.kpn_lang.specs.Plain.{remaining, holds, goes_on, LeadsTo, MayRun};
 
 use crate::program::Program;
-use crate::sequence::Sequence;
+use crate::sequence::{Sequence, item_at};
 use crate::syntax::{BlockId, Expr, Stmt};
 use crate::talk::{Ending, Said};
 use crate::value::{Fault, eval};
@@ -95,8 +95,10 @@ impl Interpreter<'_> {
     // Runs a block: `None` where it came to its end, else the ending of the whole run.
     #[cycle(interpreter)]
     fn block(&self, state: &mut State<'_>, block: BlockId) -> Result<Option<Ending>, AllocError>
-        requires { Fits self.now.program.now state.old }
-        ensures { IfOk result (λ answer. LeadsTo (run (tree_of self.now.program.now.blocks block) self.now.turns) (goes_on answer) state.old state.new) }
+        requires { MayRun self.now.program.now state.old }
+        ensures { let tree = tree_of self.now.program.now.blocks block in
+            IfOk result (λ answer.
+            LeadsTo (run tree self.now.turns) (goes_on answer) state.old state.new) }
     {
         let Some(statements) = self.program.block(block) else {
             return Ok(None);
@@ -116,10 +118,15 @@ impl Interpreter<'_> {
         state: &mut State<'_>,
         statement: &Stmt,
     ) -> Result<Option<Ending>, AllocError>
-        requires fits { Fits self.now.program.now state.old }
-        requires variables { IsTrue (names_variables_below self.now.program.now.vars (statement_of statement.now)) }
-        requires ports { IsTrue (names_ports_below self.now.program.now.ins self.now.program.now.outs (statement_of statement.now)) }
-        ensures { IfOk result (λ answer. LeadsTo (run (tree_over (tree_of self.now.program.now.blocks) (statement_of statement.now ∷ [])) self.now.turns) (goes_on answer) state.old state.new) }
+        requires may_run { MayRun self.now.program.now state.old }
+        requires variables { let vars = self.now.program.now.vars in
+            IsTrue (names_variables_below vars (statement_of statement.now)) }
+        requires ports { let parts = self.now.program.now in
+            IsTrue (names_ports_below parts.ins parts.outs (statement_of statement.now)) }
+        ensures { let inner = tree_of self.now.program.now.blocks in
+            let tree = tree_over inner (statement_of statement.now ∷ []) in
+            IfOk result (λ answer.
+            LeadsTo (run tree self.now.turns) (goes_on answer) state.old state.new) }
     {
         match statement {
             Stmt::Assign(variable, expr) => match state.value(expr) {
@@ -161,9 +168,12 @@ impl Interpreter<'_> {
         test: &Expr,
         body: BlockId,
     ) -> Result<Option<Ending>, AllocError>
-        requires fits { Fits self.now.program.now state.old }
+        requires may_run { MayRun self.now.program.now state.old }
         requires variables { IsTrue (names_below self.now.program.now.vars (term_of test.now)) }
-        ensures { IfOk result (λ answer. LeadsTo (turns self.now.turns (term_of test.now) (run (tree_of self.now.program.now.blocks body) self.now.turns)) (goes_on answer) state.old state.new) }
+        ensures { let round = run (tree_of self.now.program.now.blocks body) self.now.turns in
+            IfOk result (λ answer.
+            LeadsTo (turns self.now.turns (term_of test.now) round) (goes_on answer)
+            state.old state.new) }
     {
         for _turn in 0..self.turns {
             match state.test(test) {
@@ -198,7 +208,11 @@ impl<'a> Model for State<'a> {
 
     ghost Value = { Standing };
 
-    ghost view = { λ s. record { variables = s.variables.items; lists = remaining s.lists.now s.places.items; talk = s.talk.items } };
+    ghost view = { λ s. record {
+      variables = s.variables.items;
+      lists = remaining s.lists.now s.places.items;
+      talk = s.talk.items;
+    } };
 
     ghost invariant = { λ s. length s.places.items ≡ length s.lists.now };
 }
@@ -212,7 +226,8 @@ impl<'a> State<'a> {
         lists: &'a [Sequence<i64>],
     ) -> Result<Self, AllocError>
         requires { length pars.now ≤ program.now.vars }
-        ensures { IfOk result (λ state. state ≡ record { variables = start_of program.now pars.now; lists = lists.now; talk = [] }) }
+        ensures { IfOk result (λ state. state ≡
+            record { variables = start_of program.now pars.now; lists = lists.now; talk = [] }) }
     {
         let mut variables = pars.to_vec(alloc)?;
         variables.resize(program.vars(), 0)?;
@@ -241,13 +256,16 @@ impl<'a> State<'a> {
 
     fn assign(&mut self, variable: usize, value: i64)
         requires { variable < length self.old.variables }
-        ensures { self.new ≡ record self.old { variables = slice_set self.old.variables variable value } }
+        ensures { self.new ≡ record self.old {
+          variables = slice_set self.old.variables variable value;
+        } }
     {
         self.variables[variable] = value;
     }
 
     fn say(&mut self, said: Said) -> Result<(), AllocError>
-        ensures { IfOk result (λ _. self.new ≡ record self.old { talk = self.old.talk ++ said ∷ [] }) }
+        ensures { IfOk result (λ _.
+            self.new ≡ record self.old { talk = self.old.talk ++ said ∷ [] }) }
     {
         self.talk.push(said)?;
         Ok(())
@@ -257,7 +275,8 @@ impl<'a> State<'a> {
     fn next_item(&mut self, port: usize) -> Option<i64>
         requires { port < length self.old.lists }
         ensures first { result ≡ slice_get (list_at self.old.lists port) 0 }
-        ensures rest { self.new ≡ record self.old { lists = slice_set self.old.lists port (drop 1 (list_at self.old.lists port)) } }
+        ensures rest { let rest = drop 1 (list_at self.old.lists port) in
+            self.new ≡ record self.old { lists = slice_set self.old.lists port rest } }
     {
         let place = self.places[port];
         let item = item_at(self.lists, port, place)?;
@@ -267,7 +286,13 @@ impl<'a> State<'a> {
 
     // The run that ends here.
     fn end(self, alloc: Global, ending: Ending) -> Result<Run, AllocError>
-        ensures { IfOk result (λ run. run ≡ record { ending = ending; variables = self.entry.variables; rest = self.entry.lists; talk = self.entry.talk }) }
+        ensures { let here = self.entry in
+            IfOk result (λ run. run ≡ record {
+              ending = ending;
+              variables = here.variables;
+              rest = here.lists;
+              talk = here.talk;
+            }) }
     {
         let rest = rest_of(alloc, self.lists, &self.places)?;
         Ok(Run {
@@ -279,23 +304,9 @@ impl<'a> State<'a> {
     }
 }
 
-// The item at a place of a list.
-fn item_at(lists: &[Sequence<i64>], port: usize, place: usize) -> Option<i64>
-    requires { port < length lists.now }
-    ensures item { result ≡ slice_get (list_at lists.now port) place }
-    ensures room { OnSome result (place + 1 < 2 ^ 64) }
-{
-    let items = lists[port].as_slice();
-    if place < items.len() {
-        Some(items[place])
-    } else {
-        None
-    }
-}
-
 // The items of a list from a place on.
-fn left_of(alloc: Global, items: &[i64], place: usize) -> Result<Sequence<i64>, AllocError>
-    ensures { IfOk result (λ left. left ≡ drop place items.now) }
+fn items_from(alloc: Global, items: &[i64], place: usize) -> Result<Sequence<i64>, AllocError>
+    ensures { IfOk result (λ rest. rest ≡ drop place items.now) }
 {
     let place = place.min(items.len());
     Ok(Sequence::from_vec(items[place..].to_vec(alloc)?))
@@ -312,90 +323,7 @@ fn rest_of(
 {
     let mut rest = Vec::new(alloc);
     for (port, list) in lists.iter().enumerate() {
-        rest.push(left_of(alloc, list.as_slice(), places[port])?)?;
+        rest.push(items_from(alloc, list.as_slice(), places[port])?)?;
     }
     Ok(Sequence::from_vec(rest))
-}
-
-#[cfg(test)]
-mod tests {
-    use super::*;
-    use crate::syntax::Op;
-    use std::process::Abort;
-    use std::test::Fail;
-
-    // The run with 3 turns of a program of these blocks, which has an in port, an out port and a variable.
-    fn ran(
-        rt: &impl Abort,
-        alloc: Global,
-        blocks: Vec<Vec<Stmt>>,
-        items: &[i64],
-    ) -> Result<Run, Fail> {
-        let program = Program::new(1, 1, 0, 1, blocks)?;
-        assert!(rt; program.pars() == 0);
-        assert!(rt; program.ins() == 1);
-        let lists = vec![in alloc; Sequence::from_vec(items.to_vec(alloc)?)]?;
-        Ok(run_alone(alloc, &program, &[], &lists, 3)?)
-    }
-
-    #[test]
-    fn copies_until_it_starves(rt: HostRuntime) -> Result<(), Fail> {
-        let alloc = rt.alloc();
-        let body = vec![in alloc; Stmt::While(Expr::Num(1), 1)]?;
-        let copy = vec![in alloc; Stmt::Read(0, 0), Stmt::Write(0, Expr::Var(0))]?;
-        let run = ran(&rt, alloc, vec![in alloc; body, copy]?, &[5])?;
-        assert_eq!(rt; run.ending(), Ending::Starved(0));
-        assert_eq!(rt; run.talk(), [Said::Got(0, 5), Said::Put(0, 5)].as_slice());
-        assert_eq!(rt; run.variables(), [5].as_slice());
-        Ok(())
-    }
-
-    #[test]
-    fn an_empty_body_is_done(rt: HostRuntime) -> Result<(), Fail> {
-        let alloc = rt.alloc();
-        let run = ran(&rt, alloc, vec![in alloc; Vec::new(alloc)]?, &[5, 6])?;
-        assert_eq!(rt; run.ending(), Ending::Done);
-        assert_eq!(rt; run.talk().len(), 0);
-        assert_eq!(rt; run.rest().len(), 1);
-        assert_eq!(rt; run.rest()[0].as_slice(), [5, 6].as_slice());
-        Ok(())
-    }
-
-    #[test]
-    fn a_fault_ends_the_run_after_its_talk(rt: HostRuntime) -> Result<(), Fail> {
-        let alloc = rt.alloc();
-        let quotient = Expr::Bin(
-            Op::Div,
-            Box::new(alloc, Expr::Num(1))?,
-            Box::new(alloc, Expr::Var(0))?,
-        );
-        let body = vec![in alloc; Stmt::Write(0, Expr::Num(7)), Stmt::Write(0, quotient)]?;
-        let run = ran(&rt, alloc, vec![in alloc; body]?, &[])?;
-        assert_eq!(rt; run.ending(), Ending::Faulted(Fault::ZeroDivisor));
-        assert_eq!(rt; run.talk(), [Said::Put(0, 7)].as_slice());
-        Ok(())
-    }
-
-    // The loop `while (v < turns) v = v + 1`, which has 3 turns: it is cut only where it would go on.
-    #[test]
-    fn a_loop_is_cut_where_it_would_go_on(rt: HostRuntime) -> Result<(), Fail> {
-        let alloc = rt.alloc();
-        for (turns, ending) in [(0, Ending::Done), (3, Ending::Done), (4, Ending::Cut)] {
-            let test = Expr::Bin(
-                Op::Lt,
-                Box::new(alloc, Expr::Var(0))?,
-                Box::new(alloc, Expr::Num(turns))?,
-            );
-            let next = Expr::Bin(
-                Op::Add,
-                Box::new(alloc, Expr::Var(0))?,
-                Box::new(alloc, Expr::Num(1))?,
-            );
-            let body = vec![in alloc; Stmt::While(test, 1)]?;
-            let count = vec![in alloc; Stmt::Assign(0, next)]?;
-            let run = ran(&rt, alloc, vec![in alloc; body, count]?, &[])?;
-            assert_eq!(rt; run.ending(), ending, "at {turns}");
-        }
-        Ok(())
-    }
 }

@@ -1,6 +1,7 @@
-// A small list type over `Vec` that contracts see as a list: for fields, and for lists inside lists.
-ghost use Rattle.std.specs.Prelude.{◌≡◌, ◌↔◌, [], ◌∷◌, ◌++◌, length, IsTrue, if◌then◌else◌, is_ok, IfErr};
+//! A small list type over `Vec` that contracts see as a list: for fields, and for lists inside lists.
+ghost use Rattle.std.specs.Prelude.{◌≡◌, ◌+◌, ◌^◌, ◌<◌, ◌↔◌, [], ◌∷◌, ◌++◌, length, IsTrue, OnSome, slice_get, if◌then◌else◌, is_ok, IfErr};
 ghost use Rattle.std.specs.Cmp.Lexicographic.{pointwise, lists_per, lists_equiv};
+ghost use Rattle.kpn_lang.specs.Run.{list_at};
 
 use std::alloc::{AllocFailed, Global};
 use std::marker::Model;
@@ -87,5 +88,19 @@ impl<T> Sequence<T> {
         ensures value_returned { IfErr result (λ failed. failed.value ≡ item) }
     {
         self.items.push(item)
+    }
+}
+
+/// The item at a place of one of some lists, if there is one.
+pub fn item_at(lists: &[Sequence<i64>], port: usize, place: usize) -> Option<i64>
+    requires { port < length lists.now }
+    ensures item { result ≡ slice_get (list_at lists.now port) place }
+    ensures room { OnSome result (place + 1 < 2 ^ 64) }
+{
+    let items = lists[port].as_slice();
+    if place < items.len() {
+        Some(items[place])
+    } else {
+        None
     }
 }

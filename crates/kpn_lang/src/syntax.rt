@@ -1,4 +1,4 @@
-// The syntax of processes: expressions as trees, statements that name blocks by number.
+//! The syntax of processes: expressions as trees, statements that name blocks by number.
 
 /// An operator of two operands.
 #[derive(Clone, Copy, Debug, PartialEq, Eq)]

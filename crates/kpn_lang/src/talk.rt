@@ -1,4 +1,4 @@
-// What a process says while it runs: the items that it gets and puts, and how its run ends.
+//! What a process says while it runs: the items that it gets and puts, and how its run ends.
 use crate::value::Fault;
 
 /// One thing that a process says to the outside: an item that it got at an in port, or one that it

@@ -1,4 +1,4 @@
-// The value of an expression.
+//! The value of an expression.
 ghost use Rattle.std.specs.Prelude.{◌≡◌, length, IsTrue};
 ghost use Rattle.kpn_lang.specs.Syntax.{term_of, names_below};
 ghost use Rattle.kpn_lang.specs.Value.{value, result_of, truth_of};
@@ -65,6 +65,3 @@ pub fn eval(expr: &Expr, variables: &[i64]) -> Result<i64, Fault>
         }
     }
 }
-
-#[cfg(test)]
-mod tests;

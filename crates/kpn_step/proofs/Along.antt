@@ -16,22 +16,26 @@ use Rattle.kpn_step.specs.Frame.{Frame, start_frame, fits}
 use Rattle.kpn_step.specs.Step.{Steps}
 use Rattle.kpn_step.specs.Stops.{StandsAt}
 use Rattle.kpn_step.specs.Walk.{Speaks, Walks, AloneGives}
-use Rattle.kpn_step.specs.Turn.{Walked}
-use Rattle.kpn_step.specs.Taken.{remaining, EndsAs}
-use Rattle.kpn_step.proofs.MayTurn.{write_within}
+use Rattle.kpn_step.specs.Stepped.{Walked}
+use Rattle.kpn_lang.specs.Plain.{remaining}
+use Rattle.kpn_step.specs.Taken.{EndsAs}
+use Rattle.kpn_step.proofs.MayStep.{write_within}
 use Rattle.kpn_step.proofs.Stands.{StandsAt-stop_at}
 use Rattle.kpn_step.proofs.Walked.{Walks-steps, Walks-said, fits-alone, AloneGives-done, AloneGives-faulted, AloneGives-starved, AloneGives-paused}
 
 -- the way from the start: some of the steps were made, this was said, and this was taken
-pub record Along (parts : Parts) (pars : List ℤ) (lists : Lists) (quota left : ℕ) (talk : List Said) (f : Frame) (taken : List ℕ) : Type 0 where
+pub record Along (parts : Parts) (pars : List ℤ) (lists : Lists) (quota left : ℕ) (talk : List Said) (f : Frame)
+    (taken : List ℕ) : Type 0 where
   pub steps : ℕ
   pub counted : steps + left ≡ quota
-  pub walk : Walks parts.blocks steps (start_frame parts pars) lists talk f (remaining taken lists)
+  pub walk : Walks parts.blocks steps (start_frame parts pars) lists talk f (remaining lists taken)
   pub ports : length taken ≡ length lists
 
-module _ (parts : Parts) (program : IsProgram parts) (pars : List ℤ) (lists : Lists) (given : length pars ≡ parts.pars) (quota left : ℕ) (talk : List Said) (f : Frame) (taken : List ℕ) (along : Along parts pars lists quota left talk f taken) where
+module _ (parts : Parts) (program : IsProgram parts) (pars : List ℤ) (lists : Lists) (given : length pars ≡ parts.pars)
+    (quota left : ℕ) (talk : List Said) (f : Frame) (taken : List ℕ)
+    (along : Along parts pars lists quota left talk f taken) where
   pub Along-fits : IsTrue (fits parts f)
-  Along-fits = fits-alone parts program pars lists along.steps talk f (remaining taken lists) given along.walk
+  Along-fits = fits-alone parts program pars lists along.steps talk f (remaining lists taken) given along.walk
 
   module _ (steps : ℕ) (stop : Stop) (g : Frame) (walked : Walked parts.blocks left f steps stop g) where
     pub Along-stands : StandsAt parts.blocks g stop
@@ -42,17 +46,21 @@ module _ (parts : Parts) (program : IsProgram parts) (pars : List ℤ) (lists : 
         record {
           steps = along.steps + steps;
           counted = omega (arith, along.counted, walked.most);
-          walk = Walks-steps parts.blocks along.steps steps (start_frame parts pars) f g lists (remaining taken lists) talk along.walk walked.stepped;
+          walk = Walks-steps parts.blocks along.steps steps (start_frame parts pars) f g lists
+              (remaining lists taken) talk along.walk walked.stepped;
           ports = along.ports;
         }
 
     -- after one thing said
-    pub Along-said : (said : Said) (h : Frame) (after : List ℕ) → Speaks parts.blocks g (remaining taken lists) said h (remaining after lists) → length after ≡ length taken → Along parts pars lists quota (left - steps) (talk ++ said ∷ []) h after
+    pub Along-said : (said : Said) (h : Frame) (after : List ℕ) →
+        Speaks parts.blocks g (remaining lists taken) said h (remaining lists after) → length after ≡ length taken →
+        Along parts pars lists quota (left - steps) (talk ++ said ∷ []) h after
     Along-said said h after speaks ports =
         record {
           steps = Along-steps.steps;
           counted = Along-steps.counted;
-          walk = Walks-said parts.blocks Along-steps.steps (start_frame parts pars) g h lists (remaining taken lists) (remaining after lists) talk said Along-steps.walk speaks;
+          walk = Walks-said parts.blocks Along-steps.steps (start_frame parts pars) g h lists (remaining lists taken)
+              (remaining lists after) talk said Along-steps.walk speaks;
           ports = ports ∙ along.ports;
         }
 
@@ -60,11 +68,20 @@ module _ (parts : Parts) (program : IsProgram parts) (pars : List ℤ) (lists : 
     most : Along-steps.steps ≤ quota
     most = omega (arith, along.counted, walked.most)
 
-    pub Along-ends : (ended : AloneStop) → EndsAs stop (remaining taken lists) ended → AloneGives parts pars lists quota talk ended
-    Along-ends Done e = AloneGives-done parts program pars lists quota Along-steps.steps most talk g (remaining taken lists) Along-steps.walk (rw e at Along-stands)
-    Along-ends (Faulted fault) e = AloneGives-faulted parts program pars lists quota Along-steps.steps most talk g (remaining taken lists) Along-steps.walk fault (rw e at Along-stands)
-    Along-ends (Starved port) e = AloneGives-starved parts program pars lists quota Along-steps.steps most talk g (remaining taken lists) Along-steps.walk port (rw (e.0) at Along-stands) e.1
-    Along-ends Paused e = AloneGives-paused parts program pars lists quota Along-steps.steps most talk g (remaining taken lists) Along-steps.walk (rw e at Along-stands) (omega (arith, walked.paused e, along.counted))
+    pub Along-ends : (ended : AloneStop) → EndsAs stop (remaining lists taken) ended →
+        AloneGives parts pars lists quota talk ended
+    Along-ends Done e =
+        AloneGives-done parts program pars lists quota Along-steps.steps most talk g
+        (remaining lists taken) Along-steps.walk (rw e at Along-stands)
+    Along-ends (Faulted fault) e =
+        AloneGives-faulted parts program pars lists quota Along-steps.steps most talk g
+        (remaining lists taken) Along-steps.walk fault (rw e at Along-stands)
+    Along-ends (Starved port) e =
+        AloneGives-starved parts program pars lists quota Along-steps.steps most talk g
+        (remaining lists taken) Along-steps.walk port (rw (e.0) at Along-stands) e.1
+    Along-ends Paused e =
+        AloneGives-paused parts program pars lists quota Along-steps.steps most talk g
+        (remaining lists taken) Along-steps.walk (rw e at Along-stands) (omega (arith, walked.paused e, along.counted))
 
 -- ---- it comes to an end
 
@@ -82,16 +99,23 @@ length-block (block ∷ blocks) zero = omega (arith, sum_by-cons length block bl
 length-block (block ∷ blocks) (suc b) = omega (arith, sum_by-cons length block blocks, length-block blocks b)
 
 -- what it says it goes past
-goes_past : (blocks : List (List Statement)) (g h : Frame) (lists rest : Lists) (said : Said) → Speaks blocks g lists said h rest → (h.inner.block ≡ g.inner.block) × (h.inner.place ≡ g.inner.place + 1) × (g.inner.place < length (block_at blocks g.inner.block))
-goes_past blocks g h lists rest (Got port v) s =
-    (ap (λ f. f.inner.block) s.4, ap (λ f. f.inner.place) s.4, slice_get_within (block_at blocks g.inner.block) g.inner.place (Read port s.0) s.2)
+goes_past : (blocks : List (List Statement)) (g h : Frame) (lists rest : Lists) (said : Said) →
+    Speaks blocks g lists said h rest → (h.inner.block ≡ g.inner.block) × (h.inner.place ≡ g.inner.place + 1)
+    × (g.inner.place < length (block_at blocks g.inner.block))
+goes_past blocks g h lists rest (Got port v) s = (
+  ap (λ f. f.inner.block) s.4,
+  ap (λ f. f.inner.place) s.4,
+  slice_get_within (block_at blocks g.inner.block) g.inner.place (Read port s.0) s.2,
+)
 goes_past blocks g h lists rest (Put port v) s =
     (ap (λ f. f.inner.block) s.1, ap (λ f. f.inner.place) s.1, write_within blocks g port v s.0)
 
 falls : (all less more len : ℕ) → len ≤ all → (all + 1) * less + len < (all + 1) * (less + suc more)
 falls all less more len h = omega arith
 
-pub way_left-falls : (blocks : List (List Statement)) (left steps : ℕ) (f g h : Frame) (lists rest : Lists) (said : Said) → steps ≤ left → Steps blocks steps f g → Speaks blocks g lists said h rest → way_left blocks (left - steps) h < way_left blocks left f
+pub way_left-falls : (blocks : List (List Statement)) (left steps : ℕ) (f g h : Frame) (lists rest : Lists)
+    (said : Said) → steps ≤ left → Steps blocks steps f g → Speaks blocks g lists said h rest →
+    way_left blocks (left - steps) h < way_left blocks left f
 way_left-falls blocks left zero f g h lists rest said most stepped speaks =
     let past = goes_past blocks g h lists rest said speaks in
     let same : left - 0 ≡ left = omega arith in
@@ -103,5 +127,6 @@ way_left-falls blocks left (suc steps) f g h lists rest said most stepped speaks
     let less = left - suc steps in
     let whole : less + suc steps ≡ left = omega arith in
     let len = length (block_at blocks h.inner.block) in
-    let lower = subst (λ n. (statements_in blocks + 1) * less + len < (statements_in blocks + 1) * n) whole (falls (statements_in blocks) less steps len (length-block blocks h.inner.block)) in
+    let lower = subst (λ n. (statements_in blocks + 1) * less + len < (statements_in blocks + 1) * n) whole
+    (falls (statements_in blocks) less steps len (length-block blocks h.inner.block)) in
     omega (arith, lower)

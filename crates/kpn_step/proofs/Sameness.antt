@@ -7,7 +7,7 @@ use Rattle.kpn_lang.specs.Run.{Ran, Lists}
 use Rattle.kpn_lang.specs.Prefix.{IsPrefix}
 use Rattle.kpn_lang.specs.Alone.{Process, CanSay, ComesTo}
 use Rattle.kpn_lang.proofs.Prefixes.{IsPrefix-trans, IsPrefix-same}
-use Rattle.kpn_step.specs.Left.{SaysTheSame}
+use Rattle.kpn_step.specs.Residual.{SaysTheSame}
 
 -- the talk is only extended, and a run that was not cut is the same
 pub record IsBelow (ran further : Ran) : Type 0 where
@@ -15,21 +15,25 @@ pub record IsBelow (ran further : Ran) : Type 0 where
   pub same : ran.ending ≢ Cut → further ≡ ran
 
 pub IsBelow-same : (ran further : Ran) → further ≡ ran → IsBelow ran further
-IsBelow-same ran further e = record { talk = IsPrefix-same ran.talk further.talk (sym (ap (λ r. r.talk) e)); same = λ h. e }
+IsBelow-same ran further e =
+    record { talk = IsPrefix-same ran.talk further.talk (sym (ap (λ r. r.talk) e)); same = λ h. e }
 
 -- with some number of turns the second process goes on where the first came to
 pub record Covers (p q : Process) : Type 0 where
   pub turns : ℕ → ℕ
   pub below : (n : ℕ) (lists : Lists) → IsBelow (p n lists) (q (turns n) lists)
 
-pub CanSay-covered : (p q : Process) → Covers p q → (lists : Lists) (talk : List Said) → CanSay p lists talk → CanSay q lists talk
+pub CanSay-covered : (p q : Process) → Covers p q → (lists : Lists) (talk : List Said) → CanSay p lists talk →
+    CanSay q lists talk
 CanSay-covered p q h lists talk c =
     record {
       turns = h.turns c.turns;
-      said = IsPrefix-trans talk (p c.turns lists).talk (q (h.turns c.turns) lists).talk c.said (h.below c.turns lists).talk;
+      said = IsPrefix-trans talk (p c.turns lists).talk (q (h.turns c.turns) lists).talk c.said
+          (h.below c.turns lists).talk;
     }
 
-pub ComesTo-covered : (p q : Process) → Covers p q → (lists : Lists) (ending : Ending) (talk : List Said) → ComesTo p lists ending talk → ComesTo q lists ending talk
+pub ComesTo-covered : (p q : Process) → Covers p q → (lists : Lists) (ending : Ending) (talk : List Said) →
+    ComesTo p lists ending talk → ComesTo q lists ending talk
 ComesTo-covered p q h lists ending talk c =
     let e = (h.below c.turns lists).same (λ cut. c.whole (sym c.ended ∙ cut)) in
     record {
@@ -52,7 +56,8 @@ pub Covers-equal : (p q : Process) → ((n : ℕ) (lists : Lists) → q n lists 
 Covers-equal p q e = record { turns = λ n. n; below = λ n lists. IsBelow-same (p n lists) (q n lists) (e n lists) }
 
 pub SaysTheSame-equal : (p q : Process) → ((n : ℕ) (lists : Lists) → q n lists ≡ p n lists) → SaysTheSame p q
-SaysTheSame-equal p q e = SaysTheSame-from_covers p q (Covers-equal p q e) (Covers-equal q p (λ n lists. sym (e n lists)))
+SaysTheSame-equal p q e =
+    SaysTheSame-from_covers p q (Covers-equal p q e) (Covers-equal q p (λ n lists. sym (e n lists)))
 
 pub SaysTheSame-refl : (p : Process) → SaysTheSame p p
 SaysTheSame-refl p = SaysTheSame-equal p p (λ n lists. refl)

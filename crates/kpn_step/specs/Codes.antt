@@ -35,7 +35,9 @@ of_kind-kind_of (Faulted ZeroDivisor) = refl
 of_kind-kind_of Paused = refl
 
 abbrev pub stop_code : Coded Stop
-stop_code = code_by (ℕ × (ℕ × ℤ)) (coded× coded_ℕ (coded× coded_ℕ coded_ℤ)) kind_of (λ t. of_kind t.0 t.1.0 t.1.1) of_kind-kind_of
+stop_code =
+    code_by (ℕ × (ℕ × ℤ)) (coded× coded_ℕ (coded× coded_ℕ coded_ℤ)) kind_of
+    (λ t. of_kind t.0 t.1.0 t.1.1) of_kind-kind_of
 
 abbrev pub advanced_code : Coded Advanced
 advanced_code =

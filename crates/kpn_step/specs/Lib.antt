@@ -1,8 +1,9 @@
 pub mod Frame
 pub mod Step
-pub mod Left
+pub mod Residual
 pub mod Stops
+pub mod After
 pub mod Walk
-pub mod Turn
+pub mod Stepped
 pub mod Taken
 pub mod Codes

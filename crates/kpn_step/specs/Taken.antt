@@ -1,21 +1,17 @@
--- What remains of lists from which items were taken, and how a process ends that takes no more.
-use Rattle.std.specs.Prelude.{◌≡◌, ℕ, ℤ, Option, Some, None, List, [], ◌∷◌, drop, slice_set}
+-- Scaffolding: an item taken from the front of a list, and how a process ends that takes no more. The contracts of
+-- private functions speak of it.
+use Rattle.std.specs.Prelude.{◌≡◌, ℕ, ℤ, Option, Some, None, List, [], ◌∷◌, slice_set}
 use Rattle.kpn_lang.specs.Run.{Lists, list_at}
 use Rattle.kpn_step.specs.declared.stop.Stop.{Stop}
 use Rattle.kpn_step.specs.declared.stop.Stop.TheVariants as stop
 use Rattle.kpn_step.specs.declared.stop.AloneStop.{AloneStop}
 use Rattle.kpn_step.specs.declared.stop.AloneStop.TheVariants.{Done, Faulted, Starved, Paused}
 
--- each list without so many items at its front
-abbrev pub remaining : List ℕ → Lists → Lists
-remaining [] lists = []
-remaining (n ∷ taken) [] = []
-remaining (n ∷ taken) (list ∷ lists) = drop n list ∷ remaining taken lists
-
 -- the first item of a list is taken, if there is one
 abbrev pub Takes : (port : ℕ) → Lists → Option ℤ → Lists → Type 0
 Takes port lists None rest = (list_at lists port ≡ []) × (rest ≡ lists)
-Takes port lists (Some v) rest = (items : List ℤ) × (list_at lists port ≡ v ∷ items) × (rest ≡ slice_set lists port items)
+Takes port lists (Some v) rest =
+    (items : List ℤ) × (list_at lists port ≡ v ∷ items) × (rest ≡ slice_set lists port items)
 
 -- how the process ends at a stop where it says nothing
 abbrev pub EndsAs : Stop → Lists → AloneStop → Type 0

@@ -11,15 +11,17 @@ use Rattle.kpn_step.specs.declared.stop.Stop.TheVariants.{WantWrite}
 use Rattle.kpn_step.specs.declared.stop.AloneStop.{AloneStop}
 use Rattle.kpn_step.specs.declared.stop.AloneStop.TheVariants.{Done, Faulted, Starved, Paused}
 use Rattle.kpn_step.specs.Frame.{Frame, passed, passed_with, start_frame}
-use Rattle.kpn_step.specs.Step.{Stops, turn_of, statement_at, Steps}
+use Rattle.kpn_step.specs.Step.{Stops, step_of, statement_at, Steps}
 use Rattle.kpn_step.specs.Stops.{IsBetween}
 
 -- a frame and the lists that remain, before and after one thing is said
 abbrev pub Speaks : List (List Statement) → Frame → Lists → Said → Frame → Lists → Type 0
 Speaks blocks f lists (Got port v) g rest =
-    (variable : ℕ) × (items : List ℤ) × (statement_at blocks f ≡ Some (Read port variable)) × (list_at lists port ≡ v ∷ items)
+    (variable : ℕ) × (items : List ℤ) × (statement_at blocks f ≡ Some (Read port variable))
+    × (list_at lists port ≡ v ∷ items)
     × (g ≡ passed_with f variable v) × (rest ≡ slice_set lists port items)
-Speaks blocks f lists (Put port v) g rest = (turn_of blocks f ≡ Stops (WantWrite port v)) × (g ≡ passed f) × (rest ≡ lists)
+Speaks blocks f lists (Put port v) g rest =
+    (step_of blocks f ≡ Stops (WantWrite port v)) × (g ≡ passed f) × (rest ≡ lists)
 
 -- this many steps, in which this is said, lead from the one frame and lists to the other
 abbrev pub Walks : List (List Statement) → ℕ → Frame → Lists → List Said → Frame → Lists → Type 0
@@ -32,13 +34,15 @@ Walks blocks k f lists (said ∷ talk) g rest =
 -- make a step, and the quota is used up
 abbrev pub IsOutcome : Parts → List ℤ → Lists → (used_up : Type 0) → Frame → List Said → AloneStop → Type 0
 IsOutcome parts pars lists used_up to talk Done = ComesTo (alone parts pars) lists ending.Done talk
-IsOutcome parts pars lists used_up to talk (Faulted fault) = ComesTo (alone parts pars) lists (ending.Faulted fault) talk
+IsOutcome parts pars lists used_up to talk (Faulted fault) =
+    ComesTo (alone parts pars) lists (ending.Faulted fault) talk
 IsOutcome parts pars lists used_up to talk (Starved port) = ComesTo (alone parts pars) lists (ending.Starved port) talk
 IsOutcome parts pars lists used_up to talk Paused =
-    CanSay (alone parts pars) lists talk × IsBetween (turn_of parts.blocks to) × used_up
+    CanSay (alone parts pars) lists talk × IsBetween (step_of parts.blocks to) × used_up
 
 -- a program stepped alone from its start: no more steps than the quota, in which this is said, and how it ends
-pub record AloneGives (parts : Parts) (pars : List ℤ) (lists : Lists) (quota : ℕ) (talk : List Said) (stop : AloneStop) : Type 0 where
+pub record AloneGives (parts : Parts) (pars : List ℤ) (lists : Lists) (quota : ℕ) (talk : List Said)
+    (stop : AloneStop) : Type 0 where
   pub steps : ℕ
   pub most : steps ≤ quota
   pub to : Frame

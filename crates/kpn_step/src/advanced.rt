@@ -1,6 +1,7 @@
-// What an advance of a process holds: it names its own input, so that it can be judged later.
-ghost use Rattle.std.specs.Prelude.{◌≡◌};
-ghost use Rattle.kpn_step.specs.Stops.{IsAdvance, advanced_of};
+//! What an advance of a process holds: it names its own input, so that it can be judged later.
+ghost use Rattle.std.specs.Prelude.{◌≡◌, ◌≤◌, IsTrue};
+ghost use Rattle.kpn_step.specs.Frame.{fits};
+ghost use Rattle.kpn_step.specs.Stops.{IsAdvance, IsAtPort, IsWithinQuota, advanced_of};
 
 use crate::frame::Frame;
 use crate::stop::Stop;
@@ -80,10 +81,45 @@ impl<'p> Advance<'p> {
         self.stop
     }
 
-    /// Nothing: it tells a caller's proof what the steps are.
-    pub fn known(&self)
-        ensures { IsAdvance self.now }
+    /// Becomes the advance by no step from a frame of this program, in the memory that it has.
+    pub fn load(&mut self, program: &'p Program, frame: &Frame)
+        requires { IsTrue (fits program.now frame.now) }
+        ensures program { self.new.program ≡ program.now }
+        ensures from { self.new.from ≡ frame.now }
+        ensures advance { IsAdvance self.new }
+        ensures quota { IsWithinQuota 0 self.new }
     {
-        let _ = &self.steps;
+        self.program = program;
+        self.from.copy_from(frame);
+        self.to.copy_from(frame);
+        self.steps = self.to.run(program, 0, &mut self.stop);
+    }
+
+    /// Goes on in place until it stops, at most `quota` steps from the frame that it began at.
+    pub fn run(&mut self, quota: u32)
+        requires { self.old.steps ≤ quota }
+        ensures program { self.new.program ≡ self.old.program }
+        ensures from { self.new.from ≡ self.old.from }
+        ensures advance { IsAdvance self.new }
+        ensures quota { IsWithinQuota quota self.new }
+    {
+        let allowed = quota - self.steps;
+        self.steps += self.to.run(self.program, allowed, &mut self.stop);
+    }
+
+    /// Why they ended, without a copy.
+    pub fn stop_ref(&self) -> &Stop
+        ensures { result.now ≡ self.now.stop }
+    {
+        &self.stop
+    }
+
+    /// Does nothing. It tells a caller's proof what the steps are, and that a stop at a read or a write names a port of
+    /// the program.
+    pub fn known(&self)
+        ensures advance { IsAdvance self.now }
+        ensures port { IsAtPort self.now.program self.now.to self.now.stop }
+    {
+        self.program.known();
     }
 }

@@ -1,4 +1,4 @@
-// Writes of one element, as a list sees them.
+//! Writes of one element, as a list sees them.
 ghost use Rattle.std.specs.Prelude.{◌≡◌, ◌<◌, slice_set};
 ghost use Rattle.arrayvec.specs.ArrayVec.{array_vec_len};
 

@@ -1,22 +1,22 @@
-// The stepper: a process as a frame of fixed size that goes step by step through its program, tied to
-// what the process does alone on whole lists.
+//! The stepper: a process as a frame of fixed size that goes step by step through its program, tied to
+//! what the process does alone on whole lists.
 #![tactic(auto)]
 
 mod advanced;
 mod alone_run;
 mod element;
 mod frame;
+pub mod laws;
 mod place;
 mod stepper;
-pub mod stop;
-#[cfg(test)]
-mod tests;
+mod stop;
 mod walk;
 mod whole_lists;
 
 pub use advanced::Advance;
 pub use alone_run::AloneRun;
 pub use frame::Frame;
+pub use kpn_lang::Said;
 pub use stepper::advance;
 pub use stop::{AloneStop, Stop};
 pub use whole_lists::alone;

@@ -1,16 +1,16 @@
-// Steps of a process, with what they started from.
+//! Steps of a process, with what they started from.
 ghost use Rattle.std.specs.Prelude.{◌≡◌, IsTrue};
 ghost use Rattle.kpn_step.specs.Frame.{fits};
 ghost use Rattle.kpn_step.specs.Stops.{IsAdvance, IsWithinQuota};
 
 use crate::advanced::Advance;
 use crate::frame::Frame;
-use crate::walk::walk;
+use crate::stop::Stop;
 use kpn_lang::Program;
 
 /// Makes steps from a frame of the program until it stops, at most `quota`.
 ///
-/// At each turn: where no place is left it is `Done`; at a read it is `WantRead`; a write is evaluated
+/// At each step: where no place is left it is `Done`; at a read it is `WantRead`; a write is evaluated
 /// and is `WantWrite` or `Faulted`; else, if `quota` steps were made, it is `Paused`; else, if the
 /// expression of the assignment or test faults, `Faulted`, which is no step; else it makes one step: an
 /// assignment, a test of an `if` or a `while`, or the leaving of a finished block.
@@ -21,9 +21,9 @@ pub fn advance(program: &Program, frame: Frame, quota: u32) -> Advance<'_>
     ensures advance { IsAdvance result }
     ensures quota { IsWithinQuota quota result }
 {
-    program.known();
     let from = frame.copy();
     let mut to = frame;
-    let (steps, stop) = walk(program, &mut to, u64::from(quota));
-    Advance::new(program, from, to, steps as u32, stop)
+    let mut stop = Stop::Paused;
+    let steps = to.run(program, quota, &mut stop);
+    Advance::new(program, from, to, steps, stop)
 }

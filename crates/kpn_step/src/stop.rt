@@ -1,4 +1,4 @@
-// Where the stepper stops.
+//! Where the stepper stops.
 use kpn_lang::Fault;
 
 /// Why steps were ended.

@@ -1,7 +1,7 @@
-// Steps made in place, one after another.
+//! Steps made in place, one after another.
 ghost use Rattle.std.specs.Prelude.{◌≤◌, IsTrue};
 ghost use Rattle.kpn_step.specs.Frame.{fits};
-ghost use Rattle.kpn_step.specs.Turn.{Walked};
+ghost use Rattle.kpn_step.specs.Stepped.{Walked};
 
 use crate::frame::Frame;
 use crate::stop::Stop;
@@ -14,8 +14,8 @@ pub(crate) fn walk(program: &Program, frame: &mut Frame, quota: u64) -> (u64, St
 {
     program.known();
     let mut steps = 0;
-    'turns: loop {
-        match frame.turn(program, steps == quota) {
+    'steps: loop {
+        match frame.step(program, steps == quota) {
             Some(stop) => return (steps, stop),
             None => steps += 1,
         }

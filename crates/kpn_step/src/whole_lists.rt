@@ -1,10 +1,11 @@
-// A process stepped alone on whole lists, without any other.
-ghost use Rattle.std.specs.Prelude.{◌≡◌, ◌+◌, ◌<◌, ◌≤◌, ◌^◌, length, slice_get, IsTrue, IfSome, IfOk, MatchResult};
+//! A process stepped alone on whole lists, without any other.
+ghost use Rattle.std.specs.Prelude.{◌≡◌, ◌<◌, ◌≤◌, length, IsTrue, IfOk, MatchResult};
 ghost use Rattle.arrayvec.specs.ArrayVec.{array_vec_len};
+ghost use Rattle.kpn_lang.specs.Plain.{remaining};
 ghost use Rattle.kpn_step.specs.Frame.{fits};
 ghost use Rattle.kpn_step.specs.Stops.{StandsAt};
 ghost use Rattle.kpn_step.specs.Walk.{AloneGives, Speaks};
-ghost use Rattle.kpn_step.specs.Taken.{remaining, Takes, EndsAs};
+ghost use Rattle.kpn_step.specs.Taken.{Takes, EndsAs};
 
 use crate::alone_run::AloneRun;
 use crate::element::set_element;
@@ -12,7 +13,8 @@ use crate::frame::Frame;
 use crate::stop::{AloneStop, Stop};
 use crate::walk::walk;
 use arrayvec::ArrayVec;
-use kpn_lang::{Program, Said, Sequence};
+use kpn_lang::{Program, Said, Sequence, item_at};
+use kpn_limits::MAX_PORTS;
 use std::alloc::{AllocError, Global};
 
 /// Steps a program from its start, on a list for each in port, until it ends or has made `quota` steps.
@@ -48,7 +50,7 @@ fn say(
     program: &Program,
     frame: &mut Frame,
     lists: &[Sequence<i64>],
-    taken: &mut ArrayVec<usize, 16>,
+    taken: &mut ArrayVec<usize, MAX_PORTS>,
     stop: Stop,
 ) -> Result<Said, AloneStop>
     requires lists { length lists.now ≡ program.now.ins }
@@ -56,9 +58,9 @@ fn say(
     requires fits { IsTrue (fits program.now frame.old) }
     requires stands { StandsAt program.now.blocks frame.old stop }
     ensures says { MatchResult result
-        (λ said. Speaks program.now.blocks frame.old (remaining taken.old.items lists.now) said
-        frame.new (remaining taken.new.items lists.now))
-        (λ ended. EndsAs stop (remaining taken.old.items lists.now) ended) }
+        (λ said. Speaks program.now.blocks frame.old (remaining lists.now taken.old.items) said
+        frame.new (remaining lists.now taken.new.items))
+        (λ ended. EndsAs stop (remaining lists.now taken.old.items) ended) }
     ensures taken { array_vec_len taken.new ≡ array_vec_len taken.old }
 {
     program.known();
@@ -81,29 +83,26 @@ fn say(
 }
 
 /// The first item that was not yet taken at a port, which it takes.
-fn next_item(lists: &[Sequence<i64>], taken: &mut ArrayVec<usize, 16>, port: usize) -> Option<i64>
+fn next_item(
+    lists: &[Sequence<i64>],
+    taken: &mut ArrayVec<usize, MAX_PORTS>,
+    port: usize,
+) -> Option<i64>
     requires port { port < length lists.now }
     requires taken { array_vec_len taken.old ≡ length lists.now }
-    ensures takes { Takes port (remaining taken.old.items lists.now) result
-        (remaining taken.new.items lists.now) }
+    ensures takes { Takes port (remaining lists.now taken.old.items) result
+        (remaining lists.now taken.new.items) }
     ensures taken { array_vec_len taken.new ≡ array_vec_len taken.old }
 {
     let place = taken[port];
-    let item = item_at(&lists[port], place)?;
+    let item = item_at(lists, port, place)?;
     set_element(taken, port, place + 1);
     Some(item)
 }
 
-fn item_at(list: &Sequence<i64>, place: usize) -> Option<i64>
-    ensures item { result ≡ slice_get list.now place }
-    ensures room { IfSome result (λ _. place + 1 < 2 ^ 64) }
-{
-    list.as_slice().get(place).copied()
-}
-
-fn none_taken(lists: &[Sequence<i64>]) -> ArrayVec<usize, 16>
-    requires { length lists.now ≤ 16 }
-    ensures remaining { remaining result.items lists.now ≡ lists.now }
+fn none_taken(lists: &[Sequence<i64>]) -> ArrayVec<usize, MAX_PORTS>
+    requires { length lists.now ≤ MAX_PORTS }
+    ensures remaining { remaining lists.now result.items ≡ lists.now }
     ensures len { array_vec_len result ≡ length lists.now }
 {
     let mut taken = ArrayVec::new();

@@ -1,4 +1,4 @@
-// Equality of the parts of programs by value: where they lie in memory does not count.
+//! Equality of the parts of programs by value: where they lie in memory does not count.
 ghost use Rattle.std.specs.Prelude.{◌≡◌, ◌↔◌, IsTrue};
 ghost use Rattle.kpn_lang.specs.Syntax.{term_of, statement_of};
 ghost use Rattle.kpn_lang.specs.View.{parts_of, blocks_of, statements_of};

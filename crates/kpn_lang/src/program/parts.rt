@@ -1,25 +1,15 @@
-// The parts of a program before they are known to keep the rules of the language, with a test for
-// each rule.
+//! The parts of a program before they are known to keep the rules of the language, with a test for
+//! each rule.
 ghost use Rattle.std.specs.Prelude.{◌≡◌, ◌<◌, length, nat_le, sum_by, false};
 ghost use Rattle.std.specs.List.{list_all, flat_map};
 ghost use Rattle.kpn_lang.specs.Syntax.{term_of, statement_of, names_below};
-ghost use Rattle.kpn_lang.specs.Parts.{is_too_large, lacks_a_block, is_in_order, names_variables_below, names_ports_below, nests_too_deep, first_fault, nodes, statement_nodes, left_of, depth, expressions, each_statement, names_from, inner_blocks, order_to, counted, is_within};
+ghost use Rattle.kpn_lang.specs.Parts.{is_too_large, lacks_a_block, is_in_order, names_variables_below, names_ports_below, nests_too_deep, first_fault, nodes, statement_nodes, depth, expressions, each_statement, names_from, inner_blocks, order_to, is_within};
+ghost use Rattle.kpn_lang.specs.Counting.{budget_after, count_through};
 ghost use Rattle.kpn_lang.specs.View.{parts_of, statements_of, blocks_of};
 
 use crate::program::ProgramFault;
 use crate::syntax::{BlockId, Expr, Stmt};
-
-/// Variables of a process, the parameters among them.
-const MOST_VARIABLES: usize = 64;
-
-/// Ports of a process in each direction.
-const MOST_PORTS: usize = 16;
-
-/// Statements and expression nodes of a program together.
-const MOST_NODES: usize = 4096;
-
-/// Levels of blocks, where the body is one, and levels of an expression, where a name is one.
-const MOST_LEVELS: usize = 32;
+use kpn_limits::{MAX_LEVELS, MAX_NODES, MAX_PORTS, MAX_VARIABLES};
 
 /// How many in ports, out ports, parameters and variables, and the blocks of statements.
 #[derive(Debug, Drop)]
@@ -57,10 +47,10 @@ impl Parts {
     fn is_too_large(&self) -> bool
         ensures { result ≡ is_too_large (parts_of self.now) }
     {
-        self.vars > MOST_VARIABLES
-            || self.ins > MOST_PORTS
-            || self.outs > MOST_PORTS
-            || blocks_left(&self.blocks, MOST_NODES).is_none()
+        self.vars > MAX_VARIABLES
+            || self.ins > MAX_PORTS
+            || self.outs > MAX_PORTS
+            || budget_after_blocks(&self.blocks, MAX_NODES).is_none()
     }
 
     /// 2: there is no body, or a block is named that is not there.
@@ -110,17 +100,17 @@ impl Parts {
             .all(|stmt| names_ports_below(self.ins, self.outs, stmt))
     }
 
-    /// 6: blocks or an expression nest deeper than 32 levels.
+    /// 6: blocks or an expression nest deeper than they may.
     fn nests_too_deep(&self) -> bool
         requires { lacks_a_block (parts_of self.now) ≡ false }
         ensures { result ≡ nests_too_deep (parts_of self.now) }
     {
-        !self.is_within(MOST_LEVELS, 0)
+        !self.is_within(MAX_LEVELS, 0)
             || !self
                 .blocks
                 .iter()
                 .flatten()
-                .all(|stmt| is_shallow(MOST_LEVELS, stmt))
+                .all(|stmt| is_shallow(MAX_LEVELS, stmt))
     }
 
     /// The number after those of a block and of the blocks inside it, where they count up from `next`
@@ -129,7 +119,7 @@ impl Parts {
     fn count_block(&self, levels: usize, block: BlockId, next: usize) -> Option<usize>
         requires there { lacks_a_block (parts_of self.now) ≡ false }
         requires block_in { block < length (parts_of self.now).blocks }
-        ensures { result ≡ counted (order_to (parts_of self.now).blocks levels block) next }
+        ensures { result ≡ count_through (order_to (parts_of self.now).blocks levels block) next }
     {
         if block != next {
             return None;
@@ -150,7 +140,7 @@ impl Parts {
         requires inner_in { let count = length (parts_of self.now).blocks in
             names_from count (statement_of stmt.now) ≡ false }
         ensures { let order = order_to (parts_of self.now).blocks levels in
-            result ≡ counted (flat_map order (inner_blocks (statement_of stmt.now))) next }
+            result ≡ count_through (flat_map order (inner_blocks (statement_of stmt.now))) next }
     {
         match stmt {
             Stmt::If(_, first, second) => {
@@ -164,7 +154,7 @@ impl Parts {
 
     /// Whether a block and the blocks inside it go down at most a number of levels.
     #[cycle(within)]
-    fn is_within(&self, levels: usize, block: BlockId) -> bool
+    pub fn is_within(&self, levels: usize, block: BlockId) -> bool
         requires there { lacks_a_block (parts_of self.now) ≡ false }
         requires block_in { block < length (parts_of self.now).blocks }
         ensures { result ≡ is_within (parts_of self.now).blocks levels block }
@@ -199,54 +189,55 @@ impl Parts {
     }
 }
 
-/// What is left of a budget after the nodes of an expression; `None` where it has more. The budget
+/// What remains of a budget after the nodes of an expression; `None` where it has more. The budget
 /// also bounds how deep this recurses.
 #[tactic(auto, using(crate::proofs::Rules::some_node))]
-fn nodes_left(expr: &Expr, budget: usize) -> Option<usize>
-    ensures { result ≡ left_of budget (nodes (term_of expr.now)) }
+fn budget_after_expr(expr: &Expr, budget: usize) -> Option<usize>
+    ensures { result ≡ budget_after budget (nodes (term_of expr.now)) }
 {
-    let left = budget.checked_sub(1)?;
+    let rest = budget.checked_sub(1)?;
     match expr {
-        Expr::Num(_) | Expr::Var(_) => Some(left),
-        Expr::Neg(operand) | Expr::Not(operand) => nodes_left(operand, left),
-        Expr::Bin(_, first, second) => nodes_left(second, nodes_left(first, left)?),
+        Expr::Num(_) | Expr::Var(_) => Some(rest),
+        Expr::Neg(operand) | Expr::Not(operand) => budget_after_expr(operand, rest),
+        Expr::Bin(_, first, second) => budget_after_expr(second, budget_after_expr(first, rest)?),
     }
 }
 
 /// The same for a statement.
-fn statement_left(stmt: &Stmt, budget: usize) -> Option<usize>
-    ensures { result ≡ left_of budget (statement_nodes (statement_of stmt.now)) }
+fn budget_after_stmt(stmt: &Stmt, budget: usize) -> Option<usize>
+    ensures { result ≡ budget_after budget (statement_nodes (statement_of stmt.now)) }
 {
-    let left = budget.checked_sub(1)?;
+    let rest = budget.checked_sub(1)?;
     match stmt {
-        Stmt::Read(_, _) => Some(left),
+        Stmt::Read(_, _) => Some(rest),
         Stmt::Assign(_, expr)
         | Stmt::Write(_, expr)
         | Stmt::If(expr, _, _)
-        | Stmt::While(expr, _) => { nodes_left(expr, left) }
+        | Stmt::While(expr, _) => { budget_after_expr(expr, rest) }
     }
 }
 
 /// The same for a block.
-fn block_left(block: &[Stmt], budget: usize) -> Option<usize>
-    ensures { result ≡ left_of budget (sum_by statement_nodes (statements_of block.now)) }
+fn budget_after_block(block: &[Stmt], budget: usize) -> Option<usize>
+    ensures { result ≡ budget_after budget (sum_by statement_nodes (statements_of block.now)) }
 {
-    let mut left = budget;
+    let mut rest = budget;
     for stmt in block {
-        left = statement_left(stmt, left)?;
+        rest = budget_after_stmt(stmt, rest)?;
     }
-    Some(left)
+    Some(rest)
 }
 
 /// The same for blocks.
-fn blocks_left(blocks: &[Vec<Stmt>], budget: usize) -> Option<usize>
-    ensures { result ≡ left_of budget (sum_by (sum_by statement_nodes) (blocks_of blocks.now)) }
+fn budget_after_blocks(blocks: &[Vec<Stmt>], budget: usize) -> Option<usize>
+    ensures { let nodes = sum_by (sum_by statement_nodes) (blocks_of blocks.now) in
+        result ≡ budget_after budget nodes }
 {
-    let mut left = budget;
+    let mut rest = budget;
     for block in blocks {
-        left = block_left(block, left)?;
+        rest = budget_after_block(block, rest)?;
     }
-    Some(left)
+    Some(rest)
 }
 
 /// Whether a statement names a block of this number or above.

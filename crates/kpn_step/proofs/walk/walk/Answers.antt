@@ -1,16 +1,16 @@
--- A turn that went on is one step more, and was allowed.
+-- What went on is one step more, and was allowed.
 use Rattle.std.proofs.Common.{arith}
 use Rattle.std.proofs.lemmas.Bool.Decides.{nat_tests}
-use Rattle.kpn_step.proofs.Turns.{Steps-more}
+use Rattle.kpn_step.proofs.StepCases.{Steps-more}
 use Rattle.kpn_step.proofs.Places.{fits-goes}
 use Rattle.kpn_step.proofs.walk.walk.Goals as goal
 
-pub turns-preserved : goal.turns-preserved
-turns-preserved c =
+pub steps-preserved : goal.steps-preserved
+steps-preserved c =
     let program = c.args.program.now in
-    let kept = c.turns.invariant in
+    let kept = c.steps.invariant in
     let went = c.in-None.ensures in (
-      Steps-more program.blocks c.turns.steps c.args.frame.now c.turns.frame c.turn.new.self kept.0 went.0,
+      Steps-more program.blocks c.steps.steps c.args.frame.now c.steps.frame c.step.new.self kept.0 went.0,
       grind (arith, nat_tests, kept.1, went.1),
-      fits-goes program c.known.ensures c.turns.frame c.turn.new.self kept.2 went.0,
+      fits-goes program c.known.ensures c.steps.frame c.step.new.self kept.2 went.0,
     )

@@ -5,10 +5,12 @@ use Rattle.kpn_step.proofs.whole_lists.next_item.Goals as goal
 
 pub returns-in_err-item-clause-takes : goal.returns-in_err-item-clause-takes
 returns-in_err-item-clause-takes c =
-    rw c.from_residual.ensures (Takes-none_read c.args.taken.now.items c.deref.result.now c.args.lists.now c.args.port c.index-lists-port.result c.deref.ensures.0 c.requires.port c.requires.taken c.index-lists-port.is c.in_err-item.ensures.item)
+    rw c.from_residual.ensures (Takes-none_read c.args.lists.now c.args.taken.now.items c.deref.result.now c.args.port
+    c.deref.ensures.0 c.requires.taken c.in_err-item.ensures.item)
 
 pub returns-clause-takes : goal.returns-clause-takes
 returns-clause-takes c =
     let item = c.in_ok-item.item in
     let same : to_z w64 (of_z w64 item) ≡ item = search rules in
-    rw (same, c.set_element.ensures) (Takes-some_read c.args.taken.now.items c.deref.result.now c.args.lists.now c.args.port c.index-lists-port.result item c.deref.ensures.0 c.requires.port c.requires.taken c.index-lists-port.is c.in_ok-item.ensures.item)
+    rw (same, c.set_element.ensures) (Takes-some_read c.args.lists.now c.args.taken.now.items c.deref.result.now
+    c.args.port item c.deref.ensures.0 c.requires.taken c.in_ok-item.ensures.item)

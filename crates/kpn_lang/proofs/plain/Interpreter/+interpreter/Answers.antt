@@ -2,7 +2,7 @@
 use Rattle.std.proofs.Common.{◌-◌, Ok, sym, ap, ◌∙◌, arith}
 use Rattle.kpn_lang.specs.Syntax.{term_of}
 use Rattle.kpn_lang.proofs.Following.{LeadsTo-trans, LeadsTo-leave, LeadsTo-cut, LeadsTo-turn_fault}
-use Rattle.kpn_lang.proofs.Interpreting.{body_at, IsReady-read, LeadsTo-block, LeadsTo-statement, LeadsTo-statement_ends, LeadsTo-one_turn, LeadsTo-turn_that_ends, Fits-does}
+use Rattle.kpn_lang.proofs.Interpreting.{body_at, IsReady-read, LeadsTo-block, LeadsTo-statement, LeadsTo-statement_ends, LeadsTo-one_turn, LeadsTo-turn_that_ends, MayRun-does}
 use Rattle.kpn_lang.proofs.plain.Interpreter.+interpreter.Goals as goal
 
 pub block-loop-statement-init : goal.block-loop-statement-init
@@ -10,14 +10,16 @@ block-loop-statement-init t c = LeadsTo-block _ c.requires.program _ _ _ _ c.in-
 
 pub block-statement-requires : goal.block-statement-requires
 block-statement-requires t c =
-    let fits = Fits-does _ _ _ _ _ c.loop-statement.invariant c.requires in
-    let ready = IsReady-read c.in-Some.statements.now c.loop-statement.statement-index c.statement-item.result (omega arith) c.statement-item.is _ _ c.requires.program c.in-Some.ensures.0 c.in-Some.ensures.1 in
+    let fits = MayRun-does _ _ _ _ _ c.loop-statement.invariant c.requires in
+    let ready = IsReady-read c.in-Some.statements.now c.loop-statement.statement-index c.statement-item.result
+    (omega arith) c.statement-item.is _ _ c.requires.program c.in-Some.ensures.0 c.in-Some.ensures.1 in
     (omega arith, (fits, (ready.variables, ready.ports)))
 
 pub block-returns-in-Some-2 : goal.block-returns-in-Some-2
 block-returns-in-Some-2 t c =
     LeadsTo-statement_ends _ _ _ c.in-Some.statements.now c.loop-statement.statement-index c.statement-item.result _ _ _
-    (omega arith) c.statement-item.is c.loop-statement.invariant c.in-Some-2.ending (rw c.in-Some-2.is at c.in_ok-ending.ensures)
+    (omega arith) c.statement-item.is c.loop-statement.invariant c.in-Some-2.ending
+    (rw c.in-Some-2.is at c.in_ok-ending.ensures)
 
 pub block-loop-statement-preserved : goal.block-loop-statement-preserved
 block-loop-statement-preserved t c =
@@ -30,7 +32,8 @@ repeat-returns-in-Ok-false t c =
     let test = term_of c.args.test.now in
     let body = body_at c.args.self.now.program.now c.args.body n in
     LeadsTo-trans _ _ _ _ _ _ c.loop-turn.invariant
-    (LeadsTo-leave test body c.loop-turn.state (n - c.loop-turn._turn) (sym c.in-Ok-false.ensures ∙ ap Ok c.in-Ok-false.field-0-test))
+    (LeadsTo-leave test body c.loop-turn.state (n - c.loop-turn._turn)
+    (sym c.in-Ok-false.ensures ∙ ap Ok c.in-Ok-false.field-0-test))
 
 pub repeat-returns-in-Err : goal.repeat-returns-in-Err
 repeat-returns-in-Err t c =
@@ -45,8 +48,10 @@ repeat-returns-in-Some t c =
     let n = c.args.self.now.turns in
     let test = term_of c.args.test.now in
     let body = body_at c.args.self.now.program.now c.args.body n in
-    LeadsTo-turn_that_ends _ test body n c.loop-turn._turn _ c.loop-turn.state _ c.loop-turn-test.true c.loop-turn.invariant
-    (sym c.in-Ok-true.ensures ∙ ap Ok c.in-Ok-true.field-0-test) c.in-Some.ending (rw c.in-Some.is at c.in_ok-ending.ensures)
+    LeadsTo-turn_that_ends _ test body n c.loop-turn._turn _ c.loop-turn.state _ c.loop-turn-test.true
+    c.loop-turn.invariant
+    (sym c.in-Ok-true.ensures ∙ ap Ok c.in-Ok-true.field-0-test) c.in-Some.ending
+    (rw c.in-Some.is at c.in_ok-ending.ensures)
 
 pub repeat-loop-turn-preserved : goal.repeat-loop-turn-preserved
 repeat-loop-turn-preserved t c =
@@ -62,7 +67,8 @@ repeat-returns-in-Ok-true-test t c =
     let test = term_of c.args.test.now in
     let body = body_at c.args.self.now.program.now c.args.body n in
     LeadsTo-trans _ _ _ _ _ _ c.loop-turn.invariant
-    (LeadsTo-cut test body c.loop-turn.state (n - c.loop-turn._turn) (omega arith) (sym c.in-Ok-true-test.ensures ∙ ap Ok c.in-Ok-true-test.field-0-test))
+    (LeadsTo-cut test body c.loop-turn.state (n - c.loop-turn._turn) (omega arith)
+    (sym c.in-Ok-true-test.ensures ∙ ap Ok c.in-Ok-true-test.field-0-test))
 
 pub repeat-returns-in-Ok-false-test : goal.repeat-returns-in-Ok-false-test
 repeat-returns-in-Ok-false-test t c =
@@ -70,7 +76,8 @@ repeat-returns-in-Ok-false-test t c =
     let test = term_of c.args.test.now in
     let body = body_at c.args.self.now.program.now c.args.body n in
     LeadsTo-trans _ _ _ _ _ _ c.loop-turn.invariant
-    (LeadsTo-leave test body c.loop-turn.state (n - c.loop-turn._turn) (sym c.in-Ok-false-test.ensures ∙ ap Ok c.in-Ok-false-test.field-0-test))
+    (LeadsTo-leave test body c.loop-turn.state (n - c.loop-turn._turn)
+    (sym c.in-Ok-false-test.ensures ∙ ap Ok c.in-Ok-false-test.field-0-test))
 
 pub repeat-returns-in-Err-test : goal.repeat-returns-in-Err-test
 repeat-returns-in-Err-test t c =
@@ -78,4 +85,5 @@ repeat-returns-in-Err-test t c =
     let test = term_of c.args.test.now in
     let body = body_at c.args.self.now.program.now c.args.body n in
     LeadsTo-trans _ _ _ _ _ _ c.loop-turn.invariant
-    (LeadsTo-turn_fault test body c.loop-turn.state (n - c.loop-turn._turn) c.in-Err-test.fault (sym c.in-Err-test.ensures))
+    (LeadsTo-turn_fault test body c.loop-turn.state (n - c.loop-turn._turn) c.in-Err-test.fault
+    (sym c.in-Err-test.ensures))

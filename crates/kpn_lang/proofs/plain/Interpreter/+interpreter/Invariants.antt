@@ -20,9 +20,11 @@ decreases-statement l = 3 * blocks_inside (length l.self.now.program.now.blocks)
 abbrev pub invariant-block-loop-statement : goal.invariant-block-loop-statement
 invariant-block-loop-statement l =
     let inner = tree_of l.self.program.now.blocks in
-    LeadsTo (run (inner l.block) l.self.turns) (run (tree_over inner (drop l.statement-index (statements_of l.statements))) l.self.turns) l.fn.state l.state
+    LeadsTo (run (inner l.block) l.self.turns) (run
+    (tree_over inner (drop l.statement-index (statements_of l.statements))) l.self.turns) l.fn.state l.state
 
 abbrev pub invariant-repeat-loop-turn : goal.invariant-repeat-loop-turn
 invariant-repeat-loop-turn l =
     let body = run (tree_of l.self.program.now.blocks l.body) l.self.turns in
-    LeadsTo (turns l.self.turns (term_of l.test) body) (turns (l.self.turns - l._turn) (term_of l.test) body) l.fn.state l.state
+    LeadsTo (turns l.self.turns (term_of l.test) body)
+    (turns (l.self.turns - l._turn) (term_of l.test) body) l.fn.state l.state

@@ -8,18 +8,21 @@ use Rattle.kpn_lang.proofs.plain.State.next_item.Goals as goal
 
 pub index-place-requires : goal.index-place-requires
 index-place-requires c =
-    let there = port_of_remaining c.args.self.now _ _ c.args.port c.self.invariant (ap (λ (h : Standing). h.lists) c.self.view_is) c.requires in
+    let there = port_of_remaining c.args.self.now _ _ c.args.port c.self.invariant
+    (ap (λ (h : Standing). h.lists) c.self.view_is) c.requires in
     omega (arith, c.self.inside.places.ok.0)
 
 pub item_at-requires : goal.item_at-requires
 item_at-requires c =
-    port_of_remaining c.args.self.now _ _ c.args.port c.self.invariant (ap (λ (h : Standing). h.lists) c.self.view_is) c.requires
+    port_of_remaining c.args.self.now _ _ c.args.port c.self.invariant
+    (ap (λ (h : Standing). h.lists) c.self.view_is) c.requires
 
 pub returns-in_err-item-clause-first : goal.returns-in_err-item-clause-first
 returns-in_err-item-clause-first c =
     let ls = c.self.inside.lists.now in
     let ps = c.self.inside.places.items in
-    let there = port_of_remaining c.args.self.now ls ps c.args.port c.self.invariant (ap (λ (h : Standing). h.lists) c.self.view_is) c.requires in
+    let there = port_of_remaining c.args.self.now ls ps c.args.port c.self.invariant
+    (ap (λ (h : Standing). h.lists) c.self.view_is) c.requires in
     c.from_residual.ensures
     ∙ sym c.in_err-item.was
     ∙ c.item_at.ensures.item
@@ -30,16 +33,24 @@ pub returns-in_err-item-clause-rest : goal.returns-in_err-item-clause-rest
 returns-in_err-item-clause-rest c =
     let ls = c.self.inside.lists.now in
     let ps = c.self.inside.places.items in
-    let there = port_of_remaining c.args.self.now ls ps c.args.port c.self.invariant (ap (λ (h : Standing). h.lists) c.self.view_is) c.requires in
-    let same = rest_of_nothing ls ps c.args.port _ c.self.invariant there c.index-place.ensures (sym c.item_at.ensures.item ∙ c.in_err-item.was) in
+    let there = port_of_remaining c.args.self.now ls ps c.args.port c.self.invariant
+    (ap (λ (h : Standing). h.lists) c.self.view_is) c.requires in
+    let same = rest_of_nothing ls ps c.args.port _ c.self.invariant there c.index-place.ensures
+    (sym c.item_at.ensures.item ∙ c.in_err-item.was) in
     rw (← c.self.view_is) (
-    ap (λ lists. let r : Standing = record { variables = c.self.inside.variables.items; lists = lists; talk = c.self.inside.talk.items } in r) (sym same))
+    ap (λ lists. let r : Standing = record {
+      variables = c.self.inside.variables.items;
+      lists = lists;
+      talk =
+          c.self.inside.talk.items;
+    } in r) (sym same))
 
 pub returns-clause-first : goal.returns-clause-first
 returns-clause-first c =
     let ls = c.self.inside.lists.now in
     let ps = c.self.inside.places.items in
-    let there = port_of_remaining c.args.self.now ls ps c.args.port c.self.invariant (ap (λ (h : Standing). h.lists) c.self.view_is) c.requires in
+    let there = port_of_remaining c.args.self.now ls ps c.args.port c.self.invariant
+    (ap (λ (h : Standing). h.lists) c.self.view_is) c.requires in
     let fits : SFits w64 c.in_ok-item.item = search rules in
     ap Some (to_z-of_z w64 c.in_ok-item.item fits)
     ∙ sym c.in_ok-item.was
@@ -51,7 +62,13 @@ pub returns-clause-rest : goal.returns-clause-rest
 returns-clause-rest c =
     let ls = c.self.inside.lists.now in
     let ps = c.self.inside.places.items in
-    let there = port_of_remaining c.args.self.now ls ps c.args.port c.self.invariant (ap (λ (h : Standing). h.lists) c.self.view_is) c.requires in
+    let there = port_of_remaining c.args.self.now ls ps c.args.port c.self.invariant
+    (ap (λ (h : Standing). h.lists) c.self.view_is) c.requires in
     let moved = rest_of_remaining ls ps c.args.port _ c.self.invariant there c.index-place.ensures in
     rw (← c.self.view_is) (
-    ap (λ lists. let r : Standing = record { variables = c.self.inside.variables.items; lists = lists; talk = c.self.inside.talk.items } in r) (sym moved))
+    ap (λ lists. let r : Standing = record {
+      variables = c.self.inside.variables.items;
+      lists = lists;
+      talk =
+          c.self.inside.talk.items;
+    } in r) (sym moved))

@@ -9,6 +9,8 @@ use Rattle.kpn_lang.proofs.plain.State.start.Goals as goal
 
 pub returns : goal.returns
 returns c =
-    let all : c.resize.new.self.items ≡ start_of c.args.program.now c.args.pars.now = grind (arith, common_steps, take_all) in
-    let front : remaining c.args.lists.now c.in_ok-vec.field-0.items ≡ c.args.lists.now = grind (arith, common_steps, remaining-start) in
+    let all : c.resize.new.self.items ≡ start_of c.args.program.now c.args.pars.now =
+    grind (arith, common_steps, take_all) in
+    let front : remaining c.args.lists.now c.in_ok-vec.field-0.items ≡ c.args.lists.now =
+    grind (arith, common_steps, remaining-start) in
     Standing-same _ _ _ _ _ _ all front c.new.ensures.items

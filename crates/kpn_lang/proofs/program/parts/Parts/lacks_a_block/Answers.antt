@@ -18,10 +18,12 @@ returns-else-count-lt1 c =
     let parts = c.args.self.now in
     let count = c.len-count.result in
     let blocks = blocks_of parts.blocks.items in
-    let counts : count ≡ length blocks = c.len-count.ensures ∙ parts.blocks.ok.0 ∙ sym (length-map parts.blocks.items _) in
+    let counts : count ≡ length blocks = c.len-count.ensures ∙ parts.blocks.ok.0
+    ∙ sym (length-map parts.blocks.items _) in
     let some : nat_lt (length blocks) 1 ≡ false = grind (arith, nat_tests, counts) in
     any_from_yields_List (λ s. names_from count (statement_of s)) _ _ _ c.any.ensures.ran
-    (YieldsList-from_flatten _ _ (λ s. s.now) (λ block. block.items) (λ x j b. YieldsList-from_slice x.now.items b.0) (YieldsList-from_slice parts.blocks.items (cc)) (cc) (cc) (cc))
+    (YieldsList-from_flatten _ _ (λ s. s.now) (λ block. block.items) (λ x j b. YieldsList-from_slice x.now.items b.0)
+    (YieldsList-from_slice parts.blocks.items (cc)) (cc) (cc) (cc))
     (λ x b q k. search (rules, tests))
     ∙ any_statement (names_from count) parts.blocks.items
     ∙ ap (λ n. list_any (list_any (names_from n)) blocks) counts

@@ -5,6 +5,7 @@ use Rattle.std.specs.List.{list_all}
 use Rattle.std.proofs.lemmas.Iterator.{YieldsList-from_slice}
 use Rattle.std.proofs.lemmas.Iterator.Adapters.{YieldsList-from_flatten}
 use Rattle.std.proofs.lemmas.Iterator.Search.{all_from_yields_List}
+use Rattle.kpn_limits.specs.declared.TheConstants.{MAX_LEVELS}
 use Rattle.kpn_lang.specs.Syntax.{Statement, statement_of}
 use Rattle.kpn_lang.specs.Parts.{depth, expressions, each_statement, is_within}
 use Rattle.kpn_lang.specs.View.{blocks_of}
@@ -12,7 +13,7 @@ use Rattle.kpn_lang.proofs.Rules.{all_statements, too_deep}
 use Rattle.kpn_lang.proofs.program.parts.Parts.nests_too_deep.Goals as goal
 
 abbrev is_shallow : Statement → Bool
-is_shallow s = list_all (λ e. nat_le (depth e) 32) (expressions s)
+is_shallow s = list_all (λ e. nat_le (depth e) MAX_LEVELS) (expressions s)
 
 pub returns-else-not-is_within : goal.returns-else-not-is_within
 returns-else-not-is_within c =
@@ -20,7 +21,9 @@ returns-else-not-is_within c =
     let blocks = blocks_of parts.blocks.items in
     ap not
     (all_from_yields_List (λ s. is_shallow (statement_of s)) _ _ _ c.all.ensures.ran
-    (YieldsList-from_flatten _ _ (λ s. s.now) (λ block. block.items) (λ x j b. YieldsList-from_slice x.now.items b.0) (YieldsList-from_slice parts.blocks.items (cc)) (cc) (cc) (cc))
+    (YieldsList-from_flatten _ _ (λ s. s.now) (λ block. block.items) (λ x j b. YieldsList-from_slice x.now.items b.0)
+    (YieldsList-from_slice parts.blocks.items (cc)) (cc) (cc) (cc))
     (λ x b q k. search (rules, tests))
     ∙ all_statements is_shallow parts.blocks.items)
-    ∙ too_deep (is_within blocks 32 0) (each_statement is_shallow blocks) (sym c.is_within.ensures ∙ c.if-not-is_within.false)
+    ∙ too_deep (is_within blocks MAX_LEVELS 0) (each_statement is_shallow blocks)
+    (sym c.is_within.ensures ∙ c.if-not-is_within.false)

@@ -1,0 +1,145 @@
+//! The loops that are measured. Variable 0 is how many turns are wanted, 1 counts them, 2 is what is computed.
+use kpn_lang::{Expr, Op, Stmt};
+use std::alloc::{AllocError, Global};
+
+const WANTED: usize = 0;
+
+const TURN: usize = 1;
+
+const TOTAL: usize = 2;
+
+fn binary(alloc: Global, op: Op, left: Expr, right: Expr) -> Result<Expr, AllocError> {
+    Ok(Expr::Bin(op, Box::new(alloc, left)?, Box::new(alloc, right)?))
+}
+
+/// `variable = (variable + number);`
+fn add(alloc: Global, variable: usize, number: i64) -> Result<Stmt, AllocError> {
+    let sum = binary(alloc, Op::Add, Expr::Var(variable), Expr::Num(number))?;
+    Ok(Stmt::Assign(variable, sum))
+}
+
+/// A block that adds a number to the total.
+fn add_to_total(alloc: Global, number: i64) -> Result<Vec<Stmt>, AllocError> {
+    Ok(vec![in alloc; add(alloc, TOTAL, number)?]?)
+}
+
+/// `((turn % number) == 0)`
+fn is_multiple(alloc: Global, number: i64) -> Result<Expr, AllocError> {
+    let rest = binary(alloc, Op::Rem, Expr::Var(TURN), Expr::Num(number))?;
+    binary(alloc, Op::Eq, rest, Expr::Num(0))
+}
+
+/// `total = ((((total * 31) + (turn - (total / 7))) % 1000003);`
+fn mix(alloc: Global) -> Result<Stmt, AllocError> {
+    let product = binary(alloc, Op::Mul, Expr::Var(TOTAL), Expr::Num(31))?;
+    let quotient = binary(alloc, Op::Div, Expr::Var(TOTAL), Expr::Num(7))?;
+    let difference = binary(alloc, Op::Sub, Expr::Var(TURN), quotient)?;
+    let sum = binary(alloc, Op::Add, product, difference)?;
+    let total = binary(alloc, Op::Rem, sum, Expr::Num(1000003))?;
+    Ok(Stmt::Assign(TOTAL, total))
+}
+
+/// The body of the program: `while (turn < wanted) { .. } write 0 total;`
+fn outermost(alloc: Global) -> Result<Vec<Stmt>, AllocError> {
+    let test = binary(alloc, Op::Lt, Expr::Var(TURN), Expr::Var(WANTED))?;
+    Ok(vec![in alloc; Stmt::While(test, 1), Stmt::Write(0, Expr::Var(TOTAL))]?)
+}
+
+/// `while (turn < wanted) { turn = (turn + 1); }`
+pub fn counting(alloc: Global) -> Result<Vec<Vec<Stmt>>, AllocError> {
+    let test = binary(alloc, Op::Lt, Expr::Var(TURN), Expr::Var(WANTED))?;
+    let body = vec![in alloc; Stmt::While(test, 1)]?;
+    Ok(vec![in alloc; body, vec![in alloc; add(alloc, TURN, 1)?]?]?)
+}
+
+/// `if` inside `if`, by what the turn is a multiple of.
+fn ifs(alloc: Global) -> Result<Vec<Vec<Stmt>>, AllocError> {
+    let two = Stmt::If(is_multiple(alloc, 2)?, 2, 5);
+    let three = Stmt::If(is_multiple(alloc, 3)?, 3, 4);
+    let five = Stmt::If(is_multiple(alloc, 5)?, 6, 7);
+    let seven = Stmt::If(is_multiple(alloc, 7)?, 8, 9);
+    let mut blocks = vec![in alloc;
+        outermost(alloc)?,
+        vec![in alloc; two, add(alloc, TURN, 1)?]?,
+    ]?;
+    blocks.push(vec![in alloc; three]?)?;
+    blocks.push(add_to_total(alloc, 1)?)?;
+    blocks.push(add_to_total(alloc, 2)?)?;
+    blocks.push(vec![in alloc; five]?)?;
+    blocks.push(add_to_total(alloc, 3)?)?;
+    blocks.push(vec![in alloc; seven]?)?;
+    blocks.push(add_to_total(alloc, 4)?)?;
+    blocks.push(add_to_total(alloc, 5)?)?;
+    Ok(blocks)
+}
+
+/// `total = ((total * 16807) % 2147483647);`
+fn multiply(alloc: Global) -> Result<Stmt, AllocError> {
+    let product = binary(alloc, Op::Mul, Expr::Var(TOTAL), Expr::Num(16807))?;
+    let rest = binary(alloc, Op::Rem, product, Expr::Num(2147483647))?;
+    Ok(Stmt::Assign(TOTAL, rest))
+}
+
+/// `total = (total + (turn % 7));`
+fn add_rest(alloc: Global) -> Result<Stmt, AllocError> {
+    let rest = binary(alloc, Op::Rem, Expr::Var(TURN), Expr::Num(7))?;
+    let sum = binary(alloc, Op::Add, Expr::Var(TOTAL), rest)?;
+    Ok(Stmt::Assign(TOTAL, sum))
+}
+
+/// `if 1 { .. } else { }`
+fn always(first: usize, second: usize) -> Stmt {
+    Stmt::If(Expr::Num(1), first, second)
+}
+
+/// Four blocks, each in the one before, around `total = (total + 1);`.
+fn deep(alloc: Global) -> Result<Vec<Vec<Stmt>>, AllocError> {
+    let mut blocks = vec![in alloc;
+        outermost(alloc)?,
+        vec![in alloc; always(2, 9), add(alloc, TURN, 1)?]?,
+    ]?;
+    blocks.push(vec![in alloc; always(3, 8)]?)?;
+    blocks.push(vec![in alloc; always(4, 7)]?)?;
+    blocks.push(vec![in alloc; always(5, 6)]?)?;
+    blocks.push(add_to_total(alloc, 1)?)?;
+    for _ in 0..4 {
+        blocks.push(Vec::new(alloc))?;
+    }
+    Ok(blocks)
+}
+
+/// The body `total = 1; while (turn < wanted) { total = ((total * 16807) % 2147483647); turn = (turn + 1); } write 0 total;`
+fn computing(alloc: Global) -> Result<Vec<Vec<Stmt>>, AllocError> {
+    let test = binary(alloc, Op::Lt, Expr::Var(TURN), Expr::Var(WANTED))?;
+    let body = vec![in alloc;
+        Stmt::Assign(TOTAL, Expr::Num(1)),
+        Stmt::While(test, 1),
+        Stmt::Write(0, Expr::Var(TOTAL)),
+    ]?;
+    Ok(vec![in alloc;
+        body,
+        vec![in alloc; multiply(alloc)?, add(alloc, TURN, 1)?]?,
+    ]?)
+}
+
+/// The body of a loop that makes this statement in each turn, and the loop around it.
+fn each_turn(alloc: Global, stmt: Stmt) -> Result<Vec<Vec<Stmt>>, AllocError> {
+    Ok(vec![in alloc;
+        outermost(alloc)?,
+        vec![in alloc; stmt, add(alloc, TURN, 1)?]?,
+    ]?)
+}
+
+/// The blocks of a loop, or `None` where no loop has this name.
+pub fn blocks_of(alloc: Global, name: &str) -> Result<Option<Vec<Vec<Stmt>>>, AllocError> {
+    let blocks = match name {
+        "counting" => vec![in alloc; outermost(alloc)?, vec![in alloc; add(alloc, TURN, 1)?]?]?,
+        "ifs" => ifs(alloc)?,
+        "arithmetic" => each_turn(alloc, mix(alloc)?)?,
+        "computing" => computing(alloc)?,
+        "remainder" => each_turn(alloc, add_rest(alloc)?)?,
+        "deep" => deep(alloc)?,
+        _ => return Ok(None),
+    };
+    Ok(Some(blocks))
+}

@@ -1,0 +1,4 @@
+//! The process language: values, programs, and the plain program.
+mod plain;
+mod programs;
+mod values;

@@ -1,0 +1,8 @@
+//! Tests of the process language and of its stepper by their public calls alone, in a crate of their own, so that the
+//! two libraries are proved once.
+#![tactic(auto)]
+
+#[cfg(test)]
+mod language;
+#[cfg(test)]
+mod stepper;

@@ -1,0 +1,73 @@
+//! The operators of the process language on a table of operands: each line of standard input is `LEFT OP RIGHT`,
+//! `- OPERAND` or `! OPERAND`, and is answered with the value or the fault. The stored table lies at the ends of the
+//! range, and what it must give was computed by another program (tools/operator_table.py), with whole numbers that have
+//! no bound.
+#![tactic(auto)]
+
+ghost use Rattle.std.specs.Prelude.{IfOk};
+ghost use Rattle.kpn_lang.specs.Syntax.{term_of};
+ghost use Rattle.check_operators.specs.Number.{IsNumber};
+
+use anyhow::{Result, bail};
+use kpn_lang::{Expr, Fault, Op, eval};
+use std::alloc::Global;
+
+/// The operator that is spelled so.
+fn operator(word: &str) -> Option<Op> {
+    match word {
+        "+" => Some(Op::Add),
+        "-" => Some(Op::Sub),
+        "*" => Some(Op::Mul),
+        "/" => Some(Op::Div),
+        "%" => Some(Op::Rem),
+        "<" => Some(Op::Lt),
+        "<=" => Some(Op::Le),
+        ">" => Some(Op::Gt),
+        ">=" => Some(Op::Ge),
+        "==" => Some(Op::Eq),
+        "!=" => Some(Op::Ne),
+        "&&" => Some(Op::And),
+        "||" => Some(Op::Or),
+        _ => None,
+    }
+}
+
+/// An operand as an expression.
+fn operand(alloc: Global, word: &str) -> Result<Box<Expr>>
+    ensures { IfOk result (λ found. IsNumber (term_of found.value)) }
+{
+    let Ok(number) = word.parse::<i64>() else {
+        bail!("an operand is a whole number");
+    };
+    Ok(Box::new(alloc, Expr::Num(number))?)
+}
+
+/// The value of what a line says.
+fn answer(alloc: Global, line: &str) -> Result<std::result::Result<i64, Fault>> {
+    let words: Vec<&str> = line.split_whitespace().collect(alloc)?;
+    match words.as_slice() {
+        ["-", word] => Ok(eval(&Expr::Neg(operand(alloc, word)?), &[])),
+        ["!", word] => Ok(eval(&Expr::Not(operand(alloc, word)?), &[])),
+        [left, word, right] => {
+            let Some(op) = operator(word) else {
+                bail!("no such operator");
+            };
+            Ok(eval(
+                &Expr::Bin(op, operand(alloc, left)?, operand(alloc, right)?),
+                &[],
+            ))
+        }
+        _ => bail!("a line is an operator with its operands"),
+    }
+}
+
+fn main(rt: HostRuntime) -> Result<()> {
+    for line in rt.lines(rt.alloc()) {
+        match answer(rt.alloc(), line?.as_str())? {
+            Ok(value) => println!(rt; "{value}")?,
+            Err(Fault::Overflow) => println!(rt; "overflow")?,
+            Err(Fault::ZeroDivisor) => println!(rt; "zero-divisor")?,
+        }
+    }
+    Ok(())
+}
