@@ -11,7 +11,7 @@ import sys
 import tempfile
 
 HERE = pathlib.Path(__file__).resolve().parent
-BENCH = HERE.parent.parent / 'crates/kpn_chan_bench'
+BENCH = HERE.parent.parent / 'crates/bench_chan'
 CAPACITIES = [1, 64, 65_536]
 RUNS = 5
 
@@ -43,7 +43,7 @@ def main():
         plain = str(pathlib.Path(name) / 'plain')
         subprocess.run(['rustc', '-O', '-o', plain, HERE / 'plain.rs'], check=True)
         for capacity in CAPACITIES:
-            ours, bytes_ours, read = best(str(BENCH / 'out/kpn_chan_bench'), capacity, items)
+            ours, bytes_ours, read = best(str(BENCH / 'out/bench_chan'), capacity, items)
             theirs, bytes_theirs, wanted = best(plain, capacity, items)
             if read != wanted:
                 sys.exit(f'capacity {capacity}: {read} where the plain program read {wanted}')

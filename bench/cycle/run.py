@@ -11,7 +11,7 @@ import sys
 import time
 
 HERE = pathlib.Path(__file__).resolve().parent
-BENCH = HERE.parent.parent / 'crates/kpn_cycle_bench'
+BENCH = HERE.parent.parent / 'crates/bench_cycle'
 SHAPES = ['chain', 'cycle']
 LENGTHS = [2, 16, 256]
 PROCESSES = 256
@@ -20,7 +20,7 @@ RUNS = 5
 
 def run(shape, length, processes, walks):
     """The best of the runs in seconds. Each walk along a cycle finds a full channel, and no other does."""
-    words = [str(BENCH / 'out/kpn_cycle_bench'), shape, str(length), str(processes), str(walks)]
+    words = [str(BENCH / 'out/bench_cycle'), shape, str(length), str(processes), str(walks)]
     wanted = walks if shape == 'cycle' else 0
     best = None
     for _ in range(RUNS):

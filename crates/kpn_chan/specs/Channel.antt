@@ -1,5 +1,8 @@
--- A channel as contracts see it: a journal of every item that was put, of which the first ones were read.
-use Rattle.std.specs.Prelude.{ℕ, ◌+◌, ℤ, Bool, true, false, not, ◌&&◌, nat_le, if◌then◌else◌, List, [], ◌∷◌, ◌++◌, length, take, drop, Option, Some, None, slice_get}
+-- A channel as contracts see it: a journal of every item that was put, of which the first ones were read. Whether the
+-- next item is reserved stands apart from every change: only a put may end a reservation, and whether one comes about is
+-- the storage's own business. So each change takes whether an item is reserved after it.
+use Rattle.std.specs.Prelude.{ℕ, ◌+◌, ℤ, Bool, true, false, not, ◌&&◌, nat_le, if◌then◌else◌, List, [], ◌∷◌, ◌++◌, length, take, drop, Option, Some, None, slice_get, IsSomeAnd, ◌<◌}
+use Rattle.kpn_limits.specs.declared.TheConstants.{MAX_CAPACITY}
 
 pub record ChannelState : Type 0 where
   -- every item that was put, oldest first
@@ -36,29 +39,34 @@ next_item c = if c.is_retired then None else slice_get (unread c) 0
 
 -- a channel on which nothing happened yet
 abbrev pub opened : Option ℕ → Bool → ChannelState
-opened capacity reserved = record { journal = []; read = 0; capacity = capacity; is_retired = false; is_reserved = reserved }
+opened capacity reserved =
+    record { journal = []; read = 0; capacity = capacity; is_retired = false; is_reserved = reserved }
 
 -- the channel with room for its next item
 abbrev pub with_room : ChannelState → ChannelState
 with_room c = record c { is_reserved = true }
 
--- the channel after a put; whether a further item is reserved stands apart
+-- the channel after a put
 abbrev pub after_put : ℤ → Bool → ChannelState → ChannelState
 after_put item reserved c = record c { journal = c.journal ++ item ∷ []; is_reserved = reserved }
 
 -- the channel after a read that gave this
-abbrev pub after_get : Option ℤ → ChannelState → ChannelState
-after_get None c = c
-after_get (Some item) c = record c { read = c.read + 1 }
+abbrev pub after_get : Option ℤ → Bool → ChannelState → ChannelState
+after_get None reserved c = record c { is_reserved = reserved }
+after_get (Some item) reserved c = record c { read = c.read + 1; is_reserved = reserved }
 
 -- the channel whose reader is gone
-abbrev pub retired : ChannelState → ChannelState
-retired c = record c { is_retired = true }
+abbrev pub retired : Bool → ChannelState → ChannelState
+retired reserved c = record c { is_retired = true; is_reserved = reserved }
+
+-- the channel has a capacity, which is below the greatest that there is
+abbrev pub MayGrow : ChannelState → Type 0
+MayGrow c = IsSomeAnd c.capacity (λ capacity. capacity < MAX_CAPACITY)
 
 abbrev pub one_more : Option ℕ → Option ℕ
 one_more None = None
 one_more (Some capacity) = Some (capacity + 1)
 
 -- the channel with a capacity larger by one
-abbrev pub grown : ChannelState → ChannelState
-grown c = record c { capacity = one_more c.capacity }
+abbrev pub grown : Bool → ChannelState → ChannelState
+grown reserved c = record c { capacity = one_more c.capacity; is_reserved = reserved }

@@ -1,13 +1,10 @@
-// A channel with its journal: one vector of all items that were put, and a position up to which they
-// were read. What waits for the reader is the rest of the vector, so that no item stands twice.
-ghost use Rattle.std.specs.Prelude.{◌≡◌, ◌<◌, ◌≤◌, ◌^◌, length, [], ◌↔◌, IsTrue, IsOk, IfOk, IsSomeAnd, is_ok, if◌then◌else◌, slice_get};
-ghost use Rattle.kpn_chan.specs.Channel.{unread, is_full, next_item, opened, with_room, after_put, after_get, retired, grown};
+//! A channel with its journal: one vector of all items that were put, and a position up to which they
+//! were read. What waits for the reader is the rest of the vector, so that no item stands twice.
+ghost use Rattle.std.specs.Prelude.{◌≡◌, ◌<◌, ◌≤◌, ◌^◌, length, [], ◌↔◌, IsTrue, IsOk, IfOk, is_ok, if◌then◌else◌, slice_get};
+ghost use Rattle.kpn_chan.specs.Channel.{unread, is_full, next_item, opened, with_room, after_put, after_get, retired, MayGrow, grown};
 
 use std::alloc::{AllocError, Allocator, Global};
 use std::marker::Model;
-
-/// The largest capacity to which a channel grows.
-pub const LARGEST_CAPACITY: u32 = 1_048_576;
 
 /// A queue of whole numbers from one writer to one reader, with all that was ever put on it.
 ///
@@ -86,9 +83,12 @@ impl<A: Allocator> Channel<A> {
 
     /// The oldest unread item, which is then read. `None` where nothing is unread or the channel is
     /// retired; the channel is then as before.
+    ///
+    /// What was reserved stays so. Whether an item is reserved that was not is not said.
     pub fn get(&mut self) -> Option<i64>
         ensures item { result ≡ next_item self.old }
-        ensures after { self.new ≡ after_get result self.old }
+        ensures after { self.new ≡ after_get result self.new.is_reserved self.old }
+        ensures reserved { IsTrue self.old.is_reserved → IsTrue self.new.is_reserved }
     {
         if self.is_retired {
             return None;
@@ -145,9 +145,10 @@ impl<A: Allocator> Channel<A> {
     }
 
     /// Marks that the reader is gone: from now on nothing is read, and the channel is never full. The
-    /// journal, the read count and the capacity stay.
+    /// journal, the read count and the capacity stay, and what was reserved stays so.
     pub fn retire(&mut self)
-        ensures { self.new ≡ retired self.old }
+        ensures after { self.new ≡ retired self.new.is_reserved self.old }
+        ensures reserved { IsTrue self.old.is_reserved → IsTrue self.new.is_reserved }
     {
         self.is_retired = true;
     }
@@ -159,10 +160,12 @@ impl<A: Allocator> Channel<A> {
         self.is_retired
     }
 
-    /// Makes the capacity larger by one. It takes no memory, and so it succeeds.
+    /// Makes the capacity larger by one. It takes no memory, and so it succeeds. What was reserved stays so.
     pub fn grow(&mut self) -> Result<(), AllocError>
-        requires { IsSomeAnd self.old.capacity (λ capacity. capacity < LARGEST_CAPACITY) }
-        ensures after { self.new ≡ (if is_ok result then grown self.old else self.old) }
+        requires { MayGrow self.old }
+        ensures after { self.new
+            ≡ (if is_ok result then grown self.new.is_reserved self.old else self.old) }
+        ensures reserved { IsTrue self.old.is_reserved → IsTrue self.new.is_reserved }
         ensures succeeds { IsOk result }
     {
         if let Some(capacity) = &mut self.capacity {
@@ -187,6 +190,3 @@ impl<A: Allocator> Channel<A> {
         let _ = &self.journal;
     }
 }
-
-#[cfg(test)]
-mod tests;

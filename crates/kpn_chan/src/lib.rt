@@ -1,8 +1,8 @@
-// Channels of a Kahn process network: each a queue of whole numbers from one writer to one reader that
-// remembers all that was ever put.
+//! Channels of a Kahn process network: each a queue of whole numbers from one writer to one reader that
+//! remembers all that was ever put.
 #![tactic(auto)]
 
-pub mod channel;
+mod channel;
 pub mod laws;
 
-pub use channel::{Channel, LARGEST_CAPACITY};
+pub use channel::Channel;

@@ -1,3 +1,2 @@
-pub mod Findings
+pub mod Scans
 pub mod Walks
-pub mod WaitTables

@@ -7,12 +7,13 @@ use Rattle.std.proofs.lemmas.List.Elements.{filter_map-append}
 use Rattle.kpn_net.specs.declared.wait.Wait.{Wait}
 use Rattle.kpn_net.specs.Tables.{Tables}
 use Rattle.kpn_net.specs.Waits.{wait_at, awaited, full_channel, WaitsFor, WaitInTurn, IsCycle, full_channels}
-use Rattle.kpn_cycle.specs.declared.found.Found.TheVariants.{NoCycle, Full}
-use Rattle.kpn_cycle.specs.Finding.{Finds}
-use Rattle.kpn_cycle.specs.SoFar.{IsSmallestSoFar, found_on}
+use Rattle.kpn_net.specs.declared.found.Found.TheVariants.{NoCycle, Full}
+use Rattle.kpn_net.specs.Finding.{Finds}
+use Rattle.kpn_cycle.specs.WalkSoFar.{IsSmallestSoFar, found_on}
 use Rattle.kpn_net.proofs.Cycles.{Contains-none, Contains-cases, cycle_from, cycle_short, waits_for_one}
 
--- the way of a cycle, where a walk from p is at a process: the cycle is what was walked, this process, and a rest from
+-- the way of a cycle, where a walk from p is at a process: the cycle is what was walked, this process, and a rest
+-- from
 -- which it comes to p
 pub record IsAhead (t : Tables) (waits : List Wait) (p : ℕ) (others before : List ℕ) (at : ℕ) : Type 0 where
   pub rest : List ℕ
@@ -34,7 +35,8 @@ pub record Walked (t : Tables) (waits : List Wait) (cap : ℕ → ℕ) (p steps 
   pub met : IsSmallestSoFar cap (full_channels waits before) smallest
 
 -- a channel that is found is the smallest so far
-pub channel_on : (smallest : Option ℕ) (n : ℕ) → IfSome smallest (λ c. c < n) → (c : ℕ) → found_on smallest ≡ Full c → c < n
+pub channel_on : (smallest : Option ℕ) (n : ℕ) → IfSome smallest (λ c. c < n) → (c : ℕ) → found_on smallest ≡ Full c
+    → c < n
 channel_on None n h c e = absurd cc
 channel_on (Some d) n h c e = let same : d ≡ c = cc in subst (λ z. z < n) same h
 
@@ -45,12 +47,15 @@ module _ (t : Tables) (waits : List Wait) (cap : ℕ → ℕ) (p : ℕ) where
         before = [];
         count = refl;
         ahead = λ others cycle. record { rest = others; is = refl; turn = cycle.turn };
-        closes = λ rest turn absent. record { others = rest; is = refl; cycle = cycle_from t waits p rest turn absent };
+        closes =
+            λ rest turn absent. record { others = rest; is = refl; cycle = cycle_from t waits p rest turn absent };
         met = refl;
       }
 
   -- the full channel of one process more
-  full-push : (before : List ℕ) (at : ℕ) → full_channels waits (before ++ at ∷ []) ≡ full_channels waits before ++ option_to_list (full_channel (wait_at waits at))
+  full-push : (before : List ℕ) (at : ℕ)
+      → full_channels waits (before ++ at ∷ [])
+      ≡ full_channels waits before ++ option_to_list (full_channel (wait_at waits at))
   full-push before at =
       filter_map-append (λ q. full_channel (wait_at waits q)) before (at ∷ [])
       ∙ ap (λ xs. full_channels waits before ++ xs) (one (full_channel (wait_at waits at)))
@@ -59,12 +64,18 @@ module _ (t : Tables) (waits : List Wait) (cap : ℕ → ℕ) (p : ℕ) where
       one None = refl
       one (Some c) = refl
 
-  met-push : (before : List ℕ) (at : ℕ) (smallest after : Option ℕ) → IsSmallestSoFar cap (full_channels waits before) smallest → ((channels : List ℕ) → IsSmallestSoFar cap channels smallest → IsSmallestSoFar cap (channels ++ option_to_list (full_channel (wait_at waits at))) after) → IsSmallestSoFar cap (full_channels waits (before ++ at ∷ [])) after
+  met-push : (before : List ℕ) (at : ℕ) (smallest after : Option ℕ)
+      → IsSmallestSoFar cap (full_channels waits before) smallest
+      → ((channels : List ℕ) → IsSmallestSoFar cap channels smallest
+      → IsSmallestSoFar cap (channels ++ option_to_list (full_channel (wait_at waits at))) after)
+      → IsSmallestSoFar cap (full_channels waits (before ++ at ∷ [])) after
   met-push before at smallest after met more =
       subst (λ xs. IsSmallestSoFar cap xs after) (sym (full-push before at)) (more (full_channels waits before) met)
 
   -- the first of the rest is the process that is waited for
-  ahead-next : (others before : List ℕ) (at next : ℕ) → WaitsFor t waits at next → next ≢ p → (rest : List ℕ) → p ∷ others ≡ before ++ at ∷ rest → WaitInTurn t waits at rest p → IsAhead t waits p others (before ++ at ∷ []) next
+  ahead-next : (others before : List ℕ) (at next : ℕ) → WaitsFor t waits at next → next ≢ p → (rest : List ℕ)
+      → p ∷ others ≡ before ++ at ∷ rest → WaitInTurn t waits at rest p
+      → IsAhead t waits p others (before ++ at ∷ []) next
   ahead-next others before at next w other [] is turn = absurd (other (waits_for_one t waits at next p w turn))
   ahead-next others before at next w other (x ∷ rest) is turn =
       let same = waits_for_one t waits at x next turn.0 w in
@@ -74,43 +85,61 @@ module _ (t : Tables) (waits : List Wait) (cap : ℕ → ℕ) (p : ℕ) where
         turn = subst (λ z. WaitInTurn t waits z rest p) same turn.1;
       }
 
-  closes-next : (before : List ℕ) (at next : ℕ) → WaitsFor t waits at next → next ≢ p → (rest : List ℕ) → WaitInTurn t waits next rest p → ¬ Contains rest p → ((more : List ℕ) → WaitInTurn t waits at more p → ¬ Contains more p → IsClosed t waits p before at more) → IsClosed t waits p (before ++ at ∷ []) next rest
+  closes-next : (before : List ℕ) (at next : ℕ) → WaitsFor t waits at next → next ≢ p → (rest : List ℕ)
+      → WaitInTurn t waits next rest p → ¬ Contains rest p
+      → ((more : List ℕ) → WaitInTurn t waits at more p → ¬ Contains more p → IsClosed t waits p before at more)
+      → IsClosed t waits p (before ++ at ∷ []) next rest
   closes-next before at next w other rest turn absent closes =
-      let c = closes (next ∷ rest) (w, turn) (λ h. elim (Contains-cases next rest p h) [ inl same ↦ other same | inr later ↦ absent later ]) in
+      let c =
+      closes (next ∷ rest) (w, turn)
+      (λ h. elim (Contains-cases next rest p h) [ inl same ↦ other same | inr later ↦ absent later ]) in
       record { others = c.others; is = c.is ∙ sym (append_assoc before (at ∷ []) (next ∷ rest)); cycle = c.cycle }
 
-  pub walk-more : (steps at next : ℕ) (smallest after : Option ℕ) → Walked t waits cap p steps at smallest → awaited t (wait_at waits at) ≡ Some next → next ≢ p → ((channels : List ℕ) → IsSmallestSoFar cap channels smallest → IsSmallestSoFar cap (channels ++ option_to_list (full_channel (wait_at waits at))) after) → Walked t waits cap p (steps + 1) next after
+  pub walk-more : (steps at next : ℕ) (smallest after : Option ℕ) → Walked t waits cap p steps at smallest
+      → awaited t (wait_at waits at) ≡ Some next → next ≢ p
+      → ((channels : List ℕ) → IsSmallestSoFar cap channels smallest
+      → IsSmallestSoFar cap (channels ++ option_to_list (full_channel (wait_at waits at))) after)
+      → Walked t waits cap p (steps + 1) next after
   walk-more steps at next smallest after walk e other more =
       let w : WaitsFor t waits at next = record { awaited = e } in
       record {
         before = walk.before ++ at ∷ [];
         count = length-append walk.before (at ∷ []) ∙ ap (λ n. n + 1) walk.count;
-        ahead = λ others cycle. let a = walk.ahead others cycle in ahead-next others walk.before at next w other a.rest a.is a.turn;
+        ahead = λ others cycle. let a =
+            walk.ahead others cycle in ahead-next others walk.before at next w other a.rest a.is a.turn;
         closes = λ rest turn absent. closes-next walk.before at next w other rest turn absent walk.closes;
         met = met-push walk.before at smallest after walk.met more;
       }
 
   -- the walk has come back to p
-  found-met : (others : List ℕ) → IsCycle t waits p others → (after : Option ℕ) → IsSmallestSoFar cap (full_channels waits (p ∷ others)) after → Finds t waits cap p (found_on after)
+  found-met : (others : List ℕ) → IsCycle t waits p others → (after : Option ℕ)
+      → IsSmallestSoFar cap (full_channels waits (p ∷ others)) after → Finds t waits cap p (found_on after)
   found-met others cycle None met = record { others = others; cycle = cycle; empty = met }
   found-met others cycle (Some c) met = record { others = others; cycle = cycle; smallest = met }
 
-  pub walk-closed : (steps at : ℕ) (smallest after : Option ℕ) → Walked t waits cap p steps at smallest → awaited t (wait_at waits at) ≡ Some p → ((channels : List ℕ) → IsSmallestSoFar cap channels smallest → IsSmallestSoFar cap (channels ++ option_to_list (full_channel (wait_at waits at))) after) → Finds t waits cap p (found_on after)
+  pub walk-closed : (steps at : ℕ) (smallest after : Option ℕ) → Walked t waits cap p steps at smallest
+      → awaited t (wait_at waits at) ≡ Some p
+      → ((channels : List ℕ) → IsSmallestSoFar cap channels smallest
+      → IsSmallestSoFar cap (channels ++ option_to_list (full_channel (wait_at waits at))) after)
+      → Finds t waits cap p (found_on after)
   walk-closed steps at smallest after walk e more =
       let c = walk.closes [] (record { awaited = e }) (Contains-none p) in
       found-met c.others c.cycle after
-      (subst (λ zs. IsSmallestSoFar cap (full_channels waits zs) after) (sym c.is) (met-push walk.before at smallest after walk.met more))
+      (subst (λ zs. IsSmallestSoFar cap (full_channels waits zs) after) (sym c.is)
+      (met-push walk.before at smallest after walk.met more))
 
   -- the walk has come to an end
   no-turn : (at : ℕ) (rest : List ℕ) → awaited t (wait_at waits at) ≡ None → WaitInTurn t waits at rest p → ⊥
   no-turn at [] e turn = let f = turn.awaited in absurd cc
   no-turn at (x ∷ rest) e turn = let f = turn.0.awaited in absurd cc
 
-  pub walk-ended : (steps at : ℕ) (smallest : Option ℕ) → Walked t waits cap p steps at smallest → awaited t (wait_at waits at) ≡ None → Finds t waits cap p NoCycle
+  pub walk-ended : (steps at : ℕ) (smallest : Option ℕ) → Walked t waits cap p steps at smallest
+      → awaited t (wait_at waits at) ≡ None → Finds t waits cap p NoCycle
   walk-ended steps at smallest walk e = λ others cycle. let a = walk.ahead others cycle in no-turn at a.rest e a.turn
 
   -- the walk has made as many steps as there are processes, and has not come back
-  pub walk-long : (steps at : ℕ) (smallest : Option ℕ) → Walked t waits cap p steps at smallest → length t.instances ≤ steps → Finds t waits cap p NoCycle
+  pub walk-long : (steps at : ℕ) (smallest : Option ℕ) → Walked t waits cap p steps at smallest
+      → length t.instances ≤ steps → Finds t waits cap p NoCycle
   walk-long steps at smallest walk long = λ others cycle.
       let a = walk.ahead others cycle in
       let short = cycle_short t waits p others cycle in

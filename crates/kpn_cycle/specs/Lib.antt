@@ -1,3 +1,2 @@
-pub mod Conditions
-pub mod Finding
-pub mod SoFar
+pub mod Scan
+pub mod WalkSoFar

@@ -1,14 +1,15 @@
-// What holds of the cycles of waiting processes in every network, as the contracts of functions with
-// nothing to do: the layers above cite them.
+//! What holds of the cycles of waiting processes in every network, as the contracts of functions with
+//! nothing to do: the layers above cite them.
 ghost use Rattle.std.specs.Prelude.{◌≡◌, ◌↔◌, ℕ, ◌<◌, ◌≤◌, false, List, ◌∷◌, length, replicate, slice_set, Contains};
 ghost use Rattle.std.specs.List.Sorted.{IsPermutation};
 ghost use Rattle.kpn_net.specs.declared.wait.Wait.{Wait};
 ghost use Rattle.kpn_net.specs.declared.wait.Wait.TheVariants.{Nobody};
 ghost use Rattle.kpn_net.specs.Tables.{Tables, is_source, channel_at};
 ghost use Rattle.kpn_net.specs.Waits.{IsCycle, IsSmallest, full_channels};
-ghost use Rattle.kpn_cycle.specs.declared.found.Found.{Found};
-ghost use Rattle.kpn_cycle.specs.Conditions.{AreWaits, IsOwnWait};
-ghost use Rattle.kpn_cycle.specs.Finding.{Finds, ScanFinds, HasFullCycle};
+ghost use Rattle.kpn_net.specs.declared.found.Found.{Found};
+ghost use Rattle.kpn_net.specs.Waits.{AreWaits, IsOwnWait};
+ghost use Rattle.kpn_net.specs.Finding.{Finds, IsSmallestOfCycle};
+ghost use Rattle.kpn_cycle.specs.Scan.{ScanFinds};
 
 /// A table in which each process waits for nobody may be asked about.
 pub fn nobody_waits()
@@ -21,6 +22,12 @@ pub fn wait_is_set()
         → IsOwnWait t p wait → AreWaits t (slice_set waits p wait) }
 {}
 
+/// So may one in which a process that waited is woken: from then on it waits for nobody.
+pub fn waiter_is_woken()
+    ensures { (t : Tables) (waits : List Wait) (p : ℕ) → AreWaits t waits
+        → AreWaits t (slice_set waits p Nobody) }
+{}
+
 /// There is at most one cycle through a process.
 pub fn cycle_is_unique()
     ensures { (t : Tables) (waits : List Wait) (p : ℕ) (others more : List ℕ)
@@ -28,7 +35,7 @@ pub fn cycle_is_unique()
 {}
 
 /// A cycle has at most as many members as there are processes.
-pub fn cycle_fits()
+pub fn cycles_are_bounded()
     ensures { (t : Tables) (waits : List Wait) (p : ℕ) (others : List ℕ) → IsCycle t waits p others
         → length (p ∷ others) ≤ length t.instances }
 {}
@@ -60,7 +67,7 @@ pub fn finding_is_unique()
         → Finds t waits cap p found → Finds t waits cap p other → found ≡ other }
 {}
 
-/// What is found depends on the capacities of channels that are no sources.
+/// What is found depends on the capacities of those channels alone that are no sources.
 pub fn finding_looks_at_no_source()
     ensures { (t : Tables) (waits : List Wait) → AreWaits t waits → (cap other : ℕ → ℕ)
         → ((c : ℕ) → is_source (channel_at t c) ≡ false → cap c ≡ other c)
@@ -74,7 +81,8 @@ pub fn scan_is_search()
         → ((q : ℕ) (others : List ℕ) (d : ℕ) → IsCycle t waits q others
         → Contains (full_channels waits (q ∷ others)) d → cap d < t.limit → Contains (q ∷ others) p)
         → (found : Found) → ScanFinds t waits cap found
-        → (c : ℕ) → (found ≡ Found.Full c) ↔ (HasFullCycle t waits cap p c × (cap c < t.limit)) }
+        → (c : ℕ)
+        → (found ≡ Found.Full c) ↔ (IsSmallestOfCycle t waits cap p c × (cap c < t.limit)) }
 {}
 
 /// Where a scan finds none, each full channel of each cycle is at the limit.

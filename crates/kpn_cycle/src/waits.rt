@@ -1,19 +1,19 @@
-// Wait tables: what each process of a network waits for.
+//! Wait tables: what each process of a network waits for.
 ghost use Rattle.std.specs.Prelude.{◌≡◌, ◌<◌, length, replicate, slice_set, IfOk};
 ghost use Rattle.kpn_net.specs.declared.wait.Wait.TheVariants.{Nobody};
 ghost use Rattle.kpn_net.specs.Waits.{wait_at};
 
 use kpn_net::Wait;
-use std::alloc::{AllocError, Global};
+use std::alloc::{AllocError, Allocator, Global};
 use std::marker::Model;
 
 /// A wait for each process, in order of number. Contracts see it as the list of these.
 #[derive(Debug, Drop)]
-pub struct Waits {
-    waits: Vec<Wait>,
+pub struct Waits<A: Allocator = Global> {
+    waits: Vec<Wait, A>,
 }
 
-impl Model for Waits {
+impl<A: Allocator> Model for Waits<A> {
     ghost use Rattle.std.specs.Prelude.{List};
     ghost use Rattle.kpn_net.specs.declared.wait.Wait.{Wait};
 
@@ -22,9 +22,9 @@ impl Model for Waits {
     ghost view = { λ w. w.waits.items };
 }
 
-impl Waits {
+impl<A: Allocator> Waits<A> {
     /// The table of `n` processes that wait for nobody. The error comes where memory ran out.
-    pub fn new(alloc: Global, n: usize) -> Result<Waits, AllocError>
+    pub fn new(alloc: A, n: usize) -> Result<Self, AllocError>
         ensures { IfOk result (λ waits. waits ≡ replicate n Nobody) }
     {
         let waits = vec![in alloc; Wait::Nobody; n]?;

@@ -1,21 +1,26 @@
-// The cycle through a process, found by a walk along the waits, and a scan of all processes.
+//! The cycle through a process, found by a walk along the waits, and a scan of all processes.
 ghost use Rattle.std.specs.Prelude.{◌≡◌, ℕ, ◌<◌, ◌++◌, List, [], ◌∷◌, length, IfSome};
 ghost use Rattle.std.specs.Option.{option_to_list};
-ghost use Rattle.kpn_net.specs.Waits.{awaited, full_channel, IsSmallest};
-ghost use Rattle.kpn_cycle.specs.Conditions.{AreWaits, cap_in};
-ghost use Rattle.kpn_cycle.specs.Finding.{Finds, ScanFinds};
-ghost use Rattle.kpn_cycle.specs.SoFar.{IsSmallestSoFar, IsOnChannelBelow};
+ghost use Rattle.kpn_net.specs.Waits.{AreWaits, awaited, full_channel, IsSmallest};
+ghost use Rattle.kpn_net.specs.Finding.{Finds};
+ghost use Rattle.kpn_cycle.specs.Scan.{cap_in, ScanFinds};
+ghost use Rattle.kpn_cycle.specs.WalkSoFar.{IsSmallestSoFar, found_on, IsOnChannelBelow};
 
-use crate::found::Found;
 use crate::waits::Waits;
-use kpn_net::{End, Network, Wait};
+use kpn_net::{End, Found, Network, Wait};
+use std::alloc::Allocator;
 
 /// The cycle of waiting processes in which process `p` waits for the next and the last for `p`, and its
 /// smallest full channel, whether below the limit or not.
 ///
 /// `caps` has the capacity of each channel; the entry of a source is not looked at. The walk makes at most
 /// as many steps as there are processes.
-pub fn cycle_through(network: &Network, waits: &Waits, caps: &[u32], p: usize) -> Found
+pub fn cycle_through<A: Allocator>(
+    network: &Network,
+    waits: &Waits<A>,
+    caps: &[u32],
+    p: usize,
+) -> Found
     requires process { p < length network.now.instances }
     requires waits { AreWaits network.now waits.now }
     requires caps { length caps.now ≡ length network.now.channels }
@@ -32,7 +37,7 @@ pub fn cycle_through(network: &Network, waits: &Waits, caps: &[u32], p: usize) -
             return Found::NoCycle;
         };
         if next == p {
-            return Found::on_cycle(smallest);
+            return on_cycle(smallest);
         }
         at = next;
     }
@@ -43,7 +48,7 @@ pub fn cycle_through(network: &Network, waits: &Waits, caps: &[u32], p: usize) -
 ///
 /// `caps` has the capacity of each channel; the entry of a source is not looked at. It makes a walk from
 /// each process.
-pub fn scan_all(network: &Network, waits: &Waits, caps: &[u32]) -> Found
+pub fn scan_all<A: Allocator>(network: &Network, waits: &Waits<A>, caps: &[u32]) -> Found
     requires waits { AreWaits network.now waits.now }
     requires caps { length caps.now ≡ length network.now.channels }
     ensures { ScanFinds network.now waits.now (cap_in caps.now) result }
@@ -56,6 +61,16 @@ pub fn scan_all(network: &Network, waits: &Waits, caps: &[u32]) -> Found
         }
     }
     Found::NoCycle
+}
+
+/// What is found on a cycle with this smallest full channel.
+fn on_cycle(smallest: Option<usize>) -> Found
+    ensures { result ≡ found_on smallest }
+{
+    match smallest {
+        Some(c) => Found::Full(c),
+        None => Found::AllEmpty,
+    }
 }
 
 /// The process that is waited for: on an empty channel its writer, on a full one its reader. It is `None`
@@ -80,7 +95,8 @@ fn smallest_with(caps: &[u32], smallest: Option<usize>, wait: Wait) -> Option<us
     requires wait { IsOnChannelBelow (length caps.now) wait }
     requires smallest { IfSome smallest (λ c. c < length caps.now) }
     ensures smallest { (channels : List ℕ) → IsSmallestSoFar (cap_in caps.now) channels smallest
-        → IsSmallestSoFar (cap_in caps.now) (channels ++ option_to_list (full_channel wait)) result }
+        → IsSmallestSoFar (cap_in caps.now)
+        (channels ++ option_to_list (full_channel wait)) result }
     ensures channel { IfSome result (λ c. c < length caps.now) }
 {
     let Wait::Full(d) = wait else {

@@ -1,4 +1,5 @@
-//! The limits of the product, each with its one name. Code and definitions of all other crates cite them.
+//! The limits of descriptions, networks and inputs, each with its one name. Code and definitions of all other crates
+//! cite them.
 #![tactic(auto)]
 
 /// The most variables that a process may have, parameters included.

@@ -63,14 +63,16 @@ distinct_apart (y ∷ xs) x ys d = λ h.
 
 -- ---- the smallest of channels
 
-pub smallest_unique : (cap : ℕ → ℕ) (channels : List ℕ) (c d : ℕ) → IsSmallest cap channels c → IsSmallest cap channels d → c ≡ d
+pub smallest_unique : (cap : ℕ → ℕ) (channels : List ℕ) (c d : ℕ) → IsSmallest cap channels c
+    → IsSmallest cap channels d → c ≡ d
 smallest_unique cap channels c d a b =
     elim (a.least d b.among) [
       | inl less ↦ elim (b.least c a.among) [ inl more ↦ absurd (omega arith) | inr tie ↦ absurd (omega arith) ]
       | inr tie ↦ elim (b.least c a.among) [ inl more ↦ absurd (omega arith) | inr other ↦ omega arith ]
     ]
 
-pub smallest_permuted : (cap : ℕ → ℕ) (channels others : List ℕ) (c : ℕ) → IsPermutation channels others → IsSmallest cap channels c → IsSmallest cap others c
+pub smallest_permuted : (cap : ℕ → ℕ) (channels others : List ℕ) (c : ℕ) → IsPermutation channels others
+    → IsSmallest cap channels c → IsSmallest cap others c
 smallest_permuted cap channels others c moved s =
     record {
       among = Contains-permutation channels others c moved s.among;
@@ -94,7 +96,10 @@ no_larger-either cap c d =
       | inr same ↦
           elim (cases_lt (cap d) (cap c)) [
             | inl more ↦ inr (inl more)
-            | inr tie ↦ elim (cases_lt c d) [ inl first ↦ inl (inr (omega arith, omega arith)) | inr second ↦ inr (inr (omega arith, omega arith)) ]
+            | inr tie ↦ elim (cases_lt c d) [
+              | inl first ↦ inl (inr (omega arith, omega arith))
+              | inr second ↦ inr (inr (omega arith, omega arith))
+            ]
           ]
     ]
 
@@ -103,20 +108,26 @@ pub smallest-one : (cap : ℕ → ℕ) (c : ℕ) → IsSmallest cap (c ∷ []) c
 smallest-one cap c =
     record {
       among = Contains-first c [];
-      least = λ d h. elim (Contains-cases c [] d h) [ inl same ↦ inr (ap cap same, omega arith) | inr none ↦ absurd (Contains-none d none) ];
+      least =
+          λ d h.
+          elim (Contains-cases c [] d h)
+          [ inl same ↦ inr (ap cap same, omega arith) | inr none ↦ absurd (Contains-none d none) ];
     }
 
 -- of channels with one more it is the smaller of the smallest so far and that one
-pub smallest-push : (cap : ℕ → ℕ) (channels : List ℕ) (c d e : ℕ) → IsSmallest cap channels c → IsSmallest cap (c ∷ d ∷ []) e → IsSmallest cap (channels ++ d ∷ []) e
+pub smallest-push : (cap : ℕ → ℕ) (channels : List ℕ) (c d e : ℕ) → IsSmallest cap channels c
+    → IsSmallest cap (c ∷ d ∷ []) e → IsSmallest cap (channels ++ d ∷ []) e
 smallest-push cap channels c d e s two =
     record {
       among = elim (Contains-cases c (d ∷ []) e two.among) [
-        | inl same ↦ subst (λ z. Contains (channels ++ d ∷ []) z) same (Contains-append_left channels (d ∷ []) c s.among)
+        | inl same ↦ subst (λ z. Contains (channels ++ d ∷ []) z) same
+            (Contains-append_left channels (d ∷ []) c s.among)
         | inr later ↦ Contains-append_right channels (d ∷ []) e later
       ];
       least = λ x h. elim (Contains-push_cases channels d x h) [
         | inl old ↦ no_larger-trans cap e c x (two.least c (Contains-first c (d ∷ []))) (s.least x old)
-        | inr new ↦ subst (λ z. IsNoLarger cap e z) new (two.least d (Contains-later c (d ∷ []) d (Contains-first d [])))
+        | inr new ↦ subst (λ z. IsNoLarger cap e z) new
+            (two.least d (Contains-later c (d ∷ []) d (Contains-first d [])))
       ];
     }
 
@@ -157,12 +168,15 @@ smallest_among cap [] c h = absurd (Contains-none c h)
 smallest_among cap (d ∷ channels) c h = smallest_is_there cap d channels
 
 -- other capacities that are the same at these channels
-pub smallest_with_same_capacities : (cap other : ℕ → ℕ) (channels : List ℕ) → ((c : ℕ) → Contains channels c → cap c ≡ other c) → (c : ℕ) → IsSmallest cap channels c → IsSmallest other channels c
+pub smallest_with_same_capacities : (cap other : ℕ → ℕ) (channels : List ℕ)
+    → ((c : ℕ) → Contains channels c → cap c ≡ other c) → (c : ℕ) → IsSmallest cap channels c
+    → IsSmallest other channels c
 smallest_with_same_capacities cap other channels same c s =
     let at_c = same c s.among in
     record {
       among = s.among;
-      least = λ d h. let at_d = same d h in elim (s.least d h) [ inl less ↦ inl (omega arith) | inr tie ↦ inr (omega arith, tie.1) ];
+      least = λ d h. let at_d =
+          same d h in elim (s.least d h) [ inl less ↦ inl (omega arith) | inr tie ↦ inr (omega arith, tie.1) ];
     }
 
 -- ---- full channels
@@ -173,14 +187,20 @@ pub record IsFullAt (waits : List Wait) (members : List ℕ) (c : ℕ) : Type 0 
   pub among : Contains members member
   pub full : full_channel (wait_at waits member) ≡ Some c
 
-IsFullAt-later : (waits : List Wait) (p : ℕ) (members : List ℕ) (c : ℕ) → IsFullAt waits members c → IsFullAt waits (p ∷ members) c
-IsFullAt-later waits p members c r = record { member = r.member; among = Contains-later p members r.member r.among; full = r.full }
+IsFullAt-later : (waits : List Wait) (p : ℕ) (members : List ℕ) (c : ℕ) → IsFullAt waits members c
+    → IsFullAt waits (p ∷ members) c
+IsFullAt-later waits p members c r =
+    record { member = r.member; among = Contains-later p members r.member r.among; full = r.full }
 
-pub full_at : (waits : List Wait) (members : List ℕ) (c : ℕ) → Contains (full_channels waits members) c → IsFullAt waits members c
+pub full_at : (waits : List Wait) (members : List ℕ) (c : ℕ) → Contains (full_channels waits members) c
+    → IsFullAt waits members c
 full_at waits [] c h = absurd (Contains-none c h)
-full_at waits (p ∷ members) c h = which (full_channel (wait_at waits p)) refl h (λ k. IsFullAt-later waits p members c (full_at waits members c k))
+full_at waits (p ∷ members) c h =
+    which (full_channel (wait_at waits p)) refl h (λ k. IsFullAt-later waits p members c (full_at waits members c k))
   where
-    which : (o : Option ℕ) → full_channel (wait_at waits p) ≡ o → Contains (cons_option o (full_channels waits members)) c → (Contains (full_channels waits members) c → IsFullAt waits (p ∷ members) c) → IsFullAt waits (p ∷ members) c
+    which : (o : Option ℕ) → full_channel (wait_at waits p) ≡ o
+        → Contains (cons_option o (full_channels waits members)) c
+        → (Contains (full_channels waits members) c → IsFullAt waits (p ∷ members) c) → IsFullAt waits (p ∷ members) c
     which None e k later = later k
     which (Some d) e k later =
         elim (Contains-cases d (full_channels waits members) c k) [
@@ -192,8 +212,10 @@ full_at waits (p ∷ members) c h = which (full_channel (wait_at waits p)) refl 
 
 others_differ : (x : ℕ) (xs : List ℕ) → ¬ Contains xs x → AllByRecursion (λ y. eqb x y ≡ false) xs
 others_differ x [] h = tt
-others_differ x (y ∷ xs) h =
-    (ne_eqb x y (λ e. h (subst (λ z. Contains (y ∷ xs) z) (sym e) (Contains-first y xs))), others_differ x xs (λ c. h (Contains-later y xs x c)))
+others_differ x (y ∷ xs) h = (
+  ne_eqb x y (λ e. h (subst (λ z. Contains (y ∷ xs) z) (sym e) (Contains-first y xs))),
+  others_differ x xs (λ c. h (Contains-later y xs x c)),
+)
 
 keys_distinct : (xs : List ℕ) → AreDistinct xs → IsDistinct eqb xs
 unfolding IsDistinct
@@ -206,16 +228,19 @@ module _ (t : Tables) (waits : List Wait) where
   pub waits_for_one : (p q r : ℕ) → WaitsFor t waits p q → WaitsFor t waits p r → q ≡ r
   waits_for_one p q r a b = let e = sym a.awaited ∙ b.awaited in cc
 
-  pub turn-append : (p : ℕ) (xs : List ℕ) (r : ℕ) (ys : List ℕ) (q : ℕ) → WaitInTurn t waits p xs r → WaitInTurn t waits r ys q → WaitInTurn t waits p (xs ++ r ∷ ys) q
+  pub turn-append : (p : ℕ) (xs : List ℕ) (r : ℕ) (ys : List ℕ) (q : ℕ) → WaitInTurn t waits p xs r
+      → WaitInTurn t waits r ys q → WaitInTurn t waits p (xs ++ r ∷ ys) q
   turn-append p [] r ys q a b = (a, b)
   turn-append p (x ∷ xs) r ys q a b = (a.0, turn-append x xs r ys q a.1 b)
 
-  pub turn-apart : (p : ℕ) (xs : List ℕ) (r : ℕ) (ys : List ℕ) (q : ℕ) → WaitInTurn t waits p (xs ++ r ∷ ys) q → WaitInTurn t waits p xs r × WaitInTurn t waits r ys q
+  pub turn-apart : (p : ℕ) (xs : List ℕ) (r : ℕ) (ys : List ℕ) (q : ℕ) → WaitInTurn t waits p (xs ++ r ∷ ys) q
+      → WaitInTurn t waits p xs r × WaitInTurn t waits r ys q
   turn-apart p [] r ys q h = h
   turn-apart p (x ∷ xs) r ys q h = let rest = turn-apart x xs r ys q h.1 in ((h.0, rest.0), rest.1)
 
   -- there is one way from r to the next p
-  pub one_way : (r : ℕ) (xs ys : List ℕ) (p : ℕ) → WaitInTurn t waits r xs p → WaitInTurn t waits r ys p → ¬ Contains xs p → ¬ Contains ys p → xs ≡ ys
+  pub one_way : (r : ℕ) (xs ys : List ℕ) (p : ℕ) → WaitInTurn t waits r xs p → WaitInTurn t waits r ys p
+      → ¬ Contains xs p → ¬ Contains ys p → xs ≡ ys
   one_way r [] [] p a b h k = refl
   one_way r [] (y ∷ ys) p a b h k =
       absurd (k (subst (λ z. Contains (y ∷ ys) z) (waits_for_one r y p b.0 a) (Contains-first y ys)))
@@ -223,11 +248,14 @@ module _ (t : Tables) (waits : List Wait) where
       absurd (h (subst (λ z. Contains (x ∷ xs) z) (waits_for_one r x p a.0 b) (Contains-first x xs)))
   one_way r (x ∷ xs) (y ∷ ys) p a b h k =
       let same = waits_for_one r x y a.0 b.0 in
-      let rest = one_way x xs ys p a.1 (subst (λ z. WaitInTurn t waits z ys p) (sym same) b.1) (λ c. h (Contains-later x xs p c)) (λ c. k (Contains-later y ys p c)) in
+      let rest =
+      one_way x xs ys p a.1 (subst (λ z. WaitInTurn t waits z ys p) (sym same) b.1) (λ c. h (Contains-later x xs p c))
+      (λ c. k (Contains-later y ys p c)) in
       ap (λ z. z ∷ xs) same ∙ ap (λ zs. y ∷ zs) rest
 
   -- there is at most one cycle through a process
-  pub cycle_unique : (p : ℕ) (others more : List ℕ) → IsCycle t waits p others → IsCycle t waits p more → others ≡ more
+  pub cycle_unique : (p : ℕ) (others more : List ℕ) → IsCycle t waits p others → IsCycle t waits p more
+      → others ≡ more
   cycle_unique p others more a b = one_way p others more p a.turn b.turn a.distinct.0 b.distinct.0
 
   -- on the way to the next p no process comes twice: it would go on from there the same way
@@ -237,17 +265,22 @@ module _ (t : Tables) (waits : List Wait) where
     λ again.
         let s = apart_at xs x again in
         let onward = subst (λ zs. WaitInTurn t waits x zs p) s.is a.1 in
-        let absent : ¬ Contains (s.before ++ x ∷ s.after) p = subst (λ zs. ¬ Contains zs p) s.is (λ c. h (Contains-later x xs p c)) in
+        let absent : ¬ Contains (s.before ++ x ∷ s.after) p =
+        subst (λ zs. ¬ Contains zs p) s.is (λ c. h (Contains-later x xs p c)) in
         let from_second = (turn-apart x s.before x s.after p onward).1 in
-        let after_absent : ¬ Contains s.after p = λ c. absent (Contains-append_right s.before (x ∷ s.after) p (Contains-later x s.after p c)) in
-        let lengths = ap length (one_way x (s.before ++ x ∷ s.after) s.after p onward from_second absent after_absent) in
+        let after_absent : ¬ Contains s.after p =
+        λ c. absent (Contains-append_right s.before (x ∷ s.after) p (Contains-later x s.after p c)) in
+        let lengths =
+        ap length (one_way x (s.before ++ x ∷ s.after) s.after p onward from_second absent after_absent) in
         absurd (omega (arith, length-append s.before (x ∷ s.after))),
     way_is_distinct x xs p a.1 (λ c. h (Contains-later x xs p c)),
   )
 
   -- who waits in turn for itself, and comes first to itself then, is on a cycle
-  pub cycle_from : (p : ℕ) (others : List ℕ) → WaitInTurn t waits p others p → ¬ Contains others p → IsCycle t waits p others
-  cycle_from p others turn absent = record { distinct = (absent, way_is_distinct p others p turn absent); turn = turn }
+  pub cycle_from : (p : ℕ) (others : List ℕ) → WaitInTurn t waits p others p → ¬ Contains others p
+      → IsCycle t waits p others
+  cycle_from p others turn absent =
+      record { distinct = (absent, way_is_distinct p others p turn absent); turn = turn }
 
   -- ---- a cycle from another of its members
 
@@ -263,23 +296,31 @@ module _ (t : Tables) (waits : List Wait) where
   full_exchanged xs ys =
       let h : ℕ → Option ℕ = λ p. full_channel (wait_at waits p) in
       subst (λ zs. IsPermutation zs (full_channels waits (ys ++ xs))) (sym (filter_map-append h xs ys))
-      (subst (λ zs. IsPermutation (full_channels waits xs ++ full_channels waits ys) zs) (sym (filter_map-append h ys xs))
+      (subst (λ zs. IsPermutation (full_channels waits xs ++ full_channels waits ys) zs)
+      (sym (filter_map-append h ys xs))
       (IsPermutation-append_comm (full_channels waits xs) (full_channels waits ys)))
 
-  rotated_at : (p : ℕ) (xs : List ℕ) (q : ℕ) (ys : List ℕ) → IsCycle t waits p (xs ++ q ∷ ys) → Rotated p (xs ++ q ∷ ys) q
+  rotated_at : (p : ℕ) (xs : List ℕ) (q : ℕ) (ys : List ℕ) → IsCycle t waits p (xs ++ q ∷ ys)
+      → Rotated p (xs ++ q ∷ ys) q
   rotated_at p xs q ys cycle =
       let turns = turn-apart p xs q ys p cycle.turn in
       let absent = distinct_apart (p ∷ xs) q ys cycle.distinct in
       let exchanged : IsPermutation ((p ∷ xs) ++ ys) (ys ++ p ∷ xs) = IsPermutation-append_comm (p ∷ xs) ys in
       record {
         rest = ys ++ p ∷ xs;
-        cycle = cycle_from q (ys ++ p ∷ xs) (turn-append q ys p xs q turns.1 turns.0) (λ c. absent (Contains-permutation (ys ++ p ∷ xs) ((p ∷ xs) ++ ys) q (IsPermutation-append_comm ys (p ∷ xs)) c));
+        cycle =
+            cycle_from q (ys ++ p ∷ xs) (turn-append q ys p xs q turns.1 turns.0)
+            (λ c.
+            absent
+            (Contains-permutation (ys ++ p ∷ xs) ((p ∷ xs) ++ ys) q
+            (IsPermutation-append_comm ys (p ∷ xs)) c));
         members = IsPermutation-append_comm (p ∷ xs) (q ∷ ys);
         full = full_exchanged (p ∷ xs) (q ∷ ys);
       }
 
   -- each member of a cycle has the same cycle
-  pub rotated : (p : ℕ) (others : List ℕ) → IsCycle t waits p others → (q : ℕ) → Contains (p ∷ others) q → Rotated p others q
+  pub rotated : (p : ℕ) (others : List ℕ) → IsCycle t waits p others → (q : ℕ) → Contains (p ∷ others) q
+      → Rotated p others q
   rotated p others cycle q h =
       elim (Contains-cases p others q h) [
         | inl same ↦
@@ -292,7 +333,8 @@ module _ (t : Tables) (waits : List Wait) where
             subst (λ r. Rotated p others r) same whole
         | inr later ↦
             let s = apart_at others q later in
-            subst (λ zs. Rotated p zs q) (sym s.is) (rotated_at p s.before q s.after (subst (λ zs. IsCycle t waits p zs) s.is cycle))
+            subst (λ zs. Rotated p zs q) (sym s.is)
+            (rotated_at p s.before q s.after (subst (λ zs. IsCycle t waits p zs) s.is cycle))
       ]
 
   -- ---- how long a cycle is
@@ -308,7 +350,8 @@ module _ (t : Tables) (waits : List Wait) where
   awaited_below (Full c) q e = (Reads-reader_of t q c (process_below (reader_of t c) q e)).process
 
   -- who is waited for is a process of the network
-  pub member_below : (r : ℕ) (xs : List ℕ) (p : ℕ) → WaitInTurn t waits r xs p → (q : ℕ) → Contains xs q → q < length t.instances
+  pub member_below : (r : ℕ) (xs : List ℕ) (p : ℕ) → WaitInTurn t waits r xs p → (q : ℕ) → Contains xs q
+      → q < length t.instances
   member_below r [] p a q h = absurd (Contains-none q h)
   member_below r (x ∷ xs) p a q h =
       elim (Contains-cases x xs q h) [
@@ -321,7 +364,8 @@ module _ (t : Tables) (waits : List Wait) where
   last_below r (x ∷ xs) p a = last_below x xs p a.1
 
   -- each member of a cycle is a process of the network
-  pub cycle_below : (p : ℕ) (others : List ℕ) → IsCycle t waits p others → (q : ℕ) → Contains (p ∷ others) q → q < length t.instances
+  pub cycle_below : (p : ℕ) (others : List ℕ) → IsCycle t waits p others → (q : ℕ) → Contains (p ∷ others) q
+      → q < length t.instances
   cycle_below p others cycle q h =
       elim (Contains-cases p others q h) [
         | inl same ↦ subst (λ r. r < length t.instances) same (last_below p others p cycle.turn)

@@ -5,3 +5,7 @@ pub mod Ports
 pub mod RoundLemmas
 pub mod Pairs
 pub mod Cycles
+pub mod WaitTables
+pub mod Findings
+pub mod PortsApart
+pub mod OwnIns

@@ -1,4 +1,5 @@
--- What holds of tables that keep the rules: each channel has one writer and one reader, and these agree with the ports
+-- What holds of tables that keep the rules: each channel has one writer and one reader, and these agree with the
+-- ports
 -- of the instances.
 use Rattle.std.proofs.Common.{◌≡◌, ℕ, zero, suc, ◌+◌, ◌<◌, ◌≤◌, cond, Bool, true, false, ◌&&◌, ◌||◌, ◌⊎◌, eqb, eq-eqb, add-zero, zero-add, leb, ltb, List, [], ◌∷◌, ◌++◌, length, get_or, map, Option, Some, None, refl, sym, ap, ◌∙◌, subst, inl, inr, arith}
 use Rattle.std.specs.List.{position, position_or_len, list_any, range_with_len, slice_get}
@@ -7,6 +8,7 @@ use Rattle.std.proofs.lemmas.List.Sums.{fails_before_first}
 use Rattle.std.proofs.lemmas.List.Folds.{list_any_at}
 use Rattle.std.proofs.lemmas.List.FromFn.{get_or-map-range_with_len, length-map-range_with_len}
 use Rattle.std.proofs.lemmas.Bool.{false_from_ne_true, ltb-false, leb-false, eqb-true, eqb-false, or_parts, and_parts, not-false, both_ways}
+use Rattle.kpn_limits.specs.declared.TheConstants.{MAX_PROCESSES, MAX_CHANNELS, MAX_CAPACITY}
 use Rattle.kpn_lang.specs.Parts.{Parts, IsProgram}
 use Rattle.kpn_net.specs.declared.fault.NetFault.{NetFault}
 use Rattle.kpn_net.specs.declared.fault.NetFault.TheVariants.{NoSuchProgram, PortCount, NoSuchChannel, NoWriter, TwoWriters, NoReader, TwoReaders, Capacity}
@@ -16,27 +18,32 @@ use Rattle.kpn_net.specs.declared.tables.Instance.{Instance}
 use Rattle.kpn_net.specs.declared.tables.End.{End}
 use Rattle.kpn_net.specs.declared.tables.End.TheVariants.{Process, Source, Sink}
 use Rattle.kpn_net.specs.Tables.{Tables, program_at, instance_at, program_of, channel_at, capacity, is_source, is_sink, places, ends_from, writers_of, readers_of, writer_of, reader_of}
-use Rattle.kpn_net.specs.Faults.{is_too_large, lacks_its_program, fits, differs_from_its_program, lacks_a_channel, exceeds, has_no_such_capacity, channel_numbers, is_none, are_several, wrong_capacity, first_at, or_else, instances_fault, channels_fault, IsNetwork}
+use Rattle.kpn_net.specs.Faults.{is_too_large, lacks_its_program, matches_program, differs_from_its_program, lacks_a_channel, exceeds, has_no_such_capacity, channel_numbers, is_none, are_several, wrong_capacity, first_at, or_else, instances_fault, channels_fault, IsNetwork}
 
 -- ---- searches that find nothing
 
-fails_if_none : {X : Type 0} (q : X → Bool) (xs : List X) (found : Bool) → ltb (position_or_len q xs) (length xs) ≡ found → cond found (Some (position_or_len q xs)) None ≡ None → length xs ≤ position_or_len q xs
+fails_if_none : {X : Type 0} (q : X → Bool) (xs : List X) (found : Bool)
+    → ltb (position_or_len q xs) (length xs) ≡ found → cond found (Some (position_or_len q xs)) None ≡ None
+    → length xs ≤ position_or_len q xs
 fails_if_none q xs true e h = absurd cc
 fails_if_none q xs false e h = ltb-false _ _ e
 
 -- no item passes the test
-pub fails_at : {X : Type 0} (q : X → Bool) (xs : List X) → position q xs ≡ None → (k : ℕ) (d : X) → k < length xs → q (get_or xs k d) ≡ false
+pub fails_at : {X : Type 0} (q : X → Bool) (xs : List X) → position q xs ≡ None → (k : ℕ) (d : X) → k < length xs
+    → q (get_or xs k d) ≡ false
 fails_at q xs h k d below =
     let all = fails_if_none q xs (ltb (position_or_len q xs) (length xs)) refl h in
     fails_before_first q xs k d (omega arith)
 
-pub list_any_fails_at : {X : Type 0} (q : X → Bool) (xs : List X) → list_any q xs ≡ false → (k : ℕ) (d : X) → k < length xs → q (get_or xs k d) ≡ false
+pub list_any_fails_at : {X : Type 0} (q : X → Bool) (xs : List X) → list_any q xs ≡ false → (k : ℕ) (d : X)
+    → k < length xs → q (get_or xs k d) ≡ false
 list_any_fails_at q xs h k d below =
     false_from_ne_true _ (λ e. both_ways _ h (list_any_at q xs k d below e))
 
 -- ---- the rules, one by one
 
-first_at-None : (o : Option ℕ) (fault : ℕ → NetFault) (after : Option NetFault) → first_at o fault after ≡ None → (o ≡ None) × (after ≡ None)
+first_at-None : (o : Option ℕ) (fault : ℕ → NetFault) (after : Option NetFault) → first_at o fault after ≡ None
+    → (o ≡ None) × (after ≡ None)
 first_at-None None fault after e = (refl, e)
 first_at-None (Some n) fault after e = absurd cc
 
@@ -59,7 +66,8 @@ pub record ChannelsSound (t : Tables) : Type 0 where
   pub read_once : position are_several (map (readers_of t) (channel_numbers t)) ≡ None
   pub capacity : wrong_capacity t ≡ None
 
-few_if_none : (b : Bool) (fault : NetFault) (after : Option NetFault) → cond b (Some fault) after ≡ None → (b ≡ false) × (after ≡ None)
+few_if_none : (b : Bool) (fault : NetFault) (after : Option NetFault) → cond b (Some fault) after ≡ None
+    → (b ≡ false) × (after ≡ None)
 few_if_none true fault after e = absurd cc
 few_if_none false fault after e = (refl, e)
 
@@ -81,7 +89,8 @@ ChannelsSound-from t e =
     record { written = a.0; written_once = b.0; read = d.0; read_once = f.0; capacity = g.0 }
 
 pub instances_sound : (t : Tables) → IsNetwork t → InstancesSound t
-instances_sound t network = InstancesSound-from t (or_else-None (instances_fault t) (channels_fault t) network.sound).0
+instances_sound t network =
+    InstancesSound-from t (or_else-None (instances_fault t) (channels_fault t) network.sound).0
 
 pub channels_sound : (t : Tables) → IsNetwork t → ChannelsSound t
 channels_sound t network = ChannelsSound-from t (or_else-None (instances_fault t) (channels_fault t) network.sound).1
@@ -92,7 +101,8 @@ channels_sound t network = ChannelsSound-from t (or_else-None (instances_fault t
 pub record AreThere (t : Tables) (ports : List ℕ) : Type 0 where
   pub each : (port d : ℕ) → port < length ports → get_or ports port d < length t.channels
 
-pub AreThere-from : (t : Tables) (ports : List ℕ) → list_any (leb (length t.channels)) ports ≡ false → AreThere t ports
+pub AreThere-from : (t : Tables) (ports : List ℕ) → list_any (leb (length t.channels)) ports ≡ false
+    → AreThere t ports
 AreThere-from t ports h =
     record { each = λ port d below. leb-false _ _ (list_any_fails_at (leb (length t.channels)) ports h port d below) }
 
@@ -101,10 +111,13 @@ pub record HasChannels (t : Tables) (i : Instance) : Type 0 where
   pub ins : AreThere t i.ins
   pub outs : AreThere t i.outs
 
-pub HasChannels-at : (t : Tables) → position (lacks_a_channel t) t.instances ≡ None → (p : ℕ) (d : Instance) → p < length t.instances → HasChannels t (get_or t.instances p d)
+pub HasChannels-at : (t : Tables) → position (lacks_a_channel t) t.instances ≡ None → (p : ℕ) (d : Instance)
+    → p < length t.instances → HasChannels t (get_or t.instances p d)
 HasChannels-at t h p d below =
     let i = get_or t.instances p d in
-    let both = or_parts (list_any (leb (length t.channels)) i.ins) (list_any (leb (length t.channels)) i.outs) (fails_at (lacks_a_channel t) t.instances h p d below) in
+    let both =
+    or_parts (list_any (leb (length t.channels)) i.ins) (list_any (leb (length t.channels)) i.outs)
+    (fails_at (lacks_a_channel t) t.instances h p d below) in
     record { ins = AreThere-from t i.ins both.0; outs = AreThere-from t i.outs both.1 }
 
 -- an instance has its program, with as many ports and parameters
@@ -115,18 +128,24 @@ pub record IsInstance (t : Tables) (i : Instance) : Type 0 where
   pub pars : length i.pars ≡ (program_at t i.program).pars
   pub channels : HasChannels t i
 
-fits_at : (programs : List Parts) (n : ℕ) (d : Parts) (i : Instance) → option_map_or (fits i) (slice_get programs n) false ≡ true → fits i (get_or programs n d) ≡ true
-fits_at [] n d i e = absurd cc
-fits_at (x ∷ programs) zero d i e = e
-fits_at (x ∷ programs) (suc n) d i e = fits_at programs n d i e
+matches_program_at : (programs : List Parts) (n : ℕ) (d : Parts) (i : Instance)
+    → option_map_or (matches_program i) (slice_get programs n) false ≡ true
+    → matches_program i (get_or programs n d) ≡ true
+matches_program_at [] n d i e = absurd cc
+matches_program_at (x ∷ programs) zero d i e = e
+matches_program_at (x ∷ programs) (suc n) d i e = matches_program_at programs n d i e
 
-pub IsInstance-at : (t : Tables) → IsNetwork t → (p : ℕ) (d : Instance) → p < length t.instances → IsInstance t (get_or t.instances p d)
+pub IsInstance-at : (t : Tables) → IsNetwork t → (p : ℕ) (d : Instance) → p < length t.instances
+    → IsInstance t (get_or t.instances p d)
 IsInstance-at t network p d below =
     let sound = instances_sound t network in
     let i = get_or t.instances p d in
-    let fit = fits_at t.programs i.program _ i (not-false _ (fails_at (differs_from_its_program t) t.instances sound.ports p d below)) in
+    let fit =
+    matches_program_at t.programs i.program _ i
+    (not-false _ (fails_at (differs_from_its_program t) t.instances sound.ports p d below)) in
     let parts = program_at t i.program in
-    let some = and_parts (eqb (length i.ins) parts.ins && eqb (length i.outs) parts.outs) (eqb (length i.pars) parts.pars) fit in
+    let some =
+    and_parts (eqb (length i.ins) parts.ins && eqb (length i.outs) parts.outs) (eqb (length i.pars) parts.pars) fit in
     let two = and_parts (eqb (length i.ins) parts.ins) (eqb (length i.outs) parts.outs) some.0 in
     record {
       there = leb-false _ _ (fails_at (lacks_its_program t) t.instances sound.programs p d below);
@@ -143,14 +162,16 @@ IsProgram-of t network p below = network.programs _ _ (IsInstance-at t network p
 -- ---- how many there are
 
 pub record Sizes (t : Tables) : Type 0 where
-  pub programs : length t.programs ≤ 256
-  pub instances : length t.instances ≤ 256
-  pub channels : length t.channels ≤ 1024
+  pub programs : length t.programs ≤ MAX_PROCESSES
+  pub instances : length t.instances ≤ MAX_PROCESSES
+  pub channels : length t.channels ≤ MAX_CHANNELS
 
 pub Sizes-from : (t : Tables) → is_too_large t ≡ false → Sizes t
 Sizes-from t few =
-    let some = or_parts (ltb 256 (length t.programs) || ltb 256 (length t.instances)) (ltb 1024 (length t.channels)) few in
-    let two = or_parts (ltb 256 (length t.programs)) (ltb 256 (length t.instances)) some.0 in
+    let some =
+    or_parts (ltb MAX_PROCESSES (length t.programs) || ltb MAX_PROCESSES (length t.instances))
+    (ltb MAX_CHANNELS (length t.channels)) few in
+    let two = or_parts (ltb MAX_PROCESSES (length t.programs)) (ltb MAX_PROCESSES (length t.instances)) some.0 in
     record { programs = ltb-false _ _ two.0; instances = ltb-false _ _ two.1; channels = ltb-false _ _ some.1 }
 
 pub sizes : (t : Tables) → IsNetwork t → Sizes t
@@ -183,12 +204,15 @@ IsAmong-first end other [] e differ = differ (sym e)
 IsAmong-first end other (x ∷ ends) e differ = inl (sym e)
 
 -- where there is one end, it is the first
-one_end : (ends : List End) (other : End) → is_none ends ≡ false → are_several ends ≡ false → ends ≡ get_or ends 0 other ∷ []
+one_end : (ends : List End) (other : End) → is_none ends ≡ false → are_several ends ≡ false
+    → ends ≡ get_or ends 0 other ∷ []
 one_end [] other n s = absurd cc
 one_end (a ∷ []) other n s = refl
 one_end (a ∷ b ∷ ends) other n s = absurd cc
 
-one_end_at : (ends : ℕ → List End) (other : End) (n : ℕ) → position is_none (map ends (range_with_len 0 n)) ≡ None → position are_several (map ends (range_with_len 0 n)) ≡ None → (c : ℕ) → c < n → ends c ≡ get_or (ends c) 0 other ∷ []
+one_end_at : (ends : ℕ → List End) (other : End) (n : ℕ) → position is_none (map ends (range_with_len 0 n)) ≡ None
+    → position are_several (map ends (range_with_len 0 n)) ≡ None → (c : ℕ) → c < n
+    → ends c ≡ get_or (ends c) 0 other ∷ []
 one_end_at ends other n none several c below =
     let read = get_or-map-range_with_len ends 0 n c c [] below (omega arith) in
     let there : c < length (map ends (range_with_len 0 n)) = rw length-map-range_with_len below in
@@ -220,16 +244,20 @@ StandsAt-more : (d : ℕ) (ports : List ℕ) (c : ℕ) → StandsAt ports c → 
 StandsAt-more d ports c s = record { port = suc s.port; there = omega (arith, s.there); is = s.is }
 
 -- each place of a channel is an end
-IsAmong-places : (c p : ℕ) (ports : List ℕ) (port : ℕ) → port < length ports → get_or ports port 0 ≡ c → IsAmong (Process p) (places c p ports)
+IsAmong-places : (c p : ℕ) (ports : List ℕ) (port : ℕ) → port < length ports → get_or ports port 0 ≡ c
+    → IsAmong (Process p) (places c p ports)
 IsAmong-places c p [] port h e = absurd (omega arith)
 IsAmong-places c p (d ∷ ports) zero h e = rw (eq-eqb d c e) (inl refl)
 IsAmong-places c p (d ∷ ports) (suc port) h e = which (eqb d c) (IsAmong-places c p ports port (omega arith) e)
   where
-    which : (b : Bool) → IsAmong (Process p) (places c p ports) → IsAmong (Process p) (cond b (Process p ∷ places c p ports) (places c p ports))
+    which : (b : Bool) → IsAmong (Process p) (places c p ports)
+        → IsAmong (Process p) (cond b (Process p ∷ places c p ports) (places c p ports))
     which true h = inr h
     which false h = h
 
-IsAmong-ends_from : (ports : Instance → List ℕ) (c p i : ℕ) (instances : List Instance) (d : Instance) → i < length instances → IsAmong (Process (p + i)) (places c (p + i) (ports (get_or instances i d))) → IsAmong (Process (p + i)) (ends_from ports c p instances)
+IsAmong-ends_from : (ports : Instance → List ℕ) (c p i : ℕ) (instances : List Instance) (d : Instance)
+    → i < length instances → IsAmong (Process (p + i)) (places c (p + i) (ports (get_or instances i d)))
+    → IsAmong (Process (p + i)) (ends_from ports c p instances)
 IsAmong-ends_from ports c p i [] d below h = absurd (omega arith)
 IsAmong-ends_from ports c p zero (x ∷ instances) d below h =
     IsAmong-left _ _ _ (subst (λ q. IsAmong (Process (p + zero)) (places c q (ports x))) (add-zero p) h)
@@ -241,23 +269,28 @@ IsAmong-ends_from ports c p (suc i) (x ∷ instances) d below h =
     (subst (λ q. IsAmong (Process q) (places c q (ports (get_or instances i d)))) e h)))
 
 -- each end that is a process has a place
-places-StandsAt : (end : End) (c p : ℕ) (ports : List ℕ) → IsAmong end (places c p ports) → (end ≡ Process p) × StandsAt ports c
+places-StandsAt : (end : End) (c p : ℕ) (ports : List ℕ) → IsAmong end (places c p ports)
+    → (end ≡ Process p) × StandsAt ports c
 places-StandsAt end c p [] h = absurd h
 places-StandsAt end c p (d ∷ ports) h = which (eqb d c) refl h (places-StandsAt end c p ports)
   where
-    which : (b : Bool) → eqb d c ≡ b → IsAmong end (cond b (Process p ∷ places c p ports) (places c p ports)) → (IsAmong end (places c p ports) → (end ≡ Process p) × StandsAt ports c) → (end ≡ Process p) × StandsAt (d ∷ ports) c
+    which : (b : Bool) → eqb d c ≡ b → IsAmong end (cond b (Process p ∷ places c p ports) (places c p ports))
+        → (IsAmong end (places c p ports) → (end ≡ Process p) × StandsAt ports c)
+        → (end ≡ Process p) × StandsAt (d ∷ ports) c
     which true e (inl same) rest = (same, record { port = 0; there = omega arith; is = eqb-true d c e })
     which true e (inr h) rest = let r = rest h in (r.0, StandsAt-more d ports c r.1)
     which false e h rest = let r = rest h in (r.0, StandsAt-more d ports c r.1)
 
 -- the number of an instance with the channel at a port
-record HasPort (ports : Instance → List ℕ) (instances : List Instance) (c : ℕ) (p : ℕ) (end : End) (d : Instance) : Type 0 where
+record HasPort (ports : Instance → List ℕ) (instances : List Instance) (c : ℕ) (p : ℕ) (end : End)
+    (d : Instance) : Type 0 where
   number : ℕ
   there : number < length instances
   is : end ≡ Process (p + number)
   stands : StandsAt (ports (get_or instances number d)) c
 
-ends_from-HasPort : (end : End) (ports : Instance → List ℕ) (c p : ℕ) (instances : List Instance) (d : Instance) → IsAmong end (ends_from ports c p instances) → HasPort ports instances c p end d
+ends_from-HasPort : (end : End) (ports : Instance → List ℕ) (c p : ℕ) (instances : List Instance) (d : Instance)
+    → IsAmong end (ends_from ports c p instances) → HasPort ports instances c p end d
 ends_from-HasPort end ports c p [] d h = absurd h
 ends_from-HasPort end ports c p (x ∷ instances) d h =
     elim (IsAmong-append end (places c p (ports x)) (ends_from ports c (suc p) instances) h) [
@@ -296,10 +329,12 @@ StandsAt-below : (t : Tables) (ports : List ℕ) → AreThere t ports → (c : �
 StandsAt-below t ports there c s = subst (λ d. d < length t.channels) s.is (there.each s.port 0 s.there)
 
 pub Writes-below : (t : Tables) → IsNetwork t → (p c : ℕ) → Writes t p c → c < length t.channels
-Writes-below t network p c w = StandsAt-below t (instance_at t p).outs (IsInstance-of t network p w.process).channels.outs c w.place
+Writes-below t network p c w =
+    StandsAt-below t (instance_at t p).outs (IsInstance-of t network p w.process).channels.outs c w.place
 
 pub Reads-below : (t : Tables) → IsNetwork t → (p c : ℕ) → Reads t p c → c < length t.channels
-Reads-below t network p c w = StandsAt-below t (instance_at t p).ins (IsInstance-of t network p w.process).channels.ins c w.place
+Reads-below t network p c w =
+    StandsAt-below t (instance_at t p).ins (IsInstance-of t network p w.process).channels.ins c w.place
 
 Process-injective : (p q : ℕ) → Process p ≡ Process q → p ≡ q
 Process-injective p q e = cc
@@ -308,7 +343,8 @@ Process-injective p q e = cc
 IsAmong-one : (end : End) (ends : List End) (one : End) → ends ≡ one ∷ [] → IsAmong end ends → one ≡ end
 IsAmong-one end ends one e h = elim (subst (IsAmong end) e h) [ inl same ↦ sym same | inr no-more ↦ absurd no-more ]
 
-IsAmong-port : (ports : Instance → List ℕ) (t : Tables) (p c : ℕ) → p < length t.instances → StandsAt (ports (instance_at t p)) c → IsAmong (Process p) (ends_from ports c 0 t.instances)
+IsAmong-port : (ports : Instance → List ℕ) (t : Tables) (p c : ℕ) → p < length t.instances
+    → StandsAt (ports (instance_at t p)) c → IsAmong (Process p) (ends_from ports c 0 t.instances)
 IsAmong-port ports t p c below s =
     let e : 0 + p ≡ p = omega arith in
     subst (λ q. IsAmong (Process q) (ends_from ports c 0 t.instances)) e
@@ -320,12 +356,14 @@ IsAmong-port ports t p c below s =
 pub writer_of-Writes : (t : Tables) → IsNetwork t → (p c : ℕ) → Writes t p c → writer_of t c ≡ Process p
 writer_of-Writes t network p c w =
     IsAmong-one (Process p) (writers_of t c) (writer_of t c) (one_writer t network c (Writes-below t network p c w))
-    (IsAmong-right (Process p) (cond (is_source (channel_at t c)) (Source ∷ []) []) _ (IsAmong-port (λ i. i.outs) t p c w.process w.place))
+    (IsAmong-right (Process p) (cond (is_source (channel_at t c)) (Source ∷ []) []) _
+    (IsAmong-port (λ i. i.outs) t p c w.process w.place))
 
 pub reader_of-Reads : (t : Tables) → IsNetwork t → (p c : ℕ) → Reads t p c → reader_of t c ≡ Process p
 reader_of-Reads t network p c w =
     IsAmong-one (Process p) (readers_of t c) (reader_of t c) (one_reader t network c (Reads-below t network p c w))
-    (IsAmong-right (Process p) (cond (is_sink (channel_at t c)) (Sink ∷ []) []) _ (IsAmong-port (λ i. i.ins) t p c w.process w.place))
+    (IsAmong-right (Process p) (cond (is_sink (channel_at t c)) (Sink ∷ []) []) _
+    (IsAmong-port (λ i. i.ins) t p c w.process w.place))
 
 -- the outside's ends are no processes
 outside_source : (b : Bool) (p : ℕ) → IsAmong (Process p) (cond b (Source ∷ []) []) → ⊥
@@ -370,16 +408,79 @@ Reads-reader_of t p c e =
 
 -- the writer of a source is the outside
 pub writer_of-source : (t : Tables) (c : ℕ) → is_source (channel_at t c) ≡ true → writer_of t c ≡ Source
-writer_of-source t c e = ap (λ b. get_or (cond b (Source ∷ []) [] ++ ends_from (λ i. i.outs) c 0 t.instances) 0 Sink) e
+writer_of-source t c e =
+    ap (λ b. get_or (cond b (Source ∷ []) [] ++ ends_from (λ i. i.outs) c 0 t.instances) 0 Sink) e
 
 -- the reader of a sink is the outside
 pub reader_of-sink : (t : Tables) (c : ℕ) → is_sink (channel_at t c) ≡ true → reader_of t c ≡ Sink
 reader_of-sink t c e = ap (λ b. get_or (cond b (Sink ∷ []) [] ++ ends_from (λ i. i.ins) c 0 t.instances) 0 Source) e
 
+-- an end of an instance is a process
+no_process : (end : End) → ((p : ℕ) → end ≡ Process p → ⊥)
+    → (ports : Instance → List ℕ) (c p : ℕ) (instances : List Instance) → IsAmong end (ends_from ports c p instances)
+    → ⊥
+no_process end h ports c p instances among =
+    let r =
+    ends_from-HasPort end ports c p instances (record { program = 0; ins = []; outs = []; pars = [] }) among in
+    h (p + r.number) r.is
+
+-- where the outside is the writer the channel is a source
+pub source-writer_of : (t : Tables) (c : ℕ) → writer_of t c ≡ Source → is_source (channel_at t c) ≡ true
+source-writer_of t c e =
+    which (is_source (channel_at t c)) refl (IsAmong-first Source Sink (writers_of t c) e (λ f. absurd cc))
+  where
+    which : (b : Bool) → is_source (channel_at t c) ≡ b
+        → IsAmong Source (cond b (Source ∷ []) [] ++ ends_from (λ i. i.outs) c 0 t.instances)
+        → is_source (channel_at t c) ≡ true
+    which true e h = e
+    which false e h = absurd (no_process Source (λ p f. absurd cc) (λ i. i.outs) c 0 t.instances h)
+
+-- where the outside is the reader the channel is a sink
+pub sink-reader_of : (t : Tables) (c : ℕ) → reader_of t c ≡ Sink → is_sink (channel_at t c) ≡ true
+sink-reader_of t c e =
+    which (is_sink (channel_at t c)) refl (IsAmong-first Sink Source (readers_of t c) e (λ f. absurd cc))
+  where
+    which : (b : Bool) → is_sink (channel_at t c) ≡ b
+        → IsAmong Sink (cond b (Sink ∷ []) [] ++ ends_from (λ i. i.ins) c 0 t.instances)
+        → is_sink (channel_at t c) ≡ true
+    which true e h = e
+    which false e h = absurd (no_process Sink (λ p f. absurd cc) (λ i. i.ins) c 0 t.instances h)
+
+-- the sink writes no channel that is there
+pub writer_is_no_sink : (t : Tables) → IsNetwork t → (c : ℕ) → c < length t.channels → writer_of t c ≡ Sink → ⊥
+writer_is_no_sink t network c below e =
+    let among : IsAmong Sink (writers_of t c) =
+    subst (IsAmong Sink) (sym (one_writer t network c below)) (inl (sym e)) in
+    elim (IsAmong-append Sink (cond (is_source (channel_at t c)) (Source ∷ []) []) _ among) [
+      | inl outside ↦ no_outside (is_source (channel_at t c)) outside
+      | inr inside ↦ no_process Sink (λ p f. absurd cc) (λ i. i.outs) c 0 t.instances inside
+    ]
+  where
+    no_outside : (b : Bool) → IsAmong Sink (cond b (Source ∷ []) []) → ⊥
+    no_outside true (inl e) = absurd cc
+    no_outside true (inr h) = h
+    no_outside false h = h
+
+-- the source reads no channel that is there
+pub reader_is_no_source : (t : Tables) → IsNetwork t → (c : ℕ) → c < length t.channels → reader_of t c ≡ Source → ⊥
+reader_is_no_source t network c below e =
+    let among : IsAmong Source (readers_of t c) =
+    subst (IsAmong Source) (sym (one_reader t network c below)) (inl (sym e)) in
+    elim (IsAmong-append Source (cond (is_sink (channel_at t c)) (Sink ∷ []) []) _ among) [
+      | inl outside ↦ no_outside (is_sink (channel_at t c)) outside
+      | inr inside ↦ no_process Source (λ p f. absurd cc) (λ i. i.ins) c 0 t.instances inside
+    ]
+  where
+    no_outside : (b : Bool) → IsAmong Source (cond b (Sink ∷ []) []) → ⊥
+    no_outside true (inl e) = absurd cc
+    no_outside true (inr h) = h
+    no_outside false h = h
+
 -- a process writes no source
 pub source_if_not_written : (t : Tables) → IsNetwork t → (p c : ℕ) → Writes t p c → is_source (channel_at t c) ≡ false
 source_if_not_written t network p c w =
-    false_from_ne_true _ (λ e. let s = writer_of-source t c e in let q = writer_of-Writes t network p c w in absurd cc)
+    false_from_ne_true _
+    (λ e. let s = writer_of-source t c e in let q = writer_of-Writes t network p c w in absurd cc)
 
 -- ---- capacities
 
@@ -394,15 +495,19 @@ exceeds-false limit cap e =
     let within = ltb-false limit cap both.1 in
     (omega arith, within)
 
-wrong_capacity-None : (t : Tables) (b : Bool) → cond b (Some (length t.channels)) (position (has_no_such_capacity t.limit) t.channels) ≡ None → (b ≡ false) × (position (has_no_such_capacity t.limit) t.channels ≡ None)
+wrong_capacity-None : (t : Tables) (b : Bool)
+    → cond b (Some (length t.channels)) (position (has_no_such_capacity t.limit) t.channels) ≡ None
+    → (b ≡ false) × (position (has_no_such_capacity t.limit) t.channels ≡ None)
 wrong_capacity-None t true e = absurd cc
 wrong_capacity-None t false e = (refl, e)
 
--- the limit is 1 to 1,048,576
-pub limit_in_range : (t : Tables) → IsNetwork t → (0 < t.limit) × (t.limit ≤ 1048576)
-limit_in_range t network = exceeds-false 1048576 t.limit (wrong_capacity-None t _ (channels_sound t network).capacity).0
+-- the limit is 1 to the greatest capacity
+pub limit_in_range : (t : Tables) → IsNetwork t → (0 < t.limit) × (t.limit ≤ MAX_CAPACITY)
+limit_in_range t network =
+    exceeds-false MAX_CAPACITY t.limit (wrong_capacity-None t _ (channels_sound t network).capacity).0
 
-capacity_from : (t : Tables) (channel : ChannelSpec) (cap : ℕ) → has_no_such_capacity t.limit channel ≡ false → capacity channel ≡ Some cap → CapacityInRange t cap
+capacity_from : (t : Tables) (channel : ChannelSpec) (cap : ℕ) → has_no_such_capacity t.limit channel ≡ false
+    → capacity channel ≡ Some cap → CapacityInRange t cap
 capacity_from t (channel.Inner n) cap h e =
     let r = exceeds-false t.limit n h in
     let same : n ≡ cap = cc in
@@ -414,7 +519,8 @@ capacity_from t (channel.Sink n) cap h e =
     record { positive = subst (λ m. 0 < m) same r.0; within = subst (λ m. m ≤ t.limit) same r.1 }
 
 -- each capacity is 1 to the limit
-pub capacity_in_range : (t : Tables) → IsNetwork t → (c cap : ℕ) → c < length t.channels → capacity (channel_at t c) ≡ Some cap → CapacityInRange t cap
+pub capacity_in_range : (t : Tables) → IsNetwork t → (c cap : ℕ) → c < length t.channels
+    → capacity (channel_at t c) ≡ Some cap → CapacityInRange t cap
 capacity_in_range t network c cap below e =
     let sound = (wrong_capacity-None t _ (channels_sound t network).capacity).1 in
     capacity_from t (channel_at t c) cap (fails_at (has_no_such_capacity t.limit) t.channels sound c _ below) e

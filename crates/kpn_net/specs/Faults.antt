@@ -2,6 +2,7 @@
 use Rattle.std.specs.Prelude.{◌≡◌, ℕ, Bool, true, false, not, ◌&&◌, ◌||◌, nat_lt, nat_le, nat_eq, if◌then◌else◌, List, [], ◌∷◌, length, map, Option, Some, None, position, All, slice_get}
 use Rattle.std.specs.List.{list_any, range_with_len}
 use Rattle.std.specs.Option.{option_map_or}
+use Rattle.kpn_limits.specs.declared.TheConstants.{MAX_PROCESSES, MAX_CHANNELS, MAX_CAPACITY}
 use Rattle.kpn_lang.specs.Parts.{Parts, IsProgram}
 use Rattle.kpn_net.specs.declared.fault.NetFault.{NetFault}
 use Rattle.kpn_net.specs.declared.fault.NetFault.TheVariants.{TooMany, NoSuchProgram, PortCount, NoSuchChannel, NoWriter, TwoWriters, NoReader, TwoReaders, Capacity}
@@ -11,10 +12,12 @@ use Rattle.kpn_net.specs.declared.tables.Instance.{Instance}
 use Rattle.kpn_net.specs.declared.tables.End.{End}
 use Rattle.kpn_net.specs.Tables.{Tables, writers_of, readers_of}
 
--- ---- 10: a limit is passed
+-- ---- 10: there are too many programs, instances or channels
 
 abbrev pub is_too_large : Tables → Bool
-is_too_large t = nat_lt 256 (length t.programs) || nat_lt 256 (length t.instances) || nat_lt 1024 (length t.channels)
+is_too_large t =
+    nat_lt MAX_PROCESSES (length t.programs) || nat_lt MAX_PROCESSES (length t.instances)
+    || nat_lt MAX_CHANNELS (length t.channels)
 
 -- ---- 11: an instance names a program that is not there
 
@@ -23,11 +26,12 @@ lacks_its_program t i = nat_le (length t.programs) i.program
 
 -- ---- 12: an instance has not as many ports or parameters as its program
 
-abbrev pub fits : Instance → Parts → Bool
-fits i parts = nat_eq (length i.ins) parts.ins && nat_eq (length i.outs) parts.outs && nat_eq (length i.pars) parts.pars
+abbrev pub matches_program : Instance → Parts → Bool
+matches_program i parts =
+    nat_eq (length i.ins) parts.ins && nat_eq (length i.outs) parts.outs && nat_eq (length i.pars) parts.pars
 
 abbrev pub differs_from_its_program : Tables → Instance → Bool
-differs_from_its_program t i = not (option_map_or (fits i) (slice_get t.programs i.program) false)
+differs_from_its_program t i = not (option_map_or (matches_program i) (slice_get t.programs i.program) false)
 
 -- ---- 19: an instance names a channel that is not there
 
@@ -59,10 +63,12 @@ has_no_such_capacity limit (channel.Inner cap) = exceeds limit cap
 has_no_such_capacity limit channel.Source = false
 has_no_such_capacity limit (channel.Sink cap) = exceeds limit cap
 
--- the first channel with such a capacity; the number of channels where the limit itself is 0 or above 1,048,576
+-- the first channel with such a capacity; the number of channels where the limit itself is 0 or above the greatest
+-- capacity
 abbrev pub wrong_capacity : Tables → Option ℕ
 wrong_capacity t =
-    if exceeds 1048576 t.limit then Some (length t.channels) else position (has_no_such_capacity t.limit) t.channels
+    if exceeds MAX_CAPACITY t.limit then Some (length t.channels)
+    else position (has_no_such_capacity t.limit) t.channels
 
 -- ---- the rules together
 

@@ -74,16 +74,19 @@ sources t = count_by is_source t.channels
 abbrev pub given_by : Tables → List (List ℤ) → Family
 given_by t lists c = slice_index_or lists (count_by is_source (take c t.channels)) []
 
+-- the lists of a family, in order of channel number
+abbrev pub lists_of : Tables → Family → List (List ℤ)
+lists_of t X = map X (channel_numbers t)
+
+-- ---- what the code's loop over a talk keeps; a reader of the public contracts needs none of it
+
 -- the items that a talk puts on a channel, where these are the channels at its out ports
 abbrev pub put_on : (outs : List ℕ) → List Said → (c : ℕ) → List ℤ
 put_on outs [] c = []
 put_on outs (Got port v ∷ talk) c = put_on outs talk c
-put_on outs (Put port v ∷ talk) c = if nat_eq (slice_index outs port) c then v ∷ put_on outs talk c else put_on outs talk c
+put_on outs (Put port v ∷ talk) c =
+    if nat_eq (slice_index outs port) c then v ∷ put_on outs talk c else put_on outs talk c
 
 -- each item is put at an out port below this number
 abbrev pub NamesOutsBelow : ℕ → List Said → Type 0
 NamesOutsBelow outs talk = (k : ℕ) (port : ℕ) (v : ℤ) → slice_get talk k ≡ Some (Put port v) → port < outs
-
--- the lists of a family, in order of channel number
-abbrev pub lists_of : Tables → Family → List (List ℤ)
-lists_of t X = map X (channel_numbers t)

@@ -1,5 +1,5 @@
 -- A process of a network that runs alone on a family of lists, a list for each channel (Kahn 1974).
-use Rattle.std.specs.Prelude.{◌≡◌, ◌≢◌, ℕ, ℤ, List, map, slice_index}
+use Rattle.std.specs.Prelude.{◌≡◌, ◌≢◌, ℕ, ℤ, List, map, slice_index, Contains}
 use Rattle.kpn_lang.specs.declared.talk.Said.{Said}
 use Rattle.kpn_lang.specs.declared.talk.Said.TheVariants.{Got, Put}
 use Rattle.kpn_lang.specs.declared.talk.Ending.{Ending}
@@ -17,6 +17,10 @@ Family = ℕ → List ℤ
 -- each list of the second family begins with that of the first
 abbrev pub IsFamilyPrefix : Family → Family → Type 0
 IsFamilyPrefix X Y = (c : ℕ) → IsPrefix (X c) (Y c)
+
+-- the families have the same lists on the in channels of process p
+pub record AgreeOnIns (t : Tables) (p : ℕ) (X Y : Family) : Type 0 where
+  pub each : (c : ℕ) → Contains (instance_at t p).ins c → X c ≡ Y c
 
 -- what is said at a port is said of the channel at that port
 abbrev pub at_channel : Instance → Said → Said

@@ -1,4 +1,5 @@
--- What the code keeps of the ends at one side of a channel: which it is if there is one.
+-- What the code's tables keep of the ends at one side of a channel: which it is if there is one. A reader of the
+-- public contracts needs none of it.
 use Rattle.std.specs.Prelude.{◌≡◌, ℕ, Bool, true, false, List, [], ◌∷◌, length, map}
 use Rattle.std.specs.List.{range_with_len}
 use Rattle.kpn_net.specs.declared.tables.End.{End}

@@ -1,6 +1,6 @@
 -- What processes wait for, and cycles of waiting processes (this project's rule, after Geilen and Basten 2003: each
 -- process waits on one channel, which has one other end, so it waits for at most one process).
-use Rattle.std.specs.Prelude.{◌≡◌, ℕ, ◌<◌, ◌≤◌, ◌⊎◌, List, [], ◌∷◌, Option, Some, None, Contains, slice_index_or}
+use Rattle.std.specs.Prelude.{◌≡◌, ℕ, ◌<◌, ◌≤◌, ◌⊎◌, List, [], ◌∷◌, length, Option, Some, None, Contains, slice_index_or}
 use Rattle.std.specs.List.{filter_map}
 use Rattle.kpn_net.specs.declared.wait.Wait.{Wait}
 use Rattle.kpn_net.specs.declared.wait.Wait.TheVariants.{Nobody, Empty, Full}
@@ -11,6 +11,19 @@ use Rattle.kpn_net.specs.Tables.{Tables, writer_of, reader_of}
 -- the wait of a process in a wait table
 abbrev pub wait_at : List Wait → ℕ → Wait
 wait_at waits p = slice_index_or waits p Nobody
+
+-- process p waits on a channel of its own: on an empty one that it reads, or on a full one that it writes
+abbrev pub IsOwnWait : Tables → (p : ℕ) → Wait → Type 0
+IsOwnWait t p Nobody = Unit {0}
+IsOwnWait t p (Empty c) = reader_of t c ≡ Process p
+IsOwnWait t p (Full c) = writer_of t c ≡ Process p
+
+-- a wait for each process, on a channel of its own
+pub record AreWaits (t : Tables) (waits : List Wait) : Type 0 where
+  pub one_each : length waits ≡ length t.instances
+  pub own : (p : ℕ) → p < length t.instances → IsOwnWait t p (wait_at waits p)
+
+-- ---- cycles of waiting processes
 
 -- the process at an end of a channel, where it is one
 abbrev pub process_at : End → Option ℕ

@@ -1,4 +1,4 @@
-// The rules that the tables of a network may break.
+//! The rules that the tables of a network may break.
 ghost use Rattle.std.specs.Prelude.{◌≡◌};
 ghost use Rattle.kpn_net.specs.declared.fault.NetFault.TheVariants.{NoMemory};
 
@@ -7,7 +7,7 @@ use std::alloc::AllocError;
 /// The first rule that the tables of a network break, with its number.
 #[derive(Clone, Copy, Debug, PartialEq, Eq)]
 pub enum NetFault {
-    /// 10: more than 256 programs, 256 instances or 1,024 channels.
+    /// 10: more than `MAX_PROCESSES` programs or instances, or more than `MAX_CHANNELS` channels.
     TooMany,
     /// 11: this instance names a program that is not there.
     NoSuchProgram(usize),
@@ -24,7 +24,7 @@ pub enum NetFault {
     /// 16: more than one end reads this channel.
     TwoReaders(usize),
     /// 17: the capacity of this channel is 0 or above the limit; the number of channels where the limit
-    /// itself is 0 or above 1,048,576.
+    /// itself is 0 or above `MAX_CAPACITY`.
     Capacity(usize),
     /// 18: memory ran out.
     NoMemory,

@@ -1,4 +1,4 @@
-// Kahn's iteration on whole lists: each process is run alone, round after round.
+//! Kahn's iteration on whole lists: each process is run alone, round after round.
 ghost use Rattle.std.specs.Prelude.{◌≡◌, ℕ, ◌<◌, ℤ, List, [], ◌++◌, length, map, slice_index_or, IfOk, All};
 ghost use Rattle.kpn_net.specs.Process.{Family, ran_on, out_of};
 ghost use Rattle.kpn_net.specs.Iteration.{first_round, next_round, iterate, sources, given_by, put_on, lists_of, NamesOutsBelow};
@@ -70,7 +70,8 @@ fn next(
     requires given { length given.now ≡ sources network.now }
     requires before { length before.now ≡ length network.now.channels }
     ensures { let t = network.now in (family : Family) → before.now ≡ lists_of t family
-        → IfOk result (λ lists. lists.items ≡ lists_of t (next_round t (given_by t given.now) turns family)) }
+        → IfOk result (λ lists.
+        lists.items ≡ lists_of t (next_round t (given_by t given.now) turns family)) }
 {
     network.known();
     let mut lists = first(alloc, network, given)?;
@@ -92,7 +93,8 @@ fn put_out(
     requires process { p < length network.now.instances }
     requires before { length before.now ≡ length network.now.channels }
     requires lists { length lists.old ≡ length network.now.channels }
-    ensures { let t = network.now in (family so_far : Family) → before.now ≡ lists_of t family → lists.old ≡ lists_of t so_far
+    ensures { let t = network.now in (family so_far : Family)
+        → before.now ≡ lists_of t family → lists.old ≡ lists_of t so_far
         → IfOk result (λ _. lists.new ≡ lists_of t (λ c. so_far c ++ out_of t p turns family c)) }
 {
     network.known();
@@ -125,8 +127,10 @@ fn run_on(
 fn append(talk: &[Said], outs: &[usize], lists: &mut [Sequence<i64>]) -> Result<(), AllocError>
     requires ports { NamesOutsBelow (length outs.now) talk.now }
     requires channels { All (λ c. c < length lists.old) outs.now }
-    ensures { let channels = range_with_len 0 (length lists.old) in (so_far : Family) → lists.old ≡ map so_far channels
-        → IfOk result (λ _. lists.new ≡ map (λ c. so_far c ++ put_on outs.now talk.now c) channels) }
+    ensures { let channels = range_with_len 0 (length lists.old) in (so_far : Family)
+        → lists.old ≡ map so_far channels
+        → IfOk result (λ _.
+        lists.new ≡ map (λ c. so_far c ++ put_on outs.now talk.now c) channels) }
 {
     for said in talk {
         if let Said::Put(port, item) = said {
@@ -143,7 +147,8 @@ fn lists_at(
     lists: &[Sequence<i64>],
 ) -> Result<Vec<Sequence<i64>>, AllocError>
     requires { All (λ c. c < length lists.now) channels.now }
-    ensures { IfOk result (λ copies. copies.items ≡ map (λ c. slice_index_or lists.now c []) channels.now) }
+    ensures { IfOk result (λ copies.
+        copies.items ≡ map (λ c. slice_index_or lists.now c []) channels.now) }
 {
     let mut copies = Vec::with_capacity(alloc, channels.len())?;
     for channel in channels {

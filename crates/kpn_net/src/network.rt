@@ -1,4 +1,4 @@
-// Networks: tables that keep the rules, made once and read many times.
+//! Networks: tables that keep the rules, made once and read many times.
 ghost use Rattle.std.specs.Prelude.{◌≡◌, ◌<◌, ◌↔◌, IsTrue, length, IfSome, IfNone, MatchResult};
 ghost use Rattle.kpn_net.specs.Tables.{instance_at, program_at, program_of, channel_at, is_source, writer_of, reader_of, capacity};
 ghost use Rattle.kpn_net.specs.Faults.{first_fault, IsNetwork};
@@ -8,6 +8,7 @@ ghost use Rattle.kpn_net.specs.View.{tables_with};
 use crate::fault::NetFault;
 use crate::tables::{ChannelSpec, End, Instance};
 use kpn_lang::Program;
+use kpn_limits::MAX_CHANNELS;
 use std::alloc::{AllocError, Global};
 use std::marker::Model;
 
@@ -16,7 +17,7 @@ mod parts;
 mod sides;
 
 use equality::same_parts;
-use parts::{MAX_CHANNELS, Parts};
+use parts::Parts;
 use sides::Side;
 
 /// A network: programs, instances of them, and channels that join them. Each channel has one writer and
@@ -46,7 +47,7 @@ impl Model for Network {
 impl Network {
     /// The network of these tables.
     ///
-    /// `limit` bounds each capacity and is 1 to 1,048,576. The fault is that of the first rule that the
+    /// `limit` bounds each capacity and is 1 to `MAX_CAPACITY`. The fault is that of the first rule that the
     /// tables break, each looked for in the whole network before the next, at the least number. The order
     /// is that of `NetFault`. Memory is asked for last. The work grows no faster than the network's size.
     pub fn new(
@@ -59,7 +60,8 @@ impl Network {
         ensures refused { let t = tables_with programs.items instances.items channels.items limit in
             IfSome (first_fault t) (λ fault. result ≡ Err fault) }
         ensures made { let t = tables_with programs.items instances.items channels.items limit in
-            IfNone (first_fault t) (MatchResult result (λ network. network ≡ t) (λ fault. fault ≡ NetFault.NoMemory)) }
+            IfNone (first_fault t)
+            (MatchResult result (λ network. network ≡ t) (λ fault. fault ≡ NetFault.NoMemory)) }
     {
         let parts = Parts {
             programs,
@@ -174,7 +176,8 @@ impl Network {
         self.readers[c]
     }
 
-    pub(crate) fn is_source(&self, c: usize) -> bool
+    /// Whether channel `c` is a source, which the outside writes.
+    pub fn is_source(&self, c: usize) -> bool
         requires { c < length self.now.channels }
         ensures { result ≡ is_source (channel_at self.now c) }
     {

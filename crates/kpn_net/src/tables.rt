@@ -1,4 +1,4 @@
-// What the tables of a network are made of.
+//! What the tables of a network are made of.
 use kpn_lang::Sequence;
 
 /// A channel of a network, by what stands at its outer end.

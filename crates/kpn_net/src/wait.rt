@@ -1,4 +1,4 @@
-// What a process waits for.
+//! What a process waits for.
 
 /// What a process waits for. A wait table has a wait for each process.
 #[derive(Clone, Copy, Debug, PartialEq, Eq)]
@@ -7,6 +7,6 @@ pub enum Wait {
     Nobody,
     /// For an item on this empty channel.
     Empty(usize),
-    /// For room on this full channel.
+    /// Until this full channel is full no more.
     Full(usize),
 }

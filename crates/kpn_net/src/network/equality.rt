@@ -1,4 +1,4 @@
-// Equality of the parts of networks by value: places in memory do not count.
+//! Equality of the parts of networks by value: places in memory do not count.
 ghost use Rattle.std.specs.Prelude.{◌≡◌, ◌↔◌, IsTrue};
 ghost use Rattle.kpn_net.specs.View.{tables_of};
 
@@ -16,7 +16,8 @@ pub fn same_parts(left: &Parts, right: &Parts) -> bool
 
 fn same_processes(left: &Parts, right: &Parts) -> bool
     ensures { IsTrue result
-        ↔ ((left.now.programs.items ≡ right.now.programs.items) × (left.now.instances.items ≡ right.now.instances.items)) }
+        ↔ ((left.now.programs.items ≡ right.now.programs.items)
+        × (left.now.instances.items ≡ right.now.instances.items)) }
 {
     same_programs(&left.programs, &right.programs)
         && same_instances(&left.instances, &right.instances)

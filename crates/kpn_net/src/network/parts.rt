@@ -1,10 +1,10 @@
-// The parts of a network before they are known to keep the rules, with a test for each rule.
+//! The parts of a network before they are known to keep the rules, with a test for each rule.
 ghost use Rattle.std.specs.Prelude.{◌≡◌, ℕ, ◌∷◌, [], length, position, None, All, if◌then◌else◌, nat_le};
 ghost use Rattle.std.specs.List.{list_any};
 ghost use Rattle.kpn_lang.specs.Parts.{IsProgram};
 ghost use Rattle.kpn_net.specs.declared.tables.End.TheVariants.{Source, Sink};
 ghost use Rattle.kpn_net.specs.Tables.{is_source, is_sink, channel_at, writers_of, readers_of};
-ghost use Rattle.kpn_net.specs.Faults.{fits, exceeds, has_no_such_capacity, is_too_large, lacks_its_program, differs_from_its_program, lacks_a_channel, wrong_capacity, instances_fault, channels_fault};
+ghost use Rattle.kpn_net.specs.Faults.{matches_program, exceeds, has_no_such_capacity, is_too_large, lacks_its_program, differs_from_its_program, lacks_a_channel, wrong_capacity, instances_fault, channels_fault};
 ghost use Rattle.kpn_net.specs.Sides.{Keeps};
 ghost use Rattle.kpn_net.specs.View.{tables_of};
 
@@ -12,13 +12,7 @@ use crate::fault::NetFault;
 use crate::network::sides::{self, Side};
 use crate::tables::{ChannelSpec, End, Instance};
 use kpn_lang::Program;
-
-/// The most programs, and the most instances, of a network.
-pub const MAX_PROCESSES: usize = 256;
-/// The most channels of a network.
-pub const MAX_CHANNELS: usize = 1024;
-/// The greatest capacity of a channel.
-pub const MAX_CAPACITY: u32 = 1_048_576;
+use kpn_limits::{MAX_CAPACITY, MAX_CHANNELS, MAX_PROCESSES};
 
 /// The programs, the instances, the channels, and the limit of each capacity.
 #[derive(Debug, Drop)]
@@ -29,8 +23,8 @@ pub struct Parts {
     pub limit: u32,
 }
 
-fn fits(instance: &Instance, program: &Program) -> bool
-    ensures { result ≡ fits instance.now program.now }
+fn matches_program(instance: &Instance, program: &Program) -> bool
+    ensures { result ≡ matches_program instance.now program.now }
 {
     instance.ins.as_slice().len() == program.ins()
         && instance.outs.as_slice().len() == program.outs()
@@ -121,7 +115,8 @@ impl Parts {
     }
 
     fn first_without_program(&self) -> Option<usize>
-        ensures { let t = tables_of self.now in result ≡ position (lacks_its_program t) t.instances }
+        ensures { let t = tables_of self.now in
+            result ≡ position (lacks_its_program t) t.instances }
     {
         let programs = self.programs.len();
         self.instances
@@ -133,13 +128,14 @@ impl Parts {
         ensures { result ≡ differs_from_its_program (tables_of self.now) instance.now }
     {
         match self.programs.get(instance.program) {
-            Some(program) => !fits(instance, program),
+            Some(program) => !matches_program(instance, program),
             None => true,
         }
     }
 
     fn first_unlike_its_program(&self) -> Option<usize>
-        ensures { let t = tables_of self.now in result ≡ position (differs_from_its_program t) t.instances }
+        ensures { let t = tables_of self.now in
+            result ≡ position (differs_from_its_program t) t.instances }
     {
         self.instances
             .iter()
@@ -155,7 +151,8 @@ impl Parts {
     }
 
     fn first_without_channel(&self) -> Option<usize>
-        ensures { let t = tables_of self.now in result ≡ position (lacks_a_channel t) t.instances }
+        ensures { let t = tables_of self.now in
+            result ≡ position (lacks_a_channel t) t.instances }
     {
         self.instances
             .iter()
@@ -186,7 +183,8 @@ impl Parts {
         requires readers_len { length readers.old ≡ length self.now.channels.items }
         requires no_writers { Keeps writers.old (λ c. []) }
         requires no_readers { Keeps readers.old (λ c. []) }
-        requires in_range { let t = tables_of self.now in position (lacks_a_channel t) t.instances ≡ None }
+        requires in_range { let t = tables_of self.now in
+            position (lacks_a_channel t) t.instances ≡ None }
         ensures written { Keeps writers.new (writers_of (tables_of self.now)) }
         ensures read { Keeps readers.new (readers_of (tables_of self.now)) }
     {

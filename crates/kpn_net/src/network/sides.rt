@@ -1,5 +1,5 @@
-// How many ends each channel has at its writing and at its reading side. The counts stand in arrays, so
-// that the rules on channels are tested before any memory is asked for.
+//! How many ends each channel has at its writing and at its reading side. The counts stand in arrays, so
+//! that the rules on channels are tested before any memory is asked for.
 ghost use Rattle.std.specs.Prelude.{◌≡◌, ℕ, ◌+◌, ◌<◌, ◌≤◌, List, ◌++◌, length, position, map, All, IfOk, take};
 ghost use Rattle.std.specs.List.{range_with_len};
 ghost use Rattle.kpn_net.specs.declared.tables.End.{End};

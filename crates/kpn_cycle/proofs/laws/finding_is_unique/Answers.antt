@@ -1,4 +1,4 @@
-use Rattle.kpn_cycle.proofs.Findings.{finding_unique}
+use Rattle.kpn_net.proofs.Findings.{finding_unique}
 use Rattle.kpn_cycle.proofs.laws.finding_is_unique.Goals as goal
 
 pub returns : goal.returns

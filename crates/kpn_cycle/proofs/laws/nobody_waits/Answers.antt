@@ -1,4 +1,4 @@
-use Rattle.kpn_cycle.proofs.WaitTables.{waits-nobody}
+use Rattle.kpn_net.proofs.WaitTables.{waits-nobody}
 use Rattle.kpn_cycle.proofs.laws.nobody_waits.Goals as goal
 
 pub returns : goal.returns

@@ -1,4 +1,4 @@
-use Rattle.kpn_cycle.proofs.Findings.{scan_search}
+use Rattle.kpn_cycle.proofs.Scans.{scan_search}
 use Rattle.kpn_cycle.proofs.laws.scan_is_search.Goals as goal
 
 pub returns : goal.returns

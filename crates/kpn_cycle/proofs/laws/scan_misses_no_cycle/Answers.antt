@@ -1,4 +1,4 @@
-use Rattle.kpn_cycle.proofs.Findings.{scan_none}
+use Rattle.kpn_cycle.proofs.Scans.{scan_none}
 use Rattle.kpn_cycle.proofs.laws.scan_misses_no_cycle.Goals as goal
 
 pub returns : goal.returns

@@ -1,4 +1,4 @@
-use Rattle.kpn_cycle.proofs.WaitTables.{waits-set}
+use Rattle.kpn_net.proofs.WaitTables.{waits-set}
 use Rattle.kpn_cycle.proofs.laws.wait_is_set.Goals as goal
 
 pub returns : goal.returns

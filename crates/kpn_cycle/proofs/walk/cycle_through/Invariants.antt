@@ -1,11 +1,11 @@
 use Rattle.std.proofs.Common.{◌<◌, length}
 use Rattle.std.specs.Prelude.{IfSome}
-use Rattle.kpn_cycle.specs.Conditions.{cap_in}
+use Rattle.kpn_cycle.specs.Scan.{cap_in}
 use Rattle.kpn_cycle.proofs.Walks.{Walked}
 use Rattle.kpn_cycle.proofs.walk.cycle_through.Given as goal
 
 abbrev pub invariant-loop-step : goal.invariant-loop-step
-invariant-loop-step l =
+invariant-loop-step g l =
     record {
       process : l.at < length l.network.instances;
       walked : Walked l.network l.waits (cap_in l.caps) l.p l._step l.at l.smallest;

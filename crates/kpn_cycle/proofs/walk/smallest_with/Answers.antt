@@ -1,7 +1,10 @@
-use Rattle.kpn_cycle.specs.Conditions.{cap_in}
+use Rattle.kpn_cycle.specs.Scan.{cap_in}
 use Rattle.kpn_net.proofs.Cycles.{smallest-push}
 use Rattle.kpn_cycle.proofs.walk.smallest_with.Goals as goal
 
 pub returns-in-Some-clause-smallest : goal.returns-in-Some-clause-smallest
 returns-in-Some-clause-smallest c =
-    rw (c.in-Full.is, c.in-Some.is) (λ channels met. smallest-push (cap_in c.args.caps.now) channels c.in-Some.c c.in-Full.d c.smaller.result met c.smaller.ensures.smallest)
+    rw (c.in-Full.is, c.in-Some.is)
+    (λ channels met.
+    smallest-push (cap_in c.args.caps.now) channels c.in-Some.c c.in-Full.d c.smaller.result met
+    c.smaller.ensures.smallest)

@@ -15,7 +15,10 @@ append-requires-clause-channels c =
 pub returns : goal.returns
 returns c = λ family so_far e f.
     let t = c.args.network.now in
-    IfOk-weaker c.append.result _ (λ _. c.append.new.lists ≡ lists_of t (λ d. so_far d ++ out_of t c.args.p c.args.turns family d))
-    (λ _ l. appended t c.args.p c.args.turns family so_far c.outs.result.now c.talk.result.now (length c.args.lists.now) c.append.new.lists
+    IfOk-weaker c.append.result _
+    (λ _. c.append.new.lists ≡ lists_of t (λ d. so_far d ++ out_of t c.args.p c.args.turns family d))
+    (λ _ l.
+    appended t c.args.p c.args.turns family so_far c.outs.result.now c.talk.result.now (length c.args.lists.now)
+    c.append.new.lists
     c.outs.ensures (c.talk.ensures ∙ ap (λ r. r.talk) (c.in_ok-run.ensures.ran family e)) c.requires.lists l)
     (c.append.ensures so_far (f ∙ ap (λ m. map so_far (range_with_len 0 m)) (sym c.requires.lists)))

@@ -42,5 +42,6 @@ returns-clause-ports c =
     let outs = (instance_at t c.args.p).outs in
     IfOk-weaker c.run_alone.result _ (λ run. NamesOutsBelow (length outs) run.talk)
     (λ run h. subst (λ (ran : Ran). NamesOutsBelow (length outs) ran.talk) (sym h)
-    (NamesOutsBelow-alone t c.known.ensures c.args.p c.requires.process c.program.result.now c.program.ensures c.pars.result.now c.args.turns c.deref.result.now))
+    (NamesOutsBelow-alone t c.known.ensures c.args.p c.requires.process c.program.result.now c.program.ensures
+    c.pars.result.now c.args.turns c.deref.result.now))
     c.run_alone.ensures

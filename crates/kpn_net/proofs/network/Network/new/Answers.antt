@@ -1,4 +1,5 @@
 use Rattle.std.proofs.Common.{◌≡◌, ◌≤◌, None, length, sym, ◌∙◌, arith}
+use Rattle.kpn_limits.specs.declared.TheConstants.{MAX_CHANNELS}
 use Rattle.kpn_net.specs.declared.tables.End.TheVariants.{Source, Sink}
 use Rattle.kpn_net.specs.Tables.{writers_of, readers_of}
 use Rattle.kpn_net.specs.Faults.{instances_fault, channels_fault}
@@ -12,14 +13,14 @@ count_ends-requires-clause-no_writers c =
     let t = tables_with c.args.programs.items c.args.instances.items c.args.channels.items c.args.limit in
     let sound : instances_fault t ≡ None = sym c.instances_fault.ensures ∙ c.in_default.is in
     let few = Sizes-from t (InstancesSound-from t sound).few in
-    Keeps-nobody _ 1024 (omega (arith, c.len-count.ensures, c.args.channels.ok.0, few.channels))
+    Keeps-nobody _ MAX_CHANNELS (omega (arith, c.len-count.ensures, c.args.channels.ok.0, few.channels))
 
 pub count_ends-requires-clause-no_readers : goal.count_ends-requires-clause-no_readers
 count_ends-requires-clause-no_readers c =
     let t = tables_with c.args.programs.items c.args.instances.items c.args.channels.items c.args.limit in
     let sound : instances_fault t ≡ None = sym c.instances_fault.ensures ∙ c.in_default.is in
     let few = Sizes-from t (InstancesSound-from t sound).few in
-    Keeps-nobody _ 1024 (omega (arith, c.len-count.ensures, c.args.channels.ok.0, few.channels))
+    Keeps-nobody _ MAX_CHANNELS (omega (arith, c.len-count.ensures, c.args.channels.ok.0, few.channels))
 
 pub invariant_of-result : goal.invariant_of-result
 invariant_of-result c =
@@ -29,9 +30,16 @@ invariant_of-result c =
     let few = Sizes-from t (InstancesSound-from t instances).few in
     let once = ChannelsSound-from t channels in
     let count : c.len-count.result ≡ length t.channels = c.len-count.ensures ∙ c.args.channels.ok.0 in
-    let fits : c.len-count.result ≤ 1024 = omega (arith, count, few.channels) in
+    let fits : c.len-count.result ≤ MAX_CHANNELS = omega (arith, count, few.channels) in
     record {
       network = record { programs = c.known_programs.ensures; sound = or_else-both _ _ instances channels };
-      writers = c.in_ok-writers.ensures ∙ ends-kept Sink c.count_ends.new.writers (writers_of t) (length t.channels) c.count_ends.ensures.written (c.count_ends.auto.writers ∙ length-fresh _ 1024 fits ∙ count) once.written_once;
-      readers = c.in_ok-readers.ensures ∙ ends-kept Source c.count_ends.new.readers (readers_of t) (length t.channels) c.count_ends.ensures.read (c.count_ends.auto.readers ∙ length-fresh _ 1024 fits ∙ count) once.read_once;
+      writers =
+          c.in_ok-writers.ensures
+          ∙ ends-kept Sink c.count_ends.new.writers (writers_of t) (length t.channels)
+          c.count_ends.ensures.written (c.count_ends.auto.writers ∙ length-fresh _ MAX_CHANNELS fits ∙ count)
+          once.written_once;
+      readers =
+          c.in_ok-readers.ensures
+          ∙ ends-kept Source c.count_ends.new.readers (readers_of t) (length t.channels) c.count_ends.ensures.read
+          (c.count_ends.auto.readers ∙ length-fresh _ MAX_CHANNELS fits ∙ count) once.read_once;
     }

@@ -8,13 +8,15 @@ pub index-requires : goal.index-requires
 index-requires c =
     let t = tables_of c.self.inside.parts in
     let ends = c.self.inside.writers in
-    let below : c.args.c < length t.channels = subst (λ (u : Tables). c.args.c < length u.channels) (sym c.self.view_is) c.requires in
+    let below : c.args.c < length t.channels =
+    subst (λ (u : Tables). c.args.c < length u.channels) (sym c.self.view_is) c.requires in
     omega (arith, ends.ok.0, length-kept t (writer_of t) ends.items c.self.invariant.writers)
 
 pub returns : goal.returns
 returns c =
     let t = tables_of c.self.inside.parts in
-    let below : c.args.c < length t.channels = subst (λ (u : Tables). c.args.c < length u.channels) (sym c.self.view_is) c.requires in
+    let below : c.args.c < length t.channels =
+    subst (λ (u : Tables). c.args.c < length u.channels) (sym c.self.view_is) c.requires in
     c.index.ensures
     ∙ kept_at t (writer_of t) c.self.inside.writers.items c.self.invariant.writers c.args.c _ below
     ∙ ap (λ u. writer_of u c.args.c) c.self.view_is

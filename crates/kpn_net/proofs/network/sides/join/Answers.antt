@@ -14,4 +14,6 @@ loop-channel-preserved c =
 
 pub returns : goal.returns
 returns c =
-    λ ends k. rw (← take_all c.loop-channel.channel-index c.args.ports.now c.loop-channel-test.false) (c.loop-channel.invariant ends k)
+    λ ends k.
+    rw (← take_all c.loop-channel.channel-index c.args.ports.now c.loop-channel-test.false)
+    (c.loop-channel.invariant ends k)

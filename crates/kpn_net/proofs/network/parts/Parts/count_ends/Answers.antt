@@ -10,15 +10,23 @@ pub join-requires : goal.join-requires
 join-requires c =
     let t = tables_of c.args.self.now in
     let items = c.deref-instance-items.ensures.value in
-    let there : HasChannels t c.instance-item.result = rw (rw items at c.instance-item.is) (HasChannels-at t c.requires.in_range c.loop-p.p c.instance-item.result (rw items at c.loop-p-test.true)) in
-    λ k d. rw (c.as_slice.ensures, c.loop-p.auto.writers, c.join_outside.auto.writers, c.requires.writers_len) (there.outs.each k d)
+    let there : HasChannels t c.instance-item.result =
+    rw (rw items at c.instance-item.is)
+    (HasChannels-at t c.requires.in_range c.loop-p.p c.instance-item.result (rw items at c.loop-p-test.true)) in
+    λ k d.
+    rw (c.as_slice.ensures, c.loop-p.auto.writers, c.join_outside.auto.writers, c.requires.writers_len)
+    (there.outs.each k d)
 
 pub join-requires-in-loop-p : goal.join-requires-in-loop-p
 join-requires-in-loop-p c =
     let t = tables_of c.args.self.now in
     let items = c.deref-instance-items.ensures.value in
-    let there : HasChannels t c.instance-item.result = rw (rw items at c.instance-item.is) (HasChannels-at t c.requires.in_range c.loop-p.p c.instance-item.result (rw items at c.loop-p-test.true)) in
-    λ k d. rw (c.as_slice-in-loop-p.ensures, c.loop-p.auto.readers, c.join_outside.auto.readers, c.requires.readers_len) (there.ins.each k d)
+    let there : HasChannels t c.instance-item.result =
+    rw (rw items at c.instance-item.is)
+    (HasChannels-at t c.requires.in_range c.loop-p.p c.instance-item.result (rw items at c.loop-p-test.true)) in
+    λ k d.
+    rw (c.as_slice-in-loop-p.ensures, c.loop-p.auto.readers, c.join_outside.auto.readers, c.requires.readers_len)
+    (there.ins.each k d)
 
 pub loop-p-preserved : goal.loop-p-preserved
 loop-p-preserved c =
@@ -29,10 +37,12 @@ loop-p-preserved c =
     record {
       written =
           Keeps-same _ _ _ (λ d. writers_of-more t c.loop-p.p d c.instance-item.result below is)
-          (rw (← c.as_slice.ensures) (c.join.ensures (writers_of (first_instances c.loop-p.p t)) c.loop-p.invariant.written));
+          (rw (← c.as_slice.ensures)
+          (c.join.ensures (writers_of (first_instances c.loop-p.p t)) c.loop-p.invariant.written));
       read =
           Keeps-same _ _ _ (λ d. readers_of-more t c.loop-p.p d c.instance-item.result below is)
-          (rw (← c.as_slice-in-loop-p.ensures) (c.join-in-loop-p.ensures (readers_of (first_instances c.loop-p.p t)) c.loop-p.invariant.read));
+          (rw (← c.as_slice-in-loop-p.ensures)
+          (c.join-in-loop-p.ensures (readers_of (first_instances c.loop-p.p t)) c.loop-p.invariant.read));
     }
 
 pub returns-clause-written : goal.returns-clause-written

@@ -15,19 +15,37 @@ loop-c-preserved c =
       | in-Inner w ↦
           let is : channel_at t c.loop-c.c ≡ channel.Inner w.in-Inner.field-0 = rw items at w.in-Inner.is in
           record {
-            written = rw w.writers-is (Keeps-outside_none _ (λ d. cond (is_source (channel_at t d)) (Source ∷ []) []) _ c.loop-c.invariant.written (ap (λ x. cond (is_source x) (Source ∷ []) []) is));
-            read = rw w.readers-is (Keeps-outside_none _ (λ d. cond (is_sink (channel_at t d)) (Sink ∷ []) []) _ c.loop-c.invariant.read (ap (λ x. cond (is_sink x) (Sink ∷ []) []) is));
+            written =
+                rw w.writers-is
+                (Keeps-outside_none _ (λ d. cond (is_source (channel_at t d)) (Source ∷ []) []) _
+                c.loop-c.invariant.written (ap (λ x. cond (is_source x) (Source ∷ []) []) is));
+            read =
+                rw w.readers-is
+                (Keeps-outside_none _ (λ d. cond (is_sink (channel_at t d)) (Sink ∷ []) []) _
+                c.loop-c.invariant.read (ap (λ x. cond (is_sink x) (Sink ∷ []) []) is));
           }
       | in-Source w ↦
           let is : channel_at t c.loop-c.c ≡ channel.Source = rw items at w.in-Source.is in
           record {
-            written = rw w.writers-is (Keeps-outside_one _ (λ d. cond (is_source (channel_at t d)) (Source ∷ []) []) _ Source c.loop-c.invariant.written (ap (λ x. cond (is_source x) (Source ∷ []) []) is));
-            read = rw w.readers-is (Keeps-outside_none _ (λ d. cond (is_sink (channel_at t d)) (Sink ∷ []) []) _ c.loop-c.invariant.read (ap (λ x. cond (is_sink x) (Sink ∷ []) []) is));
+            written =
+                rw w.writers-is
+                (Keeps-outside_one _ (λ d. cond (is_source (channel_at t d)) (Source ∷ []) []) _ Source
+                c.loop-c.invariant.written (ap (λ x. cond (is_source x) (Source ∷ []) []) is));
+            read =
+                rw w.readers-is
+                (Keeps-outside_none _ (λ d. cond (is_sink (channel_at t d)) (Sink ∷ []) []) _
+                c.loop-c.invariant.read (ap (λ x. cond (is_sink x) (Sink ∷ []) []) is));
           }
       | in-Sink w ↦
           let is : channel_at t c.loop-c.c ≡ channel.Sink w.in-Sink.field-0 = rw items at w.in-Sink.is in
           record {
-            written = rw w.writers-is (Keeps-outside_none _ (λ d. cond (is_source (channel_at t d)) (Source ∷ []) []) _ c.loop-c.invariant.written (ap (λ x. cond (is_source x) (Source ∷ []) []) is));
-            read = rw w.readers-is (Keeps-outside_one _ (λ d. cond (is_sink (channel_at t d)) (Sink ∷ []) []) _ Sink c.loop-c.invariant.read (ap (λ x. cond (is_sink x) (Sink ∷ []) []) is));
+            written =
+                rw w.writers-is
+                (Keeps-outside_none _ (λ d. cond (is_source (channel_at t d)) (Source ∷ []) []) _
+                c.loop-c.invariant.written (ap (λ x. cond (is_source x) (Source ∷ []) []) is));
+            read =
+                rw w.readers-is
+                (Keeps-outside_one _ (λ d. cond (is_sink (channel_at t d)) (Sink ∷ []) []) _ Sink
+                c.loop-c.invariant.read (ap (λ x. cond (is_sink x) (Sink ∷ []) []) is));
           }
     ]

@@ -1,0 +1,14 @@
+//! Tests of networks, channels, cycles of waiting processes and histories, by public calls alone: what no
+//! clause says, and worked rows whose values come from outside.
+#![tactic(auto)]
+
+#[cfg(test)]
+mod channels;
+#[cfg(test)]
+mod cycles;
+#[cfg(test)]
+mod histories;
+#[cfg(test)]
+mod networks;
+#[cfg(test)]
+mod worked;

@@ -1,0 +1,213 @@
+//! Networks: each refusal at its place and beside the one before it, sizes at their limits, who is at the
+//! ends of a channel, and rounds.
+use crate::worked::{copying, idle, instance, kahn, two};
+use kpn_lang::Sequence;
+use kpn_limits::MAX_CAPACITY;
+use kpn_net::ChannelSpec::{Inner, Sink, Source};
+use kpn_net::{ChannelSpec, End, Instance, NetFault, Network, rounds, same};
+use std::alloc::{AllocError, Global};
+use std::process::Abort;
+use std::test::Fail;
+
+type Ports<'a> = (usize, &'a [usize], &'a [usize]);
+
+// Why a network is refused, or None: each instance is the number of its program, its ins and its outs. The limit
+// is 9. Program 0 has an in port and an out port, 1 has two out ports, 2 has two in ports.
+fn refusal(
+    alloc: Global,
+    processes: &[Ports],
+    channels: &[ChannelSpec],
+) -> Result<Option<NetFault>, Fail> {
+    let mut instances = Vec::new(alloc);
+    for (program, ins, outs) in processes {
+        instances.push(instance(alloc, *program, ins, outs, &[])?)?;
+    }
+    let both = idle(alloc, 1, 1)?;
+    let outs = idle(alloc, 0, 2)?;
+    let ins = idle(alloc, 2, 0)?;
+    let programs = vec![in alloc; both, outs, ins]?;
+    let channels = channels.to_vec(alloc)?;
+    Ok(Network::new(alloc, programs, instances, channels, 9).err())
+}
+
+#[test]
+fn refuses_each_fault_at_its_place(rt: HostRuntime) -> Result<(), Fail> {
+    let rows: [(Ports, &[ChannelSpec], Option<NetFault>); 10] = [
+        ((9, &[], &[]), &[], Some(NetFault::NoSuchProgram(0))),
+        (
+            (0, &[0, 1], &[0]),
+            &[Inner(1), Inner(1)],
+            Some(NetFault::PortCount(0)),
+        ),
+        (
+            (0, &[5], &[0]),
+            &[Inner(1)],
+            Some(NetFault::NoSuchChannel(0)),
+        ),
+        (
+            (0, &[0], &[1]),
+            &[Inner(1), Sink(1)],
+            Some(NetFault::NoWriter(0)),
+        ),
+        ((1, &[], &[0, 0]), &[Sink(1)], Some(NetFault::TwoWriters(0))),
+        (
+            (1, &[], &[0, 1]),
+            &[Sink(1), Inner(1)],
+            Some(NetFault::NoReader(1)),
+        ),
+        ((2, &[0, 0], &[]), &[Source], Some(NetFault::TwoReaders(0))),
+        (
+            (0, &[0], &[1]),
+            &[Source, Sink(0)],
+            Some(NetFault::Capacity(1)),
+        ),
+        (
+            (0, &[0], &[1]),
+            &[Source, Sink(10)],
+            Some(NetFault::Capacity(1)),
+        ),
+        ((0, &[0], &[1]), &[Source, Sink(9)], None),
+    ];
+    for (process, channels, wanted) in rows {
+        assert_eq!(rt; refusal(rt.alloc(), &[process], channels)?, wanted);
+    }
+    Ok(())
+}
+
+// Each kind at a number beside the kind before it at a greater one.
+#[test]
+fn refuses_in_the_order_of_the_kinds(rt: HostRuntime) -> Result<(), Fail> {
+    let rows: [(&[Ports], &[ChannelSpec], NetFault); 7] = [
+        (
+            &[(0, &[], &[]), (9, &[], &[])],
+            &[],
+            NetFault::NoSuchProgram(1),
+        ),
+        (
+            &[(0, &[7], &[7]), (0, &[], &[])],
+            &[],
+            NetFault::PortCount(1),
+        ),
+        (
+            &[(0, &[0], &[1]), (0, &[1], &[9])],
+            &[Inner(1), Inner(1)],
+            NetFault::NoSuchChannel(1),
+        ),
+        (
+            &[(1, &[], &[0, 0])],
+            &[Sink(1), Inner(1)],
+            NetFault::NoWriter(1),
+        ),
+        (
+            &[(1, &[], &[0, 1]), (1, &[], &[1, 1])],
+            &[Inner(1), Sink(1)],
+            NetFault::TwoWriters(1),
+        ),
+        (
+            &[(2, &[0, 0], &[]), (1, &[], &[1, 2])],
+            &[Source, Sink(1), Inner(0)],
+            NetFault::NoReader(2),
+        ),
+        (
+            &[(2, &[1, 1], &[]), (0, &[1], &[0])],
+            &[Sink(0), Source],
+            NetFault::TwoReaders(1),
+        ),
+    ];
+    for (processes, channels, wanted) in rows {
+        assert_eq!(rt; refusal(rt.alloc(), processes, channels)?, Some(wanted));
+    }
+    Ok(())
+}
+
+// A ring of processes, each with 4 ports each way: all limits of a network are reached.
+fn ring(alloc: Global, processes: usize) -> Result<(Vec<Instance>, Vec<ChannelSpec>), AllocError> {
+    let mut instances = Vec::new(alloc);
+    let mut channels = Vec::new(alloc);
+    for p in 0..processes.min(1000) {
+        let ins = [4 * p, 4 * p + 1, 4 * p + 2, 4 * p + 3];
+        let next = if p + 1 == processes { 0 } else { 4 * (p + 1) };
+        instances.push(instance(alloc, 0, &ins, &[next, next + 1, next + 2, next + 3], &[])?)?;
+        for _ in 0..4 {
+            channels.push(Inner(MAX_CAPACITY))?;
+        }
+    }
+    Ok((instances, channels))
+}
+
+#[test]
+fn takes_networks_at_the_limits(rt: HostRuntime) -> Result<(), Fail> {
+    let a = rt.alloc();
+    for (processes, limit, wanted) in [
+        (256, 1_048_576, None),
+        (257, 1_048_576, Some(NetFault::TooMany)),
+        (256, 1_048_577, Some(NetFault::Capacity(1024))),
+        (256, 0, Some(NetFault::Capacity(1024))),
+    ] {
+        let (instances, channels) = ring(a, processes)?;
+        let program = idle(a, 4, 4)?;
+        let programs = vec![in a; program]?;
+        let answer = Network::new(a, programs, instances, channels, limit).err();
+        assert_eq!(rt; answer, wanted, "{processes} processes, limit {limit}");
+    }
+    Ok(())
+}
+
+// The lists of the n-th iterate, each against the one that is wanted.
+fn iterates(
+    rt: &impl Abort,
+    alloc: Global,
+    network: &Network,
+    given: &[Sequence<i64>],
+    n: u32,
+    wanted: &[&[i64]],
+) -> Result<(), AllocError> {
+    assert_eq!(rt; given.len(), network.sources());
+    let lists = rounds(alloc, network, given, n)?.into_vec();
+    assert_eq!(rt; lists.len(), wanted.len());
+    for (list, want) in lists.iter().zip(wanted) {
+        assert_eq!(rt; list.as_slice(), *want);
+    }
+    Ok(())
+}
+
+#[test]
+fn rounds_of_the_worked_networks(rt: HostRuntime) -> Result<(), Fail> {
+    let a = rt.alloc();
+    let copy = copying(a)?;
+    let given = [Sequence::from_vec([1, 2, 3].to_vec(a)?)];
+    iterates(&rt, a, &copy, &given, 0, &[&[1, 2, 3], &[]])?;
+    iterates(&rt, a, &copy, &given, 2, &[&[1, 2, 3], &[1, 2]])?;
+    iterates(&rt, a, &copy, &given, 3, &[&[1, 2, 3], &[1, 2, 3]])?;
+    let example = kahn(a)?;
+    iterates(&rt, a, &example, &[], 0, &[&[], &[], &[], &[], &[], &[]])?;
+    iterates(
+        &rt,
+        a,
+        &example,
+        &[],
+        3,
+        &[&[0, 1], &[0], &[1], &[0], &[1], &[0, 1]],
+    )?;
+    iterates(&rt, a, &two(a, 9)?, &[], 2, &[&[1, 2], &[3], &[312]])?;
+    assert!(rt; same(&kahn(a)?, &example) && !same(&copy, &example));
+    Ok(())
+}
+
+#[test]
+fn tables_of_a_network(rt: HostRuntime) -> Result<(), Fail> {
+    let network = copying(rt.alloc())?;
+    assert!(rt; network.programs() == 1 && network.instances() == 1 && network.channels() == 2);
+    assert!(rt; network.writer_of(0) == End::Source && network.reader_of(0) == End::Process(0));
+    assert!(rt; network.writer_of(1) == End::Process(0) && network.reader_of(1) == End::Sink);
+    assert!(rt; network.is_source(0) && !network.is_source(1));
+    assert!(rt; network.cap_of(0).is_none() && network.cap_of(1) == Some(1));
+    assert!(rt; network.limit() == 9 && network.program_number(0) == 0);
+    assert!(rt;
+        network.ins(0) == [0].as_slice()
+            && network.outs(0) == [1].as_slice()
+            && network.pars(0).is_empty()
+    );
+    assert!(rt; network.program(0).ins() == 1 && network.program_at(0).outs() == 1);
+    Ok(())
+}

@@ -1,0 +1,70 @@
+-- What a scan of all processes makes of what is found of the cycles through them.
+use Rattle.std.proofs.Common.{◌≡◌, ◌↔◌, ℕ, ◌+◌, ◌<◌, ◌≤◌, List, ◌∷◌, length, ap, subst, inl, inr, arith}
+use Rattle.std.specs.Prelude.{Contains}
+use Rattle.std.proofs.lemmas.Bool.{cases_lt}
+use Rattle.kpn_net.specs.declared.wait.Wait.{Wait}
+use Rattle.kpn_net.specs.declared.wait.Wait.TheVariants as wait
+use Rattle.kpn_net.specs.declared.found.Found.{Found}
+use Rattle.kpn_net.specs.declared.found.Found.TheVariants.{NoCycle, AllEmpty, Full}
+use Rattle.kpn_net.specs.Tables.{Tables}
+use Rattle.kpn_net.specs.Faults.{IsNetwork}
+use Rattle.kpn_net.specs.Waits.{IsOwnWait, IsCycle, full_channels}
+use Rattle.kpn_net.specs.Finding.{IsSmallestOfCycle, Finds}
+use Rattle.kpn_net.proofs.Cycles.{Contains-first, cycle_below, smallest_among}
+use Rattle.kpn_net.proofs.Findings.{written_below, read_below, full_cycle_unique, finding_unique, full_from_member}
+use Rattle.kpn_cycle.specs.Scan.{IsBelowLimit, ScanFinds}
+use Rattle.kpn_cycle.specs.WalkSoFar.{IsOnChannelBelow}
+
+-- a wait of a process is on a channel of the network
+pub on_channel : (t : Tables) → IsNetwork t → (p : ℕ) (w : Wait) → IsOwnWait t p w
+    → IsOnChannelBelow (length t.channels) w
+on_channel t network p wait.Nobody h = tt
+on_channel t network p (wait.Empty c) h = read_below t network p c h
+on_channel t network p (wait.Full c) h = written_below t network p c h
+
+module _ (t : Tables) (waits : List Wait) where
+  pub scan_search : (cap : ℕ → ℕ) (p : ℕ) → p < length t.instances
+      → ((q : ℕ) (others : List ℕ) (d : ℕ) → IsCycle t waits q others → Contains (full_channels waits (q ∷ others)) d
+      → cap d < t.limit → Contains (q ∷ others) p) → (found : Found) → ScanFinds t waits cap found → (c : ℕ)
+      → (found ≡ Full c) ↔ (IsSmallestOfCycle t waits cap p c × (cap c < t.limit))
+  scan_search cap p below only NoCycle scan c =
+      (λ e. absurd cc, λ (h, small). absurd (scan p c below (record { found = h; below = small })))
+  scan_search cap p below only AllEmpty scan c = absurd scan
+  scan_search cap p below only (Full d) (q, first) c =
+      let there = first.here in
+      let h = there.found in
+      let here = full_from_member t waits cap q d h p (only q h.others d h.cycle h.smallest.among there.below) in (
+        λ e.
+            let same : d ≡ c = cc in
+            let P : ℕ → Type 0 = λ z. IsSmallestOfCycle t waits cap p z × (cap z < t.limit) in
+            subst P same (here, there.below),
+        λ (k, small). ap Full (full_cycle_unique t waits cap p d c here k),
+      )
+
+  pub scan_none : (cap : ℕ → ℕ) → ScanFinds t waits cap NoCycle → (p : ℕ) (others : List ℕ) (d : ℕ)
+      → IsCycle t waits p others → Contains (full_channels waits (p ∷ others)) d → t.limit ≤ cap d
+  scan_none cap scan p others d cycle among =
+      let s = smallest_among cap (full_channels waits (p ∷ others)) d among in
+      let below = cycle_below t waits p others cycle p (Contains-first p others) in
+      elim (cases_lt (cap s.channel) t.limit) [
+        | inl small ↦ absurd
+            (scan p s.channel below
+            (record { found = record { others = others; cycle = cycle; smallest = s.is }; below = small }))
+        | inr large ↦ elim (s.is.least d among) [ inl less ↦ omega arith | inr tie ↦ omega arith ]
+      ]
+
+  -- the processes before p have no such cycle, nor does p
+  pub scan-more : (cap : ℕ → ℕ) (p : ℕ) (found : Found) → ((q d : ℕ) → q < p → ¬ IsBelowLimit t waits cap q d)
+      → Finds t waits cap p found → ((c : ℕ) → found ≡ Full c → t.limit ≤ cap c) → (q d : ℕ) → q < p + 1
+      → ¬ IsBelowLimit t waits cap q d
+  scan-more cap p found before here large q d below =
+      elim (cases_lt q p) [
+        | inl less ↦ before q d less
+        | inr last ↦
+            let same : q ≡ p = omega arith in
+            λ b.
+            let at_p : IsBelowLimit t waits cap p d = subst (λ r. IsBelowLimit t waits cap r d) same b in
+            let limit = large d (finding_unique t waits cap p found (Full d) here at_p.found) in
+            let small = at_p.below in
+            omega arith
+      ]

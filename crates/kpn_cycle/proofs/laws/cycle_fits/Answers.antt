@@ -1,5 +1,0 @@
-use Rattle.kpn_net.proofs.Cycles.{cycle_short}
-use Rattle.kpn_cycle.proofs.laws.cycle_fits.Goals as goal
-
-pub returns : goal.returns
-returns c = λ t waits p others cycle. cycle_short t waits p others cycle

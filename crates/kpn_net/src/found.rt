@@ -1,0 +1,13 @@
+//! What a search for a cycle finds.
+
+/// What a search for a cycle of waiting processes finds.
+#[derive(Clone, Copy, Debug, PartialEq, Eq)]
+pub enum Found {
+    /// There is no cycle.
+    NoCycle,
+    /// There is a cycle, and each of its members waits on an empty channel.
+    AllEmpty,
+    /// There is a cycle, and this is the smallest of the channels on which its members wait as full:
+    /// that of least capacity, on a tie that of least number.
+    Full(usize),
+}
