@@ -41,7 +41,8 @@ HasSaidAll-more t B e p h =
     record {
       whole = λ n Y longer.
           IsPrefix-trans (talk_on t p n Y) (talk_of B p) (talk_of (B ++ e ∷ []) p)
-          (h.whole n Y (λ c. IsPrefix-trans (read_on B c) (read_on (B ++ e ∷ []) c) (Y c) (read_on-grows B e c) (longer c)))
+          (h.whole n Y
+          (λ c. IsPrefix-trans (read_on B c) (read_on (B ++ e ∷ []) c) (Y c) (read_on-grows B e c) (longer c)))
           (talk_of-grows B e p);
     }
 
@@ -50,7 +51,8 @@ IsLast-ending_of Done = tt
 IsLast-ending_of Overflow = tt
 IsLast-ending_of ZeroDivisor = tt
 
-HasSaidAll-ends : (t : Tables) (B : List Event) (p : ℕ) (how : How) → Legal t (B ++ Ended p how ∷ []) → HasSaidAll t B p
+HasSaidAll-ends : (t : Tables) (B : List Event) (p : ℕ) (how : How) → Legal t (B ++ Ended p how ∷ [])
+    → HasSaidAll t B p
 HasSaidAll-ends t B p how legal =
     let f = Legal-last t B (Ended p how) legal in
     record {
@@ -58,7 +60,8 @@ HasSaidAll-ends t B p how legal =
           talk_settled-last t p (read_on B) Y longer (ending_of how) (talk_of B p) (IsLast-ending_of how) f.due.1 n;
     }
 
-at_its_end : (t : Tables) (B : List Event) (e : Event) → Legal t (B ++ e ∷ []) → (p : ℕ) → is_end_of p e ≡ true → HasSaidAll t B p
+at_its_end : (t : Tables) (B : List Event) (e : Event) → Legal t (B ++ e ∷ []) → (p : ℕ) → is_end_of p e ≡ true
+    → HasSaidAll t B p
 at_its_end t B (Ended q how) legal p is = subst (HasSaidAll t B) (eqb-true q p is) (HasSaidAll-ends t B q how legal)
 at_its_end t B event legal p is = absurd (false≢true is)
 
@@ -81,10 +84,12 @@ HasSaidAll-ended t p =
 
 pub record IsStarved (t : Tables) (H : List Event) (p c : ℕ) : Type 0 where
   pub reads : Reads t p c
-  pub whole : (n : ℕ) (Y : Family) → IsFamilyPrefix (read_on H) Y → Y c ≡ read_on H c → IsPrefix (talk_on t p n Y) (talk_of H p)
+  pub whole : (n : ℕ) (Y : Family) → IsFamilyPrefix (read_on H) Y → Y c ≡ read_on H c
+      → IsPrefix (talk_on t p n Y) (talk_of H p)
 
 -- after an event of others
-IsStarved-other : (t : Tables) → IsNetwork t → (B : List Event) (e : Event) → Legal t (B ++ e ∷ []) → (p c : ℕ) → is_of p e ≡ false → IsStarved t B p c → IsStarved t (B ++ e ∷ []) p c
+IsStarved-other : (t : Tables) → IsNetwork t → (B : List Event) (e : Event) → Legal t (B ++ e ∷ []) → (p c : ℕ)
+    → is_of p e ≡ false → IsStarved t B p c → IsStarved t (B ++ e ∷ []) p c
 IsStarved-other t network B e legal p c other h =
     let reader = reader_of-Reads t network p c h.reads in
     let none = read_in-other t network c p reader e (Owns-last t network B e legal) other in
@@ -99,7 +104,8 @@ IsStarved-other t network B e legal p c other h =
     }
 
 -- after its wait
-IsStarved-waits : (t : Tables) → IsNetwork t → (B : List Event) (p c : ℕ) → Legal t (B ++ WaitEmpty p c ∷ []) → IsStarved t (B ++ WaitEmpty p c ∷ []) p c
+IsStarved-waits : (t : Tables) → IsNetwork t → (B : List Event) (p c : ℕ) → Legal t (B ++ WaitEmpty p c ∷ [])
+    → IsStarved t (B ++ WaitEmpty p c ∷ []) p c
 IsStarved-waits t network B p c legal =
     let after = B ++ WaitEmpty p c ∷ [] in
     let f = Legal-last t B (WaitEmpty p c) legal in
@@ -113,7 +119,8 @@ IsStarved-waits t network B p c legal =
           (talk_of-grows B (WaitEmpty p c) p);
     }
 
-own_wait : (t : Tables) → IsNetwork t → (B : List Event) (e : Event) → Legal t (B ++ e ∷ []) → (p q c : ℕ) → is_of p e ≡ true → e ≡ WaitEmpty q c → IsStarved t (B ++ e ∷ []) p c
+own_wait : (t : Tables) → IsNetwork t → (B : List Event) (e : Event) → Legal t (B ++ e ∷ []) → (p q c : ℕ)
+    → is_of p e ≡ true → e ≡ WaitEmpty q c → IsStarved t (B ++ e ∷ []) p c
 own_wait t network B e legal p q c own is =
     let who : q ≡ p = eqb-true q p (subst (λ x. is_of p x ≡ true) is own) in
     let same : e ≡ WaitEmpty p c = is ∙ ap (λ x. WaitEmpty x c) who in
@@ -123,7 +130,8 @@ own_wait t network B e legal p q c own is =
 Some-injective : (a b : Event) → ◌≡◌ {A = Option Event} (Some a) (Some b) → a ≡ b
 Some-injective a b e = cc
 
-pub IsStarved-last : (t : Tables) → IsNetwork t → (p : ℕ) (H : List Event) → Legal t H → (q c : ℕ) → last_event H p ≡ Some (WaitEmpty q c) → IsStarved t H p c
+pub IsStarved-last : (t : Tables) → IsNetwork t → (p : ℕ) (H : List Event) → Legal t H → (q c : ℕ)
+    → last_event H p ≡ Some (WaitEmpty q c) → IsStarved t H p c
 IsStarved-last t network p =
     by_events t (λ H. (q c : ℕ) → last_event H p ≡ Some (WaitEmpty q c) → IsStarved t H p c)
     (λ q c is. absurd cc)
@@ -150,7 +158,8 @@ full_if : (b : Bool) (d c : ℕ) → cond b (Full d) Nobody ≡ Empty c → ⊥
 full_if true d c e = absurd cc
 full_if false d c e = absurd cc
 
-pub empty_wait : (t : Tables) (H : List Event) (last : Option Event) (c : ℕ) → wait_of_last t H last ≡ Empty c → EmptyWait H last c
+pub empty_wait : (t : Tables) (H : List Event) (last : Option Event) (c : ℕ) → wait_of_last t H last ≡ Empty c
+    → EmptyWait H last c
 empty_wait t H None c e = absurd cc
 empty_wait t H (Some (WaitEmpty q d)) c e =
     let r = empty_if (is_empty H d) d c e in
@@ -163,7 +172,8 @@ empty_wait t H (Some (WaitFull q d)) c e = absurd (full_if (is_full t H d) d c e
 empty_wait t H (Some event) c e = absurd cc
 
 -- on an empty channel all was read
-pub all_read : (t : Tables) (H : List Event) → Legal t H → (c : ℕ) → is_empty H c ≡ true → read_on H c ≡ written_on H c
+pub all_read : (t : Tables) (H : List Event) → Legal t H → (c : ℕ) → is_empty H c ≡ true
+    → read_on H c ≡ written_on H c
 all_read t H legal c empty =
     let none : length (unread_on H c) ≡ 0 = eqb-true _ _ empty in
     let rest = length-drop (length (read_on H c)) (written_on H c) in
@@ -172,24 +182,28 @@ all_read t H legal c empty =
 -- ---- a quiet history
 
 -- on the journals each process says no more than it said
-pub said_all : (t : Tables) → IsNetwork t → (H : List Event) → Legal t H → IsQuiet t H → (p : ℕ) → p < length t.instances → (n : ℕ) → IsPrefix (talk_on t p n (written_on H)) (talk_of H p)
+pub said_all : (t : Tables) → IsNetwork t → (H : List Event) → Legal t H → IsQuiet t H → (p : ℕ)
+    → p < length t.instances → (n : ℕ) → IsPrefix (talk_on t p n (written_on H)) (talk_of H p)
 said_all t network H legal quiet p below n =
     elim (quiet.each p below) [
       | inl ended ↦ (HasSaidAll-ended t p H legal ended).whole n (written_on H) (reads_begin_writes t H legal)
       | inr waits ↦
           let w = empty_wait t H (last_event H p) waits.channel waits.blocked in
-          (IsStarved-last t network p H legal w.process waits.channel w.is).whole n (written_on H) (reads_begin_writes t H legal)
+          (IsStarved-last t network p H legal w.process waits.channel w.is).whole n (written_on H)
+          (reads_begin_writes t H legal)
           (sym (all_read t H legal waits.channel w.empty))
     ]
 
-pub IsClosed-quiet : (t : Tables) → IsNetwork t → (H : List Event) → Legal t H → IsQuiet t H → IsClosed t (fed t H) (written_on H)
+pub IsClosed-quiet : (t : Tables) → IsNetwork t → (H : List Event) → Legal t H → IsQuiet t H
+    → IsClosed t (fed t H) (written_on H)
 IsClosed-quiet t network H legal quiet =
     record {
       fed = λ c source. sym (fed-source t H c source);
       contains = λ n c other. by_writer n c (writer_of t c) refl;
     }
   where
-    by_writer : (n c : ℕ) (end : End) → writer_of t c ≡ end → IsPrefix (written_by t n (written_on H) c end) (written_on H c)
+    by_writer : (n c : ℕ) (end : End) → writer_of t c ≡ end
+        → IsPrefix (written_by t n (written_on H) c end) (written_on H c)
     by_writer n c (Process p) w =
         let below = (Writes-writer_of t p c w).process in
         IsPrefix-trans _ (put_at (talk_of H p) c) (written_on H c)

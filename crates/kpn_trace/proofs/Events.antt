@@ -14,14 +14,17 @@ use Rattle.kpn_trace.specs.Channels.{written_in, read_in, written_on, read_on}
 
 -- ---- any lists
 
-pub flat_map-push : {X A : Type 0} (f : X → List A) (xs : List X) (x : X) → flat_map f (xs ++ x ∷ []) ≡ flat_map f xs ++ f x
+pub flat_map-push : {X A : Type 0} (f : X → List A) (xs : List X) (x : X)
+    → flat_map f (xs ++ x ∷ []) ≡ flat_map f xs ++ f x
 flat_map-push f xs x = sym (flat_map_more f [] xs x)
 
-pub flat_map-grows : {X A : Type 0} (f : X → List A) (xs : List X) (x : X) → IsPrefix (flat_map f xs) (flat_map f (xs ++ x ∷ []))
+pub flat_map-grows : {X A : Type 0} (f : X → List A) (xs : List X) (x : X)
+    → IsPrefix (flat_map f xs) (flat_map f (xs ++ x ∷ []))
 flat_map-grows f xs x = rw (flat_map-push f xs x) (IsPrefix-append (flat_map f xs) (f x))
 
 -- where the event adds nothing
-pub flat_map-same : {X A : Type 0} (f : X → List A) (xs : List X) (x : X) → f x ≡ [] → flat_map f (xs ++ x ∷ []) ≡ flat_map f xs
+pub flat_map-same : {X A : Type 0} (f : X → List A) (xs : List X) (x : X) → f x ≡ []
+    → flat_map f (xs ++ x ∷ []) ≡ flat_map f xs
 flat_map-same f xs x e = flat_map-push f xs x ∙ ap (λ ys. flat_map f xs ++ ys) e ∙ append-nil (flat_map f xs)
 
 pub last_or-push : {A : Type 0} (o : Option A) (xs : List A) (x : A) → last_or o (xs ++ x ∷ []) ≡ Some x
@@ -35,10 +38,12 @@ last_event-own H e p own =
     ap (last_or None) (filter-append (is_of p) H (e ∷ []) ∙ ap (λ b. filter (is_of p) H ++ cond b (e ∷ []) []) own)
     ∙ last_or-push None (filter (is_of p) H) e
 
-pub last_event-other : (H : List Event) (e : Event) (p : ℕ) → is_of p e ≡ false → last_event (H ++ e ∷ []) p ≡ last_event H p
+pub last_event-other : (H : List Event) (e : Event) (p : ℕ) → is_of p e ≡ false
+    → last_event (H ++ e ∷ []) p ≡ last_event H p
 last_event-other H e p other =
     ap (last_or None)
-    (filter-append (is_of p) H (e ∷ []) ∙ ap (λ b. filter (is_of p) H ++ cond b (e ∷ []) []) other ∙ append-nil (filter (is_of p) H))
+    (filter-append (is_of p) H (e ∷ []) ∙ ap (λ b. filter (is_of p) H ++ cond b (e ∷ []) []) other
+    ∙ append-nil (filter (is_of p) H))
 
 -- ---- what processes said
 
@@ -62,18 +67,21 @@ talk_of-other H e p other = flat_map-same (said_in p) H e (said_in-other p e oth
 
 -- ---- ends
 
-pub has_ended-push : (H : List Event) (e : Event) (p : ℕ) → has_ended (H ++ e ∷ []) p ≡ (has_ended H p || (is_end_of p e || false))
+pub has_ended-push : (H : List Event) (e : Event) (p : ℕ)
+    → has_ended (H ++ e ∷ []) p ≡ (has_ended H p || (is_end_of p e || false))
 has_ended-push H e p = list_any-append (is_end_of p) H (e ∷ [])
 
 -- ---- items
 
-pub written_on-push : (H : List Event) (e : Event) (c : ℕ) → written_on (H ++ e ∷ []) c ≡ written_on H c ++ written_in c e
+pub written_on-push : (H : List Event) (e : Event) (c : ℕ)
+    → written_on (H ++ e ∷ []) c ≡ written_on H c ++ written_in c e
 written_on-push H e c = flat_map-push (written_in c) H e
 
 pub written_on-grows : (H : List Event) (e : Event) (c : ℕ) → IsPrefix (written_on H c) (written_on (H ++ e ∷ []) c)
 written_on-grows H e c = flat_map-grows (written_in c) H e
 
-pub written_on-same : (H : List Event) (e : Event) (c : ℕ) → written_in c e ≡ [] → written_on (H ++ e ∷ []) c ≡ written_on H c
+pub written_on-same : (H : List Event) (e : Event) (c : ℕ) → written_in c e ≡ []
+    → written_on (H ++ e ∷ []) c ≡ written_on H c
 written_on-same H e c none = flat_map-same (written_in c) H e none
 
 pub read_on-push : (H : List Event) (e : Event) (c : ℕ) → read_on (H ++ e ∷ []) c ≡ read_on H c ++ read_in c e

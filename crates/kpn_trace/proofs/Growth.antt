@@ -1,5 +1,6 @@
--- A blocked cycle with a full channel below the limit has the process whose wait is the last event as a member, in every
--- legal history. So the growth of its smallest full channel is owed, and where none is owed there is no such cycle.
+-- A blocked cycle with a full channel below the limit has the process whose wait is the last event as a member, in
+-- every legal history. So the growth of its smallest full channel is owed, and where none is owed there is no such
+-- cycle.
 use Rattle.std.specs.Prelude.{Contains}
 use Rattle.std.specs.List.{last_or}
 use Rattle.std.specs.Option.{option_map, unwrap_or}
@@ -14,26 +15,28 @@ use Rattle.kpn_net.specs.Waits.{wait_at, awaited, full_channel, full_channels, W
 use Rattle.kpn_net.proofs.Cycles.{Contains-cases, Contains-none, smallest_among, smallest_unique, full_at, rotated, cycle_unique, cycle_below}
 use Rattle.kpn_trace.specs.declared.event.Event.{Event}
 use Rattle.kpn_trace.specs.declared.event.Event.TheVariants.{WaitEmpty, WaitFull, Grow}
-use Rattle.kpn_trace.specs.Channels.{reaches, unread_on, reader_lives, is_empty, capacity_after, room_after, is_full, is_growth_of}
+use Rattle.kpn_trace.specs.Channels.{reaches, unread_on, reader_lives, is_empty, capacity_after, capacity_or_zero, is_full, is_growth_of}
 use Rattle.kpn_trace.specs.Waiting.{wait_of_last, wait_of, waits_of, full_in_cycle}
-use Rattle.kpn_trace.specs.Legal.{Stands, waiter, waiter_of_last, OwesGrowth, Legal}
+use Rattle.kpn_trace.specs.Legal.{IsConsistent, waiter, waiter_of_last, OwesGrowth, Legal}
 use Rattle.kpn_trace.specs.Talks.{last_event}
 use Rattle.kpn_trace.specs.Stops.{OwesNothing, CanGrow}
 use Rattle.kpn_trace.proofs.Events.{last_or-push}
-use Rattle.kpn_trace.proofs.Legality.{Legal-last, Legal-before, Legal-stands, by_events}
+use Rattle.kpn_trace.proofs.Legality.{Legal-last, Legal-before, Legal-consistent, by_events}
 use Rattle.kpn_trace.proofs.OneMore.{capacity_after-push, unread_length, unread_length-push}
 use Rattle.kpn_trace.proofs.Searching.{member, member-true, member-from}
-use Rattle.kpn_trace.proofs.StandingWaits.{wait_at-waits_of, StoodBefore, stood_before}
+use Rattle.kpn_trace.proofs.EarlierWaits.{wait_at-waits_of, HadCycle, had_cycle}
 
 -- ---- capacities
 
-more_room : (o : Option ℕ) (k : ℕ) → unwrap_or o 0 ≤ unwrap_or (option_map (λ cap. cap + k) o) 0
-more_room None k = omega arith
-more_room (Some cap) k = omega arith
+more_capacity : (o : Option ℕ) (k : ℕ) → unwrap_or o 0 ≤ unwrap_or (option_map (λ cap. cap + k) o) 0
+more_capacity None k = omega arith
+more_capacity (Some cap) k = omega arith
 
 -- no capacity falls
-room_grows : (t : Tables) (B : List Event) (e : Event) (c : ℕ) → room_after t B c ≤ room_after t (B ++ e ∷ []) c
-room_grows t B e c = rw (capacity_after-push t B e c) (more_room (capacity_after t B c) (cond (is_growth_of c e) 1 0))
+capacity_grows : (t : Tables) (B : List Event) (e : Event) (c : ℕ)
+    → capacity_or_zero t B c ≤ capacity_or_zero t (B ++ e ∷ []) c
+capacity_grows t B e c =
+    rw (capacity_after-push t B e c) (more_capacity (capacity_after t B c) (cond (is_growth_of c e) 1 0))
 
 -- ---- full channels
 
@@ -56,7 +59,8 @@ if_empty true d c e = cc
 if_empty false d c e = cc
 
 -- a channel on which a process is blocked as full is full
-pub full_where_waited : (t : Tables) (H : List Event) (last : Option Event) (c : ℕ) → wait_of_last t H last ≡ Full c → is_full t H c ≡ true
+pub full_where_waited : (t : Tables) (H : List Event) (last : Option Event) (c : ℕ) → wait_of_last t H last ≡ Full c
+    → is_full t H c ≡ true
 full_where_waited t H None c e = absurd cc
 full_where_waited t H (Some (WaitEmpty q d)) c e = absurd (if_empty (is_empty H d) d c e)
 full_where_waited t H (Some (WaitFull q d)) c e =
@@ -65,14 +69,14 @@ full_where_waited t H (Some event) c e = absurd cc
 
 -- ---- the growth that is owed
 
-Some-number : (a b : ℕ) → ◌≡◌ {A = Option ℕ} (Some a) (Some b) → a ≡ b
+pub Some-number : (a b : ℕ) → ◌≡◌ {A = Option ℕ} (Some a) (Some b) → a ≡ b
 Some-number a b e = cc
 
 -- the process whose wait is the last event
-abbrev last_waiter : List Event → Option ℕ
+abbrev pub last_waiter : List Event → Option ℕ
 last_waiter H = waiter_of_last (last_or None H)
 
-last_waiter-push : (B : List Event) (e : Event) → last_waiter (B ++ e ∷ []) ≡ waiter e
+pub last_waiter-push : (B : List Event) (e : Event) → last_waiter (B ++ e ∷ []) ≡ waiter e
 last_waiter-push B e = ap waiter_of_last (last_or-push None B e)
 
 -- a cycle that can grow has the process whose wait is the last event
@@ -93,9 +97,13 @@ grows_of : (t : Tables) (H : List Event) (g : CanGrow t H) → IsWaiters H g.pro
 grows_of t H g w =
     let waits = waits_of t H in
     let round = rotated t waits g.process g.others g.cycle w.waiting w.member in
-    let full = Contains-permutation (full_channels waits (g.process ∷ g.others)) (full_channels waits (w.waiting ∷ round.rest)) g.channel round.full g.full in
-    let least = smallest_among (room_after t H) (full_channels waits (w.waiting ∷ round.rest)) g.channel full in
-    let smaller : (room_after t H least.channel < room_after t H g.channel) ⊎ ((room_after t H least.channel ≡ room_after t H g.channel) × (least.channel ≤ g.channel)) = least.is.least g.channel full in
+    let full =
+    Contains-permutation (full_channels waits (g.process ∷ g.others)) (full_channels waits (w.waiting ∷ round.rest))
+    g.channel round.full g.full in
+    let least = smallest_among (capacity_or_zero t H) (full_channels waits (w.waiting ∷ round.rest)) g.channel full in
+    let smaller : (capacity_or_zero t H least.channel < capacity_or_zero t H g.channel)
+    ⊎ ((capacity_or_zero t H least.channel ≡ capacity_or_zero t H g.channel) × (least.channel ≤ g.channel)) =
+    least.is.least g.channel full in
     let below = g.below_limit in
     record {
       process = w.waiting;
@@ -110,13 +118,15 @@ grows_of t H g w =
     }
 
 -- at most one growth is owed
-pub one_owed : (t : Tables) (H : List Event) (p d q e : ℕ) → OwesGrowth t H p d → OwesGrowth t H q e → (p ≡ q) × (d ≡ e)
+pub one_owed : (t : Tables) (H : List Event) (p d q e : ℕ) → OwesGrowth t H p d → OwesGrowth t H q e
+    → (p ≡ q) × (d ≡ e)
 one_owed t H p d q e owed other =
     let process : q ≡ p = Some-number q p (sym other.wait ∙ owed.wait) in
     let here : OwesGrowth t H p e = subst (λ r. OwesGrowth t H r e) process other in
     let others = cycle_unique t (waits_of t H) p owed.others here.others owed.cycle here.cycle in
-    let smallest : IsSmallest (room_after t H) (full_in_cycle t H p here.others) d = subst (λ xs. IsSmallest (room_after t H) (full_in_cycle t H p xs) d) others owed.smallest in
-    (sym process, smallest_unique (room_after t H) (full_in_cycle t H p here.others) d e smallest here.smallest)
+    let smallest : IsSmallest (capacity_or_zero t H) (full_in_cycle t H p here.others) d =
+    subst (λ xs. IsSmallest (capacity_or_zero t H) (full_in_cycle t H p xs) d) others owed.smallest in
+    (sym process, smallest_unique (capacity_or_zero t H) (full_in_cycle t H p here.others) d e smallest here.smallest)
 
 pub none_owed_at_first : (t : Tables) → OwesNothing t []
 none_owed_at_first t p d owed = let wait = owed.wait in absurd cc
@@ -128,9 +138,10 @@ none_owed_after t B e none p d owed =
 -- ---- one more event
 
 -- the cycle could grow before
-could_grow : (t : Tables) (B : List Event) (e : Event) (g : CanGrow t (B ++ e ∷ [])) → StoodBefore t B (B ++ e ∷ []) g.process g.others → CanGrow t B
+could_grow : (t : Tables) (B : List Event) (e : Event) (g : CanGrow t (B ++ e ∷ []))
+    → HadCycle t B (B ++ e ∷ []) g.process g.others → CanGrow t B
 could_grow t B e g before =
-    let room = room_grows t B e g.channel in let below = g.below_limit in
+    let room = capacity_grows t B e g.channel in let below = g.below_limit in
     record {
       process = g.process;
       others = g.others;
@@ -141,21 +152,24 @@ could_grow t B e g before =
     }
 
 -- after a growth of d nobody waits on d as full, so a cycle that waited there has gone
-capacity_of_growth : (t : Tables) (B : List Event) (p d cap : ℕ) → capacity_after t B d ≡ Some cap → capacity_after t (B ++ Grow p d ∷ []) d ≡ Some (cap + 1)
+capacity_of_growth : (t : Tables) (B : List Event) (p d cap : ℕ) → capacity_after t B d ≡ Some cap
+    → capacity_after t (B ++ Grow p d ∷ []) d ≡ Some (cap + 1)
 capacity_of_growth t B p d cap is =
     capacity_after-push t B (Grow p d) d
     ∙ ap (λ o. option_map (λ n. n + cond (eqb d d) 1 0) o) is
     ∙ ap (λ b. Some (cap + cond b 1 0)) (eq-eqb d d refl)
 
-not_full_then : (t : Tables) (B : List Event) (p d : ℕ) → Stands t B → d < length t.channels → is_full t B d ≡ true → is_full t (B ++ Grow p d ∷ []) d ≡ true → ⊥
-not_full_then t B p d stands there was now =
+pub not_full_then : (t : Tables) (B : List Event) (p d : ℕ) → IsConsistent t B → d < length t.channels
+    → is_full t B d ≡ true → is_full t (B ++ Grow p d ∷ []) d ≡ true → ⊥
+not_full_then t B p d consistent there was now =
     let H : List Event = B ++ Grow p d ∷ [] in
     let before = and_parts (reader_lives t B d) (reaches (capacity_after t B d) (length (unread_on B d))) was in
     let after = and_parts (reader_lives t H d) (reaches (capacity_after t H d) (length (unread_on H d))) now in
     let cap = reached (capacity_after t B d) (length (unread_on B d)) before.1 in
     let larger = reached (capacity_after t H d) (length (unread_on H d)) after.1 in
-    let same : cap.cap + 1 ≡ larger.cap = Some-number _ _ (sym (capacity_of_growth t B p d cap.cap cap.is) ∙ larger.is) in
-    let within = stands.within d there before.0 cap.cap cap.is in
+    let same : cap.cap + 1 ≡ larger.cap =
+    Some-number _ _ (sym (capacity_of_growth t B p d cap.cap cap.is) ∙ larger.is) in
+    let within = consistent.within d there before.0 cap.cap cap.is in
     let unread_before = unread_length B d in
     let unread_after = unread_length-push B (Grow p d) d in
     let reach = larger.at_most in
@@ -164,7 +178,8 @@ not_full_then t B p d stands there was now =
 -- ---- members of a cycle
 
 -- each member waits for some process
-member_waits : (t : Tables) (waits : List Wait) (p : ℕ) (others : List ℕ) (z : ℕ) → WaitInTurn t waits p others z → (q : ℕ) → Contains (p ∷ others) q → (r : ℕ) × (awaited t (wait_at waits q) ≡ Some r)
+member_waits : (t : Tables) (waits : List Wait) (p : ℕ) (others : List ℕ) (z : ℕ) → WaitInTurn t waits p others z
+    → (q : ℕ) → Contains (p ∷ others) q → (r : ℕ) × (awaited t (wait_at waits q) ≡ Some r)
 member_waits t waits p [] z turn q h =
     elim (Contains-cases p [] q h) [
       | inl same ↦ (z, subst (λ x. awaited t (wait_at waits x) ≡ Some z) same turn.awaited)
@@ -182,54 +197,73 @@ full_of (Empty d) c e = absurd cc
 full_of (Full d) c e = ap Full (Some-number d c e)
 
 -- who waits on a channel as full in the table is blocked on it
-pub blocked_in_table : (t : Tables) (H : List Event) (p c : ℕ) → p < length t.instances → full_channel (wait_at (waits_of t H) p) ≡ Some c → wait_of t H p ≡ Full c
+pub blocked_in_table : (t : Tables) (H : List Event) (p c : ℕ) → p < length t.instances
+    → full_channel (wait_at (waits_of t H) p) ≡ Some c → wait_of t H p ≡ Full c
 blocked_in_table t H p c below is = sym (wait_at-waits_of t H p below) ∙ full_of _ c is
 
-pub full_in_table : (t : Tables) (H : List Event) (p c : ℕ) → p < length t.instances → full_channel (wait_at (waits_of t H) p) ≡ Some c → is_full t H c ≡ true
+pub full_in_table : (t : Tables) (H : List Event) (p c : ℕ) → p < length t.instances
+    → full_channel (wait_at (waits_of t H) p) ≡ Some c → is_full t H c ≡ true
 full_in_table t H p c below is = full_where_waited t H (last_event H p) c (blocked_in_table t H p c below is)
 
 -- ---- a cycle that can grow has the last waiter
 
 -- a growth that was owed takes the cycle away that it was owed for
-no_cycle_then : (t : Tables) → IsNetwork t → (B : List Event) (p d : ℕ) → Legal t (B ++ Grow p d ∷ []) → AreWaiters t B → (g : CanGrow t (B ++ Grow p d ∷ [])) → ⊥
+no_cycle_then : (t : Tables) → IsNetwork t → (B : List Event) (p d : ℕ) → Legal t (B ++ Grow p d ∷ [])
+    → AreWaiters t B → (g : CanGrow t (B ++ Grow p d ∷ [])) → ⊥
 unfolding could_grow
 no_cycle_then t network B p d legal waiters g =
     let H : List Event = B ++ Grow p d ∷ [] in
-    let before = stood_before t network B (Grow p d) legal g.process g.others (λ q h e. absurd cc) g.cycle in
+    let before = had_cycle t network B (Grow p d) legal g.process g.others (λ q h e. absurd cc) g.cycle in
     let w = waiters (could_grow t B (Grow p d) g before) in
     let next = Legal-last t B (Grow p d) legal in
     let owed = next.due in
     let process : w.waiting ≡ p = Some-number _ _ (sym w.last ∙ owed.wait) in
-    let round = rotated t (waits_of t B) g.process g.others before.cycle p (subst (λ q. Contains (g.process ∷ g.others) q) process w.member) in
-    let rest : owed.others ≡ round.rest = cycle_unique t (waits_of t B) p owed.others round.rest owed.cycle round.cycle in
+    let round =
+    rotated t (waits_of t B) g.process g.others before.cycle p
+    (subst (λ q. Contains (g.process ∷ g.others) q) process w.member) in
+    let rest : owed.others ≡ round.rest =
+    cycle_unique t (waits_of t B) p owed.others round.rest owed.cycle round.cycle in
     let at_d = full_at (waits_of t B) (p ∷ owed.others) d owed.smallest.among in
-    let in_round : Contains (p ∷ round.rest) at_d.member = subst (λ xs. Contains (p ∷ xs) at_d.member) rest at_d.among in
-    let member = Contains-permutation (p ∷ round.rest) (g.process ∷ g.others) at_d.member (IsPermutation-sym (g.process ∷ g.others) (p ∷ round.rest) round.members) in_round in
+    let in_round : Contains (p ∷ round.rest) at_d.member =
+    subst (λ xs. Contains (p ∷ xs) at_d.member) rest at_d.among in
+    let member =
+    Contains-permutation (p ∷ round.rest) (g.process ∷ g.others) at_d.member
+    (IsPermutation-sym (g.process ∷ g.others) (p ∷ round.rest) round.members) in_round in
     let below = cycle_below t (waits_of t H) g.process g.others g.cycle at_d.member member in
     let waits = member_waits t (waits_of t H) g.process g.others g.process g.cycle.turn at_d.member member in
-    let still : full_channel (wait_at (waits_of t H) at_d.member) ≡ Some d = subst (λ x. full_channel x ≡ Some d) (before.waits at_d.member waits.0 member waits.1) at_d.full in
-    not_full_then t B p d (Legal-stands t B (Legal-before t B (Grow p d) legal)) next.numbers.1
+    let still : full_channel (wait_at (waits_of t H) at_d.member) ≡ Some d =
+    subst (λ x. full_channel x ≡ Some d) (before.waits at_d.member waits.0 member waits.1) at_d.full in
+    not_full_then t B p d (Legal-consistent t B (Legal-before t B (Grow p d) legal)) next.numbers.1
     (full_in_table t B at_d.member d below at_d.full) (full_in_table t H at_d.member d below still)
 
 -- an event that is no wait of a member leaves no cycle that can grow
-no_cycle : (t : Tables) → IsNetwork t → (B : List Event) (e : Event) → Legal t (B ++ e ∷ []) → AreWaiters t B → (g : CanGrow t (B ++ e ∷ [])) → ((q : ℕ) → Contains (g.process ∷ g.others) q → waiter e ≡ Some q → ⊥) → ⊥
+no_cycle : (t : Tables) → IsNetwork t → (B : List Event) (e : Event) → Legal t (B ++ e ∷ []) → AreWaiters t B
+    → (g : CanGrow t (B ++ e ∷ [])) → ((q : ℕ) → Contains (g.process ∷ g.others) q → waiter e ≡ Some q → ⊥) → ⊥
 no_cycle t network B (Grow p d) legal waiters g none = no_cycle_then t network B p d legal waiters g
 no_cycle t network B e legal waiters g none =
-    let before = stood_before t network B e legal g.process g.others none g.cycle in
+    let before = had_cycle t network B e legal g.process g.others none g.cycle in
     let old = could_grow t B e g before in
     let owed = grows_of t B old (waiters old) in
     let next = (Legal-last t B e legal).growth owed.process owed.channel owed.owed in
     cc
 
-by_waiter : (t : Tables) → IsNetwork t → (B : List Event) (e : Event) → Legal t (B ++ e ∷ []) → AreWaiters t B → (g : CanGrow t (B ++ e ∷ [])) → (o : Option ℕ) → waiter e ≡ o → IsWaiters (B ++ e ∷ []) g.process g.others
+by_waiter : (t : Tables) → IsNetwork t → (B : List Event) (e : Event) → Legal t (B ++ e ∷ []) → AreWaiters t B
+    → (g : CanGrow t (B ++ e ∷ [])) → (o : Option ℕ) → waiter e ≡ o → IsWaiters (B ++ e ∷ []) g.process g.others
 by_waiter t network B e legal waiters g None is =
     absurd (no_cycle t network B e legal waiters g (λ q h k. let clash = sym is ∙ k in cc))
 by_waiter t network B e legal waiters g (Some w) is =
     elim (cases_Bool (member w (g.process ∷ g.others))) [
-      | inl among ↦ record { waiting = w; last = last_waiter-push B e ∙ is; member = member-true w (g.process ∷ g.others) among }
+      | inl among ↦
+          record {
+            waiting = w;
+            last = last_waiter-push B e ∙ is;
+            member = member-true w (g.process ∷ g.others) among;
+          }
       | inr not_among ↦ absurd (no_cycle t network B e legal waiters g (λ q h k.
           let same : w ≡ q = Some-number w q (sym is ∙ k) in
-          both_ways _ not_among (subst (λ x. member x (g.process ∷ g.others) ≡ true) (sym same) (member-from q (g.process ∷ g.others) h))))
+          both_ways _ not_among
+          (subst (λ x. member x (g.process ∷ g.others) ≡ true) (sym same)
+          (member-from q (g.process ∷ g.others) h))))
     ]
 
 no_cycle_at_first : (t : Tables) → CanGrow t [] → ⊥

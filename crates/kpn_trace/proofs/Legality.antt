@@ -5,15 +5,15 @@ use Rattle.kpn_lang.specs.Prefix.{IsPrefix}
 use Rattle.kpn_lang.proofs.Prefixes.{IsPrefix-refl, IsPrefix-trans, IsPrefix-append, nil_from_prefix, prefix_of_push}
 use Rattle.kpn_net.specs.Tables.{Tables}
 use Rattle.kpn_trace.specs.declared.event.Event.{Event}
-use Rattle.kpn_trace.specs.Legal.{Stands, MayFollow, Legal}
+use Rattle.kpn_trace.specs.Legal.{IsConsistent, MayFollow, Legal}
 
 -- what has the last event of all also stands behind others
 push_is_no_prefix_of_nil : (B : List Event) (e : Event) → IsPrefix (B ++ e ∷ []) [] → ⊥
 push_is_no_prefix_of_nil [] e p = p
 push_is_no_prefix_of_nil (x ∷ B) e p = p
 
-pub Stands-nil : (t : Tables) → Stands t []
-Stands-nil t =
+pub IsConsistent-nil : (t : Tables) → IsConsistent t []
+IsConsistent-nil t =
     record {
       said = λ p below. record { turns = 0; said = tt };
       in_order = λ c below. tt;
@@ -23,24 +23,25 @@ Stands-nil t =
 pub Legal-nil : (t : Tables) → Legal t []
 Legal-nil t =
     record {
-      stands = λ B p. subst (Stands t) (sym (nil_from_prefix B p)) (Stands-nil t);
+      consistent = λ B p. subst (IsConsistent t) (sym (nil_from_prefix B p)) (IsConsistent-nil t);
       follows = λ B e p. absurd (push_is_no_prefix_of_nil B e p);
     }
 
 pub Legal-prefix : (t : Tables) (B H : List Event) → IsPrefix B H → Legal t H → Legal t B
 Legal-prefix t B H q legal =
     record {
-      stands = λ C p. legal.stands C (IsPrefix-trans C B H p q);
+      consistent = λ C p. legal.consistent C (IsPrefix-trans C B H p q);
       follows = λ C e p. legal.follows C e (IsPrefix-trans (C ++ e ∷ []) B H p q);
     }
 
 -- one more event
-pub Legal-push : (t : Tables) (B : List Event) (e : Event) → Legal t B → MayFollow t B e → Stands t (B ++ e ∷ []) → Legal t (B ++ e ∷ [])
-Legal-push t B e legal follows stands =
+pub Legal-push : (t : Tables) (B : List Event) (e : Event) → Legal t B → MayFollow t B e
+    → IsConsistent t (B ++ e ∷ []) → Legal t (B ++ e ∷ [])
+Legal-push t B e legal follows consistent =
     record {
-      stands = λ C p. elim (prefix_of_push C B e p) [
-        | inl h ↦ legal.stands C h
-        | inr same ↦ subst (Stands t) (sym same) stands
+      consistent = λ C p. elim (prefix_of_push C B e p) [
+        | inl h ↦ legal.consistent C h
+        | inr same ↦ subst (IsConsistent t) (sym same) consistent
       ];
       follows = λ C f p. elim (prefix_of_push (C ++ f ∷ []) B e p) [
         | inl h ↦ legal.follows C f h
@@ -50,8 +51,8 @@ Legal-push t B e legal follows stands =
       ];
     }
 
-pub Legal-stands : (t : Tables) (H : List Event) → Legal t H → Stands t H
-Legal-stands t H legal = legal.stands H (IsPrefix-refl H)
+pub Legal-consistent : (t : Tables) (H : List Event) → Legal t H → IsConsistent t H
+Legal-consistent t H legal = legal.consistent H (IsPrefix-refl H)
 
 -- the last event of a legal history, and the history before it
 pub Legal-before : (t : Tables) (B : List Event) (e : Event) → Legal t (B ++ e ∷ []) → Legal t B
@@ -62,7 +63,8 @@ Legal-last t B e legal = legal.follows B e (IsPrefix-refl (B ++ e ∷ []))
 
 -- what holds of the empty history, and of each legal history with one more event if of that before it, holds of each
 -- legal history
-module _ (t : Tables) (P : List Event → Type 0) (start : P []) (step : (B : List Event) (e : Event) → Legal t (B ++ e ∷ []) → P B → P (B ++ e ∷ [])) where
+module _ (t : Tables) (P : List Event → Type 0) (start : P [])
+    (step : (B : List Event) (e : Event) → Legal t (B ++ e ∷ []) → P B → P (B ++ e ∷ [])) where
   along : (rest B : List Event) → Legal t (B ++ rest) → P B → P (B ++ rest)
   along [] B legal h = subst P (sym (append-nil B)) h
   along (e ∷ rest) B legal h =

@@ -8,10 +8,15 @@ pub mod WaitsAfter
 pub mod Below
 pub mod Above
 pub mod Kahn
-pub mod StandingWaits
+pub mod EarlierWaits
 pub mod Growth
 pub mod Stops
+pub mod OwnWaits
+pub mod AfterEvent
+pub mod Waking
+pub mod OwedGrowth
+pub mod EndsOnce
+pub mod States
 pub mod Searching
 pub mod Checking
 pub mod EndTests
-pub mod Worked

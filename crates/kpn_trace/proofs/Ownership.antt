@@ -13,11 +13,11 @@ use Rattle.kpn_trace.specs.Channels.{read_on}
 use Rattle.kpn_trace.specs.Legal.{Legal}
 use Rattle.kpn_trace.specs.OneMore.{IsOwn}
 use Rattle.kpn_trace.proofs.Events.{talk_of-push}
-use Rattle.kpn_trace.proofs.Legality.{Legal-last, Legal-stands}
+use Rattle.kpn_trace.proofs.Legality.{Legal-last, Legal-consistent}
 use Rattle.kpn_trace.proofs.Running.{CanSay-reads, CanSay-writes, ComesTo-reads}
 
--- a process reads the channels that it gets from and waits on as empty, and writes those that it puts on and waits on as
--- full; the outside feeds and closes sources, and takes from sinks and leaves them
+-- a process reads the channels that it gets from and waits on as empty, and writes those that it puts on and waits on
+-- as full; the outside feeds and closes sources, and takes from sinks and leaves them
 abbrev pub Owns : Tables → Event → Type 0
 Owns t (Get p c v) = Reads t p c
 Owns t (Put p c v) = Writes t p c
@@ -35,10 +35,11 @@ pub said_by : (b p : ℕ) (talk : Said) → b ≡ p → cond (eqb b p) (talk ∷
 said_by b p talk e = ap (λ x. cond x (talk ∷ []) []) (eq-eqb b p e)
 
 -- what a process says in the last event of a legal history it can say behind what it said before
-pub CanSay-last : (t : Tables) (B : List Event) (e : Event) → Legal t (B ++ e ∷ []) → (p : ℕ) → p < length t.instances → (spoken : Said) → said_in p e ≡ spoken ∷ [] → CanSay t p (read_on (B ++ e ∷ [])) (talk_of B p ++ spoken ∷ [])
+pub CanSay-last : (t : Tables) (B : List Event) (e : Event) → Legal t (B ++ e ∷ []) → (p : ℕ) → p < length t.instances
+    → (spoken : Said) → said_in p e ≡ spoken ∷ [] → CanSay t p (read_on (B ++ e ∷ [])) (talk_of B p ++ spoken ∷ [])
 CanSay-last t B e legal p below spoken is =
     subst (CanSay t p (read_on (B ++ e ∷ []))) (talk_of-push B e p ∙ ap (λ xs. talk_of B p ++ xs) is)
-    ((Legal-stands t (B ++ e ∷ []) legal).said p below)
+    ((Legal-consistent t (B ++ e ∷ []) legal).said p below)
 
 pub Owns-last : (t : Tables) → IsNetwork t → (B : List Event) (e : Event) → Legal t (B ++ e ∷ []) → Owns t e
 Owns-last t network B (Get p c v) legal =

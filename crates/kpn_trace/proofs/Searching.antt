@@ -1,17 +1,16 @@
--- Plain tests, and what a yes of each tells: beginnings of lists, all numbers below one, members, the smallest channel,
--- and the way from one process to the next that it waits for.
-use Rattle.std.specs.Prelude.{nat_eq, nat_lt, nat_le, Contains, if◌then◌else◌}
-use Rattle.std.proofs.Common.{◌≡◌, ℕ, zero, suc, ◌<◌, ◌≤◌, ◌+◌, ◌⊎◌, inl, inr, Bool, true, false, ◌&&◌, ◌||◌, List, [], ◌∷◌, length, Option, Some, None, refl, sym, ap, subst, ◌∙◌, arith}
-use Rattle.std.specs.List.{list_all, list_any, AllByRecursion, IsDistinct}
+-- Plain tests, and what a yes of each tells: all numbers below one, members, and the way from one process to the next
+-- that it waits for.
+use Rattle.std.specs.Prelude.{nat_eq, Contains}
+use Rattle.std.proofs.Common.{◌≡◌, ℕ, zero, suc, ◌<◌, ◌+◌, inl, inr, Bool, true, false, ◌&&◌, List, [], ◌∷◌, length, Option, Some, None, refl, sym, ap, subst, ◌∙◌, arith}
+use Rattle.std.specs.List.{list_any, AllByRecursion, IsDistinct}
 use Rattle.std.proofs.lemmas.Map.Keys.{IsDistinct-cons}
 use Rattle.std.proofs.lemmas.Map.Steps.{length-le_from_distinct_below}
 use Rattle.std.proofs.lemmas.Map.Views.{Contains-from_any}
-use Rattle.std.proofs.lemmas.Bool.{and_parts, and_cases, or_cases, or_parts, or_left, or_right, eqb-false, eqb-true, ltb-true, leb-true, eq-eqb, ne_eqb, cases_eq, false_from_ne_true}
-use Rattle.kpn_lang.specs.Prefix.{IsPrefix}
+use Rattle.std.proofs.lemmas.Bool.{and_parts, and_cases, or_cases, or_parts, or_left, or_right, eqb-false, eqb-true, eq-eqb, ne_eqb, cases_eq, false_from_ne_true}
 use Rattle.kpn_net.specs.declared.wait.Wait.{Wait}
 use Rattle.kpn_net.specs.Tables.{Tables}
 use Rattle.kpn_net.proofs.Cycles.{Contains-first, Contains-later, Contains-cases, Contains-none, awaited_below}
-use Rattle.kpn_net.specs.Waits.{wait_at, awaited, WaitInTurn, AreDistinct, IsSmallest}
+use Rattle.kpn_net.specs.Waits.{wait_at, awaited, WaitInTurn, AreDistinct}
 
 -- ---- all numbers below one
 
@@ -43,32 +42,6 @@ each_below-fails test (suc n) e =
           record { number = at_k.number; below = omega arith; fails = at_k.fails }
     ]
 
--- ---- beginnings of lists, and equal lists
-
-abbrev pub begins : {A : Type 0} → (A → A → Bool) → List A → List A → Bool
-begins same [] ys = true
-begins same (x ∷ xs) [] = false
-begins same (x ∷ xs) (y ∷ ys) = same x y && begins same xs ys
-
-abbrev pub equals : {A : Type 0} → (A → A → Bool) → List A → List A → Bool
-equals same [] [] = true
-equals same [] (y ∷ ys) = false
-equals same (x ∷ xs) [] = false
-equals same (x ∷ xs) (y ∷ ys) = same x y && equals same xs ys
-
-pub begins-true : {A : Type 0} (same : A → A → Bool) → ((x y : A) → same x y ≡ true → x ≡ y) → (xs ys : List A) → begins same xs ys ≡ true → IsPrefix xs ys
-begins-true same tells [] ys e = tt
-begins-true same tells (x ∷ xs) [] e = absurd cc
-begins-true same tells (x ∷ xs) (y ∷ ys) e =
-    let parts = and_parts _ _ e in (tells x y parts.0, begins-true same tells xs ys parts.1)
-
-pub equals-true : {A : Type 0} (same : A → A → Bool) → ((x y : A) → same x y ≡ true → x ≡ y) → (xs ys : List A) → equals same xs ys ≡ true → xs ≡ ys
-equals-true same tells [] [] e = refl
-equals-true same tells [] (y ∷ ys) e = absurd cc
-equals-true same tells (x ∷ xs) [] e = absurd cc
-equals-true same tells (x ∷ xs) (y ∷ ys) e =
-    let parts = and_parts _ _ e in λ i. tells x y parts.0 i ∷ equals-true same tells xs ys parts.1 i
-
 -- ---- members
 
 abbrev pub member : ℕ → List ℕ → Bool
@@ -85,47 +58,10 @@ member-from x (y ∷ ys) h =
       | inr later ↦ or_right _ _ (member-from x ys later)
     ]
 
-pub all_of : (test : ℕ → Bool) (xs : List ℕ) → list_all test xs ≡ true → (x : ℕ) → Contains xs x → test x ≡ true
-all_of test [] e x h = absurd (Contains-none x h)
-all_of test (y ∷ ys) e x h =
-    let parts = and_parts _ _ e in
-    elim (Contains-cases y ys x h) [
-      | inl same ↦ subst (λ z. test z ≡ true) same parts.0
-      | inr later ↦ all_of test ys parts.1 x later
-    ]
-
--- ---- the smallest channel
-
-abbrev before : (ℕ → ℕ) → (c d : ℕ) → Bool
-before cap c d = nat_lt (cap c) (cap d) || (nat_eq (cap c) (cap d) && nat_le c d)
-
-abbrev pub is_smallest : (ℕ → ℕ) → List ℕ → ℕ → Bool
-is_smallest cap channels c = member c channels && list_all (before cap c) channels
-
-abbrev lesser : (ℕ → ℕ) → ℕ → Option ℕ → ℕ
-lesser cap c None = c
-lesser cap c (Some d) = if before cap c d then c else d
-
--- a channel that is to be the smallest; none where there is no channel
-abbrev pub smallest : (ℕ → ℕ) → List ℕ → Option ℕ
-smallest cap [] = None
-smallest cap (c ∷ channels) = Some (lesser cap c (smallest cap channels))
-
-before-true : (cap : ℕ → ℕ) (c d : ℕ) → before cap c d ≡ true → (cap c < cap d) ⊎ ((cap c ≡ cap d) × (c ≤ d))
-before-true cap c d e =
-    elim (or_cases _ _ e) [
-      | inl less ↦ inl (ltb-true _ _ less)
-      | inr level ↦ let parts = and_parts _ _ level in inr (eqb-true _ _ parts.0, leb-true _ _ parts.1)
-    ]
-
-pub is_smallest-true : (cap : ℕ → ℕ) (channels : List ℕ) (c : ℕ) → is_smallest cap channels c ≡ true → IsSmallest cap channels c
-is_smallest-true cap channels c e =
-    let parts = and_parts _ _ e in
-    record { among = member-true c channels parts.0; least = λ d h. before-true cap c d (all_of (before cap c) channels parts.1 d h) }
-
 -- ---- the way from a process
 
--- it comes round to the process over these others, goes off to one that waits for nobody or into another cycle, or was
+-- it comes round to the process over these others, goes off to one that waits for nobody or into another cycle, or
+-- was
 -- not followed to its end
 pub data Way : Type 0 where
   Round : (others : List ℕ) → Way
@@ -170,7 +106,9 @@ round_over r Off others e = absurd cc
 round_over r Lost others e = absurd cc
 
 module _ (t : Tables) (waits : List Wait) (p : ℕ) where
-  round_by : (q : ℕ) (others : List ℕ) (r : ℕ) (next : Way) → awaited t (wait_at waits q) ≡ Some r → ((rest : List ℕ) → next ≡ Round rest → ComesRound t waits p r rest) → (back : Bool) → nat_eq r p ≡ back → (known : Bool) → turned back known r next ≡ Round others → ComesRound t waits p q others
+  round_by : (q : ℕ) (others : List ℕ) (r : ℕ) (next : Way) → awaited t (wait_at waits q) ≡ Some r
+      → ((rest : List ℕ) → next ≡ Round rest → ComesRound t waits p r rest) → (back : Bool) → nat_eq r p ≡ back
+      → (known : Bool) → turned back known r next ≡ Round others → ComesRound t waits p q others
   round_by q others r next is onwards true here known e =
       let none : [] ≡ others = cc in
       subst (λ xs. ComesRound t waits p q xs) none
@@ -187,16 +125,20 @@ module _ (t : Tables) (waits : List Wait) (p : ℕ) where
         ];
       })
 
-  round_from : (seen : List ℕ) (q : ℕ) (others : List ℕ) (next : ℕ → Way) → ((r : ℕ) (rest : List ℕ) → next r ≡ Round rest → ComesRound t waits p r rest) → (o : Option ℕ) → awaited t (wait_at waits q) ≡ o → onward p seen next o ≡ Round others → ComesRound t waits p q others
+  round_from : (seen : List ℕ) (q : ℕ) (others : List ℕ) (next : ℕ → Way)
+      → ((r : ℕ) (rest : List ℕ) → next r ≡ Round rest → ComesRound t waits p r rest) → (o : Option ℕ)
+      → awaited t (wait_at waits q) ≡ o → onward p seen next o ≡ Round others → ComesRound t waits p q others
   round_from seen q others next onwards None is e = absurd cc
   round_from seen q others next onwards (Some r) is e =
       round_by q others r (next r) is (onwards r) (nat_eq r p) refl (member r seen) e
 
   -- who waits in turn for itself by a way is on a cycle
-  pub way-round : (steps : ℕ) (seen : List ℕ) (q : ℕ) (others : List ℕ) → way t waits p steps seen q ≡ Round others → ComesRound t waits p q others
+  pub way-round : (steps : ℕ) (seen : List ℕ) (q : ℕ) (others : List ℕ) → way t waits p steps seen q ≡ Round others
+      → ComesRound t waits p q others
   way-round zero seen q others e = absurd cc
   way-round (suc steps) seen q others e =
-      round_from seen q others (λ r. way t waits p steps (r ∷ seen) r) (λ r rest. way-round steps (r ∷ seen) r rest) (awaited t (wait_at waits q)) refl e
+      round_from seen q others (λ r. way t waits p steps (r ∷ seen) r) (λ r rest. way-round steps (r ∷ seen) r rest)
+      (awaited t (wait_at waits q)) refl e
 
   -- ---- each way is followed to its end
 
@@ -214,7 +156,8 @@ module _ (t : Tables) (waits : List Wait) (p : ℕ) where
     distinct : IsDistinct nat_eq seen
     below : (x : ℕ) → member x seen ≡ true → x < length t.instances
 
-  one_more_process : (r : ℕ) (seen : List ℕ) → AreProcesses seen → r < length t.instances → member r seen ≡ false → AreProcesses (r ∷ seen)
+  one_more_process : (r : ℕ) (seen : List ℕ) → AreProcesses seen → r < length t.instances → member r seen ≡ false
+      → AreProcesses (r ∷ seen)
   one_more_process r seen known there new =
       record {
         distinct = IsDistinct-cons nat_eq r seen (none_equal r seen new) known.distinct;
@@ -224,23 +167,29 @@ module _ (t : Tables) (waits : List Wait) (p : ℕ) where
         ];
       }
 
-  lost_by : (seen : List ℕ) (q r : ℕ) (next : Way) → awaited t (wait_at waits q) ≡ Some r → (AreProcesses (r ∷ seen) → next ≡ Lost → ⊥) → AreProcesses seen → (back known : Bool) → member r seen ≡ known → turned back known r next ≡ Lost → ⊥
+  lost_by : (seen : List ℕ) (q r : ℕ) (next : Way) → awaited t (wait_at waits q) ≡ Some r
+      → (AreProcesses (r ∷ seen) → next ≡ Lost → ⊥) → AreProcesses seen → (back known : Bool) → member r seen ≡ known
+      → turned back known r next ≡ Lost → ⊥
   lost_by seen q r next is onwards seen_before true known new e = cc
   lost_by seen q r next is onwards seen_before false true new e = cc
   lost_by seen q r next is onwards seen_before false false new e =
-      onwards (one_more_process r seen seen_before (awaited_below t waits (wait_at waits q) r is) new) (over_lost r next e)
+      onwards (one_more_process r seen seen_before (awaited_below t waits (wait_at waits q) r is) new)
+      (over_lost r next e)
 
-  lost_from : (seen : List ℕ) (q : ℕ) (next : ℕ → Way) → ((r : ℕ) → AreProcesses (r ∷ seen) → next r ≡ Lost → ⊥) → AreProcesses seen → (o : Option ℕ) → awaited t (wait_at waits q) ≡ o → onward p seen next o ≡ Lost → ⊥
+  lost_from : (seen : List ℕ) (q : ℕ) (next : ℕ → Way) → ((r : ℕ) → AreProcesses (r ∷ seen) → next r ≡ Lost → ⊥)
+      → AreProcesses seen → (o : Option ℕ) → awaited t (wait_at waits q) ≡ o → onward p seen next o ≡ Lost → ⊥
   lost_from seen q next onwards known None is e = cc
   lost_from seen q next onwards known (Some r) is e =
       lost_by seen q r (next r) is (onwards r) known (nat_eq r p) (member r seen) refl e
 
   -- with more steps than there are processes
-  never_lost : (steps : ℕ) (seen : List ℕ) (q : ℕ) → AreProcesses seen → length t.instances < length seen + steps → way t waits p steps seen q ≡ Lost → ⊥
+  never_lost : (steps : ℕ) (seen : List ℕ) (q : ℕ) → AreProcesses seen → length t.instances < length seen + steps
+      → way t waits p steps seen q ≡ Lost → ⊥
   never_lost zero seen q known enough e =
       let few = length-le_from_distinct_below seen (length t.instances) known.distinct known.below in omega arith
   never_lost (suc steps) seen q known enough e =
-      lost_from seen q (λ r. way t waits p steps (r ∷ seen) r) (λ r more. never_lost steps (r ∷ seen) r more (omega arith)) known (awaited t (wait_at waits q)) refl e
+      lost_from seen q (λ r. way t waits p steps (r ∷ seen) r)
+      (λ r more. never_lost steps (r ∷ seen) r more (omega arith)) known (awaited t (wait_at waits q)) refl e
 
   no_processes : AreProcesses []
   unfolding IsDistinct
@@ -264,7 +213,8 @@ allows_over Lost r others h = tt
 pub record AreApart (seen others : List ℕ) : Type 0 where
   pub each : (x : ℕ) → Contains others x → ¬ Contains seen x
 
-apart_next : (r : ℕ) (seen others : List ℕ) → AreApart seen (r ∷ others) → (¬ Contains others r) → AreApart (r ∷ seen) others
+apart_next : (r : ℕ) (seen others : List ℕ) → AreApart seen (r ∷ others) → (¬ Contains others r)
+    → AreApart (r ∷ seen) others
 apart_next r seen others apart new = record {
   each = λ x h k.
       elim (Contains-cases r seen x k) [
@@ -279,15 +229,19 @@ absent x ys h = false_from_ne_true _ (λ e. h (member-true x ys e))
 onward_back : (p : ℕ) (seen : List ℕ) (next : ℕ → Way) (o : Option ℕ) → o ≡ Some p → Allows (onward p seen next o) []
 onward_back p seen next o e = rw (e, eq-eqb p p refl) refl
 
-onward_over : (p r : ℕ) (seen others : List ℕ) (next : ℕ → Way) (o : Option ℕ) → o ≡ Some r → (r ≡ p → ⊥) → member r seen ≡ false → Allows (next r) others → Allows (onward p seen next o) (r ∷ others)
+onward_over : (p r : ℕ) (seen others : List ℕ) (next : ℕ → Way) (o : Option ℕ) → o ≡ Some r → (r ≡ p → ⊥)
+    → member r seen ≡ false → Allows (next r) others → Allows (onward p seen next o) (r ∷ others)
 onward_over p r seen others next o e other new h = rw (e, ne_eqb r p other, new) (allows_over (next r) r others h)
 
 -- from q a cycle to p is over the others that the way finds
-pub way-allows : (t : Tables) (waits : List Wait) (p steps : ℕ) (seen : List ℕ) (q : ℕ) (others : List ℕ) → WaitInTurn t waits q others p → AreDistinct others → (¬ Contains others p) → AreApart seen others → Allows (way t waits p steps seen q) others
+pub way-allows : (t : Tables) (waits : List Wait) (p steps : ℕ) (seen : List ℕ) (q : ℕ) (others : List ℕ)
+    → WaitInTurn t waits q others p → AreDistinct others → (¬ Contains others p) → AreApart seen others
+    → Allows (way t waits p steps seen q) others
 way-allows t waits p zero seen q others turn distinct new apart = tt
 way-allows t waits p (suc steps) seen q [] turn distinct new apart = onward_back p seen _ _ turn.awaited
 way-allows t waits p (suc steps) seen q (r ∷ others) turn distinct new apart =
     onward_over p r seen others (λ s. way t waits p steps (s ∷ seen) s) _ turn.0.awaited
     (λ e. new (subst (λ z. Contains (r ∷ others) z) e (Contains-first r others)))
     (absent r seen (apart.each r (Contains-first r others)))
-    (way-allows t waits p steps (r ∷ seen) r others turn.1 distinct.1 (λ h. new (Contains-later r others p h)) (apart_next r seen others apart distinct.0))
+    (way-allows t waits p steps (r ∷ seen) r others turn.1 distinct.1 (λ h. new (Contains-later r others p h))
+    (apart_next r seen others apart distinct.0))

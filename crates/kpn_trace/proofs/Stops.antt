@@ -1,36 +1,34 @@
--- What a stop rests on: ended is quiet, jammed is at the limit, clogged waits for blocked processes, and but a leave no
--- event can follow.
-use Rattle.std.specs.Prelude.{Contains, nat_lt}
+-- What a stop rests on: ended is quiet, jammed is at the limit, clogged waits for blocked processes, and but a leave
+-- no event can follow.
+use Rattle.std.specs.Prelude.{Contains}
 use Rattle.std.specs.Option.{option_map, unwrap_or}
-use Rattle.std.specs.List.{position}
 use Rattle.std.proofs.Common.{◌≡◌, ◌≢◌, ℕ, suc, ℤ, ◌+◌, ◌<◌, ◌≤◌, Bool, true, false, not, cond, eqb, List, [], ◌∷◌, ◌++◌, length, get_or, Option, Some, None, refl, sym, ap, ◌∙◌, subst, inl, inr, arith}
 use Rattle.std.proofs.lemmas.List.{get_or_past}
-use Rattle.std.proofs.lemmas.Bool.{and_parts, both_ways, cases_lt, not-true, or_parts, eqb-true, eqb-false, ltb-false, false≢true}
+use Rattle.std.proofs.lemmas.Bool.{and_parts, both_ways, cases_lt, not-true, eqb-true, false≢true}
 use Rattle.kpn_net.specs.declared.wait.Wait.{Wait}
 use Rattle.kpn_net.specs.declared.wait.Wait.TheVariants.{Nobody, Empty, Full}
-use Rattle.kpn_net.specs.declared.tables.ChannelSpec.{ChannelSpec}
 use Rattle.kpn_net.specs.declared.tables.ChannelSpec.TheVariants as channel
 use Rattle.kpn_net.specs.declared.tables.End.{End}
 use Rattle.kpn_net.specs.declared.tables.End.TheVariants.{Process, Source, Sink}
 use Rattle.kpn_net.specs.declared.tables.Instance.{Instance}
 use Rattle.kpn_net.specs.Tables.{Tables, places, ends_from, channel_at, capacity, is_sink, reader_of}
-use Rattle.kpn_net.specs.Faults.{IsNetwork, exceeds, has_no_such_capacity, wrong_capacity}
+use Rattle.kpn_net.specs.Faults.{IsNetwork}
 use Rattle.kpn_net.specs.Waits.{awaited, process_at}
-use Rattle.kpn_net.proofs.Networks.{Reads-reader_of, Reads-below, channels_sound, fails_at}
+use Rattle.kpn_net.proofs.Networks.{Reads-reader_of, Reads-below, capacity_in_range}
 use Rattle.kpn_net.proofs.Cycles.{full_at, cycle_below}
 use Rattle.kpn_trace.specs.declared.event.Event.{Event}
 use Rattle.kpn_trace.specs.declared.event.Event.TheVariants.{Get, Put, WaitEmpty, WaitFull, Ended, Feed, Close, Take, Leave, Grow}
 use Rattle.kpn_trace.specs.declared.state.Verdict.{Verdict}
 use Rattle.kpn_trace.specs.declared.state.Verdict.TheVariants as verdict
 use Rattle.kpn_trace.specs.Talks.{has_ended, last_event}
-use Rattle.kpn_trace.specs.Channels.{unread_on, lives, reader_lives, reaches, capacity_after, room_after, is_full, is_left, is_growth_of}
+use Rattle.kpn_trace.specs.Channels.{unread_on, lives, reader_lives, reaches, capacity_after, capacity_or_zero, is_full, is_left, is_growth_of}
 use Rattle.kpn_trace.specs.Waiting.{wait_of, waits_of, full_in_cycle, HasFullCycle}
 use Rattle.kpn_trace.specs.Legal.{CanGo, MayFeed, MayTake, Legal}
 use Rattle.kpn_trace.specs.Ends.{WaitsOnFull, IsQuiet, IsSettled, IsVerdict}
 use Rattle.kpn_trace.specs.OneMore.{IsOldest}
 use Rattle.kpn_trace.specs.Stops.{OwesNothing, IsJammedAtLimit, WaitsForBlocked}
 use Rattle.kpn_trace.proofs.Legality.{Legal-last, by_events}
-use Rattle.kpn_trace.proofs.OneMore.{capacity_after-push, StandsWith-last}
+use Rattle.kpn_trace.proofs.OneMore.{capacity_after-push, KeepsConsistent-last}
 use Rattle.kpn_trace.proofs.Growth.{reached, full_where_waited, full_in_table, nothing_can_grow}
 
 -- ---- ended is quiet
@@ -48,56 +46,33 @@ quiet_where_ended t H v = record {
 
 -- ---- capacities lie from 1 to the limit
 
-capacity_within : (limit : ℕ) (spec : ChannelSpec) (cap : ℕ) → has_no_such_capacity limit spec ≡ false → capacity spec ≡ Some cap → (0 < cap) × (cap ≤ limit)
-capacity_within limit (channel.Inner n) cap e is =
-    let same : n ≡ cap = cc in
-    let parts = or_parts (eqb n 0) (nat_lt limit n) e in
-    let some = eqb-false n 0 parts.0 in
-    let most = ltb-false limit n parts.1 in
-    (omega arith, omega arith)
-capacity_within limit channel.Source cap e is = absurd cc
-capacity_within limit (channel.Sink n) cap e is =
-    let same : n ≡ cap = cc in
-    let parts = or_parts (eqb n 0) (nat_lt limit n) e in
-    let some = eqb-false n 0 parts.0 in
-    let most = ltb-false limit n parts.1 in
-    (omega arith, omega arith)
-
-no_wrong_capacity : (t : Tables) (outside : Bool) → exceeds 1048576 t.limit ≡ outside → wrong_capacity t ≡ None → position (has_no_such_capacity t.limit) t.channels ≡ None
-no_wrong_capacity t true is e = let clash : wrong_capacity t ≡ Some (length t.channels) = ap (λ b. cond b (Some (length t.channels)) (position (has_no_such_capacity t.limit) t.channels)) is in absurd cc
-no_wrong_capacity t false is e = sym (ap (λ b. cond b (Some (length t.channels)) (position (has_no_such_capacity t.limit) t.channels)) is) ∙ e
-
-first_capacity : (t : Tables) → IsNetwork t → (c cap : ℕ) → c < length t.channels → capacity (channel_at t c) ≡ Some cap → (0 < cap) × (cap ≤ t.limit)
-first_capacity t network c cap there is =
-    let none = no_wrong_capacity t _ refl (channels_sound t network).capacity in
-    capacity_within t.limit (channel_at t c) cap (fails_at (has_no_such_capacity t.limit) t.channels none c (channel.Inner 0) there) is
-
 -- the capacity of a channel of the network, where it has one, is from 1 to the limit
 pub record IsInLimit (t : Tables) (H : List Event) : Type 0 where
   pub each : (c cap : ℕ) → c < length t.channels → capacity_after t H c ≡ Some cap → (0 < cap) × (cap ≤ t.limit)
 
 in_limit_at_first : (t : Tables) → IsNetwork t → IsInLimit t []
-in_limit_at_first t network = record { each = λ c cap there is. by_first c (capacity (channel_at t c)) refl cap there is }
+in_limit_at_first t network =
+    record { each = λ c cap there is. by_first c (capacity (channel_at t c)) refl cap there is }
   where
-    by_first : (c : ℕ) (o : Option ℕ) → capacity (channel_at t c) ≡ o → (cap : ℕ) → c < length t.channels → option_map (λ first. first + 0) o ≡ Some cap → (0 < cap) × (cap ≤ t.limit)
+    by_first : (c : ℕ) (o : Option ℕ) → capacity (channel_at t c) ≡ o → (cap : ℕ) → c < length t.channels
+        → option_map (λ first. first + 0) o ≡ Some cap → (0 < cap) × (cap ≤ t.limit)
     by_first c None was cap there is = absurd cc
     by_first c (Some n) was cap there is =
         let same : n + 0 ≡ cap = cc in
-        let bounds = first_capacity t network c n there was in
-        let low = bounds.0 in let high = bounds.1 in
+        let bounds = capacity_in_range t network c n there was in
+        let low = bounds.positive in
+        let high = bounds.within in
         (omega arith, omega arith)
 
--- what an event adds to a capacity
-added : (c : ℕ) → Event → ℕ
-added c e = cond (is_growth_of c e) 1 0
-
-in_limit_after : (t : Tables) (B : List Event) (e : Event) (c n : ℕ) → Legal t (B ++ e ∷ []) → capacity_after t B c ≡ Some n → n ≤ t.limit → n + cond (is_growth_of c e) 1 0 ≤ t.limit
+in_limit_after : (t : Tables) (B : List Event) (e : Event) (c n : ℕ) → Legal t (B ++ e ∷ [])
+    → capacity_after t B c ≡ Some n → n ≤ t.limit → n + cond (is_growth_of c e) 1 0 ≤ t.limit
 in_limit_after t B (Grow p d) c n legal was h = by_channel (eqb d c) refl
   where
     by_channel : (b : Bool) → eqb d c ≡ b → n + cond b 1 0 ≤ t.limit
     by_channel true same =
         let below = (Legal-last t B (Grow p d) legal).due.below_limit in
-        let room : room_after t B d ≡ n = ap (λ x. room_after t B x) (eqb-true d c same) ∙ ap (λ o. unwrap_or o 0) was in
+        let room : capacity_or_zero t B d ≡ n =
+        ap (λ x. capacity_or_zero t B x) (eqb-true d c same) ∙ ap (λ o. unwrap_or o 0) was in
         omega arith
     by_channel false other = omega arith
 in_limit_after t B e c n legal was h = omega arith
@@ -105,9 +80,15 @@ in_limit_after t B e c n legal was h = omega arith
 pub in_limit : (t : Tables) → IsNetwork t → (H : List Event) → Legal t H → IsInLimit t H
 in_limit t network =
     by_events t (IsInLimit t) (in_limit_at_first t network)
-    (λ B e legal h. record { each = λ c cap there is. by_before B e legal h c (capacity_after t B c) refl cap there (sym (capacity_after-push t B e c) ∙ is) })
+    (λ B e legal h.
+    record {
+      each = λ c cap there is.
+          by_before B e legal h c (capacity_after t B c) refl cap there (sym (capacity_after-push t B e c) ∙ is);
+    })
   where
-    by_before : (B : List Event) (e : Event) → Legal t (B ++ e ∷ []) → IsInLimit t B → (c : ℕ) (o : Option ℕ) → capacity_after t B c ≡ o → (cap : ℕ) → c < length t.channels → option_map (λ n. n + cond (is_growth_of c e) 1 0) o ≡ Some cap → (0 < cap) × (cap ≤ t.limit)
+    by_before : (B : List Event) (e : Event) → Legal t (B ++ e ∷ []) → IsInLimit t B → (c : ℕ) (o : Option ℕ)
+        → capacity_after t B c ≡ o → (cap : ℕ) → c < length t.channels
+        → option_map (λ n. n + cond (is_growth_of c e) 1 0) o ≡ Some cap → (0 < cap) × (cap ≤ t.limit)
     by_before B e legal h c None was cap there is = absurd cc
     by_before B e legal h c (Some n) was cap there is =
         let same : n + cond (is_growth_of c e) 1 0 ≡ cap = cc in
@@ -118,23 +99,27 @@ in_limit t network =
 
 -- ---- the outside as a reader
 
-no_sink_here : (c p : ℕ) (ports : List ℕ) (more : List End) → get_or more 0 Source ≢ Sink → get_or (places c p ports ++ more) 0 Source ≢ Sink
+no_sink_here : (c p : ℕ) (ports : List ℕ) (more : List End) → get_or more 0 Source ≢ Sink
+    → get_or (places c p ports ++ more) 0 Source ≢ Sink
 no_sink_here c p [] more none = none
 no_sink_here c p (d ∷ ports) more none = by_port (eqb d c) (no_sink_here c p ports more none)
   where
-    by_port : (here : Bool) → get_or (places c p ports ++ more) 0 Source ≢ Sink → get_or (cond here (Process p ∷ places c p ports) (places c p ports) ++ more) 0 Source ≢ Sink
+    by_port : (here : Bool) → get_or (places c p ports ++ more) 0 Source ≢ Sink
+        → get_or (cond here (Process p ∷ places c p ports) (places c p ports) ++ more) 0 Source ≢ Sink
     by_port true rest e = absurd cc
     by_port false rest e = rest e
 
 no_sink_from : (c p : ℕ) (instances : List Instance) → get_or (ends_from (λ i. i.ins) c p instances) 0 Source ≢ Sink
 no_sink_from c p [] = λ e. absurd cc
-no_sink_from c p (i ∷ instances) = no_sink_here c p i.ins (ends_from (λ j. j.ins) c (suc p) instances) (no_sink_from c (suc p) instances)
+no_sink_from c p (i ∷ instances) =
+    no_sink_here c p i.ins (ends_from (λ j. j.ins) c (suc p) instances) (no_sink_from c (suc p) instances)
 
 -- a channel that the outside reads is a sink
 is_sink-reader_of : (t : Tables) (c : ℕ) → reader_of t c ≡ Sink → is_sink (channel_at t c) ≡ true
 is_sink-reader_of t c = by_channel (is_sink (channel_at t c))
   where
-    by_channel : (b : Bool) → get_or (cond b (Sink ∷ []) [] ++ ends_from (λ i. i.ins) c 0 t.instances) 0 Source ≡ Sink → b ≡ true
+    by_channel : (b : Bool) → get_or (cond b (Sink ∷ []) [] ++ ends_from (λ i. i.ins) c 0 t.instances) 0 Source ≡ Sink
+        → b ≡ true
     by_channel true e = refl
     by_channel false e = absurd (no_sink_from c 0 t.instances e)
 
@@ -148,32 +133,43 @@ sink_there t c sink =
     ]
 
 -- a channel whose reader lives is one of the network
-read_there : (t : Tables) → IsNetwork t → (H : List Event) (c : ℕ) (end : End) → reader_of t c ≡ end → lives H c end ≡ true → c < length t.channels
+read_there : (t : Tables) → IsNetwork t → (H : List Event) (c : ℕ) (end : End) → reader_of t c ≡ end
+    → lives H c end ≡ true → c < length t.channels
 read_there t network H c (Process q) is alive = Reads-below t network q c (Reads-reader_of t q c is)
 read_there t network H c Source is alive = absurd (false≢true alive)
 read_there t network H c Sink is alive = sink_there t c (is_sink-reader_of t c is)
 
 -- what is full has a capacity from 1 to the limit, and as many items are unread
-record IsFilled (t : Tables) (H : List Event) (c : ℕ) : Type 0 where
-  there : c < length t.channels
-  lives : reader_lives t H c ≡ true
-  cap : ℕ
-  is : capacity_after t H c ≡ Some cap
-  some : 0 < cap
-  in_limit : cap ≤ t.limit
-  unread : cap ≤ length (unread_on H c)
+pub record IsFilled (t : Tables) (H : List Event) (c : ℕ) : Type 0 where
+  pub there : c < length t.channels
+  pub lives : reader_lives t H c ≡ true
+  pub cap : ℕ
+  pub is : capacity_after t H c ≡ Some cap
+  pub some : 0 < cap
+  pub in_limit : cap ≤ t.limit
+  pub unread : cap ≤ length (unread_on H c)
 
-is_filled : (t : Tables) → IsNetwork t → (H : List Event) → Legal t H → (c : ℕ) → is_full t H c ≡ true → IsFilled t H c
+pub is_filled : (t : Tables) → IsNetwork t → (H : List Event) → Legal t H → (c : ℕ) → is_full t H c ≡ true
+    → IsFilled t H c
 is_filled t network H legal c full =
     let parts = and_parts (reader_lives t H c) (reaches (capacity_after t H c) (length (unread_on H c))) full in
     let cap = reached (capacity_after t H c) (length (unread_on H c)) parts.1 in
     let there = read_there t network H c (reader_of t c) refl parts.0 in
     let bounds = (in_limit t network H legal).each c cap.cap there cap.is in
-    record { there = there; lives = parts.0; cap = cap.cap; is = cap.is; some = bounds.0; in_limit = bounds.1; unread = cap.at_most }
+    record {
+      there = there;
+      lives = parts.0;
+      cap = cap.cap;
+      is = cap.is;
+      some = bounds.0;
+      in_limit = bounds.1;
+      unread = cap.at_most;
+    }
 
 -- ---- jammed is at the limit
 
-pub jammed_at_limit : (t : Tables) → IsNetwork t → (H : List Event) → Legal t H → OwesNothing t H → IsVerdict t H (Some verdict.Jammed) → IsJammedAtLimit t H
+pub jammed_at_limit : (t : Tables) → IsNetwork t → (H : List Event) → Legal t H → OwesNothing t H
+    → IsVerdict t H (Some verdict.Jammed) → IsJammedAtLimit t H
 jammed_at_limit t network H legal nothing v =
     record {
       process = v.1.process;
@@ -204,10 +200,12 @@ jammed_at_limit t network H legal nothing v =
 
 -- ---- clogged waits for blocked processes
 
-blocked_on : (t : Tables) (H : List Event) (p : ℕ) (w : Wait) → wait_of t H p ≡ w → w ≢ Nobody → wait_of t H p ≢ Nobody
+blocked_on : (t : Tables) (H : List Event) (p : ℕ) (w : Wait) → wait_of t H p ≡ w → w ≢ Nobody
+    → wait_of t H p ≢ Nobody
 blocked_on t H p w is some none = some (sym is ∙ none)
 
-is_blocked : (t : Tables) (H : List Event) → IsSettled t H → (p : ℕ) → p < length t.instances → has_ended H p ≡ false → wait_of t H p ≢ Nobody
+is_blocked : (t : Tables) (H : List Event) → IsSettled t H → (p : ℕ) → p < length t.instances → has_ended H p ≡ false
+    → wait_of t H p ≢ Nobody
 is_blocked t H settled p below lives =
     elim (settled.processes p below) [
       | inl ended ↦ absurd (both_ways _ lives ended)
@@ -218,7 +216,8 @@ is_blocked t H settled p below lives =
     ]
 
 -- in a settled history the reader of a full channel is a process
-pub waits_for_blocked : (t : Tables) → IsNetwork t → (H : List Event) → Legal t H → IsSettled t H → (p : ℕ) → WaitsOnFull t H p → WaitsForBlocked t H p
+pub waits_for_blocked : (t : Tables) → IsNetwork t → (H : List Event) → Legal t H → IsSettled t H → (p : ℕ)
+    → WaitsOnFull t H p → WaitsForBlocked t H p
 waits_for_blocked t network H legal settled p waits = by_reader (reader_of t c) refl
   where
     c : ℕ
@@ -241,7 +240,8 @@ waits_for_blocked t network H legal settled p waits = by_reader (reader_of t c) 
     by_reader Sink is =
         let lives : not (is_left H c) ≡ true = subst (λ end. lives H c end ≡ true) is full.lives in
         elim (settled.sinks c full.there (is_sink-reader_of t c is)) [
-          | inl empty ↦ let none : length (unread_on H c) ≡ 0 = eqb-true _ _ empty in let some = full.some in let unread = full.unread in absurd (omega arith)
+          | inl empty ↦ let none : length (unread_on H c) ≡ 0 = eqb-true _ _ empty in let some =
+              full.some in let unread = full.unread in absurd (omega arith)
           | inr left ↦ absurd (both_ways _ (not-true _ lives) left)
         ]
 
@@ -253,7 +253,8 @@ cannot_go t H settled p below go = is_blocked t H settled p below go.lives go.fr
 cannot_feed : (t : Tables) (H : List Event) → IsSettled t H → (c : ℕ) → c < length t.channels → MayFeed t H c → ⊥
 cannot_feed t H settled c there may = both_ways _ may.not_closed (settled.sources c there may.source)
 
-cannot_take : (t : Tables) (H : List Event) → IsSettled t H → (c : ℕ) (v : ℤ) → c < length t.channels → MayTake t H c → IsOldest H c v → ⊥
+cannot_take : (t : Tables) (H : List Event) → IsSettled t H → (c : ℕ) (v : ℤ) → c < length t.channels → MayTake t H c
+    → IsOldest H c v → ⊥
 cannot_take t H settled c v there may oldest =
     elim (settled.sinks c there may.sink) [
       | inl empty ↦
@@ -263,7 +264,8 @@ cannot_take t H settled c v there may oldest =
       | inr left ↦ both_ways _ may.not_left left
     ]
 
-pub only_a_leave : (t : Tables) (H : List Event) → IsSettled t H → OwesNothing t H → (e : Event) → Legal t (H ++ e ∷ []) → (c : ℕ) × (e ≡ Leave c)
+pub only_a_leave : (t : Tables) (H : List Event) → IsSettled t H → OwesNothing t H → (e : Event)
+    → Legal t (H ++ e ∷ []) → (c : ℕ) × (e ≡ Leave c)
 only_a_leave t H settled nothing (Get p c v) legal =
     let next = Legal-last t H (Get p c v) legal in absurd (cannot_go t H settled p next.numbers.0 next.due)
 only_a_leave t H settled nothing (Put p c v) legal =
@@ -280,7 +282,7 @@ only_a_leave t H settled nothing (Close c) legal =
     let next = Legal-last t H (Close c) legal in absurd (cannot_feed t H settled c next.numbers next.due)
 only_a_leave t H settled nothing (Take c v) legal =
     let next = Legal-last t H (Take c v) legal in
-    absurd (cannot_take t H settled c v next.numbers next.due (StandsWith-last t H (Take c v) legal))
+    absurd (cannot_take t H settled c v next.numbers next.due (KeepsConsistent-last t H (Take c v) legal))
 only_a_leave t H settled nothing (Leave c) legal = (c, refl)
 only_a_leave t H settled nothing (Grow p d) legal = absurd (nothing p d (Legal-last t H (Grow p d) legal).due)
 

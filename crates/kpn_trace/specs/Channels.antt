@@ -69,7 +69,7 @@ lives H c Sink = not (is_left H c)
 abbrev pub reader_lives : Tables → List Event → (c : ℕ) → Bool
 reader_lives t H c = lives H c (reader_of t c)
 
--- ---- room
+-- ---- capacity
 
 -- the channel grows
 abbrev pub is_growth_of : (c : ℕ) → Event → Bool
@@ -81,8 +81,8 @@ abbrev pub capacity_after : Tables → List Event → (c : ℕ) → Option ℕ
 capacity_after t H c = option_map (λ first. first + count_by (is_growth_of c) H) (capacity (channel_at t c))
 
 -- the capacity as a number, which is 0 where there is none
-abbrev pub room_after : Tables → List Event → (c : ℕ) → ℕ
-room_after t H c = unwrap_or (capacity_after t H c) 0
+abbrev pub capacity_or_zero : Tables → List Event → (c : ℕ) → ℕ
+capacity_or_zero t H c = unwrap_or (capacity_after t H c) 0
 
 -- nothing is unread
 abbrev pub is_empty : List Event → (c : ℕ) → Bool

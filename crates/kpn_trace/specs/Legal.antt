@@ -1,5 +1,5 @@
 -- Legal histories: what a run of a network may bring, whatever the order in which its processes go. One more event is
--- judged by what stands before it, and by what stands with it.
+-- judged by the history before it, and the history with it has to be consistent.
 use Rattle.std.specs.Prelude.{◌≡◌, ℕ, ◌<◌, ◌≤◌, true, false, ℤ, List, [], ◌∷◌, ◌++◌, length, Option, Some, None}
 use Rattle.std.specs.List.{last_or}
 use Rattle.kpn_lang.specs.declared.value.Fault.TheVariants as fault
@@ -16,14 +16,14 @@ use Rattle.kpn_trace.specs.declared.event.How.TheVariants as how
 use Rattle.kpn_trace.specs.declared.event.Event.{Event}
 use Rattle.kpn_trace.specs.declared.event.Event.TheVariants.{Get, Put, WaitEmpty, WaitFull, Ended, Feed, Close, Take, Leave, Grow}
 use Rattle.kpn_trace.specs.Talks.{talk_of, has_ended}
-use Rattle.kpn_trace.specs.Channels.{written_on, read_on, unread_on, is_closed, is_left, reader_lives, capacity_after, room_after, is_empty, is_full}
+use Rattle.kpn_trace.specs.Channels.{written_on, read_on, unread_on, is_closed, is_left, reader_lives, capacity_after, capacity_or_zero, is_empty, is_full}
 use Rattle.kpn_trace.specs.Waiting.{wait_of, IsBlockedCycle, full_in_cycle}
 
--- ---- what stands
+-- ---- consistency
 
--- each process can say what it said on what it read, what was read begins what was written, and no more is unread than
--- the capacity of a channel whose reader lives
-pub record Stands (t : Tables) (H : List Event) : Type 0 where
+-- what holds of a history at each moment: each process can say what it said on what it read, what was read begins
+-- what was written, and no more is unread than the capacity of a channel whose reader lives
+pub record IsConsistent (t : Tables) (H : List Event) : Type 0 where
   pub said : (p : ℕ) → p < length t.instances → CanSay t p (read_on H) (talk_of H p)
   pub in_order : (c : ℕ) → c < length t.channels → IsPrefix (read_on H c) (written_on H c)
   pub within : (c : ℕ) → c < length t.channels → reader_lives t H c ≡ true
@@ -47,8 +47,8 @@ pub record OwesGrowth (t : Tables) (B : List Event) (p d : ℕ) : Type 0 where
   pub wait : waiter_of_last (last_or None B) ≡ Some p
   pub others : List ℕ
   pub cycle : IsBlockedCycle t B p others
-  pub smallest : IsSmallest (room_after t B) (full_in_cycle t B p others) d
-  pub below_limit : room_after t B d < t.limit
+  pub smallest : IsSmallest (capacity_or_zero t B) (full_in_cycle t B p others) d
+  pub below_limit : capacity_or_zero t B d < t.limit
 
 -- ---- one more event
 
@@ -97,8 +97,9 @@ pub record MayTake (t : Tables) (B : List Event) (c : ℕ) : Type 0 where
   pub sink : is_sink (channel_at t c) ≡ true
   pub not_left : is_left B c ≡ false
 
--- what has to stand before an event of this kind. A get and a put are judged by what stands with them: the process can
--- say it, the item is the oldest unread one, and there is room
+-- what an event of this kind needs of the history before it. What a get and a put need besides follows from the
+-- history with them being consistent: the process can say it, the item is the oldest unread one, and the channel is
+-- not full
 abbrev pub IsDue : Tables → List Event → Event → Type 0
 IsDue t B (Get p c v) = CanGo t B p
 IsDue t B (Put p c v) = CanGo t B p
@@ -119,7 +120,7 @@ pub record MayFollow (t : Tables) (B : List Event) (event : Event) : Type 0 wher
 
 -- ---- legal histories
 
--- each beginning stands, and each event may follow the beginning before it
+-- each beginning is consistent, and each event may follow the beginning before it
 pub record Legal (t : Tables) (H : List Event) : Type 0 where
-  pub stands : (B : List Event) → IsPrefix B H → Stands t B
+  pub consistent : (B : List Event) → IsPrefix B H → IsConsistent t B
   pub follows : (B : List Event) (event : Event) → IsPrefix (B ++ event ∷ []) H → MayFollow t B event

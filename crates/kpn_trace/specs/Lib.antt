@@ -5,7 +5,8 @@ pub mod Waiting
 pub mod Legal
 pub mod OneMore
 pub mod WaitsAfter
+pub mod Waking
+pub mod AfterEvent
 pub mod Ends
 pub mod Views
 pub mod Stops
-pub mod Examples

@@ -15,12 +15,12 @@ pub record IsOldest (B : List Event) (c : ℕ) (v : ℤ) : Type 0 where
   pub first : unread_on B c ≡ v ∷ rest
 
 -- an item that is got or taken is the oldest unread one, a put finds room, and the process can say it
-abbrev pub StandsWith : Tables → List Event → Event → Type 0
-StandsWith t B (Get p c v) =
+abbrev pub KeepsConsistent : Tables → List Event → Event → Type 0
+KeepsConsistent t B (Get p c v) =
     IsOldest B c v × CanSay t p (read_on (B ++ Get p c v ∷ [])) (talk_of B p ++ said.Got c v ∷ [])
-StandsWith t B (Put p c v) = (is_full t B c ≡ false) × CanSay t p (read_on B) (talk_of B p ++ said.Put c v ∷ [])
-StandsWith t B (Take c v) = IsOldest B c v
-StandsWith t B event = Unit {0}
+KeepsConsistent t B (Put p c v) = (is_full t B c ≡ false) × CanSay t p (read_on B) (talk_of B p ++ said.Put c v ∷ [])
+KeepsConsistent t B (Take c v) = IsOldest B c v
+KeepsConsistent t B event = Unit {0}
 
 -- the channel of an event belongs to who made the event: a process is the reader of what it gets from or waits on as
 -- empty, and the writer of what it puts on or waits on as full; the outside feeds and closes sources, and takes from

@@ -1,17 +1,34 @@
--- What growth leaves behind, and what a stop rests on (Parks 1995: an artificial deadlock is a cycle of blocked processes
--- with a full channel, which a larger capacity resolves; Geilen and Basten 2003: such a cycle may be local).
+-- What growth leaves behind, and what a stop rests on (Parks 1995: an artificial deadlock is a cycle of blocked
+-- processes with a full channel, which a larger capacity resolves; Geilen and Basten 2003: such a cycle may be
+-- local).
 use Rattle.std.specs.Prelude.{◌≡◌, ◌≢◌, ℕ, ◌<◌, List, Some, Contains, length}
-use Rattle.kpn_net.specs.declared.wait.Wait.TheVariants.{Nobody}
-use Rattle.kpn_net.specs.Tables.{Tables}
+use Rattle.kpn_net.specs.declared.wait.Wait.TheVariants.{Nobody, Full}
+use Rattle.kpn_net.specs.declared.tables.End.TheVariants.{Process}
+use Rattle.kpn_net.specs.Tables.{Tables, writer_of}
 use Rattle.kpn_net.specs.Waits.{awaited}
 use Rattle.kpn_trace.specs.declared.event.Event.{Event}
-use Rattle.kpn_trace.specs.Channels.{capacity_after, room_after}
+use Rattle.kpn_trace.specs.Channels.{capacity_after, capacity_or_zero}
 use Rattle.kpn_trace.specs.Waiting.{wait_of, IsBlockedCycle, full_in_cycle}
 use Rattle.kpn_trace.specs.Legal.{OwesGrowth}
 
 -- no growth is owed
 abbrev pub OwesNothing : Tables → List Event → Type 0
 OwesNothing t H = (p d : ℕ) → ¬ OwesGrowth t H p d
+
+-- the writer of a channel is a process that waits on it as full
+pub record IsAwaitedByWriter (t : Tables) (H : List Event) (d : ℕ) : Type 0 where
+  pub writer : ℕ
+  pub there : writer < length t.instances
+  pub writes : writer_of t d ≡ Process writer
+  pub waits : wait_of t H writer ≡ Full d
+
+-- a channel of the network has a capacity, which is not 0 and below this limit
+pub record HasCapacityBelow (t : Tables) (H : List Event) (limit : ℕ) (d : ℕ) : Type 0 where
+  pub there : d < length t.channels
+  pub capacity : ℕ
+  pub is : capacity_after t H d ≡ Some capacity
+  pub some : 0 < capacity
+  pub below : capacity < limit
 
 -- some blocked cycle has a full channel below the limit
 pub record CanGrow (t : Tables) (H : List Event) : Type 0 where
@@ -20,7 +37,7 @@ pub record CanGrow (t : Tables) (H : List Event) : Type 0 where
   pub cycle : IsBlockedCycle t H process others
   pub channel : ℕ
   pub full : Contains (full_in_cycle t H process others) channel
-  pub below_limit : room_after t H channel < t.limit
+  pub below_limit : capacity_or_zero t H channel < t.limit
 
 -- some blocked cycle has full channels, and each of them has the limit as its capacity
 pub record IsJammedAtLimit (t : Tables) (H : List Event) : Type 0 where

@@ -1,6 +1,6 @@
 -- The events of each process in a history, and what the process said in them. A history is a list of events, oldest
 -- first.
-use Rattle.std.specs.Prelude.{ℕ, Bool, false, nat_eq, if◌then◌else◌, List, [], ◌∷◌, Option, None}
+use Rattle.std.specs.Prelude.{ℕ, Bool, true, false, nat_eq, if◌then◌else◌, List, [], ◌∷◌, count_by, Option, None}
 use Rattle.std.specs.List.{filter, flat_map, list_any, last_or}
 use Rattle.kpn_lang.specs.declared.talk.Said.{Said}
 use Rattle.kpn_lang.specs.declared.talk.Said.TheVariants as said
@@ -15,6 +15,19 @@ is_of p (WaitEmpty q c) = nat_eq q p
 is_of p (WaitFull q c) = nat_eq q p
 is_of p (Ended q how) = nat_eq q p
 is_of p event = false
+
+-- the event is of some process
+abbrev pub is_of_process : Event → Bool
+is_of_process (Get q c v) = true
+is_of_process (Put q c v) = true
+is_of_process (WaitEmpty q c) = true
+is_of_process (WaitFull q c) = true
+is_of_process (Ended q how) = true
+is_of_process event = false
+
+-- how many events of processes there are
+abbrev pub process_events : List Event → ℕ
+process_events H = count_by is_of_process H
 
 -- the last event of a process, where it has one
 abbrev pub last_event : List Event → (p : ℕ) → Option Event

@@ -11,7 +11,7 @@ use Rattle.kpn_trace.specs.declared.event.Event.TheVariants.{WaitEmpty, WaitFull
 use Rattle.kpn_trace.specs.Talks.{last_event}
 use Rattle.kpn_trace.specs.Channels.{is_empty, is_full}
 
--- a wait stands while its channel is empty or full
+-- a wait lasts while its channel is empty or full
 abbrev pub wait_in : Tables → List Event → Event → Wait
 wait_in t H (WaitEmpty p c) = if is_empty H c then Empty c else Nobody
 wait_in t H (WaitFull p c) = if is_full t H c then Full c else Nobody

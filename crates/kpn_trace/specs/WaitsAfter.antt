@@ -14,13 +14,13 @@ wait_made (WaitEmpty p c) = Empty c
 wait_made (WaitFull p c) = Full c
 wait_made event = Nobody
 
--- what is left of a wait: it stands while its channel is still empty or full
-abbrev pub wait_left : Tables → List Event → Wait → Wait
-wait_left t H Nobody = Nobody
-wait_left t H (Empty c) = if is_empty H c then Empty c else Nobody
-wait_left t H (Full c) = if is_full t H c then Full c else Nobody
+-- a wait is kept while its channel is still empty or full
+abbrev pub wait_kept : Tables → List Event → Wait → Wait
+wait_kept t H Nobody = Nobody
+wait_kept t H (Empty c) = if is_empty H c then Empty c else Nobody
+wait_kept t H (Full c) = if is_full t H c then Full c else Nobody
 
--- after an event of its own what that made, after one of others what is left of its wait
+-- after an event of its own what that made, after one of others its wait as far as that is kept
 abbrev pub wait_after : Tables → (before : List Event) → Event → (p : ℕ) → Wait → Wait
 wait_after t before event p wait =
-    if is_of p event then wait_made event else wait_left t (before ++ event ∷ []) wait
+    if is_of p event then wait_made event else wait_kept t (before ++ event ∷ []) wait

@@ -1,4 +1,4 @@
-// The events of a run.
+//! The events of a run.
 
 /// One event of a run: what a process did or met, or what the outside did. Processes and channels go by
 /// their numbers in the network, processes first.

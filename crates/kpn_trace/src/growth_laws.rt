@@ -1,46 +1,82 @@
-// What growth leaves behind and what a stop rests on, as the contracts of functions with nothing to do: the layers
-// above cite them.
-ghost use Rattle.std.specs.Prelude.{◌≡◌, ℕ, ◌<◌, ◌≤◌, List, [], ◌∷◌, ◌++◌, length, Option, Some, None};
+//! What growth leaves behind and what a stop rests on, as the contracts of functions with nothing to do: the layers
+//! above cite them.
+ghost use Rattle.std.specs.Prelude.{◌≡◌, ◌↔◌, ℕ, ◌<◌, ◌≤◌, List, [], ◌∷◌, ◌++◌, length, Option, Some, None};
 ghost use Rattle.kpn_net.specs.Tables.{Tables};
 ghost use Rattle.kpn_net.specs.Faults.{IsNetwork};
+ghost use Rattle.kpn_net.specs.declared.found.Found.{Found};
+ghost use Rattle.kpn_net.specs.declared.found.Found.TheVariants.{Full};
+ghost use Rattle.kpn_net.specs.Finding.{Finds};
 ghost use Rattle.kpn_trace.specs.declared.event.Event.{Event};
 ghost use Rattle.kpn_trace.specs.declared.event.Event.TheVariants.{Leave};
 ghost use Rattle.kpn_trace.specs.declared.state.Verdict.{Verdict};
 ghost use Rattle.kpn_trace.specs.declared.state.Verdict.TheVariants.{Ended, Clogged, Jammed};
-ghost use Rattle.kpn_trace.specs.Channels.{capacity_after};
-ghost use Rattle.kpn_trace.specs.Waiting.{HasFullCycle};
+ghost use Rattle.kpn_trace.specs.Channels.{capacity_after, capacity_or_zero};
+ghost use Rattle.kpn_trace.specs.Waiting.{waits_of, HasFullCycle};
 ghost use Rattle.kpn_trace.specs.Legal.{waiter, OwesGrowth, Legal};
 ghost use Rattle.kpn_trace.specs.Ends.{WaitsOnFull, IsQuiet, IsSettled, IsVerdict};
-ghost use Rattle.kpn_trace.specs.Stops.{OwesNothing, CanGrow, IsJammedAtLimit, WaitsForBlocked};
+ghost use Rattle.kpn_trace.specs.Stops.{OwesNothing, IsAwaitedByWriter, HasCapacityBelow, CanGrow, IsJammedAtLimit, WaitsForBlocked};
+
+use kpn_limits::MAX_CAPACITY;
 
 // ---- growth
 
 /// Each capacity stays from 1 to the limit.
 pub fn capacities_stay_within_the_limit()
-    ensures { (t : Tables) → IsNetwork t → (H : List Event) → Legal t H → (c cap : ℕ) → c < length t.channels
+    ensures { (t : Tables) → IsNetwork t → (H : List Event) → Legal t H → (c cap : ℕ)
+        → c < length t.channels
         → capacity_after t H c ≡ Some cap → (0 < cap) × (cap ≤ t.limit) }
 {}
 
 /// At most one growth is owed, and none unless the last event is a wait.
 pub fn one_growth_is_owed()
-    ensures one { (t : Tables) (H : List Event) (p d q e : ℕ) → OwesGrowth t H p d → OwesGrowth t H q e
+    ensures one { (t : Tables) (H : List Event) (p d q e : ℕ) → OwesGrowth t H p d
+        → OwesGrowth t H q e
         → (p ≡ q) × (d ≡ e) }
     ensures none_at_first { (t : Tables) → OwesNothing t [] }
-    ensures none_but_after_waits { (t : Tables) (B : List Event) (event : Event) → waiter event ≡ None
+    ensures none_but_after_waits { (t : Tables) (B : List Event) (event : Event)
+        → waiter event ≡ None
         → OwesNothing t (B ++ event ∷ []) }
+{}
+
+/// After a wait of `p` a growth is owed exactly where a search finds that the cycle through `p` has a full channel
+/// and its smallest one is below the limit; it is the growth of that channel. Else nothing is owed.
+pub fn growth_is_owed_by_the_cycle()
+    ensures owed { (t : Tables) (B : List Event) (event : Event) (p : ℕ) → waiter event ≡ Some p
+        → (found : Found)
+        → Finds t (waits_of t (B ++ event ∷ [])) (capacity_or_zero t (B ++ event ∷ [])) p found
+        → (d : ℕ) → (OwesGrowth t (B ++ event ∷ []) p d
+        ↔ ((found ≡ Full d) × (capacity_or_zero t (B ++ event ∷ []) d < t.limit))) }
+    ensures nothing { (t : Tables) (B : List Event) (event : Event) (p : ℕ) → waiter event ≡ Some p
+        → (found : Found)
+        → Finds t (waits_of t (B ++ event ∷ [])) (capacity_or_zero t (B ++ event ∷ [])) p found
+        → (OwesNothing t (B ++ event ∷ [])
+        ↔ ((d : ℕ) → found ≡ Full d → t.limit ≤ capacity_or_zero t (B ++ event ∷ []) d)) }
+{}
+
+/// The channel of an owed growth has a process as its writer, which waits on it as full, and a capacity below the
+/// limit, so below the largest of all.
+pub fn an_owed_growth_can_be_made()
+    ensures awaited { (t : Tables) → IsNetwork t → (H : List Event) → Legal t H → (p d : ℕ)
+        → OwesGrowth t H p d → IsAwaitedByWriter t H d }
+    ensures below_limit { (t : Tables) → IsNetwork t → (H : List Event) → Legal t H → (p d : ℕ)
+        → OwesGrowth t H p d → HasCapacityBelow t H t.limit d }
+    ensures below_largest { (t : Tables) → IsNetwork t → (H : List Event) → Legal t H → (p d : ℕ)
+        → OwesGrowth t H p d → HasCapacityBelow t H MAX_CAPACITY d }
 {}
 
 /// A legal history that owes no growth has no blocked cycle with a full channel below the limit: no
 /// artificial deadlock is left in a cycle.
 pub fn no_cycle_is_left_to_grow()
-    ensures { (t : Tables) → IsNetwork t → (H : List Event) → Legal t H → OwesNothing t H → ¬ CanGrow t H }
+    ensures { (t : Tables) → IsNetwork t → (H : List Event) → Legal t H → OwesNothing t H
+        → ¬ CanGrow t H }
 {}
 
 // ---- verdicts
 
 /// A settled history has one verdict, and a history has at most one.
 pub fn one_verdict()
-    ensures some { (t : Tables) (H : List Event) → IsSettled t H → ((verdict : Verdict) × IsVerdict t H (Some verdict)) }
+    ensures some { (t : Tables) (H : List Event) → IsSettled t H
+        → ((verdict : Verdict) × IsVerdict t H (Some verdict)) }
     ensures one { (t : Tables) (H : List Event) (verdict other : Option Verdict)
         → IsVerdict t H verdict → IsVerdict t H other → verdict ≡ other }
 {}
@@ -59,9 +95,11 @@ pub fn jammed_is_at_the_limit()
 /// Clogged: each process that is blocked on a full channel waits for a blocked process, no blocked cycle has
 /// a full channel, and no legal event but a leave can follow.
 pub fn clogged_waits_for_the_blocked()
-    ensures waits { (t : Tables) → IsNetwork t → (H : List Event) → Legal t H → IsVerdict t H (Some Clogged)
+    ensures waits { (t : Tables) → IsNetwork t → (H : List Event) → Legal t H
+        → IsVerdict t H (Some Clogged)
         → (p : ℕ) → WaitsOnFull t H p → WaitsForBlocked t H p }
-    ensures no_cycle { (t : Tables) (H : List Event) → IsVerdict t H (Some Clogged) → ¬ HasFullCycle t H }
+    ensures no_cycle { (t : Tables) (H : List Event) → IsVerdict t H (Some Clogged)
+        → ¬ HasFullCycle t H }
     ensures last { (t : Tables) (H : List Event) → IsVerdict t H (Some Clogged)
         → (event : Event) → Legal t (H ++ event ∷ []) → ((c : ℕ) × (event ≡ Leave c)) }
 {}

@@ -1,8 +1,8 @@
-// A history as a list of events for which memory is reserved first, so that a push asks for none.
+//! A history as a list of events for which memory is reserved first, so that a push asks for none.
 ghost use Rattle.std.specs.Prelude.{◌≡◌, ℕ, ◌+◌, ◌<◌, ◌≤◌, [], ◌∷◌, ◌++◌, length, slice_get, OnOk, OnErr};
 
 use crate::event::Event;
-use std::alloc::{AllocError, Global};
+use std::alloc::{AllocError, Allocator, Global};
 use std::marker::Model;
 
 // An event takes at most 16 bytes of a history.
@@ -10,22 +10,25 @@ const _: () = prove!(size_of::<Event>() <= 16);
 
 /// The events of a run so far, oldest first, and memory for some more.
 #[derive(Debug, Drop)]
-pub struct History {
-    events: Vec<Event>,
+pub struct History<A: Allocator = Global> {
+    events: Vec<Event, A>,
 }
 
-impl Model for History {
+impl<A: Allocator> Model for History<A> {
     ghost use Rattle.std.specs.Prelude.{◌-◌, vec_len, vec_capacity};
     ghost use Rattle.kpn_trace.specs.Recorded.{Recorded};
 
     ghost Value = { Recorded };
 
-    ghost view = { λ h. record { events = h.events.items; room = vec_capacity h.events - vec_len h.events } };
+    ghost view = { λ h. record {
+      events = h.events.items;
+      room = vec_capacity h.events - vec_len h.events;
+    } };
 }
 
-impl History {
-    /// The history without events. It takes no memory and has no room.
-    pub fn new(alloc: Global) -> Self
+impl<A: Allocator> History<A> {
+    /// The history without events. It takes no memory and has no room. The allocator is kept for its events.
+    pub fn new(alloc: A) -> Self
         ensures events { result.events ≡ [] }
         ensures room { result.room ≡ 0 }
     {

@@ -1,5 +1,5 @@
-// Legal histories made event by event, and Kahn's theorem over all of them, as the contracts of functions with
-// nothing to do: the layers above cite them.
+//! Legal histories made event by event, and Kahn's theorem over all of them, as the contracts of functions with
+//! nothing to do: the layers above cite them.
 ghost use Rattle.std.specs.Prelude.{◌≡◌, ◌↔◌, ◌⊎◌, ℕ, ◌≤◌, true, List, [], ◌∷◌, ◌++◌, length, take};
 ghost use Rattle.kpn_lang.specs.Prefix.{IsPrefix};
 ghost use Rattle.kpn_lang.specs.Alone.{got_at, put_at};
@@ -12,8 +12,8 @@ ghost use Rattle.kpn_net.specs.Iteration.{iterate, IsPrefixOnSources, AgreeOnSou
 ghost use Rattle.kpn_trace.specs.declared.event.Event.{Event};
 ghost use Rattle.kpn_trace.specs.Talks.{talk_of, has_ended};
 ghost use Rattle.kpn_trace.specs.Channels.{written_on, read_on, unread_on, fed};
-ghost use Rattle.kpn_trace.specs.Legal.{Stands, MayFollow, Legal};
-ghost use Rattle.kpn_trace.specs.OneMore.{StandsWith, IsOwn};
+ghost use Rattle.kpn_trace.specs.Legal.{IsConsistent, MayFollow, Legal};
+ghost use Rattle.kpn_trace.specs.OneMore.{KeepsConsistent, IsOwn};
 ghost use Rattle.kpn_trace.specs.Waiting.{wait_of};
 ghost use Rattle.kpn_trace.specs.WaitsAfter.{wait_after};
 ghost use Rattle.kpn_trace.specs.Ends.{IsQuiet};
@@ -26,13 +26,15 @@ pub fn beginnings_are_legal()
     ensures prefix { (t : Tables) (B H : List Event) → IsPrefix B H → Legal t H → Legal t B }
 {}
 
-/// A history with one more event is legal exactly where the history before it is, the event may follow, and
-/// what the event changes stands with it; or where all that stands after it is known.
+/// A history with one more event is legal exactly where the history before it is, the event may follow, and it
+/// keeps the history consistent; or where the history with it is known to be consistent.
 pub fn one_more_event()
     ensures exact { (t : Tables) (B : List Event) (event : Event)
-        → (Legal t (B ++ event ∷ []) ↔ (Legal t B × MayFollow t B event × StandsWith t B event)) }
-    ensures stands { (t : Tables) (B : List Event) (event : Event)
-        → Legal t B → MayFollow t B event → Stands t (B ++ event ∷ []) → Legal t (B ++ event ∷ []) }
+        → (Legal t (B ++ event ∷ [])
+        ↔ (Legal t B × MayFollow t B event × KeepsConsistent t B event)) }
+    ensures consistent { (t : Tables) (B : List Event) (event : Event)
+        → Legal t B → MayFollow t B event → IsConsistent t (B ++ event ∷ [])
+        → Legal t (B ++ event ∷ []) }
 {}
 
 /// The channel of each event belongs to who made the event.
@@ -48,7 +50,8 @@ pub fn journals_are_talks()
         → writer_of t c ≡ Process p → written_on H c ≡ put_at (talk_of H p) c }
     ensures read { (t : Tables) → IsNetwork t → (H : List Event) → Legal t H → (c p : ℕ)
         → reader_of t c ≡ Process p → read_on H c ≡ got_at (talk_of H p) c }
-    ensures in_order { (t : Tables) (H : List Event) → Legal t H → IsFamilyPrefix (read_on H) (written_on H) }
+    ensures in_order { (t : Tables) (H : List Event) → Legal t H
+        → IsFamilyPrefix (read_on H) (written_on H) }
     ensures queued { (t : Tables) (H : List Event) → Legal t H
         → (c : ℕ) → read_on H c ++ unread_on H c ≡ written_on H c }
 {}
@@ -58,7 +61,8 @@ pub fn journals_are_talks()
 pub fn waits_after_one_event()
     ensures ended { (t : Tables) → IsNetwork t → (p : ℕ) (H : List Event) → Legal t H
         → has_ended H p ≡ true → wait_of t H p ≡ Nobody }
-    ensures one_more { (t : Tables) → IsNetwork t → (B : List Event) (event : Event) → Legal t (B ++ event ∷ [])
+    ensures one_more { (t : Tables) → IsNetwork t → (B : List Event) (event : Event)
+        → Legal t (B ++ event ∷ [])
         → (p : ℕ) → wait_of t (B ++ event ∷ []) p ≡ wait_after t B event p (wait_of t B p) }
 {}
 
@@ -78,10 +82,13 @@ pub fn journals_are_below()
 /// channel begins the other, and the first items that are read from it are the same.
 pub fn schedules_agree()
     ensures journals { (t : Tables) → IsNetwork t → (G H : List Event) → Legal t G → Legal t H
-        → (given : Family) → IsPrefixOnSources t (fed t G) given → IsPrefixOnSources t (fed t H) given
-        → (c : ℕ) → (IsPrefix (written_on G c) (written_on H c) ⊎ IsPrefix (written_on H c) (written_on G c)) }
+        → (given : Family) → IsPrefixOnSources t (fed t G) given
+        → IsPrefixOnSources t (fed t H) given
+        → (c : ℕ) → (IsPrefix (written_on G c) (written_on H c)
+        ⊎ IsPrefix (written_on H c) (written_on G c)) }
     ensures first_items { (t : Tables) → IsNetwork t → (G H : List Event) → Legal t G → Legal t H
-        → (given : Family) → IsPrefixOnSources t (fed t G) given → IsPrefixOnSources t (fed t H) given
+        → (given : Family) → IsPrefixOnSources t (fed t G) given
+        → IsPrefixOnSources t (fed t H) given
         → (c k : ℕ) → k ≤ length (read_on G c) → k ≤ length (read_on H c)
         → take k (read_on G c) ≡ take k (read_on H c) }
 {}
@@ -104,5 +111,6 @@ pub fn quiet_histories_agree()
     ensures iterate { (t : Tables) → IsNetwork t → (G H : List Event) → Legal t G → Legal t H
         → IsQuiet t G → IsQuiet t H
         → (given : Family) → AgreeOnSources t (fed t G) given → AgreeOnSources t (fed t H) given
-        → ((n : ℕ) × ((c : ℕ) → (written_on G c ≡ iterate t given n c) × (written_on H c ≡ iterate t given n c))) }
+        → ((n : ℕ) × ((c : ℕ)
+        → (written_on G c ≡ iterate t given n c) × (written_on H c ≡ iterate t given n c))) }
 {}

@@ -1,15 +1,15 @@
-// Histories of a network: the events of a run in the order in which they came, what one may contain, and Kahn's
-// theorem over all of them.
+//! Histories of a network: the events of a run in the order in which they came, what one may contain, and Kahn's
+//! theorem over all of them.
 #![tactic(auto)]
 
-pub mod event;
-pub mod examples;
+mod event;
+pub mod event_laws;
 pub mod growth_laws;
-pub mod history;
+mod history;
 pub mod laws;
-pub mod state;
-#[cfg(test)]
-mod tests;
+mod state;
+pub mod state_laws;
+pub mod waking_laws;
 
 pub use event::{Event, How};
 pub use history::History;

@@ -1,4 +1,4 @@
-// What can be seen of a run at one moment.
+//! What can be seen of a run at one moment.
 use crate::event::How;
 use kpn_lang::Sequence;
 
@@ -11,7 +11,7 @@ pub enum State {
     Held,
     /// It waits for an item on this empty channel.
     WaitsEmpty(usize),
-    /// It waits for room on this full channel.
+    /// It waits until this full channel is full no more.
     WaitsFull(usize),
     /// It has ended.
     Ended(How),
@@ -46,7 +46,7 @@ pub struct View {
     pub counts: Counts,
 }
 
-/// How a run has come to a stop, once nothing more can happen but that the outside leaves a sink.
+/// How a run has come to a stop, once no growth is owed and nothing more can happen but that the outside leaves a sink.
 #[derive(Clone, Copy, Debug, PartialEq, Eq)]
 pub enum Verdict {
     /// Each process has ended or waits on an empty channel.

@@ -5,5 +5,5 @@ use Rattle.kpn_trace.proofs.laws.one_more_event.Goals as goal
 pub returns-clause-exact : goal.returns-clause-exact
 returns-clause-exact c = Legal-exactly
 
-pub returns-clause-stands : goal.returns-clause-stands
-returns-clause-stands c = Legal-push
+pub returns-clause-consistent : goal.returns-clause-consistent
+returns-clause-consistent c = Legal-push

@@ -1,0 +1,4 @@
+pub mod ListTests
+pub mod NetworkTests
+pub mod Passing
+pub mod Claiming

@@ -1,0 +1,5 @@
+pub mod Networks
+pub mod Runs
+pub mod Views
+pub mod WrongLists
+pub mod Claims

@@ -1,0 +1,112 @@
+-- A history of each worked network.
+use Rattle.std.specs.Prelude.{pos, List, [], ◌∷◌}
+use Rattle.kpn_trace.specs.declared.event.How.TheVariants as how
+use Rattle.kpn_trace.specs.declared.event.Event.{Event}
+use Rattle.kpn_trace.specs.declared.event.Event.TheVariants.{Get, Put, WaitEmpty, WaitFull, Ended, Feed, Close, Take, Leave, Grow}
+
+-- ---- runs to the end
+
+unfoldable pub copy_run : List Event
+copy_run =
+    Feed 0 (pos 1) ∷ Feed 0 (pos 2) ∷ Feed 0 (pos 3) ∷
+    Close 0 ∷ Get 0 0 (pos 1) ∷ Put 0 1 (pos 1) ∷
+    Take 1 (pos 1) ∷ Get 0 0 (pos 2) ∷ Put 0 1 (pos 2) ∷
+    Take 1 (pos 2) ∷ Get 0 0 (pos 3) ∷ Put 0 1 (pos 3) ∷
+    Take 1 (pos 3) ∷ WaitEmpty 0 0 ∷ []
+
+-- the sink is left while the process waits for room on it: from then on it is never full
+unfoldable pub left_sink_run : List Event
+left_sink_run =
+    Feed 0 (pos 1) ∷ Feed 0 (pos 2) ∷ Get 0 0 (pos 1) ∷
+    Put 0 1 (pos 1) ∷ Get 0 0 (pos 2) ∷ WaitFull 0 1 ∷
+    Leave 1 ∷ Put 0 1 (pos 2) ∷ WaitEmpty 0 0 ∷ Close 0 ∷ []
+
+unfoldable pub two_run : List Event
+two_run =
+    Put 0 0 (pos 1) ∷ WaitEmpty 1 1 ∷ WaitFull 0 0 ∷
+    Grow 0 0 ∷ Put 0 0 (pos 2) ∷ Put 0 1 (pos 3) ∷
+    Ended 0 how.Done ∷ Get 1 1 (pos 3) ∷ Get 1 0 (pos 1) ∷
+    Get 1 0 (pos 2) ∷ Put 1 2 (pos 312) ∷ Take 2 (pos 312) ∷
+    Ended 1 how.Done ∷ []
+
+-- the reader closes the cycle, so the growth of the writer's channel is the reader's
+unfoldable pub reader_closes_run : List Event
+reader_closes_run =
+    Put 0 0 (pos 1) ∷ WaitFull 0 0 ∷ WaitEmpty 1 1 ∷
+    Grow 1 0 ∷ Put 0 0 (pos 2) ∷ Put 0 1 (pos 3) ∷
+    Ended 0 how.Done ∷ Get 1 1 (pos 3) ∷ Get 1 0 (pos 1) ∷
+    Get 1 0 (pos 2) ∷ Put 1 2 (pos 312) ∷ Take 2 (pos 312) ∷
+    Ended 1 how.Done ∷ []
+
+-- both channels are full and waited on: b, which has the least capacity, grows, and p, which does not write it, is
+-- the one that closes the cycle
+unfoldable pub larger_run : List Event
+larger_run =
+    Put 0 0 (pos 1) ∷ Put 0 0 (pos 2) ∷ Put 1 1 (pos 1) ∷
+    WaitFull 1 1 ∷ WaitFull 0 0 ∷ Grow 0 1 ∷
+    Put 1 1 (pos 2) ∷ Get 1 0 (pos 1) ∷ Put 0 0 (pos 3) ∷
+    Get 0 1 (pos 1) ∷ Get 0 1 (pos 2) ∷ Ended 0 how.Done ∷
+    Get 1 0 (pos 2) ∷ Get 1 0 (pos 3) ∷ Ended 1 how.Done ∷ []
+
+-- both channels are full with one capacity: a, which has the least number, grows, and q closes the cycle
+unfoldable pub tie_run : List Event
+tie_run =
+    Put 0 0 (pos 1) ∷ Put 1 1 (pos 1) ∷ WaitFull 0 0 ∷
+    WaitFull 1 1 ∷ Grow 1 0 ∷ Put 0 0 (pos 2) ∷
+    Get 0 1 (pos 1) ∷ Put 1 1 (pos 2) ∷ Get 0 1 (pos 2) ∷
+    Ended 0 how.Done ∷ Get 1 0 (pos 1) ∷ Get 1 0 (pos 2) ∷
+    Ended 1 how.Done ∷ []
+
+unfoldable pub self_loop_run : List Event
+self_loop_run =
+    Put 0 0 (pos 1) ∷ WaitFull 0 0 ∷ Grow 0 0 ∷
+    Put 0 0 (pos 2) ∷ Get 0 0 (pos 1) ∷ Get 0 0 (pos 2) ∷
+    Put 0 1 (pos 3) ∷ Take 1 (pos 3) ∷ Ended 0 how.Done ∷ []
+
+unfoldable pub two_readers_run : List Event
+two_readers_run = WaitEmpty 0 0 ∷ WaitEmpty 1 1 ∷ []
+
+unfoldable pub ended_reader_run : List Event
+ended_reader_run =
+    Put 0 0 (pos 1) ∷ Ended 1 how.Done ∷ Put 0 0 (pos 2) ∷
+    Put 0 0 (pos 3) ∷ Put 0 0 (pos 4) ∷ Put 0 0 (pos 5) ∷
+    Ended 0 how.Done ∷ []
+
+-- the writer waits on the full channel before the reader ends
+unfoldable pub freed_writer_run : List Event
+freed_writer_run =
+    Put 0 0 (pos 1) ∷ WaitFull 0 0 ∷ Ended 1 how.Done ∷
+    Put 0 0 (pos 2) ∷ Put 0 0 (pos 3) ∷ Put 0 0 (pos 4) ∷
+    Put 0 0 (pos 5) ∷ Ended 0 how.Done ∷ []
+
+unfoldable pub zero_divisor_run : List Event
+zero_divisor_run = Put 0 0 (pos 1) ∷ Take 0 (pos 1) ∷ Ended 0 how.ZeroDivisor ∷ []
+
+unfoldable pub overflow_run : List Event
+overflow_run = Put 0 0 (pos 1) ∷ Ended 0 how.Overflow ∷ Take 0 (pos 1) ∷ []
+
+-- ---- runs that stop, or go on
+
+-- until the sink had six items
+unfoldable pub kahn_run : List Event
+kahn_run =
+    WaitEmpty 0 1 ∷ WaitEmpty 1 0 ∷ Put 2 1 (pos 0) ∷ Put 3 2 (pos 1) ∷
+    WaitEmpty 2 3 ∷ Get 0 1 (pos 0) ∷ WaitEmpty 3 4 ∷ Put 0 0 (pos 0) ∷
+    Put 0 5 (pos 0) ∷ Take 5 (pos 0) ∷ Get 1 0 (pos 0) ∷ Get 0 2 (pos 1) ∷
+    Put 1 3 (pos 0) ∷ Put 0 0 (pos 1) ∷ Get 1 0 (pos 1) ∷ Get 2 3 (pos 0) ∷
+    Put 0 5 (pos 1) ∷ Take 5 (pos 1) ∷ Put 1 4 (pos 1) ∷ Put 2 1 (pos 0) ∷
+    Get 0 1 (pos 0) ∷ WaitEmpty 1 0 ∷ Get 3 4 (pos 1) ∷ WaitEmpty 2 3 ∷
+    Put 0 0 (pos 0) ∷ Put 3 2 (pos 1) ∷ Put 0 5 (pos 0) ∷ Take 5 (pos 0) ∷
+    Get 1 0 (pos 0) ∷ WaitEmpty 3 4 ∷ Get 0 2 (pos 1) ∷ Put 1 3 (pos 0) ∷
+    Put 0 0 (pos 1) ∷ Get 1 0 (pos 1) ∷ Get 2 3 (pos 0) ∷ Put 0 5 (pos 1) ∷
+    Take 5 (pos 1) ∷ Put 1 4 (pos 1) ∷ Put 2 1 (pos 0) ∷ Get 0 1 (pos 0) ∷
+    WaitEmpty 1 0 ∷ Get 3 4 (pos 1) ∷ WaitEmpty 2 3 ∷ Put 0 0 (pos 0) ∷
+    Put 3 2 (pos 1) ∷ Put 0 5 (pos 0) ∷ Take 5 (pos 0) ∷ Get 1 0 (pos 0) ∷
+    WaitEmpty 3 4 ∷ Get 0 2 (pos 1) ∷ Put 1 3 (pos 0) ∷ Put 0 0 (pos 1) ∷
+    Get 1 0 (pos 1) ∷ Get 2 3 (pos 0) ∷ Put 0 5 (pos 1) ∷ Take 5 (pos 1) ∷ []
+
+unfoldable pub two_at_limit_run : List Event
+two_at_limit_run = Put 0 0 (pos 1) ∷ WaitEmpty 1 1 ∷ WaitFull 0 0 ∷ []
+
+unfoldable pub clogged_run : List Event
+clogged_run = Put 0 0 (pos 1) ∷ WaitEmpty 1 1 ∷ WaitEmpty 2 2 ∷ WaitFull 0 0 ∷ []

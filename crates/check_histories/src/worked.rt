@@ -1,0 +1,88 @@
+//! Histories that a run may bring, and what they come to, as the contracts of functions with nothing to do.
+ghost use Rattle.std.specs.Prelude.{◌≡◌, pos, [], ◌∷◌, Some};
+ghost use Rattle.kpn_trace.specs.declared.state.Verdict.TheVariants.{Ended, Clogged, Jammed};
+ghost use Rattle.kpn_trace.specs.Channels.{written_on, capacity_after};
+ghost use Rattle.kpn_trace.specs.Legal.{Legal};
+ghost use Rattle.kpn_net.specs.Faults.{IsNetwork};
+ghost use Rattle.check_histories.specs.Claims.{StopsAs, RunsToItsEnd};
+ghost use Rattle.check_histories.specs.Networks.{copy_network, kahn_network, two_network, two_at_limit, larger_network, tie_network, self_loop_network, two_readers_network, ended_reader_network, clogged_network, zero_divisor_network, overflow_network};
+ghost use Rattle.check_histories.specs.Runs.{copy_run, left_sink_run, two_run, reader_closes_run, larger_run, tie_run, self_loop_run, two_readers_run, ended_reader_run, freed_writer_run, zero_divisor_run, overflow_run, kahn_run, two_at_limit_run, clogged_run};
+
+// ---- runs to the end
+
+/// A copy of 1, 2 and 3 ends where its source is closed and read.
+pub fn copies_three_items()
+    ensures run { RunsToItsEnd copy_network copy_run }
+    ensures sink { written_on copy_run 1 ≡ pos 1 ∷ pos 2 ∷ pos 3 ∷ [] }
+{}
+
+/// The copy goes on where its sink is left, however full that is.
+pub fn copies_into_a_left_sink()
+    ensures run { RunsToItsEnd copy_network left_sink_run }
+{}
+
+/// Two channels between two processes: the first grows once, whoever closes the cycle.
+pub fn two_channels_grow_once()
+    ensures run { RunsToItsEnd two_network two_run }
+    ensures first { capacity_after two_network two_run 0 ≡ Some 2 }
+    ensures second { capacity_after two_network two_run 1 ≡ Some 1 }
+    ensures sink { written_on two_run 2 ≡ pos 312 ∷ [] }
+    ensures reader_closes { RunsToItsEnd two_network reader_closes_run }
+{}
+
+/// Of two full channels in one cycle the one with the smaller capacity grows.
+pub fn the_smaller_grows()
+    ensures run { RunsToItsEnd larger_network larger_run }
+    ensures larger { capacity_after larger_network larger_run 0 ≡ Some 2 }
+    ensures smaller { capacity_after larger_network larger_run 1 ≡ Some 2 }
+{}
+
+/// Of two full channels with one capacity the one with the smaller number grows.
+pub fn the_first_of_a_tie_grows()
+    ensures run { RunsToItsEnd tie_network tie_run }
+    ensures first { capacity_after tie_network tie_run 0 ≡ Some 2 }
+    ensures second { capacity_after tie_network tie_run 1 ≡ Some 1 }
+{}
+
+/// A channel from a process to itself grows once.
+pub fn a_self_loop_grows_once()
+    ensures run { RunsToItsEnd self_loop_network self_loop_run }
+    ensures capacity { capacity_after self_loop_network self_loop_run 0 ≡ Some 2 }
+{}
+
+/// Two readers wait for each other, and nothing grows.
+pub fn two_readers_wait()
+    ensures run { RunsToItsEnd two_readers_network two_readers_run }
+{}
+
+/// A writer never waits for a reader that has ended, also where it waited before.
+pub fn a_writer_outlives_its_reader()
+    ensures run { RunsToItsEnd ended_reader_network ended_reader_run }
+    ensures freed { RunsToItsEnd ended_reader_network freed_writer_run }
+{}
+
+/// A fault ends its process alone, and what it wrote before stays.
+pub fn a_fault_ends_its_process()
+    ensures zero_divisor { RunsToItsEnd zero_divisor_network zero_divisor_run }
+    ensures overflow { RunsToItsEnd overflow_network overflow_run }
+    ensures sink { written_on zero_divisor_run 0 ≡ pos 1 ∷ [] }
+{}
+
+// ---- runs that stop, or go on
+
+/// Kahn's example until its sink had six items.
+pub fn kahn_gives_six_items()
+    ensures network { IsNetwork kahn_network }
+    ensures legal { Legal kahn_network kahn_run }
+    ensures sink { written_on kahn_run 5 ≡ pos 0 ∷ pos 1 ∷ pos 0 ∷ pos 1 ∷ pos 0 ∷ pos 1 ∷ [] }
+{}
+
+/// Two channels between two processes where the limit forbids the growth: the cycle stays.
+pub fn two_channels_jam_at_the_limit()
+    ensures { StopsAs two_at_limit two_at_limit_run Jammed }
+{}
+
+/// A writer waits on a full channel, in no cycle, for a process that waits in a cycle of empty channels.
+pub fn a_writer_is_clogged()
+    ensures { StopsAs clogged_network clogged_run Clogged }
+{}

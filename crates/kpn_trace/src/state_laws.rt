@@ -1,0 +1,29 @@
+//! What the states of the processes say, as the contracts of functions with nothing to do: the layers above cite them.
+ghost use Rattle.std.specs.Prelude.{◌≡◌, ◌↔◌, ◌⊎◌, ℕ, ◌<◌, true, false, List, length, slice_index_or};
+ghost use Rattle.kpn_net.specs.Tables.{Tables};
+ghost use Rattle.kpn_trace.specs.declared.event.Event.{Event};
+ghost use Rattle.kpn_trace.specs.declared.state.State.{State};
+ghost use Rattle.kpn_trace.specs.declared.state.State.TheVariants.{Ready};
+ghost use Rattle.kpn_trace.specs.declared.state.View.{View};
+ghost use Rattle.kpn_trace.specs.Legal.{Legal};
+ghost use Rattle.kpn_trace.specs.Ends.{HasStopped, HaveStopped};
+ghost use Rattle.kpn_trace.specs.Views.{IsStateOf, is_stopped, Agrees};
+
+/// A process has ended or is blocked exactly where its state says that it has ended or waits. Of a view that agrees
+/// with the history: all have, exactly where all of its states say so, and where none is counted as ready or held.
+pub fn stopped_processes()
+    ensures one { (t : Tables) (H : List Event) (p : ℕ) (state : State) → IsStateOf t H p state
+        → ((is_stopped state ≡ true) ↔ HasStopped t H p) }
+    ensures all { (t : Tables) (H : List Event) (view : View) → Agrees t H view → (HaveStopped t H
+        ↔ ((p : ℕ) → p < length t.instances
+        → is_stopped (slice_index_or view.states p Ready) ≡ true)) }
+    ensures counted { (t : Tables) (H : List Event) (view : View) → Agrees t H view
+        → (HaveStopped t H ↔ ((view.counts.ready ≡ 0) × (view.counts.held ≡ 0))) }
+{}
+
+/// In a legal history the state of a process is one, but that it may be ready or held.
+pub fn a_process_has_one_state()
+    ensures { (t : Tables) (H : List Event) → Legal t H → (p : ℕ) (state other : State)
+        → IsStateOf t H p state → IsStateOf t H p other
+        → ((state ≡ other) ⊎ ((is_stopped state ≡ false) × (is_stopped other ≡ false))) }
+{}
