@@ -21,20 +21,24 @@ places_begin c p (d ∷ ds) ends none =
     ]
 
 -- a process is no sink
-ends_begin : (ports : Instance → List ℕ) (c p : ℕ) (instances : List Instance) → BeginsNoSink (ends_from ports c p instances)
+ends_begin : (ports : Instance → List ℕ) (c p : ℕ) (instances : List Instance)
+    → BeginsNoSink (ends_from ports c p instances)
 ends_begin ports c p [] = λ e. absurd cc
-ends_begin ports c p (i ∷ instances) = places_begin c p (ports i) (ends_from ports c (suc p) instances) (ends_begin ports c (suc p) instances)
+ends_begin ports c p (i ∷ instances) =
+    places_begin c p (ports i) (ends_from ports c (suc p) instances) (ends_begin ports c (suc p) instances)
 
 -- the reader of a channel, where these read it besides
 abbrev reader : ChannelSpec → List End → End
 reader spec ends = get_or (cond (is_sink spec) (Sink ∷ []) [] ++ ends) 0 Source
 
-sink_by : (spec : ChannelSpec) (ends : List End) (cap : ℕ) → BeginsNoSink ends → capacity spec ≡ Some cap → reader spec ends ≡ Sink → channel.Sink cap ≡ spec
+sink_by : (spec : ChannelSpec) (ends : List End) (cap : ℕ) → BeginsNoSink ends → capacity spec ≡ Some cap
+    → reader spec ends ≡ Sink → channel.Sink cap ≡ spec
 sink_by (channel.Inner n) ends cap none h r = absurd (none r)
 sink_by channel.Source ends cap none h r = absurd cc
 sink_by (channel.Sink n) ends cap none h r = cc
 
-inner_by : (spec : ChannelSpec) (ends : List End) (cap : ℕ) → capacity spec ≡ Some cap → (reader spec ends ≡ Sink → ⊥) → channel.Inner cap ≡ spec
+inner_by : (spec : ChannelSpec) (ends : List End) (cap : ℕ) → capacity spec ≡ Some cap → (reader spec ends ≡ Sink → ⊥)
+    → channel.Inner cap ≡ spec
 inner_by (channel.Inner n) ends cap h r = cc
 inner_by channel.Source ends cap h r = absurd cc
 inner_by (channel.Sink n) ends cap h r = absurd (r refl)
@@ -47,8 +51,12 @@ source_by (channel.Sink n) h = absurd cc
 pub source_is : (t : Tables) (c : ℕ) → capacity (channel_at t c) ≡ None → channel.Source ≡ channel_at t c
 source_is t c h = source_by (channel_at t c) h
 
-pub sink_is : (t : Tables) (c cap : ℕ) → capacity (channel_at t c) ≡ Some cap → reader_of t c ≡ Sink → channel.Sink cap ≡ channel_at t c
-sink_is t c cap h r = sink_by (channel_at t c) (ends_from (λ i. i.ins) c 0 t.instances) cap (ends_begin (λ i. i.ins) c 0 t.instances) h r
+pub sink_is : (t : Tables) (c cap : ℕ) → capacity (channel_at t c) ≡ Some cap → reader_of t c ≡ Sink
+    → channel.Sink cap ≡ channel_at t c
+sink_is t c cap h r =
+    sink_by (channel_at t c) (ends_from (λ i. i.ins) c 0 t.instances) cap (ends_begin (λ i. i.ins) c 0 t.instances) h
+    r
 
-pub inner_is : (t : Tables) (c cap : ℕ) → capacity (channel_at t c) ≡ Some cap → (reader_of t c ≡ Sink → ⊥) → channel.Inner cap ≡ channel_at t c
+pub inner_is : (t : Tables) (c cap : ℕ) → capacity (channel_at t c) ≡ Some cap → (reader_of t c ≡ Sink → ⊥)
+    → channel.Inner cap ≡ channel_at t c
 inner_is t c cap h r = inner_by (channel_at t c) (ends_from (λ i. i.ins) c 0 t.instances) cap h r

@@ -4,7 +4,9 @@ use Rattle.std.specs.Fmt.{signed_decimal}
 use Rattle.std.specs.Prelude.{◌==◌}
 use Rattle.std.proofs.lemmas.Bool.{cond-false, cond-true, le-ltb, lt-ltb}
 use Rattle.std.proofs.lemmas.List.{drop_all, drop_more}
-use Rattle.kpn_canonical.specs.Named.{number_named, literal_named, limit_named, paired}
+use Rattle.kpn_names.specs.NetworkNames.{paired}
+use Rattle.kpn_limits.specs.declared.TheConstants.{MAX_CAPACITY}
+use Rattle.kpn_canonical.specs.Named.{number_named, literal_named, limit_named}
 use Rattle.kpn_canonical.specs.Text.{all_text, further_text, indented, names_text, outs_text, term_text, literal_text}
 use Rattle.kpn_canonical.specs.Writing.{Writes}
 
@@ -13,25 +15,31 @@ pub prints_nothing : (a : List ℕ) → Writes a a (λ more. more)
 prints_nothing a more = refl
 
 -- one text and then another
-pub prints_then : (a b c : List ℕ) (f g : List ℕ → List ℕ) → Writes a b f → Writes b c g → Writes a c (λ more. f (g more))
+pub prints_then : (a b c : List ℕ) (f g : List ℕ → List ℕ) → Writes a b f → Writes b c g
+    → Writes a c (λ more. f (g more))
 prints_then a b c f g h k more = k more ∙ h (g more)
 
 -- the same text in other words
-pub prints_same : (a b : List ℕ) (f g : List ℕ → List ℕ) → ((more : List ℕ) → f more ≡ g more) → Writes a b f → Writes a b g
+pub prints_same : (a b : List ℕ) (f g : List ℕ → List ℕ) → ((more : List ℕ) → f more ≡ g more) → Writes a b f
+    → Writes a b g
 prints_same a b f g same h more = h more ∙ ap (λ l. a ++ l) (same more)
 
 -- the same of the answer of a call
 module _ {X E : Type 0} where
-  pub then_prints : (r : Result X E) (a b c : List ℕ) (f g : List ℕ → List ℕ) → Writes a b f → OnOk r (Writes b c g) → OnOk r (Writes a c (λ more. f (g more)))
+  pub then_prints : (r : Result X E) (a b c : List ℕ) (f g : List ℕ → List ℕ) → Writes a b f → OnOk r (Writes b c g)
+      → OnOk r (Writes a c (λ more. f (g more)))
   then_prints (Ok x) a b c f g h k = prints_then a b c f g h k
   then_prints (Err e) a b c f g h k = tt
 
-  pub same_prints : (r : Result X E) (a b : List ℕ) (f g : List ℕ → List ℕ) → ((more : List ℕ) → f more ≡ g more) → OnOk r (Writes a b f) → OnOk r (Writes a b g)
+  pub same_prints : (r : Result X E) (a b : List ℕ) (f g : List ℕ → List ℕ) → ((more : List ℕ) → f more ≡ g more)
+      → OnOk r (Writes a b f) → OnOk r (Writes a b g)
   same_prints (Ok x) a b f g same h = prints_same a b f g same h
   same_prints (Err e) a b f g same h = tt
 
 -- a level more
-pub indented_more : (a now next : List ℕ) (level step : ℕ) → step < level → ((more : List ℕ) → now ++ indented (level - step) more ≡ a ++ indented level more) → Writes now next (λ more. codes "  " ++ more)
+pub indented_more : (a now next : List ℕ) (level step : ℕ) → step < level
+    → ((more : List ℕ) → now ++ indented (level - step) more ≡ a ++ indented level more)
+    → Writes now next (λ more. codes "  " ++ more)
     → (more : List ℕ) → next ++ indented (level - (step + 1)) more ≡ a ++ indented level more
 indented_more a now next level step below so_far put more =
     let left : level - step ≡ suc (level - (step + 1)) = omega arith in
@@ -47,58 +55,78 @@ value_text (pos n) more = refl
 value_text (negsuc n) more = refl
 
 -- an item more of two lists, of which each item is printed with the one at its place in the other
-module _ {A B C : Type 0} (f : A → B → C) (text : C → List ℕ → List ℕ) (xs : List A) (ys : List B) (i : ℕ) (x : A) (y : B) (in_xs : i < length xs) (in_ys : i < length ys) (read_x : x ≡ get_or xs i x) (read_y : y ≡ get_or ys i y) where
-  pair_left : paired f (drop i xs) (drop i ys) ≡ f x y ∷ paired f (drop (i + 1) xs) (drop (i + 1) ys)
-  pair_left =
-      let left : drop i xs ≡ x ∷ drop (i + 1) xs = drop_more xs i x in_xs ∙ ap (λ v. v ∷ drop (i + 1) xs) (sym read_x) in
-      let right : drop i ys ≡ y ∷ drop (i + 1) ys = drop_more ys i y in_ys ∙ ap (λ v. v ∷ drop (i + 1) ys) (sym read_y) in
-      ap (λ l. paired f l (drop i ys)) left ∙ ap (λ l. paired f (x ∷ drop (i + 1) xs) l) right
+module _ {A B C : Type 0} (f : A → B → C) (text : C → List ℕ → List ℕ) (xs : List A) (ys : List B) (i : ℕ) (x : A)
+    (y : B) (in_xs : i < length xs) (in_ys : i < length ys) (read_x : x ≡ get_or xs i x) (read_y : y ≡ get_or ys i y)
+  where
+    pair_left : paired f (drop i xs) (drop i ys) ≡ f x y ∷ paired f (drop (i + 1) xs) (drop (i + 1) ys)
+    pair_left =
+        let left : drop i xs ≡ x ∷ drop (i + 1) xs =
+        drop_more xs i x in_xs ∙ ap (λ v. v ∷ drop (i + 1) xs) (sym read_x) in
+        let right : drop i ys ≡ y ∷ drop (i + 1) ys =
+        drop_more ys i y in_ys ∙ ap (λ v. v ∷ drop (i + 1) ys) (sym read_y) in
+        ap (λ l. paired f l (drop i ys)) left ∙ ap (λ l. paired f (x ∷ drop (i + 1) xs) l) right
 
-  pub pair_more : (a now next : List ℕ) → ((more : List ℕ) → now ++ all_text text (paired f (drop i xs) (drop i ys)) more ≡ a ++ all_text text (paired f xs ys) more)
-      → Writes now next (text (f x y))
-      → (more : List ℕ) → next ++ all_text text (paired f (drop (i + 1) xs) (drop (i + 1) ys)) more ≡ a ++ all_text text (paired f xs ys) more
-  pair_more a now next so_far put more =
-      put (all_text text (paired f (drop (i + 1) xs) (drop (i + 1) ys)) more) ∙ (rw pair_left at (so_far more))
+    pub pair_more : (a now next : List ℕ)
+        → ((more : List ℕ)
+        → now ++ all_text text (paired f (drop i xs) (drop i ys)) more ≡ a ++ all_text text (paired f xs ys) more)
+        → Writes now next (text (f x y))
+        → (more : List ℕ)
+        → next ++ all_text text (paired f (drop (i + 1) xs) (drop (i + 1) ys)) more
+        ≡ a ++ all_text text (paired f xs ys) more
+    pair_more a now next so_far put more =
+        put (all_text text (paired f (drop (i + 1) xs) (drop (i + 1) ys)) more) ∙ (rw pair_left at (so_far more))
 
 -- all pairs were put
-pub pairs_done : {A B C : Type 0} (f : A → B → C) (text : C → List ℕ → List ℕ) (xs : List A) (ys : List B) (i : ℕ) (a now : List ℕ) → length xs ≤ i
-    → ((more : List ℕ) → now ++ all_text text (paired f (drop i xs) (drop i ys)) more ≡ a ++ all_text text (paired f xs ys) more) → Writes a now (all_text text (paired f xs ys))
+pub pairs_done : {A B C : Type 0} (f : A → B → C) (text : C → List ℕ → List ℕ) (xs : List A) (ys : List B) (i : ℕ)
+    (a now : List ℕ) → length xs ≤ i
+    → ((more : List ℕ)
+    → now ++ all_text text (paired f (drop i xs) (drop i ys)) more ≡ a ++ all_text text (paired f xs ys) more)
+    → Writes a now (all_text text (paired f xs ys))
 pairs_done f text xs ys i a now all so_far more =
     let none : drop i xs ≡ [] = drop_all i xs all in
     (rw none at (so_far more))
 
 -- lines in front of other lines
-pub all_text-append : {A : Type 0} (text : A → List ℕ → List ℕ) (xs ys : List A) (more : List ℕ) → all_text text (xs ++ ys) more ≡ all_text text xs (all_text text ys more)
+pub all_text-append : {A : Type 0} (text : A → List ℕ → List ℕ) (xs ys : List A) (more : List ℕ)
+    → all_text text (xs ++ ys) more ≡ all_text text xs (all_text text ys more)
 all_text-append text [] ys more = refl
 all_text-append text (x ∷ xs) ys more = ap (text x) (all_text-append text xs ys more)
 
 -- the limit is written, or not
-pub limit_written : (n : ℕ) → n < 1048576 → limit_named n ≡ Some n
-limit_written n small = cond-true (nat_lt n 1048576) _ _ (lt-ltb n 1048576 small)
+pub limit_written : (n : ℕ) → n < MAX_CAPACITY → limit_named n ≡ Some n
+limit_written n small = cond-true (nat_lt n MAX_CAPACITY) _ _ (lt-ltb n MAX_CAPACITY small)
 
-pub limit_unwritten : (n : ℕ) → 1048576 ≤ n → limit_named n ≡ None
-limit_unwritten n great = cond-false (nat_lt n 1048576) _ _ (le-ltb n 1048576 great)
+pub limit_unwritten : (n : ℕ) → MAX_CAPACITY ≤ n → limit_named n ≡ None
+limit_unwritten n great = cond-false (nat_lt n MAX_CAPACITY) _ _ (le-ltb n MAX_CAPACITY great)
 
 -- all that was put behind nothing
 pub whole_text : (now : List ℕ) (f : List ℕ → List ℕ) → Writes [] now f → now ≡ f []
 whole_text now f put = sym (append-nil now) ∙ put []
 
 -- some names, behind a space
-pub some_outs : {A : Type 0} (name : A → List ℕ) (xs : List A) → false ≡ (length xs == 0) → (more : List ℕ) → codes " " ++ names_text (map name xs) more ≡ outs_text (map name xs) more
+pub some_outs : {A : Type 0} (name : A → List ℕ) (xs : List A) → false ≡ (length xs == 0) → (more : List ℕ)
+    → codes " " ++ names_text (map name xs) more ≡ outs_text (map name xs) more
 some_outs name [] some more = absurd cc
 some_outs name (x ∷ xs) some more = refl
 
 -- an item more of a list that is joined by commas
-pub joined_more : {A B : Type 0} (f : A → B) (text : B → List ℕ → List ℕ) (xs : List A) (i : ℕ) (d : A) → i < length xs → (a now between next : List ℕ)
-    → ((more : List ℕ) → now ++ all_text (further_text text) (map f (drop i xs)) more ≡ a ++ all_text (further_text text) (map f xs) more)
+pub joined_more : {A B : Type 0} (f : A → B) (text : B → List ℕ → List ℕ) (xs : List A) (i : ℕ) (d : A)
+    → i < length xs → (a now between next : List ℕ)
+    → ((more : List ℕ)
+    → now ++ all_text (further_text text) (map f (drop i xs)) more
+    ≡ a ++ all_text (further_text text) (map f xs) more)
     → Writes now between (λ more. codes ", " ++ more) → Writes between next (text (f (get_or xs i d)))
-    → (more : List ℕ) → next ++ all_text (further_text text) (map f (drop (i + 1) xs)) more ≡ a ++ all_text (further_text text) (map f xs) more
+    → (more : List ℕ)
+    → next ++ all_text (further_text text) (map f (drop (i + 1) xs)) more
+    ≡ a ++ all_text (further_text text) (map f xs) more
 joined_more f text xs i d within a now between next so_far comma item more =
     let rest = all_text (further_text text) (map f (drop (i + 1) xs)) more in
     item rest ∙ comma (text (f (get_or xs i d)) rest) ∙ (rw (drop_more xs i d within) at (so_far more))
 
 -- five texts
-pub then_five : {X E : Type 0} (r : Result X E) (a b c d e z : List ℕ) (f g h k l : List ℕ → List ℕ) → Writes a b f → Writes b c g → Writes c d h → Writes d e k → OnOk r (Writes e z l)
+pub then_five : {X E : Type 0} (r : Result X E) (a b c d e z : List ℕ) (f g h k l : List ℕ → List ℕ) → Writes a b f
+    → Writes b c g → Writes c d h → Writes d e k → OnOk r (Writes e z l)
     → OnOk r (Writes a z (λ more. f (g (h (k (l more))))))
 then_five r a b c d e z f g h k l p1 p2 p3 p4 p5 =
-    then_prints r a b z f _ p1 (then_prints r b c z g _ p2 (then_prints r c d z h _ p3 (then_prints r d e z k l p4 p5)))
+    then_prints r a b z f _ p1
+    (then_prints r b c z g _ p2 (then_prints r c d z h _ p3 (then_prints r d e z k l p4 p5)))

@@ -42,7 +42,8 @@ term_is (binary op a b) more h =
     record { is = (left.is, right.is); rest = right.rest.1 }
 
 mutual
-  statement_is : (s : Statement) (more : List Token) → AreSpelled (spell_statement s more) → And (IsProperStatement s) more
+  statement_is : (s : Statement) (more : List Token) → AreSpelled (spell_statement s more)
+      → And (IsProperStatement s) more
   statement_is (assign x e) more h =
       let value = term_is e _ h.1.1 in
       record { is = (is_name x h.0, value.is); rest = value.rest.1 }
@@ -60,7 +61,8 @@ mutual
       let body = statements_are b _ test.rest.1 in
       record { is = (test.is, body.is); rest = body.rest.1 }
 
-  statements_are : (ss : Statements) (more : List Token) → AreSpelled (spell_statements ss more) → And (AreProper ss) more
+  statements_are : (ss : Statements) (more : List Token) → AreSpelled (spell_statements ss more)
+      → And (AreProper ss) more
   statements_are no_statements more h = record { is = tt; rest = h }
   statements_are (statement s ss) more h =
       let first = statement_is s _ h in
@@ -69,7 +71,8 @@ mutual
 
 -- ---- lists, by their items
 
-module _ {A : Type 0} (spell : A → List Token → List Token) (P : A → Type 0) (one : (x : A) (more : List Token) → AreSpelled (spell x more) → And (P x) more) where
+module _ {A : Type 0} (spell : A → List Token → List Token) (P : A → Type 0)
+    (one : (x : A) (more : List Token) → AreSpelled (spell x more) → And (P x) more) where
   all_are : (xs : List A) (more : List Token) → AreSpelled (spell_all spell xs more) → And (AllByRecursion P xs) more
   all_are [] more h = record { is = tt; rest = h }
   all_are (x ∷ xs) more h =
@@ -77,14 +80,16 @@ module _ {A : Type 0} (spell : A → List Token → List Token) (P : A → Type 
       let others = all_are xs more first.rest in
       record { is = (first.is, others.is); rest = others.rest }
 
-  further_are : (xs : List A) (more : List Token) → AreSpelled (spell_all (spell_further spell) xs more) → And (AllByRecursion P xs) more
+  further_are : (xs : List A) (more : List Token) → AreSpelled (spell_all (spell_further spell) xs more)
+      → And (AllByRecursion P xs) more
   further_are [] more h = record { is = tt; rest = h }
   further_are (x ∷ xs) more h =
       let first = one x _ h.1 in
       let others = further_are xs more first.rest in
       record { is = (first.is, others.is); rest = others.rest }
 
-  list_are : (xs : List A) (more : List Token) → AreSpelled (spell_list spell xs more) → And (AllByRecursion P xs) more
+  list_are : (xs : List A) (more : List Token) → AreSpelled (spell_list spell xs more)
+      → And (AllByRecursion P xs) more
   list_are [] more h = record { is = tt; rest = h }
   list_are (x ∷ xs) more h =
       let first = one x _ h in
@@ -99,11 +104,13 @@ names_are = list_are spell_name IsName name_is
 
 -- ---- processes
 
-part_is : (word : Keyword) (xs : List Name) (more : List Token) → AreSpelled (spell_part word xs more) → And (AreNames xs) more
+part_is : (word : Keyword) (xs : List Name) (more : List Token) → AreSpelled (spell_part word xs more)
+    → And (AreNames xs) more
 part_is word [] more h = record { is = tt; rest = h }
 part_is word (x ∷ xs) more h = names_are (x ∷ xs) more h.1
 
-later_part_is : (word : Keyword) (xs : List Name) (more : List Token) → AreSpelled (spell_later_part word xs more) → And (AreNames xs) more
+later_part_is : (word : Keyword) (xs : List Name) (more : List Token) → AreSpelled (spell_later_part word xs more)
+    → And (AreNames xs) more
 later_part_is word [] more h = record { is = tt; rest = h }
 later_part_is word (x ∷ xs) more h = names_are (x ∷ xs) more h.1.1
 
@@ -131,7 +138,14 @@ process_is p more h =
     let parts = parts_are p.ins p.outs p.pars _ h.1.1.1 in
     let body = statements_are p.body _ parts.rest.1.1 in
     record {
-      is = record { name = is_name p.name h.1.0; ins = parts.is.ins; outs = parts.is.outs; pars = parts.is.pars; body = body.is };
+      is =
+          record {
+            name = is_name p.name h.1.0;
+            ins = parts.is.ins;
+            outs = parts.is.outs;
+            pars = parts.is.pars;
+            body = body.is;
+          };
       rest = body.rest.1;
     }
 
@@ -141,7 +155,8 @@ literal_is : (v : Literal) (more : List Token) → AreSpelled (spell_literal v m
 literal_is (plain n) more h = record { is = number_small n h.0; rest = h.1 }
 literal_is (negated n) more h = record { is = number_small n h.1.0; rest = h.1.1 }
 
-values_are : (vs : List Literal) (more : List Token) → AreSpelled (spell_values vs more) → And (AllByRecursion IsProperLiteral vs) more
+values_are : (vs : List Literal) (more : List Token) → AreSpelled (spell_values vs more)
+    → And (AllByRecursion IsProperLiteral vs) more
 values_are [] more h = record { is = tt; rest = h }
 values_are (v ∷ vs) more h = list_are spell_literal IsProperLiteral literal_is (v ∷ vs) more h.1
 
@@ -154,11 +169,19 @@ item_is (instance i) more h =
     let outs = names_are i.outs _ ins.rest.1 in
     let values = values_are i.values _ outs.rest in
     record {
-      is = record { name = is_name i.name h.0; program = is_name i.program h.1.1.0; ins = ins.is; outs = outs.is; values = values.is };
+      is =
+          record {
+            name = is_name i.name h.0;
+            program = is_name i.program h.1.1.0;
+            ins = ins.is;
+            outs = outs.is;
+            values = values.is;
+          };
       rest = values.rest.1.1;
     }
 
-limit_is : (limit : Option ℕ) (more : List Token) → AreSpelled (spell_limit limit more) → And (IsProperLimit limit) more
+limit_is : (limit : Option ℕ) (more : List Token) → AreSpelled (spell_limit limit more)
+    → And (IsProperLimit limit) more
 limit_is None more h = record { is = tt; rest = h }
 limit_is (Some n) more h = record { is = number_small n h.1.0; rest = h.1.1.1 }
 
@@ -170,6 +193,7 @@ network_is n more h =
 
 pub description_is : (text : List ℕ) (d : Description) → tokens_of text ≡ Some (spell_description d) → IsProper d
 description_is text d h =
-    let processes = all_are spell_process IsProperProcess process_is d.processes _ (read_spelled text (spell_description d) h) in
+    let processes =
+    all_are spell_process IsProperProcess process_is d.processes _ (read_spelled text (spell_description d) h) in
     let network = network_is d.network [] processes.rest in
     record { processes = processes.is; network = network.is }

@@ -23,7 +23,8 @@ pub nothing_read : IsReadAs [] []
 nothing_read = record { read = empty_text }
 
 -- a token, and then what follows
-pub token_read : (t : Token) (bytes more : List ℕ) (tokens : List Token) → IsSpelled t bytes → EndsBefore t more → IsReadAs more tokens → IsReadAs (bytes ++ more) (t ∷ tokens)
+pub token_read : (t : Token) (bytes more : List ℕ) (tokens : List Token) → IsSpelled t bytes → EndsBefore t more
+    → IsReadAs more tokens → IsReadAs (bytes ++ more) (t ∷ tokens)
 token_read t bytes more tokens is ends h =
     record { read = spelled_token t bytes more is ends ∙ ap (λ ts. cons_token t ts) h.read }
 
@@ -39,29 +40,39 @@ number_ends : (n : ℕ) (more : List ℕ) → EndsWord more → EndsBefore (toke
 number_ends n [] h = tt
 number_ends n (b ∷ bs) h = (or_parts (begins_name b) (is_ascii_digit b) h).1
 
-pub name_read : (x more : List ℕ) (tokens : List Token) → IsName x → EndsWord more → IsReadAs more tokens → IsReadAs (x ++ more) (token.Name x ∷ tokens)
+pub name_read : (x more : List ℕ) (tokens : List Token) → IsName x → EndsWord more → IsReadAs more tokens
+    → IsReadAs (x ++ more) (token.Name x ∷ tokens)
 name_read x more tokens is ends h = token_read (token.Name x) x more tokens (is, refl) (word_ends x more ends) h
 
-pub number_read : (n : ℕ) (more : List ℕ) (tokens : List Token) → n < 2 ^ 63 → EndsWord more → IsReadAs more tokens → IsReadAs (decimal n ++ more) (token.Number n ∷ tokens)
-number_read n more tokens small ends h = token_read (token.Number n) (decimal n) more tokens (decimal_spelled n small) (number_ends n more ends) h
+pub number_read : (n : ℕ) (more : List ℕ) (tokens : List Token) → n < 2 ^ 63 → EndsWord more → IsReadAs more tokens
+    → IsReadAs (decimal n ++ more) (token.Number n ∷ tokens)
+number_read n more tokens small ends h =
+    token_read (token.Number n) (decimal n) more tokens (decimal_spelled n small) (number_ends n more ends) h
 
-pub mark_read : (m : Mark) (more : List ℕ) (tokens : List Token) → MarkEnds m more → IsReadAs more tokens → IsReadAs (mark_bytes m ++ more) (token.Mark m ∷ tokens)
+pub mark_read : (m : Mark) (more : List ℕ) (tokens : List Token) → MarkEnds m more → IsReadAs more tokens
+    → IsReadAs (mark_bytes m ++ more) (token.Mark m ∷ tokens)
 mark_read m more tokens ends h = token_read (token.Mark m) (mark_bytes m) more tokens refl ends h
 
-pub keyword_read : (k : Keyword) (more : List ℕ) (tokens : List Token) → EndsWord more → IsReadAs more tokens → IsReadAs (keyword_bytes k ++ more) (token.Keyword k ∷ tokens)
-keyword_read k more tokens ends h = token_read (token.Keyword k) (keyword_bytes k) more tokens refl (keyword_ends k more ends) h
+pub keyword_read : (k : Keyword) (more : List ℕ) (tokens : List Token) → EndsWord more → IsReadAs more tokens
+    → IsReadAs (keyword_bytes k ++ more) (token.Keyword k ∷ tokens)
+keyword_read k more tokens ends h =
+    token_read (token.Keyword k) (keyword_bytes k) more tokens refl (keyword_ends k more ends) h
 
 -- white space, and then what follows
-white_read : (w : ℕ) (more : List ℕ) (tokens : List Token) → is_white_space w ≡ true → IsReadAs more tokens → IsReadAs (w ∷ more) tokens
+white_read : (w : ℕ) (more : List ℕ) (tokens : List Token) → is_white_space w ≡ true → IsReadAs more tokens
+    → IsReadAs (w ∷ more) tokens
 white_read w more tokens is h = record { read = white_dropped w more is ∙ h.read }
 
 pub space_read : (more : List ℕ) (tokens : List Token) → IsReadAs more tokens → IsReadAs (codes " " ++ more) tokens
 space_read more tokens h = white_read 32 more tokens refl h
 
-pub line_feed_read : (more : List ℕ) (tokens : List Token) → IsReadAs more tokens → IsReadAs (codes "\n" ++ more) tokens
+pub line_feed_read : (more : List ℕ) (tokens : List Token) → IsReadAs more tokens
+    → IsReadAs (codes "\n" ++ more) tokens
 line_feed_read more tokens h = white_read 10 more tokens refl h
 
-pub indent_read : (level : ℕ) (more : List ℕ) (tokens : List Token) → IsReadAs more tokens → IsReadAs (indented level more) tokens
+pub indent_read : (level : ℕ) (more : List ℕ) (tokens : List Token) → IsReadAs more tokens
+    → IsReadAs (indented level more) tokens
 indent_read zero more tokens h = h
 indent_read (suc level) more tokens h =
-    space_read (codes " " ++ indented level more) tokens (space_read (indented level more) tokens (indent_read level more tokens h))
+    space_read (codes " " ++ indented level more) tokens
+    (space_read (indented level more) tokens (indent_read level more tokens h))

@@ -17,17 +17,20 @@ EndsWord (b ∷ bs) = (begins_name b || is_ascii_digit b) ≡ false
 -- An expression, which no letter, digit or `_` follows, is read as its spelling, and then what follows it.
 abbrev pub TermIsRead : Type 0
 TermIsRead =
-    (e : Term) (more : List ℕ) (tokens : List Token) → IsProperTerm e → EndsWord more → tokens_of more ≡ Some tokens → tokens_of (term_text e more) ≡ Some (spell_term e tokens)
+    (e : Term) (more : List ℕ) (tokens : List Token) → IsProperTerm e → EndsWord more → tokens_of more ≡ Some tokens
+    → tokens_of (term_text e more) ≡ Some (spell_term e tokens)
 
 -- Statements are read as their spelling, and then what follows them.
 abbrev pub StatementsAreRead : Type 0
 StatementsAreRead =
-    (level : ℕ) (ss : Statements) (more : List ℕ) (tokens : List Token) → AreProper ss → tokens_of more ≡ Some tokens → tokens_of (statements_text level ss more) ≡ Some (spell_statements ss tokens)
+    (level : ℕ) (ss : Statements) (more : List ℕ) (tokens : List Token) → AreProper ss → tokens_of more ≡ Some tokens
+    → tokens_of (statements_text level ss more) ≡ Some (spell_statements ss tokens)
 
 -- A process is read as its spelling, and then what follows it.
 abbrev pub ProcessIsRead : Type 0
 ProcessIsRead =
-    (p : Process) (more : List ℕ) (tokens : List Token) → IsProperProcess p → tokens_of more ≡ Some tokens → tokens_of (process_text p more) ≡ Some (spell_process p tokens)
+    (p : Process) (more : List ℕ) (tokens : List Token) → IsProperProcess p → tokens_of more ≡ Some tokens
+    → tokens_of (process_text p more) ≡ Some (spell_process p tokens)
 
 -- A printed description is read as its spelling.
 abbrev pub DescriptionIsRead : Type 0
@@ -35,4 +38,5 @@ DescriptionIsRead = (d : Description) → IsProper d → tokens_of (description_
 
 -- A description whose spelling was read from a text is proper.
 abbrev pub ReadDescriptionsAreProper : Type 0
-ReadDescriptionsAreProper = (text : List ℕ) (d : Description) → tokens_of text ≡ Some (spell_description d) → IsProper d
+ReadDescriptionsAreProper =
+    (text : List ℕ) (d : Description) → tokens_of text ≡ Some (spell_description d) → IsProper d

@@ -1,38 +1,18 @@
 -- The description that the tables of a network stand for: each number is replaced by its name.
-use Rattle.std.specs.Prelude.{◌≡◌, ℕ, suc, ℤ, pos, negsuc, nat_lt, if◌then◌else◌, List, [], ◌∷◌, ◌++◌, length, map, take, Option, Some, None, slice_index_or}
-use Rattle.kpn_lang.specs.declared.syntax.Op.{Op}
-use Rattle.kpn_lang.specs.declared.syntax.Op.TheVariants as op
+use Rattle.std.specs.Prelude.{ℕ, suc, ℤ, pos, negsuc, nat_lt, if◌then◌else◌, List, ◌++◌, map, take, Option, Some, None}
 use Rattle.kpn_lang.specs.Parts.{Parts}
+use Rattle.kpn_limits.specs.declared.TheConstants.{MAX_CAPACITY}
 use Rattle.kpn_lang.specs.Syntax as lang
 use Rattle.kpn_lang.specs.Tree.{Tree, End, Assign, Read, Write, If, While, tree_of}
 use Rattle.kpn_net.specs.declared.tables.ChannelSpec.{ChannelSpec}
 use Rattle.kpn_net.specs.declared.tables.ChannelSpec.TheVariants.{Inner, Source, Sink}
 use Rattle.kpn_net.specs.declared.tables.Instance as net
 use Rattle.kpn_net.specs.Tables.{Tables}
-use Rattle.kpn_grammar.specs.declared.tree.BinaryOperator.{BinaryOperator}
-use Rattle.kpn_grammar.specs.declared.tree.BinaryOperator.TheVariants as operator
 use Rattle.kpn_grammar.specs.Syntax.{Name, Term, numeral, variable, minus, negation, binary, assign, receive, send, choice, loop, Statements, no_statements, statement, Process, Literal, plain, negated, Instance, Item, channel, source, sink, instance, Network, Description}
-use Rattle.kpn_canonical.specs.declared.names.NetworkNames.{NetworkNames}
-use Rattle.kpn_canonical.specs.declared.names.ProcessNames.{ProcessNames}
-
--- the name with a number; no bytes where there is none
-abbrev pub name_at : List Name → ℕ → Name
-name_at names k = slice_index_or names k []
-
-abbrev pub operator_named : Op → BinaryOperator
-operator_named op.Add = operator.Add
-operator_named op.Sub = operator.Subtract
-operator_named op.Mul = operator.Multiply
-operator_named op.Div = operator.Divide
-operator_named op.Rem = operator.Remainder
-operator_named op.Lt = operator.Less
-operator_named op.Le = operator.LessOrEqual
-operator_named op.Gt = operator.Greater
-operator_named op.Ge = operator.GreaterOrEqual
-operator_named op.Eq = operator.Equal
-operator_named op.Ne = operator.NotEqual
-operator_named op.And = operator.And
-operator_named op.Or = operator.Or
+use Rattle.kpn_names.specs.declared.network_names.NetworkNames.{NetworkNames}
+use Rattle.kpn_names.specs.declared.network_names.ProcessNames.{ProcessNames}
+use Rattle.kpn_names.specs.Names.{name_at}
+use Rattle.kpn_names.specs.NetworkNames.{paired, process_names}
 
 -- a whole number; one below 0 is written behind a minus
 abbrev pub number_named : ℤ → Term
@@ -45,7 +25,7 @@ term_named vars (lang.Num z) = number_named z
 term_named vars (lang.Var k) = variable (name_at vars k)
 term_named vars (lang.Neg e) = minus (term_named vars e)
 term_named vars (lang.Not e) = negation (term_named vars e)
-term_named vars (lang.Bin o a b) = binary (operator_named o) (term_named vars a) (term_named vars b)
+term_named vars (lang.Bin o a b) = binary o (term_named vars a) (term_named vars b)
 
 -- statements over these ports and variables
 abbrev pub statements_named : ProcessNames → Tree → Statements
@@ -57,7 +37,8 @@ statements_named names (Read i x rest) =
 statements_named names (Write o e rest) =
     statement (send (name_at names.outs o) (term_named names.vars e)) (statements_named names rest)
 statements_named names (If e a b rest) =
-    statement (choice (term_named names.vars e) (statements_named names a) (statements_named names b)) (statements_named names rest)
+    statement (choice (term_named names.vars e) (statements_named names a) (statements_named names b))
+    (statements_named names rest)
 statements_named names (While e a rest) =
     statement (loop (term_named names.vars e) (statements_named names a)) (statements_named names rest)
 
@@ -80,10 +61,6 @@ channel_named x (Inner cap) = channel x cap
 channel_named x Source = source x
 channel_named x (Sink cap) = sink x cap
 
--- the names of the processes
-abbrev pub process_names : NetworkNames → List Name
-process_names names = map (λ p. p.name) names.processes
-
 -- an instance of one of these processes, at these channels
 abbrev pub call_named : NetworkNames → Name → net.Instance → Instance
 call_named names x i = record {
@@ -99,13 +76,7 @@ instance_named names x i = instance (call_named names x i)
 
 -- the limit is written where it is below the one that holds where none is written
 abbrev pub limit_named : ℕ → Option ℕ
-limit_named n = if nat_lt n 1048576 then Some n else None
-
--- the items of two lists, each with the one at its place in the other
-abbrev pub paired : {A B C : Type 0} → (A → B → C) → List A → List B → List C
-paired f [] bs = []
-paired f (a ∷ rest) [] = []
-paired f (a ∷ rest) (b ∷ bs) = f a b ∷ paired f rest bs
+limit_named n = if nat_lt n MAX_CAPACITY then Some n else None
 
 -- the limit, the channels in order, and the instances in order
 abbrev pub network_named : NetworkNames → Tables → Network
@@ -120,9 +91,3 @@ description_named names t = record {
   processes = paired process_named names.processes t.programs;
   network = network_named names t;
 }
-
--- there are as many names as processes, instances and channels
-pub record AreNamed (names : NetworkNames) (t : Tables) : Type 0 where
-  pub processes : length names.processes ≡ length t.programs
-  pub instances : length names.instances ≡ length t.instances
-  pub channels : length names.channels ≡ length t.channels

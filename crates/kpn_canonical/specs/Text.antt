@@ -1,12 +1,12 @@
--- The canonical text of a description, as bytes: two spaces for each level, one statement or item on each line, a line
--- feed after each line, numbers without leading zeros. Each text stands in front of the text that follows it.
+-- The canonical text of a description, as bytes: two spaces for each level, one statement or item on each line, a
+-- line feed after each line, numbers without leading zeros. Each text stands in front of the text that follows it.
 use Rattle.std.specs.Prelude.{ℕ, zero, suc, List, [], ◌∷◌, ◌++◌, codes, Option, Some, None}
 use Rattle.std.specs.Fmt.{decimal}
 use Rattle.kpn_tokens.specs.declared.tokens.Keyword.{Keyword}
 use Rattle.kpn_tokens.specs.declared.tokens.Keyword.TheVariants as keyword
 use Rattle.kpn_tokens.specs.Spelling.{keyword_bytes, mark_bytes}
 use Rattle.kpn_grammar.specs.Syntax.{Name, Term, numeral, variable, minus, negation, binary, Statement, assign, receive, send, choice, loop, Statements, no_statements, statement, Process, Literal, plain, negated, Instance, Item, channel, source, sink, instance, Network, Description}
-use Rattle.kpn_grammar.specs.Spelling.{operator_mark}
+use Rattle.kpn_grammar.specs.Operators.{operator_mark}
 
 -- ---- expressions and statements
 
@@ -22,19 +22,31 @@ term_text (variable x) more = x ++ more
 term_text (minus e) more = codes "-" ++ term_text e more
 term_text (negation e) more = codes "!" ++ term_text e more
 term_text (binary op a b) more =
-    codes "(" ++ term_text a (codes " " ++ (mark_bytes (operator_mark op) ++ (codes " " ++ term_text b (codes ")" ++ more))))
+    codes "("
+    ++ term_text a
+    (codes " " ++ (mark_bytes (operator_mark op) ++ (codes " " ++ term_text b (codes ")" ++ more))))
 
 abbrev mutual
   -- a statement on lines of its own
   pub statement_text : (level : ℕ) → Statement → List ℕ → List ℕ
   statement_text level (assign x e) more = indented level (x ++ (codes " = " ++ term_text e (codes ";\n" ++ more)))
-  statement_text level (receive i x) more = indented level (codes "read " ++ (i ++ (codes " " ++ (x ++ (codes ";\n" ++ more)))))
+  statement_text level (receive i x) more =
+      indented level (codes "read " ++ (i ++ (codes " " ++ (x ++ (codes ";\n" ++ more)))))
   statement_text level (send o e) more =
       indented level (codes "write " ++ (o ++ (codes " " ++ term_text e (codes ";\n" ++ more))))
   statement_text level (choice e a b) more =
-      indented level (codes "if " ++ term_text e (codes " {\n" ++ statements_text (suc level) a (indented level (codes "} else {\n" ++ statements_text (suc level) b (indented level (codes "}\n" ++ more))))))
+      indented level
+      (codes "if "
+      ++ term_text e
+      (codes " {\n"
+      ++ statements_text (suc level) a
+      (indented level
+      (codes "} else {\n"
+      ++ statements_text (suc level) b (indented level (codes "}\n" ++ more))))))
   statement_text level (loop e b) more =
-      indented level (codes "while " ++ term_text e (codes " {\n" ++ statements_text (suc level) b (indented level (codes "}\n" ++ more))))
+      indented level
+      (codes "while "
+      ++ term_text e (codes " {\n" ++ statements_text (suc level) b (indented level (codes "}\n" ++ more))))
 
   -- one after the other
   pub statements_text : (level : ℕ) → Statements → List ℕ → List ℕ
@@ -73,14 +85,19 @@ part_text before word (x ∷ xs) more = before ++ (keyword_bytes word ++ (codes 
 
 -- in a, b; out c; par k, l  where a part without names is left out
 abbrev pub parts_text : (ins outs pars : List Name) → List ℕ → List ℕ
-parts_text (x ∷ xs) outs pars more = part_text [] keyword.In (x ∷ xs) (part_text (codes "; ") keyword.Out outs (part_text (codes "; ") keyword.Par pars more))
+parts_text (x ∷ xs) outs pars more =
+    part_text [] keyword.In (x ∷ xs)
+    (part_text (codes "; ") keyword.Out outs (part_text (codes "; ") keyword.Par pars more))
 parts_text [] (x ∷ xs) pars more = part_text [] keyword.Out (x ∷ xs) (part_text (codes "; ") keyword.Par pars more)
 parts_text [] [] pars more = part_text [] keyword.Par pars more
 
 -- process p(..) {  its body, one level in, and  }
 abbrev pub process_text : Process → List ℕ → List ℕ
 process_text p more =
-    codes "process " ++ (p.name ++ (codes "(" ++ parts_text p.ins p.outs p.pars (codes ") {\n" ++ statements_text 1 p.body (codes "}\n" ++ more))))
+    codes "process "
+    ++ (p.name
+    ++ (codes "("
+    ++ parts_text p.ins p.outs p.pars (codes ") {\n" ++ statements_text 1 p.body (codes "}\n" ++ more))))
 
 -- ---- networks
 
@@ -102,11 +119,13 @@ values_text (v ∷ vs) more = codes "; " ++ list_text literal_text (v ∷ vs) mo
 -- f(a, b; c; 1, -2)
 abbrev pub call_text : Instance → List ℕ → List ℕ
 call_text i more =
-    i.program ++ (codes "(" ++ names_text i.ins (codes ";" ++ outs_text i.outs (values_text i.values (codes ")" ++ more))))
+    i.program
+    ++ (codes "(" ++ names_text i.ins (codes ";" ++ outs_text i.outs (values_text i.values (codes ")" ++ more))))
 
 -- an item on a line of its own, one level in
 abbrev pub item_text : Item → List ℕ → List ℕ
-item_text (channel c cap) more = codes "  channel " ++ (c ++ (codes " cap " ++ (decimal cap ++ (codes ";\n" ++ more))))
+item_text (channel c cap) more =
+    codes "  channel " ++ (c ++ (codes " cap " ++ (decimal cap ++ (codes ";\n" ++ more))))
 item_text (source c) more = codes "  source " ++ (c ++ (codes ";\n" ++ more))
 item_text (sink c cap) more = codes "  sink " ++ (c ++ (codes " cap " ++ (decimal cap ++ (codes ";\n" ++ more))))
 item_text (instance i) more = codes "  " ++ (i.name ++ (codes " = " ++ call_text i (codes ";\n" ++ more)))

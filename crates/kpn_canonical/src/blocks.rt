@@ -5,14 +5,15 @@ ghost use Rattle.std.specs.List.{list_all};
 ghost use Rattle.kpn_lang.specs.Parts.{IsProgram, inner_blocks, is_within};
 ghost use Rattle.kpn_lang.specs.Syntax.{statement_of, term_of};
 ghost use Rattle.kpn_lang.specs.Tree.{tree_of, tree_over};
+ghost use Rattle.kpn_limits.specs.declared.TheConstants.{MAX_LEVELS};
 ghost use Rattle.kpn_canonical.specs.Named.{statements_named, term_named};
 ghost use Rattle.kpn_canonical.specs.Text.{indented, statements_text, term_text};
 ghost use Rattle.kpn_canonical.specs.Writing.{Writes};
 
 use crate::expressions::expression;
-use crate::names::ProcessNames;
 use crate::pieces::{bytes, indent, name};
 use kpn_lang::{BlockId, Expr, Program, Stmt};
+use kpn_names::ProcessNames;
 use std::alloc::AllocError;
 
 /// A program with its names.
@@ -33,9 +34,11 @@ impl Body<'_> {
         level: usize,
     ) -> Result<(), AllocError>
         requires program { IsProgram self.now.program.now }
-        requires levels { IsTrue (is_within self.now.program.now.blocks (33 - level) block) }
+        requires levels { IsTrue
+            (is_within self.now.program.now.blocks (MAX_LEVELS + 1 - level) block) }
         ensures { OnOk result (Writes out.old.items out.new.items
-            (statements_text level (statements_named self.now.names.now (tree_of self.now.program.now.blocks block)))) }
+            (statements_text level
+            (statements_named self.now.names.now (tree_of self.now.program.now.blocks block)))) }
     {
         let Some(statements) = self.program.block(block) else {
             return Ok(());
@@ -50,10 +53,15 @@ impl Body<'_> {
     #[cycle(body)]
     fn statement(&self, out: &mut Vec<u8>, statement: &Stmt, level: usize) -> Result<(), AllocError>
         requires program { IsProgram self.now.program.now }
-        requires level { level ≤ 32 }
-        requires levels { IsTrue (list_all (is_within self.now.program.now.blocks (32 - level)) (inner_blocks (statement_of statement.now))) }
+        requires level { level ≤ MAX_LEVELS }
+        requires levels { IsTrue
+            (list_all (is_within self.now.program.now.blocks (MAX_LEVELS - level))
+            (inner_blocks (statement_of statement.now))) }
         ensures { OnOk result (Writes out.old.items out.new.items
-            (statements_text level (statements_named self.now.names.now (tree_over (tree_of self.now.program.now.blocks) (statement_of statement.now ∷ []))))) }
+            (statements_text level
+            (statements_named self.now.names.now
+            (tree_over (tree_of self.now.program.now.blocks)
+            (statement_of statement.now ∷ []))))) }
     {
         indent(out, level)?;
         match statement {
@@ -94,10 +102,13 @@ impl Body<'_> {
     #[cycle(body)]
     fn otherwise(&self, out: &mut Vec<u8>, block: BlockId, level: usize) -> Result<(), AllocError>
         requires program { IsProgram self.now.program.now }
-        requires level { level ≤ 32 }
-        requires levels { IsTrue (is_within self.now.program.now.blocks (32 - level) block) }
+        requires level { level ≤ MAX_LEVELS }
+        requires levels { IsTrue
+            (is_within self.now.program.now.blocks (MAX_LEVELS - level) block) }
         ensures { OnOk result (Writes out.old.items out.new.items (λ more.
-            indented level (codes "} else {\n" ++ statements_text (level + 1) (statements_named self.now.names.now (tree_of self.now.program.now.blocks block)) (indented level (codes "}\n" ++ more))))) }
+            indented level (codes "} else {\n" ++ statements_text (level + 1)
+            (statements_named self.now.names.now (tree_of self.now.program.now.blocks block))
+            (indented level (codes "}\n" ++ more))))) }
     {
         indent(out, level)?;
         bytes(out, b"} else {\n")?;
@@ -108,7 +119,9 @@ impl Body<'_> {
     /// The value of a statement, up to the end of its line.
     fn value(&self, out: &mut Vec<u8>, value: &Expr) -> Result<(), AllocError>
         ensures { OnOk result (Writes out.old.items out.new.items
-            (λ more. term_text (term_named self.now.names.now.vars (term_of value.now)) (codes ";\n" ++ more))) }
+            (λ more.
+            term_text (term_named self.now.names.now.vars (term_of value.now))
+            (codes ";\n" ++ more))) }
     {
         expression(out, self.names.vars.as_slice(), value)?;
         bytes(out, b";\n")
@@ -117,7 +130,9 @@ impl Body<'_> {
     /// The test of a statement, up to the end of its line, where a block opens.
     fn test(&self, out: &mut Vec<u8>, test: &Expr) -> Result<(), AllocError>
         ensures { OnOk result (Writes out.old.items out.new.items
-            (λ more. term_text (term_named self.now.names.now.vars (term_of test.now)) (codes " {\n" ++ more))) }
+            (λ more.
+            term_text (term_named self.now.names.now.vars (term_of test.now))
+            (codes " {\n" ++ more))) }
     {
         expression(out, self.names.vars.as_slice(), test)?;
         bytes(out, b" {\n")
@@ -126,7 +141,9 @@ impl Body<'_> {
 
 /// The line that closes a block.
 fn close(out: &mut Vec<u8>, level: usize) -> Result<(), AllocError>
-    ensures { OnOk result (Writes out.old.items out.new.items (λ more. indented level (codes "}\n" ++ more))) }
+    ensures { OnOk result
+        (Writes out.old.items out.new.items
+        (λ more. indented level (codes "}\n" ++ more))) }
 {
     indent(out, level)?;
     bytes(out, b"}\n")

@@ -1,38 +1,15 @@
 //! Expressions, fully parenthesized.
 
-ghost use Rattle.std.specs.Prelude.{◌≡◌, OnOk};
+ghost use Rattle.std.specs.Prelude.{OnOk};
 ghost use Rattle.kpn_lang.specs.Syntax.{term_of};
-ghost use Rattle.kpn_tokens.specs.Spelling.{mark_bytes};
-ghost use Rattle.kpn_grammar.specs.Spelling.{operator_mark};
-ghost use Rattle.kpn_canonical.specs.Named.{operator_named, term_named};
+ghost use Rattle.kpn_canonical.specs.Named.{term_named};
 ghost use Rattle.kpn_canonical.specs.Text.{term_text};
 ghost use Rattle.kpn_canonical.specs.Writing.{Writes};
 
 use crate::pieces::{bytes, name, number};
-use kpn_lang::{Expr, Op, Sequence};
-use kpn_tokens::Mark;
+use kpn_grammar::mark_of;
+use kpn_lang::{Expr, Sequence};
 use std::alloc::AllocError;
-
-/// The mark of an operator.
-fn mark(op: Op) -> Mark
-    ensures { result ≡ operator_mark (operator_named op) }
-{
-    match op {
-        Op::Add => Mark::Plus,
-        Op::Sub => Mark::Minus,
-        Op::Mul => Mark::Star,
-        Op::Div => Mark::Slash,
-        Op::Rem => Mark::Percent,
-        Op::Lt => Mark::Less,
-        Op::Le => Mark::LessOrEqual,
-        Op::Gt => Mark::Greater,
-        Op::Ge => Mark::GreaterOrEqual,
-        Op::Eq => Mark::Equal,
-        Op::Ne => Mark::NotEqual,
-        Op::And => Mark::And,
-        Op::Or => Mark::Or,
-    }
-}
 
 /// An expression over variables of these names: `-e`, `!e`, `(e op e)`.
 pub(crate) fn expression(
@@ -58,7 +35,7 @@ pub(crate) fn expression(
             bytes(out, b"(")?;
             expression(out, vars, left)?;
             bytes(out, b" ")?;
-            bytes(out, mark(*op).spelling())?;
+            bytes(out, mark_of(*op).spelling())?;
             bytes(out, b" ")?;
             expression(out, vars, right)?;
             bytes(out, b")")

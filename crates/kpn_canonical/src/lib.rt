@@ -8,7 +8,6 @@
 mod blocks;
 mod expressions;
 mod laws;
-mod names;
 mod networks;
 mod pieces;
 mod processes;
@@ -17,8 +16,4 @@ pub use laws::{
     description_is_read, process_is_read, read_descriptions_are_proper, statements_are_read,
     term_is_read,
 };
-pub use names::{NetworkNames, ProcessNames};
 pub use networks::canonical_text;
-
-#[cfg(test)]
-mod tests;

@@ -3,20 +3,20 @@
 ghost use Rattle.std.specs.Prelude.{◌≡◌, ◌++◌, ◌<◌, length, map, codes, OnOk, IfOk};
 ghost use Rattle.std.specs.Fmt.{decimal};
 ghost use Rattle.kpn_net.specs.Tables.{channel_at, instance_at};
-ghost use Rattle.kpn_canonical.specs.Named.{AreNamed, call_named, channel_named, description_named, instance_named, limit_named, literal_named, name_at, network_named, paired, process_named};
+ghost use Rattle.kpn_names.specs.Names.{name_at};
+ghost use Rattle.kpn_names.specs.NetworkNames.{AreNamed, paired};
+ghost use Rattle.kpn_canonical.specs.Named.{call_named, channel_named, description_named, instance_named, limit_named, literal_named, network_named, process_named};
 ghost use Rattle.kpn_canonical.specs.Text.{all_text, call_text, description_text, item_text, limit_text, name_text, names_text, network_text, outs_text, process_text, values_text};
 ghost use Rattle.kpn_canonical.specs.Writing.{Writes};
 
-use crate::names::{NetworkNames, ProcessNames};
 use crate::pieces::{bytes, name, number};
 use crate::processes::process;
 use itoa::Buffer;
 use kpn_lang::Sequence;
+use kpn_limits::MAX_CAPACITY;
+use kpn_names::{NetworkNames, ProcessNames};
 use kpn_net::{ChannelSpec, End, Network};
 use std::alloc::{AllocError, Global};
-
-/// The limit of capacities where none is written.
-const LIMIT: u32 = 1_048_576;
 
 /// The canonical text of a network with these names.
 ///
@@ -27,7 +27,8 @@ pub fn canonical_text(
     names: &NetworkNames,
 ) -> Result<Vec<u8>, AllocError>
     requires { AreNamed names.now network.now }
-    ensures { IfOk result (λ text. text.items ≡ description_text (description_named names.now network.now)) }
+    ensures { IfOk result
+        (λ text. text.items ≡ description_text (description_named names.now network.now)) }
 {
     let mut out = Vec::new(alloc);
     processes(&mut out, network, names.processes.as_slice())?;
@@ -38,7 +39,9 @@ pub fn canonical_text(
 /// The network behind the processes.
 fn items(out: &mut Vec<u8>, network: &Network, names: &NetworkNames) -> Result<(), AllocError>
     requires { AreNamed names.now network.now }
-    ensures { OnOk result (Writes out.old.items out.new.items (network_text (network_named names.now network.now))) }
+    ensures { OnOk result
+        (Writes out.old.items out.new.items
+        (network_text (network_named names.now network.now))) }
 {
     bytes(out, b"network {\n")?;
     limit(out, network.limit())?;
@@ -63,7 +66,7 @@ fn processes(out: &mut Vec<u8>, network: &Network, names: &[ProcessNames]) -> Re
 fn limit(out: &mut Vec<u8>, limit: u32) -> Result<(), AllocError>
     ensures { OnOk result (Writes out.old.items out.new.items (limit_text (limit_named limit))) }
 {
-    if limit >= LIMIT {
+    if limit >= MAX_CAPACITY {
         return Ok(());
     }
     bytes(out, b"  limit ")?;
@@ -85,7 +88,8 @@ fn channels(out: &mut Vec<u8>, network: &Network, names: &[Sequence<u8>]) -> Res
 
 /// The line of a channel.
 fn channel(out: &mut Vec<u8>, name: &[u8], channel: ChannelSpec) -> Result<(), AllocError>
-    ensures { OnOk result (Writes out.old.items out.new.items (item_text (channel_named name.now channel))) }
+    ensures { OnOk result
+        (Writes out.old.items out.new.items (item_text (channel_named name.now channel))) }
 {
     match channel {
         ChannelSpec::Inner(cap) => {
@@ -108,7 +112,9 @@ fn channel(out: &mut Vec<u8>, name: &[u8], channel: ChannelSpec) -> Result<(), A
 
 /// A capacity, up to the end of its line.
 fn capacity(out: &mut Vec<u8>, cap: u32) -> Result<(), AllocError>
-    ensures { OnOk result (Writes out.old.items out.new.items (λ more. codes " cap " ++ (decimal cap ++ (codes ";\n" ++ more)))) }
+    ensures { OnOk result
+        (Writes out.old.items out.new.items
+        (λ more. codes " cap " ++ (decimal cap ++ (codes ";\n" ++ more)))) }
 {
     bytes(out, b" cap ")?;
     natural(out, cap)?;
@@ -131,7 +137,8 @@ fn channel_spec(network: &Network, c: usize) -> ChannelSpec
 fn instances(out: &mut Vec<u8>, network: &Network, names: &NetworkNames) -> Result<(), AllocError>
     requires { length names.now.instances ≡ length network.now.instances }
     ensures { OnOk result (Writes out.old.items out.new.items
-        (all_text item_text (paired (instance_named names.now) names.now.instances network.now.instances))) }
+        (all_text item_text
+        (paired (instance_named names.now) names.now.instances network.now.instances))) }
 {
     for (p, own) in names.instances.as_slice().iter().enumerate() {
         bytes(out, b"  ")?;
@@ -151,8 +158,9 @@ fn call(
     p: usize,
 ) -> Result<(), AllocError>
     requires { p < length network.now.instances }
-    ensures { let x = name_at names.now.instances p in let i = instance_at network.now p in OnOk result (Writes out.old.items out.new.items
-        (call_text (call_named names.now x i))) }
+    ensures { let x = name_at names.now.instances p in
+        let i = instance_at network.now p in
+        OnOk result (Writes out.old.items out.new.items (call_text (call_named names.now x i))) }
 {
     process_name(out, names.processes.as_slice(), network.program_number(p))?;
     bytes(out, b"(")?;
@@ -174,7 +182,8 @@ fn outs_and_values(
     list: &[i64],
 ) -> Result<(), AllocError>
     ensures { OnOk result (Writes out.old.items out.new.items (λ more.
-        outs_text (map (name_at names.now) numbers.now) (values_text (map literal_named list.now) (codes ")" ++ more)))) }
+        outs_text (map (name_at names.now) numbers.now)
+        (values_text (map literal_named list.now) (codes ")" ++ more)))) }
 {
     outs(out, names, numbers)?;
     values(out, list)?;
@@ -187,7 +196,9 @@ fn process_name(
     processes: &[ProcessNames],
     number: usize,
 ) -> Result<(), AllocError>
-    ensures { OnOk result (Writes out.old.items out.new.items (name_text (name_at (map (λ p. p.name) processes.now) number))) }
+    ensures { OnOk result
+        (Writes out.old.items out.new.items
+        (name_text (name_at (map (λ p. p.name) processes.now) number))) }
 {
     match processes.get(number) {
         Some(names) => bytes(out, names.name.as_slice()),
@@ -197,7 +208,9 @@ fn process_name(
 
 /// The names with these numbers, joined by commas.
 fn numbered(out: &mut Vec<u8>, names: &[Sequence<u8>], numbers: &[usize]) -> Result<(), AllocError>
-    ensures { OnOk result (Writes out.old.items out.new.items (names_text (map (name_at names.now) numbers.now))) }
+    ensures { OnOk result
+        (Writes out.old.items out.new.items
+        (names_text (map (name_at names.now) numbers.now))) }
 {
     let Some((first, others)) = numbers.split_first() else {
         return Ok(());
@@ -212,7 +225,9 @@ fn numbered(out: &mut Vec<u8>, names: &[Sequence<u8>], numbers: &[usize]) -> Res
 
 /// The out channels of an instance, behind a space; nothing where there are none.
 fn outs(out: &mut Vec<u8>, names: &[Sequence<u8>], numbers: &[usize]) -> Result<(), AllocError>
-    ensures { OnOk result (Writes out.old.items out.new.items (outs_text (map (name_at names.now) numbers.now))) }
+    ensures { OnOk result
+        (Writes out.old.items out.new.items
+        (outs_text (map (name_at names.now) numbers.now))) }
 {
     if numbers.is_empty() {
         return Ok(());
@@ -223,7 +238,8 @@ fn outs(out: &mut Vec<u8>, names: &[Sequence<u8>], numbers: &[usize]) -> Result<
 
 /// The values of an instance, behind its second semicolon; nothing where there are none.
 fn values(out: &mut Vec<u8>, values: &[i64]) -> Result<(), AllocError>
-    ensures { OnOk result (Writes out.old.items out.new.items (values_text (map literal_named values.now))) }
+    ensures { OnOk result
+        (Writes out.old.items out.new.items (values_text (map literal_named values.now))) }
 {
     let Some((first, others)) = values.split_first() else {
         return Ok(());

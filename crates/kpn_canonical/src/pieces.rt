@@ -2,7 +2,8 @@
 //! was put by then is not said.
 
 ghost use Rattle.std.specs.Prelude.{◌++◌, OnOk};
-ghost use Rattle.kpn_canonical.specs.Named.{literal_named, name_at, number_named};
+ghost use Rattle.kpn_names.specs.Names.{name_at};
+ghost use Rattle.kpn_canonical.specs.Named.{literal_named, number_named};
 ghost use Rattle.kpn_canonical.specs.Text.{indented, literal_text, name_text, names_text, term_text};
 ghost use Rattle.kpn_canonical.specs.Writing.{Writes};
 
@@ -20,8 +21,10 @@ pub(crate) fn bytes(out: &mut Vec<u8>, bytes: &[u8]) -> Result<(), AllocError>
 
 /// A number without leading zeros, behind a minus where it is below 0.
 pub(crate) fn number(out: &mut Vec<u8>, number: &i64) -> Result<(), AllocError>
-    ensures expression { OnOk result (Writes out.old.items out.new.items (term_text (number_named number.now))) }
-    ensures value { OnOk result (Writes out.old.items out.new.items (literal_text (literal_named number.now))) }
+    ensures expression { OnOk result
+        (Writes out.old.items out.new.items (term_text (number_named number.now))) }
+    ensures value { OnOk result
+        (Writes out.old.items out.new.items (literal_text (literal_named number.now))) }
 {
     let mut buffer = Buffer::new();
     bytes(out, buffer.format(*number).as_bytes())
@@ -33,7 +36,8 @@ pub(crate) fn name(
     names: &[Sequence<u8>],
     number: usize,
 ) -> Result<(), AllocError>
-    ensures { OnOk result (Writes out.old.items out.new.items (name_text (name_at names.now number))) }
+    ensures { OnOk result
+        (Writes out.old.items out.new.items (name_text (name_at names.now number))) }
 {
     match names.get(number) {
         Some(name) => bytes(out, name.as_slice()),

@@ -6,9 +6,9 @@ ghost use Rattle.kpn_canonical.specs.Text.{part_text, parts_text, process_text};
 ghost use Rattle.kpn_canonical.specs.Writing.{Writes};
 
 use crate::blocks::Body;
-use crate::names::ProcessNames;
 use crate::pieces::{bytes, names};
 use kpn_lang::{Program, Sequence};
+use kpn_names::ProcessNames;
 use kpn_tokens::Keyword;
 use std::alloc::AllocError;
 
@@ -18,7 +18,9 @@ pub(crate) fn process(
     names: &ProcessNames,
     program: &Program,
 ) -> Result<(), AllocError>
-    ensures { OnOk result (Writes out.old.items out.new.items (process_text (process_named names.now program.now))) }
+    ensures { OnOk result
+        (Writes out.old.items out.new.items
+        (process_text (process_named names.now program.now))) }
 {
     program.known();
     head(out, names, program.pars())?;
@@ -29,7 +31,9 @@ pub(crate) fn process(
 /// The head of a process with so many parameters, up to the end of its line, where the body opens.
 fn head(out: &mut Vec<u8>, names: &ProcessNames, pars: usize) -> Result<(), AllocError>
     ensures { OnOk result (Writes out.old.items out.new.items (λ more.
-        codes "process " ++ (names.now.name ++ (codes "(" ++ parts_text names.now.ins names.now.outs (take pars names.now.vars) (codes ") {\n" ++ more))))) }
+        codes "process " ++ (names.now.name ++ (codes "("
+        ++ parts_text names.now.ins names.now.outs (take pars names.now.vars)
+        (codes ") {\n" ++ more))))) }
 {
     let vars = names.vars.as_slice();
     let pars = &vars[..pars.min(vars.len())];
@@ -47,7 +51,8 @@ fn parts(
     outs: &[Sequence<u8>],
     pars: &[Sequence<u8>],
 ) -> Result<(), AllocError>
-    ensures { OnOk result (Writes out.old.items out.new.items (parts_text ins.now outs.now pars.now)) }
+    ensures { OnOk result
+        (Writes out.old.items out.new.items (parts_text ins.now outs.now pars.now)) }
 {
     part(out, separator(true), Keyword::In, ins)?;
     part(out, separator(ins.is_empty()), Keyword::Out, outs)?;
@@ -73,7 +78,8 @@ fn part(
     word: Keyword,
     list: &[Sequence<u8>],
 ) -> Result<(), AllocError>
-    ensures { OnOk result (Writes out.old.items out.new.items (part_text before.now word list.now)) }
+    ensures { OnOk result
+        (Writes out.old.items out.new.items (part_text before.now word list.now)) }
 {
     if list.is_empty() {
         return Ok(());

@@ -7,4 +7,4 @@ pub mod NetworkLaws
 pub mod StatementLaws
 pub mod Steps
 pub mod TermLaws
-pub mod Turns
+pub mod Rounds

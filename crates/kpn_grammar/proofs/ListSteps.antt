@@ -3,14 +3,17 @@ use Rattle.std.proofs.Common.{◌≡◌, ℕ, List, length, refl, ap, subst, sym
 use Rattle.kpn_tokens.specs.declared.tokens.Lexeme.{Lexeme}
 use Rattle.kpn_tokens.specs.declared.tokens.Keyword.TheVariants as keyword_
 use Rattle.kpn_grammar.specs.declared.fault.GrammarFault.{GrammarFault}
-use Rattle.kpn_grammar.specs.declared.reader.Scope.{Scope}
-use Rattle.kpn_grammar.specs.Reading.{Read, Fails, many, further, goes_on, item, items, is_keyword, numbered_process, processes}
+use Rattle.kpn_grammar.specs.declared.parser.Scope.{Scope}
+use Rattle.kpn_grammar.specs.TokenTests.{is_keyword}
+use Rattle.kpn_grammar.specs.Reading.{Read, Fails, many, further, goes_on, item, items, numbered_process, processes}
 
-pub further_any : {A : Type 0} (s : Scope) (one : List Lexeme → Read A) (i : ℕ) (ls : List Lexeme) → further s one i ls ≡ further s one 0 ls
+pub further_any : {A : Type 0} (s : Scope) (one : List Lexeme → Read A) (i : ℕ) (ls : List Lexeme)
+    → further s one i ls ≡ further s one 0 ls
 unfolding further
 further_any s one i ls = refl
 
-pub further_fails : {A : Type 0} (s : Scope) (one : List Lexeme → Read A) (i : ℕ) (ls : List Lexeme) (e : GrammarFault) → Fails e (further s one 0 ls) → Fails e (further s one i ls)
+pub further_fails : {A : Type 0} (s : Scope) (one : List Lexeme → Read A) (i : ℕ) (ls : List Lexeme) (e : GrammarFault)
+    → Fails e (further s one 0 ls) → Fails e (further s one i ls)
 unfolding further
 further_fails s one i ls e h = h
 
@@ -18,7 +21,8 @@ pub item_any : (s : Scope) (i : ℕ) (ls : List Lexeme) → item s i ls ≡ item
 unfolding item
 item_any s i ls = refl
 
-pub item_fails : (s : Scope) (i : ℕ) (ls : List Lexeme) (e : GrammarFault) → Fails e (item s 0 ls) → Fails e (item s i ls)
+pub item_fails : (s : Scope) (i : ℕ) (ls : List Lexeme) (e : GrammarFault) → Fails e (item s 0 ls)
+    → Fails e (item s i ls)
 unfolding item
 item_fails s i ls e h = h
 
@@ -26,7 +30,8 @@ pub all_items : (s : Scope) (ls : List Lexeme) → items s ls ≡ many goes_on (
 unfolding items
 all_items s ls = refl
 
-pub all_processes : (s : Scope) (ls : List Lexeme) → processes s ls ≡ many (is_keyword keyword_.Process) (numbered_process s) 0 (length ls) ls
+pub all_processes : (s : Scope) (ls : List Lexeme) → processes s ls ≡ many (is_keyword keyword_.Process)
+    (numbered_process s) 0 (length ls) ls
 unfolding processes
 all_processes s ls = refl
 
@@ -34,5 +39,6 @@ all_processes s ls = refl
 pub count_is : (s : Scope) (n i : ℕ) (ls : List Lexeme) → n ≡ i → numbered_process s i ls ≡ numbered_process s n ls
 count_is s n i ls e = ap (λ (k : ℕ). numbered_process s k ls) (sym e)
 
-pub count_fails : (s : Scope) (n i : ℕ) (ls : List Lexeme) (e : GrammarFault) → n ≡ i → Fails e (numbered_process s n ls) → Fails e (numbered_process s i ls)
+pub count_fails : (s : Scope) (n i : ℕ) (ls : List Lexeme) (e : GrammarFault) → n ≡ i
+    → Fails e (numbered_process s n ls) → Fails e (numbered_process s i ls)
 count_fails s n i ls e same h = subst (λ (k : ℕ). Fails e (numbered_process s k ls)) same h

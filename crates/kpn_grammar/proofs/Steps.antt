@@ -1,5 +1,6 @@
--- Steps of reading: what a chain of steps gives, and the laws of the readers of one token.
+-- Steps of reading: what a chain of steps gives, and the laws of the parsers of one token.
 use Rattle.std.proofs.Common.{◌≡◌, ℕ, Bool, true, false, cond, nat_eq, List, [], ◌∷◌, slice_index_or, Option, Some, None, Result, Ok, Err, IfOk, refl, sym, ap, subst, ◌∙◌, arith}
+use Rattle.std.specs.List.{find}
 use Rattle.std.proofs.lemmas.Bool.Decides.{nat_tests}
 use Rattle.kpn_tokens.specs.declared.tokens.Lexeme.{Lexeme}
 use Rattle.kpn_tokens.specs.declared.tokens.Token.{Token}
@@ -10,14 +11,18 @@ use Rattle.kpn_tokens.specs.declared.tokens.Keyword.{Keyword}
 use Rattle.kpn_tokens.specs.declared.tokens.Keyword.TheVariants as keyword_
 use Rattle.kpn_grammar.specs.declared.fault.GrammarFault.{GrammarFault}
 use Rattle.kpn_grammar.specs.declared.fault.GrammarFault.TheVariants as fault
-use Rattle.kpn_grammar.specs.declared.reader.Scope.{Scope}
-use Rattle.kpn_grammar.specs.declared.tree.BinaryOperator.{BinaryOperator}
-use Rattle.kpn_grammar.specs.declared.tree.BinaryOperator.TheVariants as operator_
-use Rattle.kpn_grammar.specs.Spelling.{kinds, operator_mark, operator_of}
-use Rattle.kpn_grammar.specs.Reading.{Fails, Gives, OkOrNoMemory, and_then, next, mark_number, keyword_number, is_mark, is_keyword, mark, keyword, named, name, numbered, number, token_operator, or_fault_at, operator}
+use Rattle.kpn_grammar.specs.declared.parser.Scope.{Scope}
+use Rattle.kpn_lang.specs.declared.syntax.Op.{Op}
+use Rattle.kpn_lang.specs.declared.syntax.Op.TheVariants as op
+use Rattle.kpn_grammar.specs.Operators.{operators, operator_mark, operator_of}
+use Rattle.kpn_grammar.specs.Spelling.{kinds}
+use Rattle.kpn_tokens.specs.Results.{and_then, OkOr}
+use Rattle.kpn_grammar.specs.TokenTests.{mark_number, same_mark, keyword_number, is_mark, is_keyword}
+use Rattle.kpn_grammar.specs.Reading.{Fails, Gives, next, mark, keyword, named, name, numbered, number, token_operator, or_fault_at, operator}
 
 -- the value of a step that had no fault
-pub bind_ok : {A B : Type 0} (r : Result A GrammarFault) (f : A → Result B GrammarFault) (y : B) → and_then r f ≡ Ok y → (x : A) × (r ≡ Ok x) × (f x ≡ Ok y)
+pub bind_ok : {A B : Type 0} (r : Result A GrammarFault) (f : A → Result B GrammarFault) (y : B) → and_then r f ≡ Ok y
+    → (x : A) × (r ≡ Ok x) × (f x ≡ Ok y)
 unfolding and_then
 bind_ok (Ok x) f y e = (x, refl, e)
 bind_ok (Err d) f y e = absurd cc
@@ -40,7 +45,8 @@ test_ok true x y d e = (refl, cc)
 test_ok false x y d e = absurd cc
 
 -- a choice by a test
-pub by_test : {A : Type 0} {P : Type 0} (b : Bool) (x y z : A) → cond b x y ≡ z → (b ≡ true → x ≡ z → P) → (b ≡ false → y ≡ z → P) → P
+pub by_test : {A : Type 0} {P : Type 0} (b : Bool) (x y z : A) → cond b x y ≡ z → (b ≡ true → x ≡ z → P)
+    → (b ≡ false → y ≡ z → P) → P
 by_test true x y z h f g = f refl h
 by_test false x y z h f g = g refl h
 
@@ -55,7 +61,10 @@ no_value d y e = cc
 -- ---- marks and reserved words are told apart by their numbers
 
 marks_by_number : List Mark
-marks_by_number = mark_.LeftParen ∷ mark_.RightParen ∷ mark_.LeftBrace ∷ mark_.RightBrace ∷ mark_.Semicolon ∷ mark_.Comma ∷ mark_.Assign ∷ mark_.Plus ∷ mark_.Minus ∷ mark_.Star ∷ mark_.Slash ∷ mark_.Percent ∷ mark_.Less ∷ mark_.LessOrEqual ∷ mark_.Greater ∷ mark_.GreaterOrEqual ∷ mark_.Equal ∷ mark_.NotEqual ∷ mark_.And ∷ mark_.Or ∷ mark_.Not ∷ []
+marks_by_number = mark_.LeftParen ∷ mark_.RightParen ∷ mark_.LeftBrace ∷ mark_.RightBrace ∷ mark_.Semicolon
+    ∷ mark_.Comma ∷ mark_.Assign ∷ mark_.Plus ∷ mark_.Minus ∷ mark_.Star ∷ mark_.Slash ∷ mark_.Percent ∷ mark_.Less
+    ∷ mark_.LessOrEqual ∷ mark_.Greater ∷ mark_.GreaterOrEqual ∷ mark_.Equal ∷ mark_.NotEqual ∷ mark_.And ∷ mark_.Or
+    ∷ mark_.Not ∷ []
 
 mark_back : (m : Mark) → slice_index_or marks_by_number (mark_number m) mark_.Not ≡ m
 unfolding marks_by_number
@@ -82,7 +91,9 @@ mark_back mark_.Or = refl
 mark_back mark_.Not = refl
 
 keywords_by_number : List Keyword
-keywords_by_number = keyword_.Process ∷ keyword_.In ∷ keyword_.Out ∷ keyword_.Par ∷ keyword_.Read ∷ keyword_.Write ∷ keyword_.If ∷ keyword_.Else ∷ keyword_.While ∷ keyword_.Network ∷ keyword_.Limit ∷ keyword_.Channel ∷ keyword_.Cap ∷ keyword_.Source ∷ keyword_.Sink ∷ keyword_.Policy ∷ keyword_.Grow ∷ []
+keywords_by_number = keyword_.Process ∷ keyword_.In ∷ keyword_.Out ∷ keyword_.Par ∷ keyword_.Read ∷ keyword_.Write
+    ∷ keyword_.If ∷ keyword_.Else ∷ keyword_.While ∷ keyword_.Network ∷ keyword_.Limit ∷ keyword_.Channel ∷ keyword_.Cap
+    ∷ keyword_.Source ∷ keyword_.Sink ∷ keyword_.Policy ∷ keyword_.Grow ∷ []
 
 keyword_back : (k : Keyword) → slice_index_or keywords_by_number (keyword_number k) keyword_.Grow ≡ k
 unfolding keywords_by_number
@@ -110,9 +121,14 @@ same_number a b h = grind (arith, nat_tests)
 number_same : (a : ℕ) → nat_eq a a ≡ true
 number_same a = grind (arith, nat_tests)
 
+same_mark_true : (n m : Mark) → same_mark n m ≡ true → n ≡ m
+same_mark_true n m h =
+    sym (mark_back n)
+    ∙ ap (λ k. slice_index_or marks_by_number k mark_.Not) (same_number (mark_number n) (mark_number m) h)
+    ∙ mark_back m
+
 pub is_mark_true : (m : Mark) (t : Token) → is_mark m t ≡ true → t ≡ token.Mark m
-is_mark_true m (token.Mark n) h =
-    ap token.Mark (sym (mark_back n) ∙ ap (λ k. slice_index_or marks_by_number k mark_.Not) (same_number (mark_number n) (mark_number m) h) ∙ mark_back m)
+is_mark_true m (token.Mark n) h = ap token.Mark (same_mark_true n m h)
 is_mark_true m (token.Name x) h = absurd cc
 is_mark_true m (token.Number n) h = absurd cc
 is_mark_true m (token.Keyword k) h = absurd cc
@@ -122,7 +138,8 @@ is_mark_same m = number_same (mark_number m)
 
 pub is_keyword_true : (k : Keyword) (t : Token) → is_keyword k t ≡ true → t ≡ token.Keyword k
 is_keyword_true k (token.Keyword n) h =
-    ap token.Keyword (sym (keyword_back n) ∙ ap (λ i. slice_index_or keywords_by_number i keyword_.Grow) (same_number (keyword_number n) (keyword_number k) h) ∙ keyword_back k)
+    ap token.Keyword (sym (keyword_back n) ∙ ap (λ i. slice_index_or keywords_by_number i keyword_.Grow)
+    (same_number (keyword_number n) (keyword_number k) h) ∙ keyword_back k)
 is_keyword_true k (token.Name x) h = absurd cc
 is_keyword_true k (token.Number n) h = absurd cc
 is_keyword_true k (token.Mark m) h = absurd cc
@@ -152,7 +169,8 @@ pub kind_of : (l : Lexeme) (ls : List Lexeme) (t : Token) (more : List Token) �
 unfolding head_of
 kind_of l ls t more h = ap (head_of t) h
 
-pub kinds_of : (l : Lexeme) (ls : List Lexeme) (t : Token) (more : List Token) → kinds (l ∷ ls) ≡ t ∷ more → kinds ls ≡ more
+pub kinds_of : (l : Lexeme) (ls : List Lexeme) (t : Token) (more : List Token) → kinds (l ∷ ls) ≡ t ∷ more
+    → kinds ls ≡ more
 unfolding tail_of
 kinds_of l ls t more h = ap tail_of h
 
@@ -161,7 +179,8 @@ unfolding head_of tail_of
 front [] t more h = absurd cc
 front (l ∷ ls) t more h = record { lexeme = l; rest = ls; whole = refl; kind = ap (head_of t) h; after = ap tail_of h }
 
-pub next_takes : (s : Scope) (ls : List Lexeme) (l : Lexeme) (rest : List Lexeme) → next s ls ≡ Ok (l, rest) → ls ≡ l ∷ rest
+pub next_takes : (s : Scope) (ls : List Lexeme) (l : Lexeme) (rest : List Lexeme) → next s ls ≡ Ok (l, rest) → ls ≡ l
+    ∷ rest
 unfolding next
 next_takes s [] l rest h = absurd cc
 next_takes s (m ∷ ls) l rest h = ap (λ (p : Lexeme × List Lexeme). p.0 ∷ p.1) (ok_is (m, ls) (l, rest) h)
@@ -172,134 +191,158 @@ next_again s l rest = refl
 
 -- ---- a mark, a reserved word, a name, an operator
 
-pub mark_takes : (s : Scope) (m : Mark) (ls rest : List Lexeme) → mark s m ls ≡ Ok rest → kinds ls ≡ token.Mark m ∷ kinds rest
+pub mark_takes : (s : Scope) (m : Mark) (ls rest : List Lexeme) → mark s m ls ≡ Ok rest → kinds ls ≡ token.Mark m
+    ∷ kinds rest
 unfolding mark
 mark_takes s m ls rest h =
     let b = bind_ok (next s ls) (λ x. cond (is_mark m x.0.token) (Ok x.1) (Err (fault.Grammar x.0.start))) rest h in
     let t = test_ok (is_mark m b.0.0.token) b.0.1 rest (fault.Grammar b.0.0.start) b.2 in
-    ap kinds (next_takes s ls b.0.0 b.0.1 b.1) ∙ ap (λ (k : Token). k ∷ kinds b.0.1) (is_mark_true m b.0.0.token t.0) ∙ ap (λ (r : List Lexeme). token.Mark m ∷ kinds r) t.1
+    ap kinds (next_takes s ls b.0.0 b.0.1 b.1) ∙ ap (λ (k : Token). k ∷ kinds b.0.1) (is_mark_true m b.0.0.token t.0)
+    ∙ ap (λ (r : List Lexeme). token.Mark m ∷ kinds r) t.1
 
-mark_at : (s : Scope) (m : Mark) (ls : List Lexeme) (l : Lexeme) (rest : List Lexeme) → ls ≡ l ∷ rest → is_mark m l.token ≡ true → mark s m ls ≡ Ok rest
+mark_at : (s : Scope) (m : Mark) (ls : List Lexeme) (l : Lexeme) (rest : List Lexeme) → ls ≡ l ∷ rest
+    → is_mark m l.token ≡ true → mark s m ls ≡ Ok rest
 unfolding mark and_then
 mark_at s m ls l rest e t = rw (e, next_again s l rest, t) refl
 
-pub mark_again : (s : Scope) (m : Mark) (ls : List Lexeme) (more : List Token) → kinds ls ≡ token.Mark m ∷ more → (rest : List Lexeme) × (mark s m ls ≡ Ok rest) × (kinds rest ≡ more)
+pub mark_again : (s : Scope) (m : Mark) (ls : List Lexeme) (more : List Token) → kinds ls ≡ token.Mark m ∷ more
+    → (rest : List Lexeme) × (mark s m ls ≡ Ok rest) × (kinds rest ≡ more)
 mark_again s m ls more h =
     let f = front ls (token.Mark m) more h in
     (f.rest, mark_at s m ls f.lexeme f.rest f.whole (ap (is_mark m) f.kind ∙ is_mark_same m), f.after)
 
-pub keyword_takes : (s : Scope) (k : Keyword) (ls rest : List Lexeme) → keyword s k ls ≡ Ok rest → kinds ls ≡ token.Keyword k ∷ kinds rest
+pub keyword_takes : (s : Scope) (k : Keyword) (ls rest : List Lexeme) → keyword s k ls ≡ Ok rest
+    → kinds ls ≡ token.Keyword k ∷ kinds rest
 unfolding keyword
 keyword_takes s k ls rest h =
     let b = bind_ok (next s ls) (λ x. cond (is_keyword k x.0.token) (Ok x.1) (Err (fault.Grammar x.0.start))) rest h in
     let t = test_ok (is_keyword k b.0.0.token) b.0.1 rest (fault.Grammar b.0.0.start) b.2 in
-    ap kinds (next_takes s ls b.0.0 b.0.1 b.1) ∙ ap (λ (u : Token). u ∷ kinds b.0.1) (is_keyword_true k b.0.0.token t.0) ∙ ap (λ (r : List Lexeme). token.Keyword k ∷ kinds r) t.1
+    ap kinds (next_takes s ls b.0.0 b.0.1 b.1) ∙ ap (λ (u : Token). u ∷ kinds b.0.1) (is_keyword_true k b.0.0.token t.0)
+    ∙ ap (λ (r : List Lexeme). token.Keyword k ∷ kinds r) t.1
 
-keyword_at : (s : Scope) (k : Keyword) (ls : List Lexeme) (l : Lexeme) (rest : List Lexeme) → ls ≡ l ∷ rest → is_keyword k l.token ≡ true → keyword s k ls ≡ Ok rest
+keyword_at : (s : Scope) (k : Keyword) (ls : List Lexeme) (l : Lexeme) (rest : List Lexeme) → ls ≡ l ∷ rest
+    → is_keyword k l.token ≡ true → keyword s k ls ≡ Ok rest
 unfolding keyword and_then
 keyword_at s k ls l rest e t = rw (e, next_again s l rest, t) refl
 
-pub keyword_again : (s : Scope) (k : Keyword) (ls : List Lexeme) (more : List Token) → kinds ls ≡ token.Keyword k ∷ more → (rest : List Lexeme) × (keyword s k ls ≡ Ok rest) × (kinds rest ≡ more)
+pub keyword_again : (s : Scope) (k : Keyword) (ls : List Lexeme) (more : List Token) → kinds ls ≡ token.Keyword k ∷ more
+    → (rest : List Lexeme) × (keyword s k ls ≡ Ok rest) × (kinds rest ≡ more)
 keyword_again s k ls more h =
     let f = front ls (token.Keyword k) more h in
     (f.rest, keyword_at s k ls f.lexeme f.rest f.whole (ap (is_keyword k) f.kind ∙ is_keyword_same k), f.after)
 
-named_takes : (t : Token) (start : ℕ) (ls : List Lexeme) (x : List ℕ) (rest : List Lexeme) → named t start ls ≡ Ok (x, rest) → t ∷ kinds ls ≡ token.Name x ∷ kinds rest
-named_takes (token.Name y) start ls x rest h = ap (λ (p : List ℕ × List Lexeme). token.Name p.0 ∷ kinds p.1) (ok_is (y, ls) (x, rest) h)
+named_takes : (t : Token) (start : ℕ) (ls : List Lexeme) (x : List ℕ) (rest : List Lexeme)
+    → named t start ls ≡ Ok (x, rest) → t ∷ kinds ls ≡ token.Name x ∷ kinds rest
+named_takes (token.Name y) start ls x rest h = ap (λ (p : List ℕ × List Lexeme). token.Name p.0 ∷ kinds p.1)
+    (ok_is (y, ls) (x, rest) h)
 named_takes (token.Number n) start ls x rest h = absurd cc
 named_takes (token.Mark m) start ls x rest h = absurd cc
 named_takes (token.Keyword k) start ls x rest h = absurd cc
 
-pub name_takes : (s : Scope) (ls : List Lexeme) (x : List ℕ) (rest : List Lexeme) → name s ls ≡ Ok (x, rest) → kinds ls ≡ token.Name x ∷ kinds rest
+pub name_takes : (s : Scope) (ls : List Lexeme) (x : List ℕ) (rest : List Lexeme) → name s ls ≡ Ok (x, rest)
+    → kinds ls ≡ token.Name x ∷ kinds rest
 unfolding name
 name_takes s ls x rest h =
     let b = bind_ok (next s ls) (λ f. named f.0.token f.0.start f.1) (x, rest) h in
     ap kinds (next_takes s ls b.0.0 b.0.1 b.1) ∙ named_takes b.0.0.token b.0.0.start b.0.1 x rest b.2
 
-name_at : (s : Scope) (x : List ℕ) (ls : List Lexeme) (l : Lexeme) (rest : List Lexeme) → ls ≡ l ∷ rest → l.token ≡ token.Name x → name s ls ≡ Ok (x, rest)
+name_at : (s : Scope) (x : List ℕ) (ls : List Lexeme) (l : Lexeme) (rest : List Lexeme) → ls ≡ l ∷ rest
+    → l.token ≡ token.Name x → name s ls ≡ Ok (x, rest)
 unfolding name and_then
 name_at s x ls l rest e t = rw (e, next_again s l rest, t) refl
 
-pub name_again : (s : Scope) (ls : List Lexeme) (x : List ℕ) (more : List Token) → kinds ls ≡ token.Name x ∷ more → (rest : List Lexeme) × (name s ls ≡ Ok (x, rest)) × (kinds rest ≡ more)
+pub name_again : (s : Scope) (ls : List Lexeme) (x : List ℕ) (more : List Token) → kinds ls ≡ token.Name x ∷ more
+    → (rest : List Lexeme) × (name s ls ≡ Ok (x, rest)) × (kinds rest ≡ more)
 name_again s ls x more h =
     let f = front ls (token.Name x) more h in
     (f.rest, name_at s x ls f.lexeme f.rest f.whole f.kind, f.after)
 
-operator_is : (m : Mark) (o : BinaryOperator) → operator_of m ≡ Some o → m ≡ operator_mark o
-operator_is mark_.Plus o h = ap operator_mark (some_is operator_.Add o h)
-operator_is mark_.Minus o h = ap operator_mark (some_is operator_.Subtract o h)
-operator_is mark_.Star o h = ap operator_mark (some_is operator_.Multiply o h)
-operator_is mark_.Slash o h = ap operator_mark (some_is operator_.Divide o h)
-operator_is mark_.Percent o h = ap operator_mark (some_is operator_.Remainder o h)
-operator_is mark_.Less o h = ap operator_mark (some_is operator_.Less o h)
-operator_is mark_.LessOrEqual o h = ap operator_mark (some_is operator_.LessOrEqual o h)
-operator_is mark_.Greater o h = ap operator_mark (some_is operator_.Greater o h)
-operator_is mark_.GreaterOrEqual o h = ap operator_mark (some_is operator_.GreaterOrEqual o h)
-operator_is mark_.Equal o h = ap operator_mark (some_is operator_.Equal o h)
-operator_is mark_.NotEqual o h = ap operator_mark (some_is operator_.NotEqual o h)
-operator_is mark_.And o h = ap operator_mark (some_is operator_.And o h)
-operator_is mark_.Or o h = ap operator_mark (some_is operator_.Or o h)
-operator_is _ o h = absurd cc
+found_passes : {A : Type 0} (test : A → Bool) (xs : List A) (x : A) → find test xs ≡ Some x → test x ≡ true
+found_passes test [] x h = absurd cc
+found_passes test (y ∷ ys) x h =
+    by_test (test y) (Some y) (find test ys) (Some x) h
+    (λ passes e. subst (λ z. test z ≡ true) (some_is y x e) passes)
+    (λ fails e. found_passes test ys x e)
 
-operator_back : (o : BinaryOperator) → operator_of (operator_mark o) ≡ Some o
-operator_back operator_.Add = refl
-operator_back operator_.Subtract = refl
-operator_back operator_.Multiply = refl
-operator_back operator_.Divide = refl
-operator_back operator_.Remainder = refl
-operator_back operator_.Less = refl
-operator_back operator_.LessOrEqual = refl
-operator_back operator_.Greater = refl
-operator_back operator_.GreaterOrEqual = refl
-operator_back operator_.Equal = refl
-operator_back operator_.NotEqual = refl
-operator_back operator_.And = refl
-operator_back operator_.Or = refl
+operator_is : (m : Mark) (o : Op) → operator_of m ≡ Some o → m ≡ operator_mark o
+unfolding operator_of
+operator_is m o h =
+    sym (same_mark_true (operator_mark o) m (found_passes (λ p. same_mark (operator_mark p) m) operators o h))
 
-found_is : (found : Option BinaryOperator) (start : ℕ) (ls : List Lexeme) (o : BinaryOperator) (rest : List Lexeme) → or_fault_at start ls found ≡ Ok (o, rest) → (found ≡ Some o) × (ls ≡ rest)
-found_is (Some p) start ls o rest h =
-    (ap (λ (q : BinaryOperator × List Lexeme). Some q.0) (ok_is (p, ls) (o, rest) h), ap (λ (q : BinaryOperator × List Lexeme). q.1) (ok_is (p, ls) (o, rest) h))
+operator_back : (o : Op) → operator_of (operator_mark o) ≡ Some o
+unfolding operator_of
+operator_back op.Add = refl
+operator_back op.Sub = refl
+operator_back op.Mul = refl
+operator_back op.Div = refl
+operator_back op.Rem = refl
+operator_back op.Lt = refl
+operator_back op.Le = refl
+operator_back op.Gt = refl
+operator_back op.Ge = refl
+operator_back op.Eq = refl
+operator_back op.Ne = refl
+operator_back op.And = refl
+operator_back op.Or = refl
+
+found_is : (found : Option Op) (start : ℕ) (ls : List Lexeme) (o : Op) (rest : List Lexeme)
+    → or_fault_at start ls found ≡ Ok (o, rest) → (found ≡ Some o) × (ls ≡ rest)
+found_is (Some p) start ls o rest h = (
+  ap (λ (q : Op × List Lexeme). Some q.0) (ok_is (p, ls) (o, rest) h),
+  ap (λ (q : Op × List Lexeme). q.1)
+      (ok_is (p, ls) (o, rest) h),
+)
 found_is None start ls o rest h = absurd cc
 
-token_operator_is : (t : Token) (o : BinaryOperator) → token_operator t ≡ Some o → t ≡ token.Mark (operator_mark o)
+token_operator_is : (t : Token) (o : Op) → token_operator t ≡ Some o → t ≡ token.Mark (operator_mark o)
 token_operator_is (token.Mark m) o h = ap token.Mark (operator_is m o h)
 token_operator_is (token.Name x) o h = absurd cc
 token_operator_is (token.Number n) o h = absurd cc
 token_operator_is (token.Keyword k) o h = absurd cc
 
-pub operator_takes : (s : Scope) (ls : List Lexeme) (o : BinaryOperator) (rest : List Lexeme) → operator s ls ≡ Ok (o, rest) → kinds ls ≡ token.Mark (operator_mark o) ∷ kinds rest
+pub operator_takes : (s : Scope) (ls : List Lexeme) (o : Op) (rest : List Lexeme) → operator s ls ≡ Ok (o, rest)
+    → kinds ls ≡ token.Mark (operator_mark o) ∷ kinds rest
 unfolding operator
 operator_takes s ls o rest h =
     let b = bind_ok (next s ls) (λ x. or_fault_at x.0.start x.1 (token_operator x.0.token)) (o, rest) h in
     let f = found_is (token_operator b.0.0.token) b.0.0.start b.0.1 o rest b.2 in
-    ap kinds (next_takes s ls b.0.0 b.0.1 b.1) ∙ ap (λ (t : Token). t ∷ kinds b.0.1) (token_operator_is b.0.0.token o f.0) ∙ ap (λ (r : List Lexeme). token.Mark (operator_mark o) ∷ kinds r) f.1
+    ap kinds (next_takes s ls b.0.0 b.0.1 b.1) ∙ ap (λ (t : Token). t ∷ kinds b.0.1)
+    (token_operator_is b.0.0.token o f.0) ∙ ap (λ (r : List Lexeme). token.Mark (operator_mark o) ∷ kinds r) f.1
 
-operator_at : (s : Scope) (o : BinaryOperator) (ls : List Lexeme) (l : Lexeme) (rest : List Lexeme) → ls ≡ l ∷ rest → l.token ≡ token.Mark (operator_mark o) → operator s ls ≡ Ok (o, rest)
+operator_at : (s : Scope) (o : Op) (ls : List Lexeme) (l : Lexeme) (rest : List Lexeme) → ls ≡ l ∷ rest
+    → l.token ≡ token.Mark (operator_mark o) → operator s ls ≡ Ok (o, rest)
 unfolding operator and_then
 operator_at s o ls l rest e t = rw (e, next_again s l rest, t, operator_back o) refl
 
-pub operator_again : (s : Scope) (ls : List Lexeme) (o : BinaryOperator) (more : List Token) → kinds ls ≡ token.Mark (operator_mark o) ∷ more → (rest : List Lexeme) × (operator s ls ≡ Ok (o, rest)) × (kinds rest ≡ more)
+pub operator_again : (s : Scope) (ls : List Lexeme) (o : Op) (more : List Token)
+    → kinds ls ≡ token.Mark (operator_mark o) ∷ more → (rest : List Lexeme) × (operator s ls ≡ Ok (o, rest))
+    × (kinds rest ≡ more)
 operator_again s ls o more h =
     let f = front ls (token.Mark (operator_mark o)) more h in
     (f.rest, operator_at s o ls f.lexeme f.rest f.whole f.kind, f.after)
 
-numbered_takes : (t : Token) (start : ℕ) (ls : List Lexeme) (n : ℕ) (rest : List Lexeme) → numbered t start ls ≡ Ok (n, rest) → t ∷ kinds ls ≡ token.Number n ∷ kinds rest
-numbered_takes (token.Number m) start ls n rest h = ap (λ (p : ℕ × List Lexeme). token.Number p.0 ∷ kinds p.1) (ok_is (m, ls) (n, rest) h)
+numbered_takes : (t : Token) (start : ℕ) (ls : List Lexeme) (n : ℕ) (rest : List Lexeme)
+    → numbered t start ls ≡ Ok (n, rest) → t ∷ kinds ls ≡ token.Number n ∷ kinds rest
+numbered_takes (token.Number m) start ls n rest h = ap (λ (p : ℕ × List Lexeme). token.Number p.0 ∷ kinds p.1)
+    (ok_is (m, ls) (n, rest) h)
 numbered_takes (token.Name x) start ls n rest h = absurd cc
 numbered_takes (token.Mark m) start ls n rest h = absurd cc
 numbered_takes (token.Keyword k) start ls n rest h = absurd cc
 
-pub number_takes : (s : Scope) (ls : List Lexeme) (n : ℕ) (rest : List Lexeme) → number s ls ≡ Ok (n, rest) → kinds ls ≡ token.Number n ∷ kinds rest
+pub number_takes : (s : Scope) (ls : List Lexeme) (n : ℕ) (rest : List Lexeme) → number s ls ≡ Ok (n, rest)
+    → kinds ls ≡ token.Number n ∷ kinds rest
 unfolding number
 number_takes s ls n rest h =
     let b = bind_ok (next s ls) (λ f. numbered f.0.token f.0.start f.1) (n, rest) h in
     ap kinds (next_takes s ls b.0.0 b.0.1 b.1) ∙ numbered_takes b.0.0.token b.0.0.start b.0.1 n rest b.2
 
-number_at : (s : Scope) (n : ℕ) (ls : List Lexeme) (l : Lexeme) (rest : List Lexeme) → ls ≡ l ∷ rest → l.token ≡ token.Number n → number s ls ≡ Ok (n, rest)
+number_at : (s : Scope) (n : ℕ) (ls : List Lexeme) (l : Lexeme) (rest : List Lexeme) → ls ≡ l ∷ rest
+    → l.token ≡ token.Number n → number s ls ≡ Ok (n, rest)
 unfolding number and_then
 number_at s n ls l rest e t = rw (e, next_again s l rest, t) refl
 
-pub number_again : (s : Scope) (ls : List Lexeme) (n : ℕ) (more : List Token) → kinds ls ≡ token.Number n ∷ more → (rest : List Lexeme) × (number s ls ≡ Ok (n, rest)) × (kinds rest ≡ more)
+pub number_again : (s : Scope) (ls : List Lexeme) (n : ℕ) (more : List Token) → kinds ls ≡ token.Number n ∷ more
+    → (rest : List Lexeme) × (number s ls ≡ Ok (n, rest)) × (kinds rest ≡ more)
 number_again s ls n more h =
     let f = front ls (token.Number n) more h in
     (f.rest, number_at s n ls f.lexeme f.rest f.whole f.kind, f.after)
@@ -307,12 +350,15 @@ number_again s ls n more h =
 -- ---- calls beside what reading gives
 
 -- what a call returned was read
-pub was_read : {A B : Type 0} (view : A → B) (P : A → Type 0) (r : Result A GrammarFault) (read : Result B GrammarFault) → Gives view r read → ((x : A) → read ≡ Ok (view x) → P x) → IfOk r P
+pub was_read : {A B : Type 0} (view : A → B) (P : A → Type 0) (r : Result A GrammarFault) (read : Result B GrammarFault)
+    → Gives view r read → ((x : A) → read ≡ Ok (view x) → P x) → IfOk r P
 was_read view P (Ok x) read g k = k x g
 was_read view P (Err e) read g k = tt
 
 -- what can be read was returned, unless memory ran out
-pub is_returned : {A B : Type 0} (view : A → B) (P : A → Type 0) (r : Result A GrammarFault) (read : Result B GrammarFault) (y : B) → Gives view r read → read ≡ Ok y → ((x : A) → view x ≡ y → P x) → OkOrNoMemory r P
+pub is_returned : {A B : Type 0} (view : A → B) (P : A → Type 0) (r : Result A GrammarFault)
+    (read : Result B GrammarFault) (y : B) → Gives view r read → read ≡ Ok y → ((x : A) → view x ≡ y → P x)
+    → OkOr fault.NoMemory r P
 is_returned view P (Ok x) read y g h k = k x (ok_is (view x) y (sym g ∙ h))
 is_returned view P (Err fault.NoMemory) read y g h k = refl
 is_returned {A} {B} view P (Err (fault.Grammar at)) read y g h k = absurd (no_value (fault.Grammar at) y (sym g ∙ h))

@@ -1,3 +1,5 @@
+pub mod TokenTests
+pub mod Operators
 pub mod Syntax
 pub mod Spelling
 pub mod Reading

@@ -1,7 +1,9 @@
 -- What reading gives: the tree at the front of the tokens and the tokens after it, or the first fault. A token that
 -- cannot stand where it stands is a fault at its first byte, or at the text's length where the text ends too early; a
 -- token that may stand there and opens a level too many is a fault of its process.
-use Rattle.std.specs.Prelude.{◌≡◌, ℕ, zero, suc, ◌+◌, Bool, true, false, not, nat_eq, if◌then◌else◌, List, [], ◌∷◌, length, Option, Some, None, Result, Ok, Err}
+use Rattle.std.specs.Prelude.{◌≡◌, ℕ, zero, suc, ◌+◌, Bool, true, false, not, if◌then◌else◌, List, [], ◌∷◌, length, Option, Some, None, Result, Ok, Err}
+use Rattle.kpn_limits.specs.declared.TheConstants.{MAX_LEVELS}
+use Rattle.kpn_lang.specs.declared.syntax.Op.{Op}
 use Rattle.kpn_tokens.specs.declared.tokens.Lexeme.{Lexeme}
 use Rattle.kpn_tokens.specs.declared.tokens.Token.{Token}
 use Rattle.kpn_tokens.specs.declared.tokens.Token.TheVariants as token
@@ -9,25 +11,17 @@ use Rattle.kpn_tokens.specs.declared.tokens.Mark.{Mark}
 use Rattle.kpn_tokens.specs.declared.tokens.Mark.TheVariants as mark_
 use Rattle.kpn_tokens.specs.declared.tokens.Keyword.{Keyword}
 use Rattle.kpn_tokens.specs.declared.tokens.Keyword.TheVariants as keyword_
+use Rattle.kpn_tokens.specs.Results.{◌>>=◌}
 use Rattle.kpn_grammar.specs.declared.fault.GrammarFault.{GrammarFault}
 use Rattle.kpn_grammar.specs.declared.fault.GrammarFault.TheVariants as fault
-use Rattle.kpn_grammar.specs.declared.reader.Scope.{Scope}
-use Rattle.kpn_grammar.specs.declared.tree.BinaryOperator.{BinaryOperator}
-use Rattle.kpn_grammar.specs.Spelling.{operator_of}
+use Rattle.kpn_grammar.specs.declared.parser.Scope.{Scope}
+use Rattle.kpn_grammar.specs.TokenTests.{is_mark, is_keyword, is_name}
+use Rattle.kpn_grammar.specs.Operators.{operator_of}
 use Rattle.kpn_grammar.specs.Syntax.{Name, Term, numeral, variable, minus, negation, binary, Statement, assign, receive, send, choice, loop, Statements, statements_of, Process, Literal, plain, negated, Instance, Item, channel, source, sink, instance, Network, Description}
 
 -- what was read and the tokens after it, or the first fault
 abbrev pub Read : Type 0 → Type 0
 Read A = Result (A × List Lexeme) GrammarFault
-
--- a step, and then what follows where it had no fault
-unfoldable pub and_then : {A B : Type 0} → Result A GrammarFault → (A → Result B GrammarFault) → Result B GrammarFault
-and_then (Ok x) f = f x
-and_then (Err e) f = Err e
-
-infixl 10 ◌>>=◌
-abbrev pub ◌>>=◌ : {A B : Type 0} → Result A GrammarFault → (A → Result B GrammarFault) → Result B GrammarFault
-r >>= f = and_then r f
 
 -- a call failed as reading does, or memory ran out
 abbrev pub Fails : {B : Type 0} → GrammarFault → Result B GrammarFault → Type 0
@@ -40,73 +34,12 @@ abbrev pub Gives : {A B : Type 0} → (A → B) → Result A GrammarFault → Re
 Gives view (Ok x) read = read ≡ Ok (view x)
 Gives view (Err e) read = Fails e read
 
--- the call succeeded with such a value, or memory ran out
-abbrev pub OkOrNoMemory : {A : Type 0} → Result A GrammarFault → (A → Type 0) → Type 0
-OkOrNoMemory (Ok x) P = P x
-OkOrNoMemory (Err e) P = e ≡ fault.NoMemory
-
 -- ---- one token
 
 -- the token at the front
 unfoldable pub next : Scope → List Lexeme → Read Lexeme
 next s [] = Err (fault.Grammar s.end)
 next s (l ∷ ls) = Ok (l, ls)
-
--- marks and reserved words by number, to compare them
-abbrev pub mark_number : Mark → ℕ
-mark_number mark_.LeftParen = 0
-mark_number mark_.RightParen = 1
-mark_number mark_.LeftBrace = 2
-mark_number mark_.RightBrace = 3
-mark_number mark_.Semicolon = 4
-mark_number mark_.Comma = 5
-mark_number mark_.Assign = 6
-mark_number mark_.Plus = 7
-mark_number mark_.Minus = 8
-mark_number mark_.Star = 9
-mark_number mark_.Slash = 10
-mark_number mark_.Percent = 11
-mark_number mark_.Less = 12
-mark_number mark_.LessOrEqual = 13
-mark_number mark_.Greater = 14
-mark_number mark_.GreaterOrEqual = 15
-mark_number mark_.Equal = 16
-mark_number mark_.NotEqual = 17
-mark_number mark_.And = 18
-mark_number mark_.Or = 19
-mark_number mark_.Not = 20
-
-abbrev pub keyword_number : Keyword → ℕ
-keyword_number keyword_.Process = 0
-keyword_number keyword_.In = 1
-keyword_number keyword_.Out = 2
-keyword_number keyword_.Par = 3
-keyword_number keyword_.Read = 4
-keyword_number keyword_.Write = 5
-keyword_number keyword_.If = 6
-keyword_number keyword_.Else = 7
-keyword_number keyword_.While = 8
-keyword_number keyword_.Network = 9
-keyword_number keyword_.Limit = 10
-keyword_number keyword_.Channel = 11
-keyword_number keyword_.Cap = 12
-keyword_number keyword_.Source = 13
-keyword_number keyword_.Sink = 14
-keyword_number keyword_.Policy = 15
-keyword_number keyword_.Grow = 16
-
--- the token is this mark, this reserved word, a name
-abbrev pub is_mark : Mark → Token → Bool
-is_mark m (token.Mark n) = nat_eq (mark_number n) (mark_number m)
-is_mark m _ = false
-
-abbrev pub is_keyword : Keyword → Token → Bool
-is_keyword k (token.Keyword n) = nat_eq (keyword_number n) (keyword_number k)
-is_keyword k _ = false
-
-abbrev pub is_name : Token → Bool
-is_name (token.Name x) = true
-is_name _ = false
 
 -- there is a token at the front, and it is such a one
 abbrev pub first_is : (Token → Bool) → List Lexeme → Bool
@@ -146,7 +79,7 @@ number s ls = do
   numbered x.0.token x.0.start x.1
 
 -- the operator of a token, where it has one
-abbrev pub token_operator : Token → Option BinaryOperator
+abbrev pub token_operator : Token → Option Op
 token_operator (token.Mark m) = operator_of m
 token_operator _ = None
 
@@ -154,15 +87,15 @@ abbrev pub or_fault_at : {A : Type 0} → ℕ → List Lexeme → Option A → R
 or_fault_at start rest (Some x) = Ok (x, rest)
 or_fault_at start rest None = Err (fault.Grammar start)
 
-unfoldable pub operator : Scope → List Lexeme → Read BinaryOperator
+unfoldable pub operator : Scope → List Lexeme → Read Op
 operator s ls = do
   x ← next s ls
   or_fault_at x.0.start x.1 (token_operator x.0.token)
 
 -- ---- repetition
 
--- One after another, each with its number, from i on, as long as the token at the front is such a one. n is at least how
--- many there are.
+-- One after another, each with its number, from i on, as long as the token at the front is such a one. n is at least
+-- how many there are.
 unfoldable pub many : {A : Type 0} → (Token → Bool) → (ℕ → List Lexeme → Read A) → ℕ → ℕ → List Lexeme → Read (List A)
 many goes one i zero ls = Ok ([], ls)
 many goes one i (suc n) ls =
@@ -189,7 +122,7 @@ names s ls = separated s (name s) ls
 unfoldable pub optional_names : Scope → List Lexeme → Read (List Name)
 optional_names s ls = if first_is is_name ls then names s ls else Ok ([], ls)
 
--- ---- expressions, by a reader of those one level deeper
+-- ---- expressions, by a parser of those one level deeper
 
 abbrev pub begins_expression : Token → Bool
 begins_expression (token.Number n) = true
@@ -226,13 +159,13 @@ unfoldable pub expression : Scope → ℕ → List Lexeme → Read Term
 expression s zero ls = next s ls >>= λ x. Err (level_fault s x.0)
 expression s (suc d) ls = next s ls >>= λ x. operand s (expression s d) x.0.token x.0.start x.1
 
--- ---- statements, by a reader of the blocks one level deeper
+-- ---- statements, by a parser of the blocks one level deeper
 
 -- behind the name that is set
 unfoldable pub assignment_behind : Scope → Name → List Lexeme → Read Statement
 assignment_behind s x ls = do
   after ← mark s mark_.Assign ls
-  e ← expression s 32 after
+  e ← expression s MAX_LEVELS after
   rest ← mark s mark_.Semicolon e.1
   Ok (assign x e.0, rest)
 
@@ -248,14 +181,14 @@ receive_behind s ls = do
 unfoldable pub send_behind : Scope → List Lexeme → Read Statement
 send_behind s ls = do
   o ← name s ls
-  e ← expression s 32 o.1
+  e ← expression s MAX_LEVELS o.1
   rest ← mark s mark_.Semicolon e.1
   Ok (send o.0 e.0, rest)
 
 -- behind `if`
 unfoldable pub choice_behind : Scope → (List Lexeme → Read Statements) → List Lexeme → Read Statement
 choice_behind s inner ls = do
-  e ← expression s 32 ls
+  e ← expression s MAX_LEVELS ls
   a ← inner e.1
   rest ← keyword s keyword_.Else a.1
   b ← inner rest
@@ -264,7 +197,7 @@ choice_behind s inner ls = do
 -- behind `while`
 unfoldable pub loop_behind : Scope → (List Lexeme → Read Statements) → List Lexeme → Read Statement
 loop_behind s inner ls = do
-  e ← expression s 32 ls
+  e ← expression s MAX_LEVELS ls
   b ← inner e.1
   Ok (loop e.0 b.0, b.1)
 
@@ -319,10 +252,12 @@ after_outs s ins outs ls =
       Ok (record { ins = ins; outs = outs; pars = pars.0 }, pars.1))
     else Ok (record { ins = ins; outs = outs; pars = [] }, ls)
 
--- "out" names [ ";" "par" names ] or "par" names behind the in ports, from its first token on, which begins at this byte
+-- "out" names [ ";" "par" names ] or "par" names behind the in ports, from its first token on, which begins at this
+-- byte
 unfoldable pub outs_or_pars : Scope → List Name → Token → ℕ → List Lexeme → Read Parts
 outs_or_pars s ins (token.Keyword keyword_.Out) start rest = names s rest >>= λ outs. after_outs s ins outs.0 outs.1
-outs_or_pars s ins (token.Keyword keyword_.Par) start rest = names s rest >>= λ pars. Ok (record { ins = ins; outs = []; pars = pars.0 }, pars.1)
+outs_or_pars s ins (token.Keyword keyword_.Par) start rest =
+    names s rest >>= λ pars. Ok (record { ins = ins; outs = []; pars = pars.0 }, pars.1)
 outs_or_pars s ins _ start rest = Err (fault.Grammar start)
 
 -- the same behind a semicolon, where one stands at the front
@@ -355,7 +290,7 @@ process s ls = do
   inside ← mark s mark_.LeftParen x.1
   p ← parts s inside
   after ← mark s mark_.RightParen p.1
-  body ← block s 32 after
+  body ← block s MAX_LEVELS after
   Ok (record { name = x.0; ins = p.0.ins; outs = p.0.outs; pars = p.0.pars; body = body.0 }, body.1)
 
 -- the process of a number

@@ -1,54 +1,20 @@
--- How a tree is spelled, token by token, how deep it nests, and what it is for tokens to be a description. Each spelling
--- stands before the tokens that follow it.
+-- How a tree is spelled, token by token, how deep it nests, and what it is for tokens to be a description. Each
+-- spelling stands before the tokens that follow it.
 use Rattle.std.specs.Prelude.{◌≡◌, ◌≤◌, ℕ, suc, max, List, [], ◌∷◌, map, Option, Some, None}
 use Rattle.std.specs.List.{AllByRecursion}
+use Rattle.kpn_limits.specs.declared.TheConstants.{MAX_LEVELS}
 use Rattle.kpn_tokens.specs.declared.tokens.Lexeme.{Lexeme}
 use Rattle.kpn_tokens.specs.declared.tokens.Token.{Token}
 use Rattle.kpn_tokens.specs.declared.tokens.Token.TheVariants as token
-use Rattle.kpn_tokens.specs.declared.tokens.Mark.{Mark}
 use Rattle.kpn_tokens.specs.declared.tokens.Mark.TheVariants as mark
 use Rattle.kpn_tokens.specs.declared.tokens.Keyword.{Keyword}
 use Rattle.kpn_tokens.specs.declared.tokens.Keyword.TheVariants as keyword
-use Rattle.kpn_grammar.specs.declared.tree.BinaryOperator.{BinaryOperator}
-use Rattle.kpn_grammar.specs.declared.tree.BinaryOperator.TheVariants as operator
+use Rattle.kpn_grammar.specs.Operators.{operator_mark}
 use Rattle.kpn_grammar.specs.Syntax.{Name, Term, numeral, variable, minus, negation, binary, Statement, assign, receive, send, choice, loop, Statements, no_statements, statement, Process, Literal, plain, negated, Instance, Item, channel, source, sink, instance, Network, Description}
 
 -- the tokens of a text without their places
 abbrev pub kinds : List Lexeme → List Token
 kinds ls = map (λ l. l.token) ls
-
--- the mark of an operator
-abbrev pub operator_mark : BinaryOperator → Mark
-operator_mark operator.Add = mark.Plus
-operator_mark operator.Subtract = mark.Minus
-operator_mark operator.Multiply = mark.Star
-operator_mark operator.Divide = mark.Slash
-operator_mark operator.Remainder = mark.Percent
-operator_mark operator.Less = mark.Less
-operator_mark operator.LessOrEqual = mark.LessOrEqual
-operator_mark operator.Greater = mark.Greater
-operator_mark operator.GreaterOrEqual = mark.GreaterOrEqual
-operator_mark operator.Equal = mark.Equal
-operator_mark operator.NotEqual = mark.NotEqual
-operator_mark operator.And = mark.And
-operator_mark operator.Or = mark.Or
-
--- the operator of a mark, where it has one
-abbrev pub operator_of : Mark → Option BinaryOperator
-operator_of mark.Plus = Some operator.Add
-operator_of mark.Minus = Some operator.Subtract
-operator_of mark.Star = Some operator.Multiply
-operator_of mark.Slash = Some operator.Divide
-operator_of mark.Percent = Some operator.Remainder
-operator_of mark.Less = Some operator.Less
-operator_of mark.LessOrEqual = Some operator.LessOrEqual
-operator_of mark.Greater = Some operator.Greater
-operator_of mark.GreaterOrEqual = Some operator.GreaterOrEqual
-operator_of mark.Equal = Some operator.Equal
-operator_of mark.NotEqual = Some operator.NotEqual
-operator_of mark.And = Some operator.And
-operator_of mark.Or = Some operator.Or
-operator_of _ = None
 
 -- ---- expressions
 
@@ -59,7 +25,8 @@ spell_term (variable x) more = token.Name x ∷ more
 spell_term (minus e) more = token.Mark mark.Minus ∷ spell_term e more
 spell_term (negation e) more = token.Mark mark.Not ∷ spell_term e more
 spell_term (binary op a b) more =
-    token.Mark mark.LeftParen ∷ spell_term a (token.Mark (operator_mark op) ∷ spell_term b (token.Mark mark.RightParen ∷ more))
+    token.Mark mark.LeftParen ∷ spell_term a (token.Mark (operator_mark op)
+    ∷ spell_term b (token.Mark mark.RightParen ∷ more))
 
 -- a number or a name has one level, and what stands around an expression one more
 abbrev pub term_level : Term → ℕ
@@ -74,15 +41,19 @@ term_level (binary op a b) = suc (max (term_level a) (term_level b))
 abbrev mutual
   -- x = e;  read i x;  write o e;  if e { .. } else { .. }  while e { .. }
   pub spell_statement : Statement → List Token → List Token
-  spell_statement (assign x e) more = token.Name x ∷ token.Mark mark.Assign ∷ spell_term e (token.Mark mark.Semicolon ∷ more)
+  spell_statement (assign x e) more = token.Name x ∷ token.Mark mark.Assign
+      ∷ spell_term e (token.Mark mark.Semicolon ∷ more)
   spell_statement (receive i x) more =
       token.Keyword keyword.Read ∷ token.Name i ∷ token.Name x ∷ token.Mark mark.Semicolon ∷ more
   spell_statement (send o e) more =
       token.Keyword keyword.Write ∷ token.Name o ∷ spell_term e (token.Mark mark.Semicolon ∷ more)
   spell_statement (choice e a b) more =
-      token.Keyword keyword.If ∷ spell_term e (token.Mark mark.LeftBrace ∷ spell_statements a (token.Mark mark.RightBrace ∷ token.Keyword keyword.Else ∷ token.Mark mark.LeftBrace ∷ spell_statements b (token.Mark mark.RightBrace ∷ more)))
+      token.Keyword keyword.If ∷ spell_term e (token.Mark mark.LeftBrace
+      ∷ spell_statements a (token.Mark mark.RightBrace ∷ token.Keyword keyword.Else ∷ token.Mark mark.LeftBrace
+      ∷ spell_statements b (token.Mark mark.RightBrace ∷ more)))
   spell_statement (loop e b) more =
-      token.Keyword keyword.While ∷ spell_term e (token.Mark mark.LeftBrace ∷ spell_statements b (token.Mark mark.RightBrace ∷ more))
+      token.Keyword keyword.While ∷ spell_term e (token.Mark mark.LeftBrace
+      ∷ spell_statements b (token.Mark mark.RightBrace ∷ more))
 
   -- one after the other
   pub spell_statements : Statements → List Token → List Token
@@ -125,15 +96,15 @@ abbrev mutual
   deepest_term_of_all no_statements = 0
   deepest_term_of_all (statement s ss) = max (deepest_term s) (deepest_term_of_all ss)
 
--- a statement whose blocks nest at most so deep, and its expressions at most 32 levels
-pub record StatementFits (depth : ℕ) (s : Statement) : Type 0 where
+-- a statement within the limits of depth: its blocks nest at most so deep, and its expressions at most 32 levels
+pub record StatementIsWithin (depth : ℕ) (s : Statement) : Type 0 where
   pub blocks : inner_levels s ≤ depth
-  pub terms : deepest_term s ≤ 32
+  pub terms : deepest_term s ≤ MAX_LEVELS
 
 -- the same of a block, which is a level itself
-pub record BlockFits (depth : ℕ) (b : Statements) : Type 0 where
+pub record BlockIsWithin (depth : ℕ) (b : Statements) : Type 0 where
   pub blocks : block_level b ≤ depth
-  pub terms : deepest_term_of_all b ≤ 32
+  pub terms : deepest_term_of_all b ≤ MAX_LEVELS
 
 -- ---- lists
 
@@ -172,14 +143,16 @@ spell_later_part word (x ∷ xs) more = token.Mark mark.Semicolon ∷ token.Keyw
 
 -- in a, b; out c; par k, l  where a part without names is left out
 abbrev pub spell_parts : (ins outs pars : List Name) → List Token → List Token
-spell_parts (x ∷ xs) outs pars more = spell_part keyword.In (x ∷ xs) (spell_later_part keyword.Out outs (spell_later_part keyword.Par pars more))
+spell_parts (x ∷ xs) outs pars more = spell_part keyword.In (x ∷ xs)
+    (spell_later_part keyword.Out outs (spell_later_part keyword.Par pars more))
 spell_parts [] (x ∷ xs) pars more = spell_part keyword.Out (x ∷ xs) (spell_later_part keyword.Par pars more)
 spell_parts [] [] pars more = spell_part keyword.Par pars more
 
 -- process p(..) { .. }
 abbrev pub spell_process : Process → List Token → List Token
 spell_process p more =
-    token.Keyword keyword.Process ∷ token.Name p.name ∷ token.Mark mark.LeftParen ∷ spell_parts p.ins p.outs p.pars (token.Mark mark.RightParen ∷ spell_block p.body more)
+    token.Keyword keyword.Process ∷ token.Name p.name ∷ token.Mark mark.LeftParen
+    ∷ spell_parts p.ins p.outs p.pars (token.Mark mark.RightParen ∷ spell_block p.body more)
 
 -- ---- networks
 
@@ -196,16 +169,20 @@ spell_values (v ∷ vs) more = token.Mark mark.Semicolon ∷ spell_list spell_li
 -- f(a, b; c; 1, -2)
 abbrev pub spell_call : Instance → List Token → List Token
 spell_call i more =
-    token.Name i.program ∷ token.Mark mark.LeftParen ∷ spell_names i.ins (token.Mark mark.Semicolon ∷ spell_names i.outs (spell_values i.values (token.Mark mark.RightParen ∷ more)))
+    token.Name i.program ∷ token.Mark mark.LeftParen ∷ spell_names i.ins
+    (token.Mark mark.Semicolon ∷ spell_names i.outs (spell_values i.values (token.Mark mark.RightParen ∷ more)))
 
 -- channel c cap 1;  source s;  sink z cap 1;  p = f(..);
 abbrev pub spell_item : Item → List Token → List Token
 spell_item (channel c cap) more =
-    token.Keyword keyword.Channel ∷ token.Name c ∷ token.Keyword keyword.Cap ∷ token.Number cap ∷ token.Mark mark.Semicolon ∷ more
+    token.Keyword keyword.Channel ∷ token.Name c ∷ token.Keyword keyword.Cap ∷ token.Number cap
+    ∷ token.Mark mark.Semicolon ∷ more
 spell_item (source c) more = token.Keyword keyword.Source ∷ token.Name c ∷ token.Mark mark.Semicolon ∷ more
 spell_item (sink c cap) more =
-    token.Keyword keyword.Sink ∷ token.Name c ∷ token.Keyword keyword.Cap ∷ token.Number cap ∷ token.Mark mark.Semicolon ∷ more
-spell_item (instance i) more = token.Name i.name ∷ token.Mark mark.Assign ∷ spell_call i (token.Mark mark.Semicolon ∷ more)
+    token.Keyword keyword.Sink ∷ token.Name c ∷ token.Keyword keyword.Cap ∷ token.Number cap ∷ token.Mark mark.Semicolon
+    ∷ more
+spell_item (instance i) more = token.Name i.name ∷ token.Mark mark.Assign
+    ∷ spell_call i (token.Mark mark.Semicolon ∷ more)
 
 -- limit 3;  where it is written
 abbrev pub spell_limit : Option ℕ → List Token → List Token
@@ -215,7 +192,8 @@ spell_limit (Some n) more = token.Keyword keyword.Limit ∷ token.Number n ∷ t
 -- network { .. }
 abbrev pub spell_network : Network → List Token → List Token
 spell_network n more =
-    token.Keyword keyword.Network ∷ token.Mark mark.LeftBrace ∷ spell_limit n.limit (spell_all spell_item n.items (token.Mark mark.RightBrace ∷ more))
+    token.Keyword keyword.Network ∷ token.Mark mark.LeftBrace
+    ∷ spell_limit n.limit (spell_all spell_item n.items (token.Mark mark.RightBrace ∷ more))
 
 -- ---- the whole
 
@@ -224,10 +202,10 @@ abbrev pub spell_description : Description → List Token
 spell_description d = spell_all spell_process d.processes (spell_network d.network [])
 
 -- the blocks of a process nest at most 32 levels, its body among them, and its expressions at most 32
-abbrev pub ProcessFits : Process → Type 0
-ProcessFits p = BlockFits 32 p.body
+abbrev pub ProcessIsWithin : Process → Type 0
+ProcessIsWithin p = BlockIsWithin MAX_LEVELS p.body
 
 -- The tokens are those of the description, and it is within the limits of the grammar.
 pub record IsDescription (tokens : List Token) (d : Description) : Type 0 where
   pub spelled : tokens ≡ spell_description d
-  pub fits : AllByRecursion ProcessFits d.processes
+  pub within : AllByRecursion ProcessIsWithin d.processes

@@ -1,7 +1,7 @@
 -- The tree of a description, apart from where its parts stand in the text and in memory. Names are as they are written:
 -- what they mean is for the layer above.
 use Rattle.std.specs.Prelude.{ℕ, ℤ, pos, neg_ℤ, List, [], ◌∷◌, Option}
-use Rattle.kpn_grammar.specs.declared.tree.BinaryOperator.{BinaryOperator}
+use Rattle.kpn_lang.specs.declared.syntax.Op.{Op}
 
 -- a name, by its bytes
 abbrev pub Name : Type 0
@@ -13,7 +13,7 @@ pub data Term : Type 0 where
   variable : Name → Term
   minus : Term → Term
   negation : Term → Term
-  binary : BinaryOperator → Term → Term → Term
+  binary : Op → Term → Term → Term
 
 mutual
   -- a statement: x = e;  read i x;  write o e;  if e { .. } else { .. }  while e { .. }

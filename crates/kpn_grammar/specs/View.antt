@@ -1,7 +1,7 @@
 -- The trees that the code's trees stand for: where they lie in memory and where names stand in the text is left out.
-use Rattle.std.specs.Prelude.{ℕ, List, map, drop}
+use Rattle.std.specs.Prelude.{ℕ, List, map, drop, Result}
 use Rattle.kpn_tokens.specs.declared.tokens.Lexeme.{Lexeme}
-use Rattle.kpn_grammar.specs.declared.reader.Source.{Source}
+use Rattle.kpn_grammar.specs.declared.parser.Source.{Source}
 use Rattle.kpn_grammar.specs.declared.tree.Description.{Description as DescriptionCode}
 use Rattle.kpn_grammar.specs.declared.tree.Expression.{Expression, fold-Expression}
 use Rattle.kpn_grammar.specs.declared.tree.Expression.TheOpen.{Expression-F}
@@ -16,12 +16,14 @@ use Rattle.kpn_grammar.specs.declared.tree.Parts.{Parts as PartsCode}
 use Rattle.kpn_grammar.specs.declared.tree.Process.{Process as ProcessCode}
 use Rattle.kpn_grammar.specs.declared.tree.Statement.{Statement as StatementCode, fold-Statement}
 use Rattle.kpn_grammar.specs.declared.tree.Statement.TheOpen.{Statement-F}
-use Rattle.kpn_grammar.specs.Reading.{Parts}
+use Rattle.kpn_grammar.specs.declared.fault.GrammarFault.{GrammarFault}
+use Rattle.kpn_grammar.specs.declared.parser.Scope.{Scope}
+use Rattle.kpn_grammar.specs.Reading.{Parts, Read, Gives}
 use Rattle.kpn_grammar.specs.Syntax.{Name, Term, numeral, variable, minus, negation, binary, Statement, assign, receive, send, choice, loop, Statements, statements_of, Process, Literal, plain, negated, Instance, Item, channel, source, sink, instance, Network, Description}
 
 -- the tokens from a place on
-abbrev pub left : Source → ℕ → List Lexeme
-left s at = drop at s.tokens.now
+abbrev pub tokens_from : Source → ℕ → List Lexeme
+tokens_from s at = drop at s.tokens.now
 
 -- names as written
 abbrev pub names_seen : List Identifier → List Name
@@ -107,3 +109,17 @@ network_seen n = record { limit = n.limit; items = items_seen n.items.items }
 
 abbrev pub document : DescriptionCode → Description
 document d = record { processes = processes_seen d.processes.items; network = network_seen d.network }
+
+-- ---- what parsers give
+
+-- What a parser gave at a place is what the rule gives for the tokens from there on: the same, seen by a view, and the
+-- tokens after it; or the same fault; or memory ran out.
+abbrev pub Parses : {A B : Type 0} → (A → B) → (Scope → List Lexeme → Read B) → Source → ℕ
+    → Result (A × ℕ) GrammarFault → Type 0
+Parses view rule from at result =
+    Gives (λ x. (view x.0, tokens_from from x.1)) result (rule from.scope (tokens_from from at))
+
+-- The same of a parser that gives nothing but the place after it.
+abbrev pub Passes : (Scope → List Lexeme → Result (List Lexeme) GrammarFault) → Source → ℕ
+    → Result ℕ GrammarFault → Type 0
+Passes rule from at result = Gives (λ after. tokens_from from after) result (rule from.scope (tokens_from from at))

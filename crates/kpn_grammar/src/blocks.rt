@@ -3,12 +3,13 @@
 
 ghost use Rattle.std.specs.Prelude.{◌≡◌};
 ghost use Rattle.kpn_grammar.specs.Reading as spec;
-ghost use Rattle.kpn_grammar.specs.View.{left, statement_seen, statements_seen, block_seen};
+ghost use Rattle.kpn_grammar.specs.View.{Parses, statement_seen, statements_seen, block_seen};
 
-use crate::expressions::{MAX_DEPTH, expression};
+use crate::expressions::expression;
 use crate::fault::GrammarFault;
-use crate::reader::{Read, Source, goes_on, keyword, mark, name, next};
+use crate::parser::{Read, Source, goes_on, keyword, mark, name, next};
 use crate::tree::{Block, Identifier, Statement};
+use kpn_limits::MAX_LEVELS;
 use kpn_tokens::{Keyword, Mark, Token};
 use std::alloc::Global;
 
@@ -20,7 +21,8 @@ pub(crate) fn block<'a>(
     depth: usize,
     at: usize,
 ) -> Read<Block<'a>>
-    ensures { spec.Gives (λ x. (block_seen x.0.items, left source.entry x.1)) result (spec.block source.entry.scope depth (left source.entry at)) }
+    ensures { Parses (λ found. block_seen found.items)
+        (λ s. spec.block s depth) source.entry at result }
 {
     let inside = mark(source, Mark::LeftBrace, at)?;
     if depth == 0 {
@@ -31,9 +33,10 @@ pub(crate) fn block<'a>(
 
 /// The statements of a block and its closing brace, with blocks of at most `depth` levels in it.
 #[cycle(block)]
-#[tactic(auto, unfolding(crate::specs::Reading::block_behind, crate::specs::Reading::and_then))]
+#[tactic(auto, unfolding(crate::specs::Reading::block_behind, kpn_tokens::specs::Results::and_then))]
 fn block_behind<'a>(alloc: Global, source: Source<'a>, depth: usize, at: usize) -> Read<Block<'a>>
-    ensures { spec.Gives (λ x. (block_seen x.0.items, left source.entry x.1)) result (spec.block_behind source.entry.scope (spec.block source.entry.scope depth) (left source.entry at)) }
+    ensures { Parses (λ found. block_seen found.items)
+        (λ s. spec.block_behind s (spec.block s depth)) source.entry at result }
 {
     let (found, at) = statements(alloc, source, depth, at)?;
     let at = mark(source, Mark::RightBrace, at)?;
@@ -43,7 +46,8 @@ fn block_behind<'a>(alloc: Global, source: Source<'a>, depth: usize, at: usize) 
 /// The statements up to the closing brace.
 #[cycle(block)]
 fn statements<'a>(alloc: Global, source: Source<'a>, depth: usize, at: usize) -> Read<Block<'a>>
-    ensures { spec.Gives (λ x. (statements_seen x.0.items, left source.entry x.1)) result (spec.statements_at source.entry.scope (spec.block source.entry.scope depth) (left source.entry at)) }
+    ensures { Parses (λ found. statements_seen found.items)
+        (λ s. spec.statements_at s (spec.block s depth)) source.entry at result }
 {
     let mut found = Vec::new(alloc);
     let mut place = at;
@@ -57,14 +61,15 @@ fn statements<'a>(alloc: Global, source: Source<'a>, depth: usize, at: usize) ->
 
 /// A statement, with blocks of at most `depth` levels in it.
 #[cycle(block)]
-#[tactic(auto, unfolding(crate::specs::Reading::one_statement, crate::specs::Reading::statement_behind, crate::specs::Reading::and_then))]
+#[tactic(auto, unfolding(crate::specs::Reading::one_statement, crate::specs::Reading::statement_behind, kpn_tokens::specs::Results::and_then))]
 fn one_statement<'a>(
     alloc: Global,
     source: Source<'a>,
     depth: usize,
     at: usize,
 ) -> Read<Statement<'a>>
-    ensures { spec.Gives (λ x. (statement_seen x.0, left source.entry x.1)) result (spec.one_statement source.entry.scope (spec.block source.entry.scope depth) 0 (left source.entry at)) }
+    ensures { Parses statement_seen
+        (λ s. spec.one_statement s (spec.block s depth) 0) source.entry at result }
 {
     let (first, at) = next(source, at)?;
     match &first.token {
@@ -81,25 +86,26 @@ fn one_statement<'a>(
 }
 
 /// An assignment behind its target.
-#[tactic(auto, unfolding(crate::specs::Reading::assignment_behind, crate::specs::Reading::and_then))]
+#[tactic(auto, unfolding(crate::specs::Reading::assignment_behind, kpn_tokens::specs::Results::and_then))]
 fn assignment<'a>(
     alloc: Global,
     source: Source<'a>,
     target: Identifier<'a>,
     at: usize,
 ) -> Read<Statement<'a>>
-    ensures { spec.Gives (λ x. (statement_seen x.0, left source.entry x.1)) result (spec.assignment_behind source.entry.scope target.entry.bytes.now (left source.entry at)) }
+    ensures { Parses statement_seen
+        (λ s. spec.assignment_behind s target.entry.bytes.now) source.entry at result }
 {
     let at = mark(source, Mark::Assign, at)?;
-    let (value, at) = expression(alloc, source, MAX_DEPTH, at)?;
+    let (value, at) = expression(alloc, source, MAX_LEVELS, at)?;
     let at = mark(source, Mark::Semicolon, at)?;
     Ok((Statement::Assign(target, value), at))
 }
 
 /// The rest of a statement behind `read`.
-#[tactic(auto, unfolding(crate::specs::Reading::receive_behind, crate::specs::Reading::and_then))]
+#[tactic(auto, unfolding(crate::specs::Reading::receive_behind, kpn_tokens::specs::Results::and_then))]
 fn read_statement<'a>(source: Source<'a>, at: usize) -> Read<Statement<'a>>
-    ensures { spec.Gives (λ x. (statement_seen x.0, left source.entry x.1)) result (spec.receive_behind source.entry.scope (left source.entry at)) }
+    ensures { Parses statement_seen spec.receive_behind source.entry at result }
 {
     let (port, at) = name(source, at)?;
     let (variable, at) = name(source, at)?;
@@ -108,28 +114,29 @@ fn read_statement<'a>(source: Source<'a>, at: usize) -> Read<Statement<'a>>
 }
 
 /// The rest of a statement behind `write`.
-#[tactic(auto, unfolding(crate::specs::Reading::send_behind, crate::specs::Reading::and_then))]
+#[tactic(auto, unfolding(crate::specs::Reading::send_behind, kpn_tokens::specs::Results::and_then))]
 fn write_statement<'a>(alloc: Global, source: Source<'a>, at: usize) -> Read<Statement<'a>>
-    ensures { spec.Gives (λ x. (statement_seen x.0, left source.entry x.1)) result (spec.send_behind source.entry.scope (left source.entry at)) }
+    ensures { Parses statement_seen spec.send_behind source.entry at result }
 {
     let (port, at) = name(source, at)?;
-    let (value, at) = expression(alloc, source, MAX_DEPTH, at)?;
+    let (item, at) = expression(alloc, source, MAX_LEVELS, at)?;
     let at = mark(source, Mark::Semicolon, at)?;
-    Ok((Statement::Write(port, value), at))
+    Ok((Statement::Write(port, item), at))
 }
 
 /// The rest of a statement behind `if`.
 #[cycle(block)]
-#[tactic(auto, unfolding(crate::specs::Reading::choice_behind, crate::specs::Reading::and_then))]
+#[tactic(auto, unfolding(crate::specs::Reading::choice_behind, kpn_tokens::specs::Results::and_then))]
 fn if_statement<'a>(
     alloc: Global,
     source: Source<'a>,
     depth: usize,
     at: usize,
 ) -> Read<Statement<'a>>
-    ensures { spec.Gives (λ x. (statement_seen x.0, left source.entry x.1)) result (spec.choice_behind source.entry.scope (spec.block source.entry.scope depth) (left source.entry at)) }
+    ensures { Parses statement_seen
+        (λ s. spec.choice_behind s (spec.block s depth)) source.entry at result }
 {
-    let (test, at) = expression(alloc, source, MAX_DEPTH, at)?;
+    let (test, at) = expression(alloc, source, MAX_LEVELS, at)?;
     let (then_block, at) = block(alloc, source, depth, at)?;
     let at = keyword(source, Keyword::Else, at)?;
     let (else_block, at) = block(alloc, source, depth, at)?;
@@ -138,16 +145,17 @@ fn if_statement<'a>(
 
 /// The rest of a statement behind `while`.
 #[cycle(block)]
-#[tactic(auto, unfolding(crate::specs::Reading::loop_behind, crate::specs::Reading::and_then))]
+#[tactic(auto, unfolding(crate::specs::Reading::loop_behind, kpn_tokens::specs::Results::and_then))]
 fn while_statement<'a>(
     alloc: Global,
     source: Source<'a>,
     depth: usize,
     at: usize,
 ) -> Read<Statement<'a>>
-    ensures { spec.Gives (λ x. (statement_seen x.0, left source.entry x.1)) result (spec.loop_behind source.entry.scope (spec.block source.entry.scope depth) (left source.entry at)) }
+    ensures { Parses statement_seen
+        (λ s. spec.loop_behind s (spec.block s depth)) source.entry at result }
 {
-    let (test, at) = expression(alloc, source, MAX_DEPTH, at)?;
+    let (test, at) = expression(alloc, source, MAX_LEVELS, at)?;
     let (body, at) = block(alloc, source, depth, at)?;
     Ok((Statement::While(test, body), at))
 }

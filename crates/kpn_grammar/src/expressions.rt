@@ -3,10 +3,10 @@
 
 ghost use Rattle.std.specs.Prelude.{◌≡◌};
 ghost use Rattle.kpn_grammar.specs.Reading as spec;
-ghost use Rattle.kpn_grammar.specs.View.{left, term};
+ghost use Rattle.kpn_grammar.specs.View.{Parses, term};
 
 use crate::fault::GrammarFault;
-use crate::reader::{Read, Scope, Source, mark, next, operator};
+use crate::parser::{Read, Scope, Source, mark, next, operator};
 use crate::tree::{Expression, Identifier};
 use kpn_tokens::{Lexeme, Mark, Token};
 use std::alloc::Global;
@@ -34,9 +34,6 @@ fn level_fault(scope: Scope, first: &Lexeme<'_>) -> GrammarFault
     }
 }
 
-/// The most levels of an expression, and of blocks.
-pub const MAX_DEPTH: usize = 32;
-
 /// An expression of at most `depth` levels.
 #[cycle(expression)]
 pub(crate) fn expression<'a>(
@@ -45,7 +42,7 @@ pub(crate) fn expression<'a>(
     depth: usize,
     at: usize,
 ) -> Read<Expression<'a>>
-    ensures { spec.Gives (λ x. (term x.0, left source.entry x.1)) result (spec.expression source.entry.scope depth (left source.entry at)) }
+    ensures { Parses term (λ s. spec.expression s depth) source.entry at result }
 {
     let (first, after) = next(source, at)?;
     if depth == 0 {
@@ -56,7 +53,7 @@ pub(crate) fn expression<'a>(
 
 /// An expression behind its first token, with at most `depth` levels inside it.
 #[cycle(expression)]
-#[tactic(auto, unfolding(crate::specs::Reading::operand, crate::specs::Reading::and_then))]
+#[tactic(auto, unfolding(crate::specs::Reading::operand, kpn_tokens::specs::Results::and_then))]
 fn operand<'a>(
     alloc: Global,
     source: Source<'a>,
@@ -64,7 +61,9 @@ fn operand<'a>(
     first: &'a Lexeme<'a>,
     at: usize,
 ) -> Read<Expression<'a>>
-    ensures { spec.Gives (λ x. (term x.0, left source.entry x.1)) result (spec.operand source.entry.scope (spec.expression source.entry.scope depth) first.now.token first.now.start (left source.entry at)) }
+    ensures { Parses term
+        (λ s. spec.operand s (spec.expression s depth) first.now.token first.now.start)
+        source.entry at result }
 {
     match &first.token {
         Token::Number(number) => Ok((Expression::Number(*number), at)),
@@ -84,9 +83,10 @@ fn operand<'a>(
 
 /// Two expressions with an operator between them, behind the opening parenthesis.
 #[cycle(expression)]
-#[tactic(auto, unfolding(crate::specs::Reading::binary_behind, crate::specs::Reading::and_then))]
+#[tactic(auto, unfolding(crate::specs::Reading::binary_behind, kpn_tokens::specs::Results::and_then))]
 fn binary<'a>(alloc: Global, source: Source<'a>, depth: usize, at: usize) -> Read<Expression<'a>>
-    ensures { spec.Gives (λ x. (term x.0, left source.entry x.1)) result (spec.binary_behind source.entry.scope (spec.expression source.entry.scope depth) (left source.entry at)) }
+    ensures { Parses term
+        (λ s. spec.binary_behind s (spec.expression s depth)) source.entry at result }
 {
     let (left, at) = expression(alloc, source, depth, at)?;
     let (sign, at) = operator(source, at)?;

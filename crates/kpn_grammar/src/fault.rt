@@ -12,8 +12,7 @@ pub enum GrammarFault {
     /// length.
     #[error("no such token can stand at byte {0}")]
     Grammar(usize),
-    /// A block or an expression of the process with this number nests deeper than
-    /// [`MAX_DEPTH`](crate::MAX_DEPTH).
+    /// A block or an expression of the process with this number nests deeper than [`kpn_limits::MAX_LEVELS`].
     #[error("process {0} nests too deep")]
     TooDeep(usize),
     /// Memory ran out.

@@ -10,19 +10,17 @@ mod fault;
 mod laws;
 mod lists;
 mod networks;
+mod operators;
+mod parser;
 mod processes;
-mod reader;
 mod tree;
 mod whole;
 
-pub use expressions::MAX_DEPTH;
 pub use fault::GrammarFault;
 pub use laws::{read_where_spelled, spelled_once};
+pub use operators::mark_of;
 pub use tree::{
-    BinaryOperator, Block, Description, Expression, Identifier, Instance, Item, Literal, Names,
-    Network, Parts, Process, Statement,
+    Block, Description, Expression, Identifier, Instance, Item, Literal, Names, Network, Parts,
+    Process, Statement,
 };
 pub use whole::description;
-
-#[cfg(test)]
-mod tests;

@@ -2,27 +2,28 @@
 
 ghost use Rattle.std.specs.Prelude.{◌≡◌};
 ghost use Rattle.kpn_grammar.specs.Reading as spec;
-ghost use Rattle.kpn_grammar.specs.View.{left, literal_seen, names_seen, values_seen};
+ghost use Rattle.kpn_grammar.specs.View.{Parses, literal_seen, names_seen, values_seen};
 
 use crate::fault::GrammarFault;
-use crate::reader::{Read, Source, at_mark, at_name, mark, name, next, number};
+use crate::parser::{Read, Source, at_mark, at_name, mark, name, next, number};
 use crate::tree::{Identifier, Literal, Names};
 use kpn_tokens::{Mark, Token};
 use std::alloc::Global;
 
 /// A comma and a name.
-#[tactic(auto, unfolding(crate::specs::Reading::further, crate::specs::Reading::and_then))]
+#[tactic(auto, unfolding(crate::specs::Reading::further, kpn_tokens::specs::Results::and_then))]
 fn further_name<'a>(source: Source<'a>, at: usize) -> Read<Identifier<'a>>
-    ensures { spec.Gives (λ x. (x.0.bytes.now, left source.entry x.1)) result (spec.further source.entry.scope (spec.name source.entry.scope) 0 (left source.entry at)) }
+    ensures { Parses (λ name. name.bytes.now)
+        (λ s. spec.further s (spec.name s) 0) source.entry at result }
 {
     let at = mark(source, Mark::Comma, at)?;
     name(source, at)
 }
 
 /// One name or more.
-#[tactic(auto, unfolding(crate::specs::Reading::names, crate::specs::Reading::separated, crate::specs::Reading::and_then))]
+#[tactic(auto, unfolding(crate::specs::Reading::names, crate::specs::Reading::separated, kpn_tokens::specs::Results::and_then))]
 pub(crate) fn names<'a>(alloc: Global, source: Source<'a>, at: usize) -> Read<Names<'a>>
-    ensures { spec.Gives (λ x. (names_seen x.0.items, left source.entry x.1)) result (spec.names source.entry.scope (left source.entry at)) }
+    ensures { Parses (λ found. names_seen found.items) spec.names source.entry at result }
 {
     let (first, after) = name(source, at)?;
     let mut found = Vec::new(alloc);
@@ -39,7 +40,7 @@ pub(crate) fn names<'a>(alloc: Global, source: Source<'a>, at: usize) -> Read<Na
 /// Names, or none where no name stands at the place.
 #[tactic(auto, unfolding(crate::specs::Reading::optional_names))]
 pub(crate) fn optional_names<'a>(alloc: Global, source: Source<'a>, at: usize) -> Read<Names<'a>>
-    ensures { spec.Gives (λ x. (names_seen x.0.items, left source.entry x.1)) result (spec.optional_names source.entry.scope (left source.entry at)) }
+    ensures { Parses (λ found. names_seen found.items) spec.optional_names source.entry at result }
 {
     if at_name(source, at) {
         names(alloc, source, at)
@@ -49,9 +50,9 @@ pub(crate) fn optional_names<'a>(alloc: Global, source: Source<'a>, at: usize) -
 }
 
 /// A number, or a number behind a minus.
-#[tactic(auto, unfolding(crate::specs::Reading::literal, crate::specs::Reading::literal_behind, crate::specs::Reading::and_then))]
+#[tactic(auto, unfolding(crate::specs::Reading::literal, crate::specs::Reading::literal_behind, kpn_tokens::specs::Results::and_then))]
 fn literal(source: Source<'_>, at: usize) -> Read<Literal>
-    ensures { spec.Gives (λ x. (literal_seen x.0, left source.entry x.1)) result (spec.literal source.entry.scope (left source.entry at)) }
+    ensures { Parses literal_seen spec.literal source.entry at result }
 {
     let (first, at) = next(source, at)?;
     match &first.token {
@@ -65,18 +66,18 @@ fn literal(source: Source<'_>, at: usize) -> Read<Literal>
 }
 
 /// A comma and a value.
-#[tactic(auto, unfolding(crate::specs::Reading::further, crate::specs::Reading::and_then))]
+#[tactic(auto, unfolding(crate::specs::Reading::further, kpn_tokens::specs::Results::and_then))]
 fn further_literal(source: Source<'_>, at: usize) -> Read<Literal>
-    ensures { spec.Gives (λ x. (literal_seen x.0, left source.entry x.1)) result (spec.further source.entry.scope (spec.literal source.entry.scope) 0 (left source.entry at)) }
+    ensures { Parses literal_seen (λ s. spec.further s (spec.literal s) 0) source.entry at result }
 {
     let at = mark(source, Mark::Comma, at)?;
     literal(source, at)
 }
 
 /// One value or more.
-#[tactic(auto, unfolding(crate::specs::Reading::values, crate::specs::Reading::separated, crate::specs::Reading::and_then))]
+#[tactic(auto, unfolding(crate::specs::Reading::values, crate::specs::Reading::separated, kpn_tokens::specs::Results::and_then))]
 fn values(alloc: Global, source: Source<'_>, at: usize) -> Read<Vec<Literal>>
-    ensures { spec.Gives (λ x. (values_seen x.0.items, left source.entry x.1)) result (spec.values source.entry.scope (left source.entry at)) }
+    ensures { Parses (λ found. values_seen found.items) spec.values source.entry at result }
 {
     let (first, after) = literal(source, at)?;
     let mut found = Vec::new(alloc);
@@ -91,9 +92,10 @@ fn values(alloc: Global, source: Source<'_>, at: usize) -> Read<Vec<Literal>>
 }
 
 /// Values behind a semicolon, or none where no semicolon stands at the place.
-#[tactic(auto, unfolding(crate::specs::Reading::optional_values, crate::specs::Reading::and_then))]
+#[tactic(auto, unfolding(crate::specs::Reading::optional_values, kpn_tokens::specs::Results::and_then))]
 pub(crate) fn optional_values(alloc: Global, source: Source<'_>, at: usize) -> Read<Vec<Literal>>
-    ensures { spec.Gives (λ x. (values_seen x.0.items, left source.entry x.1)) result (spec.optional_values source.entry.scope (left source.entry at)) }
+    ensures { Parses (λ found. values_seen found.items)
+        spec.optional_values source.entry at result }
 {
     if at_mark(source, Mark::Semicolon, at) {
         let at = mark(source, Mark::Semicolon, at)?;

@@ -2,19 +2,19 @@
 
 ghost use Rattle.std.specs.Prelude.{◌≡◌};
 ghost use Rattle.kpn_grammar.specs.Reading as spec;
-ghost use Rattle.kpn_grammar.specs.View.{left, instance_seen, item_seen, items_seen, network_seen};
+ghost use Rattle.kpn_grammar.specs.View.{Parses, instance_seen, item_seen, items_seen, network_seen};
 
 use crate::fault::GrammarFault;
 use crate::lists::{optional_names, optional_values};
-use crate::reader::{Read, Source, at_keyword, goes_on, keyword, mark, name, next, number};
+use crate::parser::{Read, Source, at_keyword, goes_on, keyword, mark, name, next, number};
 use crate::tree::{Identifier, Instance, Item, Network};
 use kpn_tokens::{Keyword, Mark, Number, Token};
 use std::alloc::Global;
 
 /// A capacity and the semicolon.
-#[tactic(auto, unfolding(crate::specs::Reading::capacity, crate::specs::Reading::and_then))]
+#[tactic(auto, unfolding(crate::specs::Reading::capacity, kpn_tokens::specs::Results::and_then))]
 fn capacity(source: Source<'_>, at: usize) -> Read<Number>
-    ensures { spec.Gives (λ x. (x.0, left source.entry x.1)) result (spec.capacity source.entry.scope (left source.entry at)) }
+    ensures { Parses (λ n. n) spec.capacity source.entry at result }
 {
     let at = keyword(source, Keyword::Cap, at)?;
     let (capacity, at) = number(source, at)?;
@@ -23,9 +23,9 @@ fn capacity(source: Source<'_>, at: usize) -> Read<Number>
 }
 
 /// The rest of a channel behind `channel`.
-#[tactic(auto, unfolding(crate::specs::Reading::channel_behind, crate::specs::Reading::and_then))]
+#[tactic(auto, unfolding(crate::specs::Reading::channel_behind, kpn_tokens::specs::Results::and_then))]
 fn channel_behind<'a>(source: Source<'a>, at: usize) -> Read<Item<'a>>
-    ensures { spec.Gives (λ x. (item_seen x.0, left source.entry x.1)) result (spec.channel_behind source.entry.scope (left source.entry at)) }
+    ensures { Parses item_seen spec.channel_behind source.entry at result }
 {
     let (name, at) = name(source, at)?;
     let (capacity, at) = capacity(source, at)?;
@@ -33,9 +33,9 @@ fn channel_behind<'a>(source: Source<'a>, at: usize) -> Read<Item<'a>>
 }
 
 /// The rest of a sink behind `sink`.
-#[tactic(auto, unfolding(crate::specs::Reading::sink_behind, crate::specs::Reading::and_then))]
+#[tactic(auto, unfolding(crate::specs::Reading::sink_behind, kpn_tokens::specs::Results::and_then))]
 fn sink_behind<'a>(source: Source<'a>, at: usize) -> Read<Item<'a>>
-    ensures { spec.Gives (λ x. (item_seen x.0, left source.entry x.1)) result (spec.sink_behind source.entry.scope (left source.entry at)) }
+    ensures { Parses item_seen spec.sink_behind source.entry at result }
 {
     let (name, at) = name(source, at)?;
     let (capacity, at) = capacity(source, at)?;
@@ -43,9 +43,9 @@ fn sink_behind<'a>(source: Source<'a>, at: usize) -> Read<Item<'a>>
 }
 
 /// The rest of a source behind `source`.
-#[tactic(auto, unfolding(crate::specs::Reading::source_behind, crate::specs::Reading::and_then))]
+#[tactic(auto, unfolding(crate::specs::Reading::source_behind, kpn_tokens::specs::Results::and_then))]
 fn source_behind<'a>(source: Source<'a>, at: usize) -> Read<Item<'a>>
-    ensures { spec.Gives (λ x. (item_seen x.0, left source.entry x.1)) result (spec.source_behind source.entry.scope (left source.entry at)) }
+    ensures { Parses item_seen spec.source_behind source.entry at result }
 {
     let (name, at) = name(source, at)?;
     let at = mark(source, Mark::Semicolon, at)?;
@@ -53,16 +53,16 @@ fn source_behind<'a>(source: Source<'a>, at: usize) -> Read<Item<'a>>
 }
 
 /// The program of the instance of this name, its channels and the values of its parameters.
-#[tactic(auto, unfolding(crate::specs::Reading::call, crate::specs::Reading::and_then))]
+#[tactic(auto, unfolding(crate::specs::Reading::call, kpn_tokens::specs::Results::and_then))]
 fn call<'a>(
     alloc: Global,
     source: Source<'a>,
     name: Identifier<'a>,
     at: usize,
 ) -> Read<Instance<'a>>
-    ensures { spec.Gives (λ x. (instance_seen x.0, left source.entry x.1)) result (spec.call source.entry.scope name.entry.bytes.now (left source.entry at)) }
+    ensures { Parses instance_seen (λ s. spec.call s name.entry.bytes.now) source.entry at result }
 {
-    let (program, at) = crate::reader::name(source, at)?;
+    let (program, at) = crate::parser::name(source, at)?;
     let at = mark(source, Mark::LeftParen, at)?;
     let (ins, at) = optional_names(alloc, source, at)?;
     let at = mark(source, Mark::Semicolon, at)?;
@@ -80,14 +80,15 @@ fn call<'a>(
 }
 
 /// An instance behind its name.
-#[tactic(auto, unfolding(crate::specs::Reading::instance_behind, crate::specs::Reading::and_then))]
+#[tactic(auto, unfolding(crate::specs::Reading::instance_behind, kpn_tokens::specs::Results::and_then))]
 fn instance_behind<'a>(
     alloc: Global,
     source: Source<'a>,
     name: Identifier<'a>,
     at: usize,
 ) -> Read<Item<'a>>
-    ensures { spec.Gives (λ x. (item_seen x.0, left source.entry x.1)) result (spec.instance_behind source.entry.scope name.entry.bytes.now (left source.entry at)) }
+    ensures { Parses item_seen
+        (λ s. spec.instance_behind s name.entry.bytes.now) source.entry at result }
 {
     let at = mark(source, Mark::Assign, at)?;
     let (instance, at) = call(alloc, source, name, at)?;
@@ -96,9 +97,9 @@ fn instance_behind<'a>(
 }
 
 /// An item.
-#[tactic(auto, unfolding(crate::specs::Reading::item, crate::specs::Reading::item_behind, crate::specs::Reading::and_then))]
+#[tactic(auto, unfolding(crate::specs::Reading::item, crate::specs::Reading::item_behind, kpn_tokens::specs::Results::and_then))]
 fn item<'a>(alloc: Global, source: Source<'a>, at: usize) -> Read<Item<'a>>
-    ensures { spec.Gives (λ x. (item_seen x.0, left source.entry x.1)) result (spec.item source.entry.scope 0 (left source.entry at)) }
+    ensures { Parses item_seen (λ s. spec.item s 0) source.entry at result }
 {
     let (first, at) = next(source, at)?;
     match &first.token {
@@ -115,7 +116,7 @@ fn item<'a>(alloc: Global, source: Source<'a>, at: usize) -> Read<Item<'a>>
 
 /// The items up to the closing brace.
 fn items<'a>(alloc: Global, source: Source<'a>, at: usize) -> Read<Vec<Item<'a>>>
-    ensures { spec.Gives (λ x. (items_seen x.0.items, left source.entry x.1)) result (spec.items source.entry.scope (left source.entry at)) }
+    ensures { Parses (λ found. items_seen found.items) spec.items source.entry at result }
 {
     let mut found = Vec::new(alloc);
     let mut place = at;
@@ -128,9 +129,9 @@ fn items<'a>(alloc: Global, source: Source<'a>, at: usize) -> Read<Vec<Item<'a>>
 }
 
 /// The limit, where it is written.
-#[tactic(auto, unfolding(crate::specs::Reading::limit, crate::specs::Reading::and_then))]
+#[tactic(auto, unfolding(crate::specs::Reading::limit, kpn_tokens::specs::Results::and_then))]
 fn limit(source: Source<'_>, at: usize) -> Read<Option<Number>>
-    ensures { spec.Gives (λ x. (x.0, left source.entry x.1)) result (spec.limit source.entry.scope (left source.entry at)) }
+    ensures { Parses (λ n. n) spec.limit source.entry at result }
 {
     if !at_keyword(source, Keyword::Limit, at) {
         return Ok((None, at));
@@ -142,9 +143,9 @@ fn limit(source: Source<'_>, at: usize) -> Read<Option<Number>>
 }
 
 /// The network.
-#[tactic(auto, unfolding(crate::specs::Reading::network, crate::specs::Reading::and_then))]
+#[tactic(auto, unfolding(crate::specs::Reading::network, kpn_tokens::specs::Results::and_then))]
 pub(crate) fn network<'a>(alloc: Global, source: Source<'a>, at: usize) -> Read<Network<'a>>
-    ensures { spec.Gives (λ x. (network_seen x.0, left source.entry x.1)) result (spec.network source.entry.scope (left source.entry at)) }
+    ensures { Parses network_seen spec.network source.entry at result }
 {
     let at = keyword(source, Keyword::Network, at)?;
     let at = mark(source, Mark::LeftBrace, at)?;

@@ -2,19 +2,19 @@
 
 ghost use Rattle.std.specs.Prelude.{◌≡◌};
 ghost use Rattle.kpn_grammar.specs.Reading as spec;
-ghost use Rattle.kpn_grammar.specs.View.{left, names_seen, parts_seen, process_seen, processes_seen};
+ghost use Rattle.kpn_grammar.specs.View.{Parses, names_seen, parts_seen, process_seen, processes_seen};
 
 use crate::blocks::block;
-use crate::expressions::MAX_DEPTH;
 use crate::fault::GrammarFault;
 use crate::lists::names;
-use crate::reader::{Read, Scope, Source, at_keyword, at_mark, keyword, mark, name, next};
+use crate::parser::{Read, Scope, Source, at_keyword, at_mark, keyword, mark, name, next};
 use crate::tree::{Names, Parts, Process};
+use kpn_limits::MAX_LEVELS;
 use kpn_tokens::{Keyword, Lexeme, Mark, Token};
 use std::alloc::Global;
 
 /// The parts of a head behind the in ports and the out ports: parameters, where a semicolon stands.
-#[tactic(auto, unfolding(crate::specs::Reading::after_outs, crate::specs::Reading::and_then))]
+#[tactic(auto, unfolding(crate::specs::Reading::after_outs, kpn_tokens::specs::Results::and_then))]
 fn after_outs<'a>(
     alloc: Global,
     source: Source<'a>,
@@ -22,7 +22,9 @@ fn after_outs<'a>(
     outs: Names<'a>,
     at: usize,
 ) -> Read<Parts<'a>>
-    ensures { spec.Gives (λ x. (parts_seen x.0, left source.entry x.1)) result (spec.after_outs source.entry.scope (names_seen ins.entry.items) (names_seen outs.entry.items) (left source.entry at)) }
+    ensures { Parses parts_seen
+        (λ s. spec.after_outs s (names_seen ins.entry.items) (names_seen outs.entry.items))
+        source.entry at result }
 {
     if !at_mark(source, Mark::Semicolon, at) {
         let pars = Vec::new(alloc);
@@ -36,7 +38,7 @@ fn after_outs<'a>(
 
 /// The parts of a head behind the in ports, from the word that begins them on: out ports and
 /// parameters, or parameters.
-#[tactic(auto, unfolding(crate::specs::Reading::outs_or_pars, crate::specs::Reading::and_then))]
+#[tactic(auto, unfolding(crate::specs::Reading::outs_or_pars, kpn_tokens::specs::Results::and_then))]
 fn outs_or_pars<'a>(
     alloc: Global,
     source: Source<'a>,
@@ -44,7 +46,9 @@ fn outs_or_pars<'a>(
     word: &'a Lexeme<'a>,
     at: usize,
 ) -> Read<Parts<'a>>
-    ensures { spec.Gives (λ x. (parts_seen x.0, left source.entry x.1)) result (spec.outs_or_pars source.entry.scope (names_seen ins.entry.items) word.now.token word.now.start (left source.entry at)) }
+    ensures { Parses parts_seen
+        (λ s. spec.outs_or_pars s (names_seen ins.entry.items) word.now.token word.now.start)
+        source.entry at result }
 {
     match &word.token {
         Token::Keyword(Keyword::Out) => {
@@ -61,9 +65,10 @@ fn outs_or_pars<'a>(
 }
 
 /// The parts of a head behind the in ports: more, where a semicolon stands.
-#[tactic(auto, unfolding(crate::specs::Reading::after_ins, crate::specs::Reading::and_then))]
+#[tactic(auto, unfolding(crate::specs::Reading::after_ins, kpn_tokens::specs::Results::and_then))]
 fn after_ins<'a>(alloc: Global, source: Source<'a>, ins: Names<'a>, at: usize) -> Read<Parts<'a>>
-    ensures { spec.Gives (λ x. (parts_seen x.0, left source.entry x.1)) result (spec.after_ins source.entry.scope (names_seen ins.entry.items) (left source.entry at)) }
+    ensures { Parses parts_seen
+        (λ s. spec.after_ins s (names_seen ins.entry.items)) source.entry at result }
 {
     if !at_mark(source, Mark::Semicolon, at) {
         let outs = Vec::new(alloc);
@@ -76,14 +81,15 @@ fn after_ins<'a>(alloc: Global, source: Source<'a>, ins: Names<'a>, at: usize) -
 }
 
 /// The parts of a head from the word that begins them on.
-#[tactic(auto, unfolding(crate::specs::Reading::parts_behind, crate::specs::Reading::and_then))]
+#[tactic(auto, unfolding(crate::specs::Reading::parts_behind, kpn_tokens::specs::Results::and_then))]
 fn parts_behind<'a>(
     alloc: Global,
     source: Source<'a>,
     word: &'a Lexeme<'a>,
     at: usize,
 ) -> Read<Parts<'a>>
-    ensures { spec.Gives (λ x. (parts_seen x.0, left source.entry x.1)) result (spec.parts_behind source.entry.scope word.now.token word.now.start (left source.entry at)) }
+    ensures { Parses parts_seen
+        (λ s. spec.parts_behind s word.now.token word.now.start) source.entry at result }
 {
     match &word.token {
         Token::Keyword(Keyword::In) => {
@@ -95,9 +101,9 @@ fn parts_behind<'a>(
 }
 
 /// The ports and parameters up to the closing parenthesis.
-#[tactic(auto, unfolding(crate::specs::Reading::parts, crate::specs::Reading::and_then))]
+#[tactic(auto, unfolding(crate::specs::Reading::parts, kpn_tokens::specs::Results::and_then))]
 fn parts<'a>(alloc: Global, source: Source<'a>, at: usize) -> Read<Parts<'a>>
-    ensures { spec.Gives (λ x. (parts_seen x.0, left source.entry x.1)) result (spec.parts source.entry.scope (left source.entry at)) }
+    ensures { Parses parts_seen spec.parts source.entry at result }
 {
     if at_mark(source, Mark::RightParen, at) {
         let parts = Parts {
@@ -112,16 +118,16 @@ fn parts<'a>(alloc: Global, source: Source<'a>, at: usize) -> Read<Parts<'a>>
 }
 
 /// A process.
-#[tactic(auto, unfolding(crate::specs::Reading::process, crate::specs::Reading::and_then))]
+#[tactic(auto, unfolding(crate::specs::Reading::process, kpn_tokens::specs::Results::and_then))]
 fn process<'a>(alloc: Global, source: Source<'a>, at: usize) -> Read<Process<'a>>
-    ensures { spec.Gives (λ x. (process_seen x.0, left source.entry x.1)) result (spec.process source.entry.scope (left source.entry at)) }
+    ensures { Parses process_seen spec.process source.entry at result }
 {
     let at = keyword(source, Keyword::Process, at)?;
     let (name, at) = name(source, at)?;
     let at = mark(source, Mark::LeftParen, at)?;
     let (parts, at) = parts(alloc, source, at)?;
     let at = mark(source, Mark::RightParen, at)?;
-    let (body, at) = block(alloc, source, MAX_DEPTH, at)?;
+    let (body, at) = block(alloc, source, MAX_LEVELS, at)?;
     Ok((Process { name, parts, body }, at))
 }
 
@@ -133,7 +139,7 @@ fn numbered_process<'a>(
     number: usize,
     at: usize,
 ) -> Read<Process<'a>>
-    ensures { spec.Gives (λ x. (process_seen x.0, left source.entry x.1)) result (spec.numbered_process source.entry.scope number (left source.entry at)) }
+    ensures { Parses process_seen (λ s. spec.numbered_process s number) source.entry at result }
 {
     let scope = Scope {
         end: source.scope.end,
@@ -145,7 +151,7 @@ fn numbered_process<'a>(
 
 /// The processes, numbered from 0.
 pub(crate) fn processes<'a>(alloc: Global, source: Source<'a>, at: usize) -> Read<Vec<Process<'a>>>
-    ensures { spec.Gives (λ x. (processes_seen x.0.items, left source.entry x.1)) result (spec.processes source.entry.scope (left source.entry at)) }
+    ensures { Parses (λ found. processes_seen found.items) spec.processes source.entry at result }
 {
     let mut found = Vec::new(alloc);
     let mut place = at;

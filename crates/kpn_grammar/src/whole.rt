@@ -3,14 +3,14 @@
 ghost use Rattle.std.specs.Prelude.{◌≡◌, IfOk};
 ghost use Rattle.kpn_grammar.specs.Syntax.{Description as Document};
 ghost use Rattle.kpn_grammar.specs.Spelling.{IsDescription, kinds};
-ghost use Rattle.kpn_grammar.specs.Reading.{OkOrNoMemory};
+ghost use Rattle.kpn_tokens.specs.Results.{OkOr};
 ghost use Rattle.kpn_grammar.specs.Reading as spec;
-ghost use Rattle.kpn_grammar.specs.View.{document, left};
+ghost use Rattle.kpn_grammar.specs.View.{document, tokens_from};
 
 use crate::fault::GrammarFault;
 use crate::networks::network;
+use crate::parser::{Scope, Source};
 use crate::processes::processes;
-use crate::reader::{Scope, Source};
 use crate::tree::Description;
 use kpn_tokens::Lexeme;
 use std::alloc::Global;
@@ -18,7 +18,7 @@ use std::alloc::Global;
 /// Nothing stands at the place.
 #[tactic(auto, unfolding(crate::specs::Reading::at_end))]
 fn at_end(source: Source<'_>, at: usize) -> Result<(), GrammarFault>
-    ensures { spec.Gives (λ x. tt) result (spec.at_end (left source.entry at)) }
+    ensures { spec.Gives (λ x. tt) result (spec.at_end (tokens_from source.entry at)) }
 {
     match source.tokens.get(at) {
         Some(first) => Err(GrammarFault::Grammar(first.start)),
@@ -27,9 +27,10 @@ fn at_end(source: Source<'_>, at: usize) -> Result<(), GrammarFault>
 }
 
 /// The processes, the network, and nothing after it.
-#[tactic(auto, unfolding(crate::specs::Reading::description, crate::specs::Reading::and_then))]
+#[tactic(auto, unfolding(crate::specs::Reading::description, kpn_tokens::specs::Results::and_then))]
 fn whole<'a>(alloc: Global, source: Source<'a>) -> Result<Description<'a>, GrammarFault>
-    ensures { spec.Gives document result (spec.description source.entry.scope source.entry.tokens.now) }
+    ensures { spec.Gives document result
+        (spec.description source.entry.scope source.entry.tokens.now) }
 {
     let (processes, at) = processes(alloc, source, 0)?;
     let (network, at) = network(alloc, source, at)?;
@@ -53,7 +54,8 @@ pub fn description<'a>(
     // What is returned is what the tokens spell, within the limits.
     ensures found { IfOk result (λ d. IsDescription (kinds tokens.now) (document d)) }
     // What the tokens spell within the limits is returned, unless memory runs out.
-    ensures only { (d : Document) → IsDescription (kinds tokens.now) d → OkOrNoMemory result (λ x. document x ≡ d) }
+    ensures only { (d : Document) → IsDescription (kinds tokens.now) d
+        → OkOr GrammarFault.NoMemory result (λ x. document x ≡ d) }
     // Which fault it is.
     ensures exact { spec.Gives document result (spec.description_of end tokens.now) }
 {

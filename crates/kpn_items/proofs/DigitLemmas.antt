@@ -21,13 +21,15 @@ AllDigits-at (d ∷ ds) zero all inside = all.0
 AllDigits-at (d ∷ ds) (suc i) all inside = AllDigits-at ds i all.1 (omega arith)
 
 -- the number that at most 18 digits write
-pub digits_value-small : (ds : List ℕ) (i : ℕ) → i < length ds → length ds ≤ 19 → AllDigits 10 (take i ds) → digits_value 10 (take i ds) < 10 ^ 18
+pub digits_value-small : (ds : List ℕ) (i : ℕ) → i < length ds → length ds ≤ 19 → AllDigits 10 (take i ds)
+    → digits_value 10 (take i ds) < 10 ^ 18
 digits_value-small ds i inside short all =
     let few : length (take i ds) ≤ 18 = omega (arith, length-take i ds) in
     omega (arith, digits_value-lt 10 (take i ds) all, pow-le-pow_right {n = 10} (lit< tt) few)
 
 -- one digit more
-pub digits-step : (ds : List ℕ) (i number digit : ℕ) → i < length ds → AllDigits 10 (take i ds) × (number ≡ digits_value 10 (take i ds)) → is_ascii_digit (get_or ds i 0) ≡ true → digit ≡ get_or ds i 0 - 48
+pub digits-step : (ds : List ℕ) (i number digit : ℕ) → i < length ds → AllDigits 10 (take i ds)
+    × (number ≡ digits_value 10 (take i ds)) → is_ascii_digit (get_or ds i 0) ≡ true → digit ≡ get_or ds i 0 - 48
     → AllDigits 10 (take (i + 1) ds) × (number * 10 + digit ≡ digits_value 10 (take (i + 1) ds))
 digits-step ds i number digit inside so_far passes is =
     let read = digit-passes (get_or ds i 0) passes in

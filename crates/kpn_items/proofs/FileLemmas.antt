@@ -22,14 +22,16 @@ length_all_zip_of (x ∷ xs) (y ∷ ys) h = ap suc (length_all_zip_of xs ys h.1)
 pub HasTaken-none : (bytes : List ℕ) → HasTaken bytes bytes []
 HasTaken-none bytes = record { taken = []; whole = refl; spelled = tt }
 
-AllZip-push : (xs : List (List ℕ)) (ys : List ℤ) (x : List ℕ) (y : ℤ) → AllZip SpellsItem xs ys → SpellsItem x y → AllZip SpellsItem (xs ++ x ∷ []) (ys ++ y ∷ [])
+AllZip-push : (xs : List (List ℕ)) (ys : List ℤ) (x : List ℕ) (y : ℤ) → AllZip SpellsItem xs ys → SpellsItem x y
+    → AllZip SpellsItem (xs ++ x ∷ []) (ys ++ y ∷ [])
 AllZip-push [] [] x y h k = (k, tt)
 AllZip-push [] (b ∷ ys) x y h k = absurd h
 AllZip-push (a ∷ xs) [] x y h k = absurd h
 AllZip-push (a ∷ xs) (b ∷ ys) x y h k = (h.0, AllZip-push xs ys x y h.1 k)
 
 -- one line more
-pub HasTaken-more : (bytes rest line after : List ℕ) (items : List ℤ) (item : ℤ) → HasTaken bytes rest items → lines rest ≡ line ∷ lines after → SpellsItem line item → HasTaken bytes after (items ++ item ∷ [])
+pub HasTaken-more : (bytes rest line after : List ℕ) (items : List ℤ) (item : ℤ) → HasTaken bytes rest items
+    → lines rest ≡ line ∷ lines after → SpellsItem line item → HasTaken bytes after (items ++ item ∷ [])
 HasTaken-more bytes rest line after items item h first spells = record {
   taken = h.taken ++ line ∷ [];
   whole = h.whole ∙ ap (λ ls. h.taken ++ ls) first ∙ sym (append_assoc h.taken (line ∷ []) (lines after));
@@ -37,13 +39,16 @@ HasTaken-more bytes rest line after items item h first spells = record {
 }
 
 -- after the last line
-pub Spells-from_taken : (bytes rest : List ℕ) (items : List ℤ) → rest ≡ [] → HasTaken bytes rest items → Spells bytes items
+pub Spells-from_taken : (bytes rest : List ℕ) (items : List ℤ) → rest ≡ [] → HasTaken bytes rest items
+    → Spells bytes items
 Spells-from_taken bytes rest items none h =
     let all : lines bytes ≡ h.taken = h.whole ∙ ap (λ r. h.taken ++ lines r) none ∙ append-nil h.taken in
     subst (λ ls. AllZip SpellsItem ls items) (sym all) h.spelled
 
 -- at a line that spells no item
-pub IsFirstBad-from_taken : (bytes rest line after : List ℕ) (items : List ℤ) (n : ℕ) → HasTaken bytes rest items → lines rest ≡ line ∷ lines after → ((item : ℤ) → SpellsItem line item → ⊥) → n ≡ length items → IsFirstBad bytes (n + 1)
+pub IsFirstBad-from_taken : (bytes rest line after : List ℕ) (items : List ℤ) (n : ℕ) → HasTaken bytes rest items
+    → lines rest ≡ line ∷ lines after → ((item : ℤ) → SpellsItem line item → ⊥) → n ≡ length items
+    → IsFirstBad bytes (n + 1)
 IsFirstBad-from_taken bytes rest line after items n h first none count = record {
   before = h.taken;
   items = items;

@@ -31,13 +31,15 @@ is_unambiguous bytes xs ys h k = same_items (lines bytes) xs ys h k
 
 -- ---- a first bad line
 
-bad_among : (before : List (List ℕ)) (bad : List ℕ) (after : List (List ℕ)) (items : List ℤ) → ((item : ℤ) → SpellsItem bad item → ⊥) → AllZip SpellsItem (before ++ bad ∷ after) items → ⊥
+bad_among : (before : List (List ℕ)) (bad : List ℕ) (after : List (List ℕ)) (items : List ℤ)
+    → ((item : ℤ) → SpellsItem bad item → ⊥) → AllZip SpellsItem (before ++ bad ∷ after) items → ⊥
 bad_among [] bad after [] none h = h
 bad_among [] bad after (x ∷ items) none h = none x h.0
 bad_among (l ∷ before) bad after [] none h = h
 bad_among (l ∷ before) bad after (x ∷ items) none h = bad_among before bad after items none h.1
 
-same_place : (xs ys : List (List ℕ)) (a b : List ℕ) (as' bs : List (List ℕ)) (is js : List ℤ) → xs ++ a ∷ as' ≡ ys ++ b ∷ bs → AllZip SpellsItem xs is → AllZip SpellsItem ys js
+same_place : (xs ys : List (List ℕ)) (a b : List ℕ) (as' bs : List (List ℕ)) (is js : List ℤ) → xs ++ a ∷ as' ≡ ys ++ b
+    ∷ bs → AllZip SpellsItem xs is → AllZip SpellsItem ys js
     → ((item : ℤ) → SpellsItem a item → ⊥) → ((item : ℤ) → SpellsItem b item → ⊥) → length xs ≡ length ys
 same_place [] [] a b as' bs is js e h k none nor = refl
 same_place [] (y ∷ ys) a b as' bs is [] e h k none nor = absurd k
@@ -56,9 +58,11 @@ same_place (x ∷ xs) (y ∷ ys) a b as' bs (i ∷ is) (j ∷ js) e h k none nor
 
 pub excludes_spelling : ExcludesSpelling
 excludes_spelling bytes m bad = (
-  λ items h. bad_among bad.before bad.bad bad.after items bad.spells_none (subst (λ ls. AllZip SpellsItem ls items) bad.whole h),
+  λ items h. bad_among bad.before bad.bad bad.after items bad.spells_none
+      (subst (λ ls. AllZip SpellsItem ls items) bad.whole h),
   λ n other.
-      let same = same_place other.before bad.before other.bad bad.bad other.after bad.after other.items bad.items (sym other.whole ∙ bad.whole) other.spelled bad.spelled other.spells_none bad.spells_none in
+      let same = same_place other.before bad.before other.bad bad.bad other.after bad.after other.items bad.items
+      (sym other.whole ∙ bad.whole) other.spelled bad.spelled other.spells_none bad.spells_none in
       omega (arith, other.counted, bad.counted),
 )
 
@@ -87,7 +91,8 @@ no_return (b ∷ bs) high =
     cond-false _ _ _ (ne_eqb (get_or (b ∷ bs) (length (b ∷ bs) - 1) 0) 13 (λ e. omega arith))
 
 -- digits alone spell their number
-spells_digits : (ds : List ℕ) (n : ℕ) → IsNumeral 10 ds → length ds ≤ 19 → digits_value 10 ds ≡ n → FitsSigned w64 (pos n) → SpellsItem ds (pos n)
+spells_digits : (ds : List ℕ) (n : ℕ) → IsNumeral 10 ds → length ds ≤ 19 → digits_value 10 ds ≡ n
+    → FitsSigned w64 (pos n) → SpellsItem ds (pos n)
 spells_digits ds n numeral short value fits =
     let plain = digits_no_minus ds numeral.1 in
     let bare : without_minus ds ≡ ds = cond-false _ _ _ plain in
@@ -98,27 +103,33 @@ spells_digits ds n numeral short value fits =
     }
 
 -- and behind a minus its negative
-spells_minus : (ds : List ℕ) (n : ℕ) → IsNumeral 10 ds → length ds ≤ 19 → digits_value 10 ds ≡ suc n → FitsSigned w64 (negsuc n) → SpellsItem (45 ∷ ds) (negsuc n)
+spells_minus : (ds : List ℕ) (n : ℕ) → IsNumeral 10 ds → length ds ≤ 19 → digits_value 10 ds ≡ suc n
+    → FitsSigned w64 (negsuc n) → SpellsItem (45 ∷ ds) (negsuc n)
 spells_minus ds n numeral short value fits = record {
   numeral = (numeral, short);
   value = ap (λ m. neg_ℤ (pos m)) (sym value);
   in_range = fits;
 }
 
-spells_decimal : (item : ℤ) → FitsSigned w64 item → SpellsItem (signed_decimal item) item × All (λ b. 45 ≤ b) (signed_decimal item)
+spells_decimal : (item : ℤ) → FitsSigned w64 item → SpellsItem (signed_decimal item) item
+    × All (λ b. 45 ≤ b) (signed_decimal item)
 spells_decimal (pos n) fits =
     let small : n < 2 ^ 63 = omega (arith, ints) in
-    let read = decimal_is_IsNumeral n (omega arith) in
-    (spells_digits (decimal n) n read.0 (length-decimal-le 19 n (omega arith) (omega arith) (omega arith)) read.1 fits, digits-high (decimal n) read.0.1)
+    let read = decimal_is_IsNumeral n (omega arith) in (
+      spells_digits (decimal n) n read.0 (length-decimal-le 19 n (omega arith) (omega arith) (omega arith)) read.1 fits,
+      digits-high (decimal n) read.0.1,
+    )
 spells_decimal (negsuc n) fits =
     let small : n < 2 ^ 63 = omega (arith, ints) in
     let read = decimal_is_IsNumeral (suc n) (omega arith) in (
-      spells_minus (decimal (suc n)) n read.0 (length-decimal-le 19 (suc n) (omega arith) (omega arith) (omega arith)) read.1 fits,
+      spells_minus (decimal (suc n)) n read.0 (length-decimal-le 19 (suc n) (omega arith) (omega arith) (omega arith))
+          read.1 fits,
       All-cons (λ b. 45 ≤ b) 45 (decimal (suc n)) (omega arith) (digits-high (decimal (suc n)) read.0.1),
     )
 
 -- the first line of a text is that of its first item
-lines-text : (item : ℤ) (items : List ℤ) → All (λ b. 45 ≤ b) (signed_decimal item) → lines (item_text (item ∷ items)) ≡ signed_decimal item ∷ lines (item_text items)
+lines-text : (item : ℤ) (items : List ℤ) → All (λ b. 45 ≤ b) (signed_decimal item)
+    → lines (item_text (item ∷ items)) ≡ signed_decimal item ∷ lines (item_text items)
 lines-text item items high =
     let line = signed_decimal item in
     ap lines (append_assoc line (10 ∷ []) (item_text items)) ∙ lines-feed line (item_text items) (no_feed line high)

@@ -13,12 +13,14 @@ use Rattle.std.proofs.lemmas.Grind.{common_steps}
 abbrev is_feed : ℕ → Bool
 is_feed b = eqb b 10
 
-lines_of_parts-cons : (x : List ℕ) (parts : List (List ℕ)) → 0 < length parts → lines_of_parts (x ∷ parts) ≡ strip_carriage_return x ∷ lines_of_parts parts
+lines_of_parts-cons : (x : List ℕ) (parts : List (List ℕ)) → 0 < length parts
+    → lines_of_parts (x ∷ parts) ≡ strip_carriage_return x ∷ lines_of_parts parts
 lines_of_parts-cons x [] some = absurd (omega arith)
 lines_of_parts-cons x (y ∷ more) some = refl
 
 -- a line that ends in a line feed, and what follows
-pub lines-feed : (line rest : List ℕ) → All (λ b. eqb b 10 ≡ false) line → lines (line ++ 10 ∷ rest) ≡ strip_carriage_return line ∷ lines rest
+pub lines-feed : (line rest : List ℕ) → All (λ b. eqb b 10 ≡ false) line
+    → lines (line ++ 10 ∷ rest) ≡ strip_carriage_return line ∷ lines rest
 lines-feed line rest none =
     ap lines_of_parts (slice_split_at is_feed line 10 rest none refl)
     ∙ lines_of_parts-cons line (slice_split is_feed rest) (omega (arith, length-slice_split is_feed rest))
@@ -30,11 +32,13 @@ lines-last bytes some none =
     ∙ ap (λ t. cond t [] (bytes ∷ [])) (ne_eqb (length bytes) 0 (λ z. omega arith))
 
 -- the bytes round the first line feed
-pub split-at_feed : (bytes : List ℕ) (i : ℕ) → i < length bytes → get_or bytes i 0 ≡ 10 → bytes ≡ take i bytes ++ 10 ∷ drop (i + 1) bytes
+pub split-at_feed : (bytes : List ℕ) (i : ℕ) → i < length bytes → get_or bytes i 0 ≡ 10 → bytes ≡ take i bytes ++ 10
+    ∷ drop (i + 1) bytes
 split-at_feed bytes i inside at = grind (arith, common_steps)
 
 -- the first line, where there is a line feed
-pub lines-found : (bytes : List ℕ) (i : ℕ) → position is_feed bytes ≡ Some i → lines bytes ≡ strip_carriage_return (take i bytes) ∷ lines (drop (i + 1) bytes)
+pub lines-found : (bytes : List ℕ) (i : ℕ) → position is_feed bytes ≡ Some i
+    → lines bytes ≡ strip_carriage_return (take i bytes) ∷ lines (drop (i + 1) bytes)
 lines-found bytes i found =
     let at = position-Some is_feed bytes i 0 found in
     let before : All (λ b. eqb b 10 ≡ false) (take i bytes) = λ k d inside.

@@ -2,10 +2,11 @@
 use Rattle.std.specs.Prelude.{◌≡◌, ℕ, ◌≤◌, List, length, drop, ℤ, pos, neg_ℤ, if◌then◌else◌, FitsSigned}
 use Rattle.std.specs.Int.{w64}
 use Rattle.std.specs.Str.Parse.{IsNumeral, digits_value, starts_with_minus}
+use Rattle.kpn_items.specs.declared.item_line.TheConstants.{MAX_DIGITS}
 
--- 1 to 19 decimal digits, leading zeros allowed, and nothing else
+-- 1 to 19 decimal digits (MAX_DIGITS), leading zeros allowed, and nothing else
 abbrev pub IsShortNumeral : List ℕ → Type 0
-IsShortNumeral ds = IsNumeral 10 ds × (length ds ≤ 19)
+IsShortNumeral ds = IsNumeral 10 ds × (length ds ≤ MAX_DIGITS)
 
 -- the line without the one `-` that it may begin with
 abbrev pub without_minus : List ℕ → List ℕ

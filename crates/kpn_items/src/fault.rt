@@ -1,11 +1,12 @@
-// The faults of reading and of writing item files.
+//! The faults of reading and of writing item files.
 
 use thiserror::Error;
 
 /// Why bytes or items could not be read.
 #[derive(Debug, Drop, PartialEq, Eq, Error)]
 pub enum ItemFault {
-    /// A read failed, or more than `READ_LIMIT` bytes came. It is printed as fault 26.
+    /// A read failed, or more than [`MAX_INPUT_BYTES`](kpn_limits::MAX_INPUT_BYTES) bytes came. It
+    /// is printed as fault 26.
     #[error("the input could not be read")]
     Read,
     /// This line, counted from 1, is the first that spells no item. It is printed as fault 25.

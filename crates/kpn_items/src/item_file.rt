@@ -1,4 +1,5 @@
-// A whole item file: its items read, from bytes at hand or from a reader, and written.
+//! A whole item file: its items read, from bytes at hand or from a reader, and written.
+
 ghost use Rattle.std.specs.Prelude.{◌≡◌, ◌≢◌, ◌==◌, ◌<◌, ◌∷◌, length, position, Err, IfOk, IfErr, OnOk, IfSome, IsErrAnd, ◌≤◌, vec_len};
 ghost use Rattle.std.specs.Str.Lines.{lines, strip_carriage_return};
 ghost use Rattle.std.specs.Io.KnownBytes.{Appends, IsAtEnd};
@@ -6,8 +7,9 @@ ghost use Rattle.kpn_items.specs.ItemFile.{Spells, TellsFirstBadLine, item_text}
 ghost use Rattle.kpn_items.specs.Input.{LosesItsFront, NamesNoLine, TellsLineAtEnd};
 
 use crate::fault::{ItemFault, WriteFault};
-use crate::input::{READ_LIMIT, read_all};
+use crate::input::read_all;
 use crate::item_line::item_of_line;
+use kpn_limits::MAX_INPUT_BYTES;
 use std::alloc::Global;
 use std::io::{Read, Write};
 
@@ -44,10 +46,10 @@ pub fn read_items<R: Read>(alloc: Global, reader: &mut R) -> Result<Vec<i64>, It
 
     // More of them than the limit are refused whatever they spell.
     ensures too_long { IfSome (R.remaining reader.old) (λ bytes.
-        READ_LIMIT < length bytes → IsErrAnd result NamesNoLine) }
+        MAX_INPUT_BYTES < length bytes → IsErrAnd result NamesNoLine) }
 
     // There are no more items than bytes.
-    ensures few { IfOk result (λ items. vec_len items ≤ READ_LIMIT) }
+    ensures few { IfOk result (λ items. vec_len items ≤ MAX_INPUT_BYTES) }
 
     // Items and lines are told only once all was read, and no byte is lost but those read.
     ensures at_end { OnOk result (IsAtEnd (R.remaining reader.new)) }
@@ -71,7 +73,7 @@ pub fn write_items<W: Write>(writer: &mut W, items: &[i64]) -> Result<(), WriteF
     Ok(())
 }
 
-// The first line, without its line end, and the bytes of the lines after it.
+/// The first line, without its line end, and the bytes of the lines after it.
 fn first_line(bytes: &[u8]) -> (&[u8], &[u8])
     requires { 0 < length bytes.now }
     ensures split { lines bytes.now ≡ result.0.now ∷ lines result.1.now }
@@ -83,106 +85,16 @@ fn first_line(bytes: &[u8]) -> (&[u8], &[u8])
     }
 }
 
-// The place of the first line feed.
+/// The place of the first line feed.
 fn line_feed(bytes: &[u8]) -> Option<usize>
     ensures { result ≡ position (λ byte. byte == 10) bytes.now }
 {
     bytes.iter().position(|&byte| byte == b'\n')
 }
 
-// A line without the carriage return at its end, if it has one.
+/// A line without the carriage return at its end, if it has one.
 fn without_carriage_return(line: &[u8]) -> &[u8]
     ensures { result.now ≡ strip_carriage_return line.now }
 {
     line.strip_suffix(b"\r").unwrap_or(line)
-}
-
-#[cfg(test)]
-mod tests {
-    use super::*;
-    use std::io;
-    use std::io::{ErrorKind, Read};
-    use std::test::Fail;
-
-    // Fails at its first read, or at its first write.
-    #[derive(Drop)]
-    struct Broken;
-
-    impl Read for Broken {
-        fn read(&mut self, _buf: &mut [u8]) -> io::Result<usize> {
-            Err(io::Error::from(ErrorKind::Other))
-        }
-    }
-
-    impl Write for Broken {
-        fn write(&mut self, _buf: &[u8]) -> io::Result<usize> {
-            Err(io::Error::from(ErrorKind::Other))
-        }
-
-        fn flush(&mut self) -> io::Result<()> {
-            Ok(())
-        }
-    }
-
-    #[test]
-    fn reads_what_lines_spell(rt: HostRuntime) -> Result<(), Fail> {
-        let rows = [
-            (b"".as_slice(), [].as_slice()),
-            (b"1\n2\n3\n".as_slice(), [1, 2, 3].as_slice()),
-            (b"-0\n007\r\n-08".as_slice(), [0, 7, -8].as_slice()),
-            (b"0000000000000000001\n".as_slice(), [1].as_slice()),
-            (
-                b"9223372036854775807\n-9223372036854775808\n".as_slice(),
-                [i64::MAX, i64::MIN].as_slice(),
-            ),
-        ];
-        for (text, want) in rows {
-            assert_eq!(rt; read_items(rt.alloc(), &mut &*text)?.as_slice(), want);
-        }
-        Ok(())
-    }
-
-    #[test]
-    fn tells_the_first_bad_line(rt: HostRuntime) {
-        let rows = [
-            (b"1\nx\n".as_slice(), 2),
-            (b"1\n\n2\n".as_slice(), 2),
-            (b"\n".as_slice(), 1),
-            (b"1\n2\r".as_slice(), 2),
-            (b"1\r\r\n".as_slice(), 1),
-            (b"-\n".as_slice(), 1),
-            (b"+1\n".as_slice(), 1),
-            (b"1 \n".as_slice(), 1),
-            (b"--1\n".as_slice(), 1),
-            (b"00000000000000000001\n".as_slice(), 1),
-            (b"9223372036854775808\n".as_slice(), 1),
-            (b"1\n2\n-9223372036854775809\nx".as_slice(), 3),
-        ];
-        for (text, line) in rows {
-            assert_eq!(rt;
-                read_items(rt.alloc(), &mut &*text),
-                Err(ItemFault::BadItem(line)),
-                "{text:?}"
-            );
-        }
-    }
-
-    #[test]
-    fn reads_all_before_it_looks_at_a_line(rt: HostRuntime) {
-        let mut input = b"x\n".as_slice().chain(Broken);
-        assert_eq!(rt; read_items(rt.alloc(), &mut input), Err(ItemFault::Read));
-    }
-
-    #[test]
-    fn writes_canonical_lines(rt: HostRuntime) -> Result<(), Fail> {
-        let mut out = Vec::new(rt.alloc());
-        write_items(&mut out, &[0, 7, -8, i64::MAX, i64::MIN])?;
-        assert_eq!(rt;
-            out.as_slice(),
-            b"0\n7\n-8\n9223372036854775807\n-9223372036854775808\n".as_slice()
-        );
-        assert_eq!(rt; write_items(&mut Broken, &[]), Ok(()));
-        assert_eq!(rt; write_items(&mut Broken, &[1]), Err(WriteFault::Write));
-        Ok(())
-    }
 }

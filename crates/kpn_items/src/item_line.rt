@@ -1,13 +1,14 @@
-// One line of an item file: the whole number that it spells.
+//! One line of an item file: the whole number that it spells.
+
 ghost use Rattle.std.specs.Prelude.{◌≡◌, ℤ, MatchOption};
 ghost use Rattle.std.specs.Option.{SomeIff};
 ghost use Rattle.std.specs.Str.Parse.{digits_value};
 ghost use Rattle.kpn_items.specs.ItemLine.{IsShortNumeral, SpellsItem};
 
-// 2^63 has nineteen digits, and a number of nineteen digits is below 2^64.
-const MOST_DIGITS: usize = 19;
+/// The most digits of an item: 2^63 has nineteen, and a number of nineteen digits is below 2^64.
+const MAX_DIGITS: usize = 19;
 
-// The item that a line without its line end spells, or `None` where it spells none.
+/// The item that a line without its line end spells, or `None` where it spells none.
 pub(crate) fn item_of_line(line: &[u8]) -> Option<i64>
     ensures { MatchOption result ((item : ℤ) → ¬ SpellsItem line.now item) (SpellsItem line.now) }
 {
@@ -17,11 +18,11 @@ pub(crate) fn item_of_line(line: &[u8]) -> Option<i64>
     }
 }
 
-// The number that 1 to 19 digits write.
+/// The number that 1 to 19 digits write.
 fn short_number(digits: &[u8]) -> Option<u64>
     ensures { SomeIff result (IsShortNumeral digits.now) (digits_value 10 digits.now) }
 {
-    if digits.is_empty() || digits.len() > MOST_DIGITS {
+    if digits.is_empty() || digits.len() > MAX_DIGITS {
         return None;
     }
     let mut number = 0u64;

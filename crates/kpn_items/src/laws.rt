@@ -1,4 +1,5 @@
-// Laws of item files: facts on the definitions alone, each the contract of a function that does nothing.
+//! Laws of item files: facts on the definitions alone, each the contract of a function that does nothing.
+
 ghost use Rattle.kpn_items.specs.Laws.{ReadsBack, IsUnambiguous, ExcludesSpelling};
 
 /// What `write_items` writes spells the items written.

@@ -1,6 +1,6 @@
+//! Item files: lists of whole numbers from -2^63 to 2^63-1, one to a line, read from any reader and
+//! written to any writer. `specs/ItemLine.antt` and `specs/ItemFile.antt` say what a file spells.
 #![tactic(auto)]
-// Item files: lists of whole numbers from -2^63 to 2^63-1, one to a line, read from any reader and
-// written to any writer. `specs/ItemLine.antt` and `specs/ItemFile.antt` say what a file spells.
 
 mod fault;
 mod input;
@@ -9,5 +9,6 @@ mod item_line;
 pub mod laws;
 
 pub use fault::{ItemFault, WriteFault};
-pub use input::{READ_LIMIT, read_all};
+pub use input::{read_all, read_up_to};
 pub use item_file::{items_of, read_items, write_items};
+pub use kpn_limits::MAX_INPUT_BYTES;

@@ -1,6 +1,9 @@
-mod Steps
-mod Turns
+-- The lemmas. Other crates may cite the public ones.
+pub mod Chains
+pub mod Steps
+mod StatementSteps
 mod Writing
 mod Heads
 mod Trees
-mod Counts
+pub mod KnownNames
+pub mod Counts

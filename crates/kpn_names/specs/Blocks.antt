@@ -5,7 +5,8 @@ use Rattle.kpn_lang.specs.Syntax as lang
 use Rattle.kpn_lang.specs.Tree.{Tree, End, Assign, Read, Write, If, While}
 use Rattle.kpn_grammar.specs.Syntax.{Statements}
 use Rattle.kpn_names.specs.declared.scope.Scope.{Scope}
-use Rattle.kpn_names.specs.Fault.{NameError, ◌>>=◌, and_then}
+use Rattle.kpn_names.specs.Fault.{NameError}
+use Rattle.kpn_tokens.specs.Results.{◌>>=◌, and_then}
 use Rattle.kpn_names.specs.Body.{tree_in}
 
 -- how many blocks stand inside, at any depth
@@ -36,7 +37,8 @@ inner n (Read i x rest) = inner n rest
 inner n (Write o e rest) = inner n rest
 inner n (If e a b rest) =
     let second : ℕ = n + suc (blocks_in a) in
-    own (suc n) a ∷ inner (suc n) a ++ (own (suc second) b ∷ inner (suc second) b ++ inner (second + suc (blocks_in b)) rest)
+    own (suc n) a ∷ inner (suc n) a
+    ++ (own (suc second) b ∷ inner (suc second) b ++ inner (second + suc (blocks_in b)) rest)
 inner n (While e a rest) = own (suc n) a ∷ inner (suc n) a ++ inner (n + suc (blocks_in a)) rest
 
 -- all blocks of a body, which is block 0

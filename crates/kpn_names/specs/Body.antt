@@ -1,32 +1,14 @@
--- The body of a process with numbers in place of names: variables and ports by their numbers, read in the order of the
--- text. Each statement stands in front of the tree of what follows it.
-use Rattle.std.specs.Prelude.{ℕ, pos, List, Result, Ok}
-use Rattle.kpn_lang.specs.declared.syntax.Op.{Op}
-use Rattle.kpn_lang.specs.declared.syntax.Op.TheVariants as op
+-- The body of a process with numbers in place of names: variables and ports by their numbers, read in the order of
+-- the text. Each statement stands in front of the tree of what follows it.
+use Rattle.std.specs.Prelude.{pos, List, Result, Ok}
 use Rattle.kpn_lang.specs.Syntax as lang
 use Rattle.kpn_lang.specs.Tree.{Tree, End, Assign, Read, Write, If, While}
-use Rattle.kpn_grammar.specs.declared.tree.BinaryOperator.{BinaryOperator}
-use Rattle.kpn_grammar.specs.declared.tree.BinaryOperator.TheVariants as operator
 use Rattle.kpn_grammar.specs.Syntax.{Name, Term, numeral, variable, minus, negation, binary, Statement, assign, receive, send, choice, loop, Statements, no_statements, statement}
 use Rattle.kpn_names.specs.declared.scope.Scope.{Scope}
-use Rattle.kpn_names.specs.Fault.{NameError, ◌>>=◌, and_then}
+use Rattle.kpn_names.specs.Fault.{NameError}
+use Rattle.kpn_tokens.specs.Results.{◌>>=◌, and_then}
 use Rattle.kpn_names.specs.Names.{known}
 use Rattle.kpn_names.specs.Scope.{target}
-
-abbrev pub op_of : BinaryOperator → Op
-op_of operator.Add = op.Add
-op_of operator.Subtract = op.Sub
-op_of operator.Multiply = op.Mul
-op_of operator.Divide = op.Div
-op_of operator.Remainder = op.Rem
-op_of operator.Less = op.Lt
-op_of operator.LessOrEqual = op.Le
-op_of operator.Greater = op.Gt
-op_of operator.GreaterOrEqual = op.Ge
-op_of operator.Equal = op.Eq
-op_of operator.NotEqual = op.Ne
-op_of operator.And = op.And
-op_of operator.Or = op.Or
 
 -- an expression over these variables: each name in it must be one of them
 unfoldable pub term_in : (vars : List Name) → Term → Result lang.Term NameError
@@ -37,7 +19,7 @@ term_in vars (negation e) = term_in vars e >>= λ a. Ok (lang.Not a)
 term_in vars (binary o e f) = do
   a ← term_in vars e
   b ← term_in vars f
-  Ok (lang.Bin (op_of o) a b)
+  Ok (lang.Bin o a b)
 
 unfoldable mutual
   -- a statement in front of what follows, with the names known from there on. The target of an assignment is known in

@@ -1,5 +1,6 @@
 -- What is wrong with a name, and steps of which the first that finds something wrong decides.
 use Rattle.std.specs.Prelude.{◌≡◌, List, [], ◌∷◌, Result, Ok, Err}
+use Rattle.kpn_tokens.specs.Results.{and_then, ◌>>=◌}
 use Rattle.kpn_names.specs.declared.fault.NameFault.{NameFault}
 use Rattle.kpn_names.specs.declared.fault.NameFault.TheVariants as fault
 
@@ -7,15 +8,6 @@ use Rattle.kpn_names.specs.declared.fault.NameFault.TheVariants as fault
 pub data NameError : Type 0 where
   unknown : NameError
   double : NameError
-
--- a step, and then what follows where nothing was wrong
-unfoldable pub and_then : {A B : Type 0} → Result A NameError → (A → Result B NameError) → Result B NameError
-and_then (Ok x) f = f x
-and_then (Err e) f = Err e
-
-infixl 10 ◌>>=◌
-abbrev pub ◌>>=◌ : {A B : Type 0} → Result A NameError → (A → Result B NameError) → Result B NameError
-r >>= f = and_then r f
 
 -- one step for each item of a list, in order
 unfoldable pub each : {S X : Type 0} → (S → X → Result S NameError) → S → List X → Result S NameError

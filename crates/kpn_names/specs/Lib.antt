@@ -5,6 +5,7 @@ pub mod Body
 pub mod Blocks
 pub mod Network
 pub mod Named
+pub mod NetworkNames
 pub mod Writer
 pub mod View
 pub mod Laws

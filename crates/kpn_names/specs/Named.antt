@@ -1,10 +1,11 @@
 -- What a description names: the tables of a network, and the names of their parts by number.
-use Rattle.std.specs.Prelude.{◌≡◌, ℕ, List, [], ◌∷◌, ◌++◌, length, map, Result, Ok}
+use Rattle.std.specs.Prelude.{◌≡◌, List, [], ◌∷◌, ◌++◌, length, map, Result, Ok}
 use Rattle.kpn_lang.specs.Parts.{Parts}
 use Rattle.kpn_net.specs.Tables.{Tables}
 use Rattle.kpn_grammar.specs.Syntax.{Name, Process, Description}
 use Rattle.kpn_names.specs.declared.scope.Scope.{Scope}
-use Rattle.kpn_names.specs.Fault.{NameError, ◌>>=◌, and_then, each}
+use Rattle.kpn_names.specs.Fault.{NameError, each}
+use Rattle.kpn_tokens.specs.Results.{◌>>=◌, and_then}
 use Rattle.kpn_names.specs.Names.{declared}
 use Rattle.kpn_names.specs.Scope.{head}
 use Rattle.kpn_names.specs.Blocks.{body_of}
@@ -20,7 +21,17 @@ abbrev pub program_of : Process → Result NamedProgram NameError
 program_of p = do
   s ← head p
   body ← body_of s p.body
-  Ok (record { names = body.scope; parts = record { ins = length body.scope.ins; outs = length body.scope.outs; pars = length s.vars; vars = length body.scope.vars; blocks = body.blocks } })
+  Ok (record {
+    names = body.scope;
+    parts =
+        record {
+          ins = length body.scope.ins;
+          outs = length body.scope.outs;
+          pars = length s.vars;
+          vars = length body.scope.vars;
+          blocks = body.blocks;
+        };
+  })
 
 -- the processes so far, with their names
 pub record Programs : Type 0 where
@@ -48,7 +59,13 @@ pub record Named : Type 0 where
 -- what the tables of the processes and of the network come to
 abbrev pub named_with : Description → Programs → Wiring → Named
 named_with d p w = record {
-  tables = record { programs = map (λ q. q.parts) p.programs; instances = w.instances; channels = w.channels; limit = limit_of d.network.limit };
+  tables =
+      record {
+        programs = map (λ q. q.parts) p.programs;
+        instances = w.instances;
+        channels = w.channels;
+        limit = limit_of d.network.limit;
+      };
   processes = p.names;
   scopes = map (λ q. q.names) p.programs;
   instances = w.instance_names;

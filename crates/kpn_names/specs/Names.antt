@@ -1,9 +1,14 @@
 -- Tables of names. The number of a name is its place in its table, from 0.
-use Rattle.std.specs.Prelude.{ℕ, Bool, if◌then◌else◌, List, [], ◌∷◌, ◌++◌, Option, Some, None, Result, Ok, Err, position}
+use Rattle.std.specs.Prelude.{ℕ, Bool, if◌then◌else◌, List, [], ◌∷◌, ◌++◌, Option, Some, None, Result, Ok, Err, position, slice_index_or}
 use Rattle.std.specs.List.{list_any}
 use Rattle.std.specs.Str.{bytes_eq}
 use Rattle.kpn_grammar.specs.Syntax.{Name}
-use Rattle.kpn_names.specs.Fault.{NameError, unknown, double, ◌>>=◌, and_then, each}
+use Rattle.kpn_names.specs.Fault.{NameError, unknown, double, each}
+use Rattle.kpn_tokens.specs.Results.{◌>>=◌, and_then}
+
+-- the name with a number; no bytes where there is none
+abbrev pub name_at : List Name → ℕ → Name
+name_at table k = slice_index_or table k []
 
 -- the name stands in the table
 abbrev pub has : List Name → Name → Bool

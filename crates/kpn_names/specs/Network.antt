@@ -1,22 +1,24 @@
 -- The items of a network with numbers in place of names. A channel may be named before it is declared.
-use Rattle.std.specs.Prelude.{ℕ, min, if◌then◌else◌, List, [], ◌∷◌, ◌++◌, map, fold, Option, Some, None, Result, Ok, Err}
+use Rattle.std.specs.Prelude.{ℕ, min, List, [], ◌∷◌, ◌++◌, map, fold, Option, Some, None, Result, Ok}
 use Rattle.std.specs.Option.{option_map_or}
+use Rattle.kpn_limits.specs.declared.TheConstants.{MAX_CAPACITY}
 use Rattle.kpn_net.specs.declared.tables.ChannelSpec.{ChannelSpec}
 use Rattle.kpn_net.specs.declared.tables.ChannelSpec.TheVariants.{Inner, Source, Sink}
 use Rattle.kpn_net.specs.declared.tables.Instance.{Instance}
 use Rattle.kpn_grammar.specs.Syntax as grammar
 use Rattle.kpn_grammar.specs.Syntax.{Name, Item, channel, source, sink, instance, literal_value}
-use Rattle.kpn_names.specs.Fault.{NameError, ◌>>=◌, and_then, each}
+use Rattle.kpn_names.specs.Fault.{NameError, each}
+use Rattle.kpn_tokens.specs.Results.{◌>>=◌, and_then}
 use Rattle.kpn_names.specs.Names.{known, all_known, declared, with_name}
 
 -- a capacity, or a limit, as it is handed on: as far as 32 bits hold it
 abbrev pub within_32_bits : ℕ → ℕ
 within_32_bits n = min n 4294967295
 
--- the limit that is handed on: 1,048,576 where none is written
+-- the limit that is handed on: the greatest where none is written
 abbrev pub limit_of : Option ℕ → ℕ
 limit_of (Some n) = within_32_bits n
-limit_of None = 1048576
+limit_of None = MAX_CAPACITY
 
 -- the channel that an item declares: sources and sinks are channels
 abbrev pub channel_name : Item → Option Name
@@ -40,7 +42,9 @@ pub record Wiring : Type 0 where
   pub instances : List Instance
 
 abbrev pub with_channel : Wiring → Name → ChannelSpec → Result Wiring NameError
-with_channel w x spec = declared w.channel_names x >>= λ names. Ok (record w { channel_names = names; channels = w.channels ++ spec ∷ [] })
+with_channel w x spec =
+    declared w.channel_names x >>= λ names.
+    Ok (record w { channel_names = names; channels = w.channels ++ spec ∷ [] })
 
 -- an instance: its program and its channels must be known, among these names
 abbrev pub instance_of : (programs channels : List Name) → grammar.Instance → Result Instance NameError
@@ -66,4 +70,5 @@ with_item programs channels w (instance i) = with_instance programs channels w i
 -- channels, but is new where it is declared only beside those before it
 abbrev pub wiring : (programs : List Name) → List Item → Result Wiring NameError
 wiring programs items =
-    each (with_item programs (all_channels items)) (record { channel_names = []; channels = []; instance_names = []; instances = [] }) items
+    each (with_item programs (all_channels items))
+    (record { channel_names = []; channels = []; instance_names = []; instances = [] }) items

@@ -1,5 +1,5 @@
 -- What the code's values stand for.
-use Rattle.std.specs.Prelude.{ℕ, ◌+◌, List, length, map}
+use Rattle.std.specs.Prelude.{◌+◌, length, map}
 use Rattle.kpn_lang.specs.View.{blocks_of, parts_with}
 use Rattle.kpn_net.specs.View.{tables_with}
 use Rattle.kpn_names.specs.declared.writer.Writer.{Writer}
@@ -16,18 +16,29 @@ written w = record { scope = w.scope; blocks = blocks_of w.blocks.items }
 
 -- the parts are those that `Program::new` is handed
 abbrev pub program_seen : ProgramParts → NamedProgram
-program_seen p = record { names = p.scope; parts = parts_with (length p.scope.ins) (length p.scope.outs) p.pars (p.pars + p.locals) p.blocks.items }
+program_seen p =
+    record {
+      names = p.scope;
+      parts = parts_with (length p.scope.ins) (length p.scope.outs) p.pars (p.pars + p.locals) p.blocks.items;
+    }
 
 abbrev pub programs_seen : Processes → Programs
 programs_seen p = record { names = p.names; programs = map program_seen p.programs.items }
 
 abbrev pub wiring_seen : WiringCode → Wiring
-wiring_seen w = record { channel_names = w.channel_names; channels = w.channels.items; instance_names = w.instance_names; instances = w.instances.items }
+wiring_seen w =
+    record {
+      channel_names = w.channel_names;
+      channels = w.channels.items;
+      instance_names = w.instance_names;
+      instances = w.instances.items;
+    }
 
 -- the tables are those that `Network::new` is handed
 abbrev pub named_seen : NamedCode → Named
 named_seen n = record {
-  tables = tables_with (map (λ q. q.parts) (map program_seen n.programs.items)) n.instances.items n.channels.items n.limit;
+  tables =
+      tables_with (map (λ q. q.parts) (map program_seen n.programs.items)) n.instances.items n.channels.items n.limit;
   processes = n.processes;
   scopes = map (λ q. q.names) (map program_seen n.programs.items);
   instances = n.instance_names;

@@ -1,12 +1,14 @@
 -- The body of a process as it is written down block by block: the names known so far, and the blocks so far. A block
--- takes its number at its opening brace; its statements are put there at its closing brace.
+-- takes its number at its opening brace; its statements are put there at its closing brace. Scaffolding: contracts of
+-- private calls alone cite it, and resolve gives what Named says.
 use Rattle.std.specs.Prelude.{ℕ, Bool, ◌||◌, if◌then◌else◌, List, [], ◌∷◌, ◌++◌, length, slice_set, Result, Ok, Err}
 use Rattle.kpn_lang.specs.Syntax as lang
 use Rattle.kpn_grammar.specs.Syntax.{Name, Statement, assign, receive, send, choice, loop, Statements, no_statements, statement}
 use Rattle.kpn_names.specs.declared.scope.Scope.{Scope}
 use Rattle.kpn_names.specs.declared.scope.Part.{Part}
 use Rattle.kpn_names.specs.declared.scope.Part.TheVariants.{In, Out, Parameter}
-use Rattle.kpn_names.specs.Fault.{NameError, double, ◌>>=◌, and_then, each}
+use Rattle.kpn_names.specs.Fault.{NameError, double}
+use Rattle.kpn_tokens.specs.Results.{◌>>=◌, and_then}
 use Rattle.kpn_names.specs.Names.{has, known}
 use Rattle.kpn_names.specs.Scope.{is_port, target}
 use Rattle.kpn_names.specs.Body.{term_in}
@@ -27,13 +29,6 @@ with_part Parameter s x = record s { vars = s.vars ++ x ∷ [] }
 -- a name of this part of the head, which must be new
 abbrev pub declared_in : Part → Scope → Name → Result Scope NameError
 declared_in part s x = if is_taken s x then Err double else Ok (with_part part s x)
-
--- the three parts in turn
-abbrev pub head_by_parts : (ins outs pars : List Name) → Result Scope NameError
-head_by_parts ins outs pars = do
-  s ← each (declared_in In) (record { ins = []; outs = []; vars = [] }) ins
-  s ← each (declared_in Out) s outs
-  each (declared_in Parameter) s pars
 
 -- ---- the body
 

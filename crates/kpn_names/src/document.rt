@@ -12,6 +12,7 @@ use crate::names::NameTable;
 use crate::network::{Wiring, within_32_bits};
 use crate::process::{Processes, ProgramParts};
 use kpn_grammar::Description;
+use kpn_limits::MAX_CAPACITY;
 use kpn_net::{ChannelSpec, Instance};
 use kpn_tokens::Number;
 use std::alloc::Global;
@@ -37,16 +38,13 @@ pub struct Named<'a> {
     pub limit: u32,
 }
 
-/// The limit of a network that writes none.
-const DEFAULT_LIMIT: u32 = 1_048_576;
-
-/// The limit as it is written, or [`DEFAULT_LIMIT`].
+/// The limit as it is written, or [`MAX_CAPACITY`].
 fn limit(written: Option<Number>) -> u32
     ensures { result ≡ limit_of written }
 {
     match written {
         Some(number) => within_32_bits(number),
-        None => DEFAULT_LIMIT,
+        None => MAX_CAPACITY,
     }
 }
 
@@ -59,7 +57,7 @@ fn limit(written: Option<Number>) -> u32
 /// What is first wrong with a name, in the order of the text: [`NameFault::UnknownName`] at a name
 /// that is not known where it is used, [`NameFault::DoubleName`] at one that is given a second time in
 /// its table. [`NameFault::NoMemory`] only where an allocation was refused.
-#[tactic(auto, unfolding(crate::specs::Fault::and_then))]
+#[tactic(auto, unfolding(kpn_tokens::specs::Results::and_then))]
 pub fn resolve<'a>(alloc: Global, description: &Description<'a>) -> Result<Named<'a>, NameFault>
     ensures exact { Gives named_seen result (spec.resolve (document description.now)) }
     ensures each { IfOk result (λ n. spec.EachIsNamed (named_seen n)) }

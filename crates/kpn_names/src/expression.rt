@@ -1,40 +1,18 @@
 //! Expressions over the variables of a process, by number.
 
-ghost use Rattle.std.specs.Prelude.{◌≡◌};
 ghost use Rattle.kpn_lang.specs.Syntax.{term_of};
 ghost use Rattle.kpn_grammar.specs.View.{term};
 ghost use Rattle.kpn_names.specs.Fault.{Gives};
-ghost use Rattle.kpn_names.specs.Body.{op_of, term_in};
+ghost use Rattle.kpn_names.specs.Body.{term_in};
 
 use crate::fault::NameFault;
 use crate::names::NameTable;
-use kpn_grammar::{BinaryOperator, Expression};
-use kpn_lang::{Expr, Op};
+use kpn_grammar::Expression;
+use kpn_lang::Expr;
 use std::alloc::Global;
 
-/// The operator of the process language.
-fn op(operator: BinaryOperator) -> Op
-    ensures { result ≡ op_of operator }
-{
-    match operator {
-        BinaryOperator::Add => Op::Add,
-        BinaryOperator::Subtract => Op::Sub,
-        BinaryOperator::Multiply => Op::Mul,
-        BinaryOperator::Divide => Op::Div,
-        BinaryOperator::Remainder => Op::Rem,
-        BinaryOperator::Less => Op::Lt,
-        BinaryOperator::LessOrEqual => Op::Le,
-        BinaryOperator::Greater => Op::Gt,
-        BinaryOperator::GreaterOrEqual => Op::Ge,
-        BinaryOperator::Equal => Op::Eq,
-        BinaryOperator::NotEqual => Op::Ne,
-        BinaryOperator::And => Op::And,
-        BinaryOperator::Or => Op::Or,
-    }
-}
-
 /// The expression over these variables. It nests as deep as its tree.
-#[tactic(auto, unfolding(crate::specs::Body::term_in, crate::specs::Fault::and_then))]
+#[tactic(auto, unfolding(crate::specs::Body::term_in, kpn_tokens::specs::Results::and_then))]
 pub(crate) fn expr<'a>(
     alloc: Global,
     vars: &NameTable<'a>,
@@ -58,7 +36,7 @@ pub(crate) fn expr<'a>(
             let right = expr(alloc, vars, right)?;
             let left = Box::new(alloc, left)?;
             let right = Box::new(alloc, right)?;
-            Ok(Expr::Bin(op(*operator), left, right))
+            Ok(Expr::Bin(*operator, left, right))
         }
     }
 }

@@ -11,6 +11,7 @@ mod fault;
 mod laws;
 mod names;
 mod network;
+mod network_names;
 mod process;
 mod scope;
 mod writer;
@@ -19,8 +20,6 @@ pub use document::{Named, resolve};
 pub use fault::NameFault;
 pub use laws::blocks_are_the_tree;
 pub use names::NameTable;
+pub use network_names::{NetworkNames, ProcessNames};
 pub use process::ProgramParts;
 pub use scope::Scope;
-
-#[cfg(test)]
-mod tests;

@@ -134,7 +134,8 @@ impl<'a> NameTable<'a> {
         alloc: Global,
         names: &[Identifier<'a>],
     ) -> Result<Sequence<usize>, NameFault>
-        ensures { Gives (λ numbers. numbers) result (spec.all_known self.now (names_seen names.now)) }
+        ensures { Gives (λ numbers. numbers) result
+            (spec.all_known self.now (names_seen names.now)) }
     {
         let mut numbers = Sequence::new(alloc);
         for name in names {

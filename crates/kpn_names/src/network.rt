@@ -73,14 +73,15 @@ fn all_channels<'a>(alloc: Global, items: &[Item<'a>]) -> Result<NameTable<'a>, 
 }
 
 /// An instance of one of these programs, at these channels.
-#[tactic(auto, unfolding(crate::specs::Fault::and_then))]
+#[tactic(auto, unfolding(kpn_tokens::specs::Results::and_then))]
 fn instance_of<'a>(
     alloc: Global,
     programs: &NameTable<'a>,
     channels: &NameTable<'a>,
     instance: &kpn_grammar::Instance<'a>,
 ) -> Result<Instance, NameFault>
-    ensures { Gives (λ i. i) result (spec.instance_of programs.now channels.now (instance_seen instance.now)) }
+    ensures { Gives (λ i. i) result
+        (spec.instance_of programs.now channels.now (instance_seen instance.now)) }
 {
     let program = programs.known(&instance.program)?;
     let ins = channels.all_known(alloc, instance.ins.as_slice())?;
@@ -132,7 +133,9 @@ impl<'a> Wiring<'a> {
         channels: &NameTable<'a>,
         items: &[Item<'a>],
     ) -> Result<(), NameFault>
-        ensures { Gives (λ _. wiring_seen self.new) result (each (spec.with_item programs.now channels.now) (wiring_seen self.old) (map item_seen items.now)) }
+        ensures { Gives (λ _. wiring_seen self.new) result
+            (each (spec.with_item programs.now channels.now) (wiring_seen self.old)
+            (map item_seen items.now)) }
     {
         for item in items {
             self.add(alloc, programs, channels, item)?;
@@ -148,7 +151,9 @@ impl<'a> Wiring<'a> {
         channels: &NameTable<'a>,
         item: &Item<'a>,
     ) -> Result<(), NameFault>
-        ensures { Gives (λ _. wiring_seen self.new) result (spec.with_item programs.now channels.now (wiring_seen self.old) (item_seen item.now)) }
+        ensures { Gives (λ _. wiring_seen self.new) result
+            (spec.with_item programs.now channels.now (wiring_seen self.old)
+            (item_seen item.now)) }
     {
         match item {
             Item::Channel(name, capacity) => {
@@ -163,9 +168,10 @@ impl<'a> Wiring<'a> {
     }
 
     /// Adds a channel, whose name must be new.
-    #[tactic(auto, unfolding(crate::specs::Fault::and_then))]
+    #[tactic(auto, unfolding(kpn_tokens::specs::Results::and_then))]
     fn add_channel(&mut self, name: &Identifier<'a>, channel: ChannelSpec) -> Result<(), NameFault>
-        ensures { Gives (λ _. wiring_seen self.new) result (spec.with_channel (wiring_seen self.old) name.now.bytes.now channel) }
+        ensures { Gives (λ _. wiring_seen self.new) result
+            (spec.with_channel (wiring_seen self.old) name.now.bytes.now channel) }
     {
         self.channel_names.declare(name)?;
         self.channels.push(channel)?;
@@ -173,7 +179,7 @@ impl<'a> Wiring<'a> {
     }
 
     /// Adds an instance, whose name must be new.
-    #[tactic(auto, unfolding(crate::specs::Fault::and_then))]
+    #[tactic(auto, unfolding(kpn_tokens::specs::Results::and_then))]
     fn add_instance(
         &mut self,
         alloc: Global,
@@ -181,7 +187,9 @@ impl<'a> Wiring<'a> {
         channels: &NameTable<'a>,
         instance: &kpn_grammar::Instance<'a>,
     ) -> Result<(), NameFault>
-        ensures { Gives (λ _. wiring_seen self.new) result (spec.with_instance programs.now channels.now (wiring_seen self.old) (instance_seen instance.now)) }
+        ensures { Gives (λ _. wiring_seen self.new) result
+            (spec.with_instance programs.now channels.now (wiring_seen self.old)
+            (instance_seen instance.now)) }
     {
         self.instance_names.declare(&instance.name)?;
         let made = instance_of(alloc, programs, channels, instance)?;

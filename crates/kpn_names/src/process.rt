@@ -29,7 +29,7 @@ pub struct ProgramParts<'a> {
 }
 
 /// The parts of a process.
-#[tactic(auto, unfolding(crate::specs::Fault::and_then))]
+#[tactic(auto, unfolding(kpn_tokens::specs::Results::and_then))]
 fn program_parts<'a>(alloc: Global, process: &Process<'a>) -> Result<ProgramParts<'a>, NameFault>
     ensures { Gives program_seen result (program_of (process_seen process.now)) }
 {
@@ -73,9 +73,10 @@ impl<'a> Processes<'a> {
     }
 
     /// Adds a process, whose name must be new.
-    #[tactic(auto, unfolding(crate::specs::Fault::and_then))]
+    #[tactic(auto, unfolding(kpn_tokens::specs::Results::and_then))]
     fn add(&mut self, alloc: Global, process: &Process<'a>) -> Result<(), NameFault>
-        ensures { Gives (λ _. programs_seen self.new) result (with_process (programs_seen self.old) (process_seen process.now)) }
+        ensures { Gives (λ _. programs_seen self.new) result
+            (with_process (programs_seen self.old) (process_seen process.now)) }
     {
         self.names.declare(&process.name)?;
         let program = program_parts(alloc, process)?;

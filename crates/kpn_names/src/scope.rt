@@ -48,7 +48,8 @@ impl<'a> Scope<'a> {
 
     /// Adds the names of a part of the head in order.
     fn declare_all(&mut self, part: Part, names: &[Identifier<'a>]) -> Result<(), NameFault>
-        ensures { Gives (λ _. self.new) result (each (declared_in part) self.old (names_seen names.now)) }
+        ensures { Gives (λ _. self.new) result
+            (each (declared_in part) self.old (names_seen names.now)) }
     {
         for name in names {
             self.declare(part, name)?;
@@ -79,7 +80,8 @@ impl<'a> Scope<'a> {
 
     /// The number of the variable that a name sets, which is made where the name is new.
     pub(crate) fn target(&mut self, name: &Identifier<'a>) -> Result<usize, NameFault>
-        ensures number { Gives (λ k. (self.new, k)) result (spec.target self.old name.now.bytes.now) }
+        ensures number { Gives (λ k. (self.new, k)) result
+            (spec.target self.old name.now.bytes.now) }
         ensures vars { OnOk result (length self.old.vars ≤ length self.new.vars) }
     {
         if self.is_port(name.bytes) {

@@ -32,7 +32,8 @@ impl<'a> Writer<'a> {
         statements: &[Statement<'a>],
     ) -> Result<(), NameFault>
         requires { self.old.blocks.items ≡ [] }
-        ensures written { Gives (λ _. written self.new) result (body_of self.old.scope (block_seen statements.now)) }
+        ensures written { Gives (λ _. written self.new) result
+            (body_of self.old.scope (block_seen statements.now)) }
         ensures vars { OnOk result (length self.old.scope.vars ≤ length self.new.scope.vars) }
     {
         self.block(alloc, statements)?;
@@ -41,9 +42,10 @@ impl<'a> Writer<'a> {
 
     /// Writes a block and the blocks inside it, and gives its number.
     #[cycle(block)]
-    #[tactic(auto, unfolding(crate::specs::Fault::and_then))]
+    #[tactic(auto, unfolding(kpn_tokens::specs::Results::and_then))]
     fn block(&mut self, alloc: Global, statements: &[Statement<'a>]) -> Result<BlockId, NameFault>
-        ensures written { Gives (λ n. (written self.new, n)) result (spec.block_at (written self.old) (block_seen statements.now)) }
+        ensures written { Gives (λ n. (written self.new, n)) result
+            (spec.block_at (written self.old) (block_seen statements.now)) }
         ensures blocks { OnOk result (length self.old.blocks.items ≤ length self.new.blocks.items) }
         ensures vars { OnOk result (length self.old.scope.vars ≤ length self.new.scope.vars) }
     {
@@ -61,7 +63,8 @@ impl<'a> Writer<'a> {
         alloc: Global,
         statements: &[Statement<'a>],
     ) -> Result<Vec<Stmt>, NameFault>
-        ensures written { Gives (λ own. (written self.new, statements_of own.items)) result (spec.statements_at (written self.old) [] (block_seen statements.now)) }
+        ensures written { Gives (λ own. (written self.new, statements_of own.items)) result
+            (spec.statements_at (written self.old) [] (block_seen statements.now)) }
         ensures blocks { OnOk result (length self.old.blocks.items ≤ length self.new.blocks.items) }
         ensures vars { OnOk result (length self.old.scope.vars ≤ length self.new.scope.vars) }
     {
@@ -75,9 +78,10 @@ impl<'a> Writer<'a> {
 
     /// A statement; the blocks inside it are written.
     #[cycle(block)]
-    #[tactic(auto, unfolding(crate::specs::Writer::statement_at, crate::specs::Fault::and_then))]
+    #[tactic(auto, unfolding(crate::specs::Writer::statement_at, kpn_tokens::specs::Results::and_then))]
     fn statement(&mut self, alloc: Global, statement: &Statement<'a>) -> Result<Stmt, NameFault>
-        ensures written { Gives (λ s. (written self.new, statement_of s)) result (spec.statement_at (written self.old) (statement_seen statement.now)) }
+        ensures written { Gives (λ s. (written self.new, statement_of s)) result
+            (spec.statement_at (written self.old) (statement_seen statement.now)) }
         ensures blocks { OnOk result (length self.old.blocks.items ≤ length self.new.blocks.items) }
         ensures vars { OnOk result (length self.old.scope.vars ≤ length self.new.scope.vars) }
     {

@@ -4,54 +4,43 @@ use Rattle.std.specs.List.{position_or_len}
 use Rattle.std.specs.Str.{bytes_eq}
 use Rattle.kpn_lang.specs.Syntax as lang
 use Rattle.kpn_lang.specs.Tree.{Tree}
-use Rattle.kpn_grammar.specs.declared.tree.BinaryOperator.{BinaryOperator}
-use Rattle.kpn_grammar.specs.declared.tree.BinaryOperator.TheVariants as operator
 use Rattle.kpn_grammar.specs.Syntax.{Name, Term, numeral, variable, minus, negation, binary, Statement, assign, receive, send, choice, loop, Statements, no_statements, statement}
 use Rattle.kpn_names.specs.declared.scope.Scope.{Scope}
-use Rattle.kpn_names.specs.Fault.{and_then}
-use Rattle.kpn_names.specs.Names.{known, with_name}
+use Rattle.kpn_tokens.specs.Results.{and_then}
+use Rattle.kpn_names.specs.Names.{known, with_name, name_at}
 use Rattle.kpn_names.specs.Scope.{is_port, target}
-use Rattle.kpn_names.specs.Body.{op_of, term_in, statement_in, tree_in}
-use Rattle.kpn_canonical.specs.declared.names.ProcessNames.{ProcessNames}
-use Rattle.kpn_canonical.specs.Named.{name_at, operator_named, term_named, statements_named}
-use Rattle.kpn_text.proofs.KnownNames.{same_ok, went, IsNamed, is_named-append, known_named, target_named, with_name_longer, if_not}
+use Rattle.kpn_names.specs.Body.{term_in, statement_in, tree_in}
+use Rattle.kpn_names.specs.declared.network_names.ProcessNames.{ProcessNames}
+use Rattle.kpn_canonical.specs.Named.{term_named, statements_named}
+use Rattle.kpn_names.proofs.Chains.{ok_is, went}
+use Rattle.kpn_names.proofs.KnownNames.{IsNamed, is_named-append, known_named, target_named, with_name_longer, if_not}
 
 -- ---- expressions
 
-operator_back : (o : BinaryOperator) → operator_named (op_of o) ≡ o
-operator_back operator.Add = refl
-operator_back operator.Subtract = refl
-operator_back operator.Multiply = refl
-operator_back operator.Divide = refl
-operator_back operator.Remainder = refl
-operator_back operator.Less = refl
-operator_back operator.LessOrEqual = refl
-operator_back operator.Greater = refl
-operator_back operator.GreaterOrEqual = refl
-operator_back operator.Equal = refl
-operator_back operator.NotEqual = refl
-operator_back operator.And = refl
-operator_back operator.Or = refl
-
-term_back : (vars more : List Name) (t : Term) (e : lang.Term) → term_in vars t ≡ Ok e → term_named (vars ++ more) e ≡ t
+term_back : (vars more : List Name) (t : Term) (e : lang.Term) → term_in vars t ≡ Ok e
+    → term_named (vars ++ more) e ≡ t
 unfolding term_in
-term_back vars more (numeral n) e h = ap (λ x. term_named (vars ++ more) x) (sym (same_ok (lang.Num (pos n)) e h))
+term_back vars more (numeral n) e h = ap (λ x. term_named (vars ++ more) x) (sym (ok_is (lang.Num (pos n)) e h))
 term_back vars more (variable x) e h =
     let k = went (known vars x) (λ k. Ok (lang.Var k)) e h in
     let named = is_named-append vars more k.value x (known_named vars x k.value k.first) in
-    ap (λ y. term_named (vars ++ more) y) (sym (same_ok (lang.Var k.value) e k.rest)) ∙ ap (λ y. variable y) named.name
+    ap (λ y. term_named (vars ++ more) y) (sym (ok_is (lang.Var k.value) e k.rest))
+    ∙ ap (λ y. variable y) named.name
 term_back vars more (minus t) e h =
     let a = went (term_in vars t) (λ a. Ok (lang.Neg a)) e h in
-    ap (λ y. term_named (vars ++ more) y) (sym (same_ok (lang.Neg a.value) e a.rest)) ∙ ap (λ y. minus y) (term_back vars more t a.value a.first)
+    ap (λ y. term_named (vars ++ more) y) (sym (ok_is (lang.Neg a.value) e a.rest))
+    ∙ ap (λ y. minus y) (term_back vars more t a.value a.first)
 term_back vars more (negation t) e h =
     let a = went (term_in vars t) (λ a. Ok (lang.Not a)) e h in
-    ap (λ y. term_named (vars ++ more) y) (sym (same_ok (lang.Not a.value) e a.rest)) ∙ ap (λ y. negation y) (term_back vars more t a.value a.first)
+    ap (λ y. term_named (vars ++ more) y) (sym (ok_is (lang.Not a.value) e a.rest))
+    ∙ ap (λ y. negation y) (term_back vars more t a.value a.first)
 term_back vars more (binary o t u) e h =
-    let a = went (term_in vars t) (λ a. and_then (term_in vars u) (λ b. Ok (lang.Bin (op_of o) a b))) e h in
-    let b = went (term_in vars u) (λ b. Ok (lang.Bin (op_of o) a.value b)) e a.rest in
+    let a = went (term_in vars t) (λ a. and_then (term_in vars u) (λ b. Ok (lang.Bin o a b))) e h in
+    let b = went (term_in vars u) (λ b. Ok (lang.Bin o a.value b)) e a.rest in
     let left = term_back vars more t a.value a.first in
     let right = term_back vars more u b.value b.first in
-    ap (λ y. term_named (vars ++ more) y) (sym (same_ok (lang.Bin (op_of o) a.value b.value) e b.rest)) ∙ (λ i. binary (operator_back o i) (left i) (right i))
+    ap (λ y. term_named (vars ++ more) y) (sym (ok_is (lang.Bin o a.value b.value) e b.rest))
+    ∙ (λ i. binary o (left i) (right i))
 
 -- ---- scopes
 
@@ -88,16 +77,20 @@ agrees_before names s t g a = record {
   vars = a.vars ∙ ap (λ l. l ++ a.more) g.vars ∙ append_assoc s.vars g.more a.more;
 }
 
-term_at : (names : ProcessNames) (s : Scope) → Agrees names s → (t : Term) (e : lang.Term) → term_in s.vars t ≡ Ok e → term_named names.vars e ≡ t
+term_at : (names : ProcessNames) (s : Scope) → Agrees names s → (t : Term) (e : lang.Term) → term_in s.vars t ≡ Ok e
+    → term_named names.vars e ≡ t
 term_at names s a t e h = ap (λ vars. term_named vars e) a.vars ∙ term_back s.vars a.more t e h
 
-variable_at : (names : ProcessNames) (s : Scope) → Agrees names s → (k : ℕ) (x : Name) → IsNamed s.vars k x → name_at names.vars k ≡ x
+variable_at : (names : ProcessNames) (s : Scope) → Agrees names s → (k : ℕ) (x : Name) → IsNamed s.vars k x
+    → name_at names.vars k ≡ x
 variable_at names s a k x h = ap (λ vars. name_at vars k) a.vars ∙ (is_named-append s.vars a.more k x h).name
 
-in_at : (names : ProcessNames) (s : Scope) → Agrees names s → (k : ℕ) (x : Name) → known s.ins x ≡ Ok k → name_at names.ins k ≡ x
+in_at : (names : ProcessNames) (s : Scope) → Agrees names s → (k : ℕ) (x : Name) → known s.ins x ≡ Ok k
+    → name_at names.ins k ≡ x
 in_at names s a k x h = ap (λ l. name_at l k) a.ins ∙ (known_named s.ins x k h).name
 
-out_at : (names : ProcessNames) (s : Scope) → Agrees names s → (k : ℕ) (x : Name) → known s.outs x ≡ Ok k → name_at names.outs k ≡ x
+out_at : (names : ProcessNames) (s : Scope) → Agrees names s → (k : ℕ) (x : Name) → known s.outs x ≡ Ok k
+    → name_at names.outs k ≡ x
 out_at names s a k x h = ap (λ l. name_at l k) a.outs ∙ (known_named s.outs x k h).name
 
 -- what a name that is set makes of a scope
@@ -110,14 +103,18 @@ targeted s x r h =
     let longer = with_name_longer s.vars x in
     let made : Scope × ℕ = (record s { vars = with_name s.vars x }, position_or_len (bytes_eq x) s.vars) in
     subst (λ q. Targeted s x q) (if_not (is_port s x) made r h).1
-    (record { grows = record { ins = refl; outs = refl; more = longer.more; vars = longer.is }; named = target_named s.vars x })
+    (record {
+      grows = record { ins = refl; outs = refl; more = longer.more; vars = longer.is };
+      named = target_named s.vars x;
+    })
 
 -- ---- statements
 
 -- what stands for a statement in front of others is that statement, once its numbers are replaced
 pub record Back (s : Scope) (x : Statement) (r : Scope × (Tree → Tree)) : Type 0 where
   pub grows : Grows s r.0
-  pub back : (names : ProcessNames) → Agrees names r.0 → (rest : Tree) → statements_named names (r.1 rest) ≡ statement x (statements_named names rest)
+  pub back : (names : ProcessNames) → Agrees names r.0 → (rest : Tree)
+      → statements_named names (r.1 rest) ≡ statement x (statements_named names rest)
 
 -- the same of a block
 pub record AllBack (s : Scope) (b : Statements) (r : Scope × Tree) : Type 0 where
@@ -132,28 +129,30 @@ mutual
       let t = went _ _ r h in
       let a = went _ _ r t.rest in
       let named = targeted s x t.value t.first in
-      subst (λ q. Back s (assign x e) q) (same_ok _ r a.rest) (record {
+      subst (λ q. Back s (assign x e) q) (ok_is _ r a.rest) (record {
         grows = named.grows;
         back = λ names agrees rest. λ i. statement
-            (assign (variable_at names t.value.0 agrees t.value.1 x named.named i) (term_at names t.value.0 agrees e a.value a.first i))
+            (assign (variable_at names t.value.0 agrees t.value.1 x named.named i)
+            (term_at names t.value.0 agrees e a.value a.first i))
             (statements_named names rest);
       })
   statement_back s (receive p x) r h =
       let port = went _ _ r h in
       let t = went _ _ r port.rest in
       let named = targeted s x t.value t.first in
-      subst (λ q. Back s (receive p x) q) (same_ok _ r t.rest) (record {
+      subst (λ q. Back s (receive p x) q) (ok_is _ r t.rest) (record {
         grows = named.grows;
         back = λ names agrees rest.
             let start = agrees_before names s t.value.0 named.grows agrees in
             λ i. statement
-            (receive (in_at names s start port.value p port.first i) (variable_at names t.value.0 agrees t.value.1 x named.named i))
+            (receive (in_at names s start port.value p port.first i)
+            (variable_at names t.value.0 agrees t.value.1 x named.named i))
             (statements_named names rest);
       })
   statement_back s (send o e) r h =
       let port = went _ _ r h in
       let a = went _ _ r port.rest in
-      subst (λ q. Back s (send o e) q) (same_ok _ r a.rest) (record {
+      subst (λ q. Back s (send o e) q) (ok_is _ r a.rest) (record {
         grows = grows_not s;
         back = λ names agrees rest. λ i. statement
             (send (out_at names s agrees port.value o port.first i) (term_at names s agrees e a.value a.first i))
@@ -165,7 +164,7 @@ mutual
       let second = went _ _ r first.rest in
       let one = block_back s b first.value first.first in
       let two = block_back first.value.0 c second.value second.first in
-      subst (λ q. Back s (choice e b c) q) (same_ok _ r second.rest) (record {
+      subst (λ q. Back s (choice e b c) q) (ok_is _ r second.rest) (record {
         grows = grows_on s first.value.0 second.value.0 one.grows two.grows;
         back = λ names agrees rest.
             let between = agrees_before names first.value.0 second.value.0 two.grows agrees in
@@ -178,21 +177,25 @@ mutual
       let a = went _ _ r h in
       let body = went _ _ r a.rest in
       let one = block_back s b body.value body.first in
-      subst (λ q. Back s (loop e b) q) (same_ok _ r body.rest) (record {
+      subst (λ q. Back s (loop e b) q) (ok_is _ r body.rest) (record {
         grows = one.grows;
         back = λ names agrees rest.
             let start = agrees_before names s body.value.0 one.grows agrees in
-            λ i. statement (loop (term_at names s start e a.value a.first i) (one.back names agrees i)) (statements_named names rest);
+            λ i.
+            statement (loop (term_at names s start e a.value a.first i) (one.back names agrees i))
+            (statements_named names rest);
       })
 
   pub block_back : (s : Scope) (b : Statements) (r : Scope × Tree) → tree_in s b ≡ Ok r → AllBack s b r
-  block_back s no_statements r h = subst (λ q. AllBack s no_statements q) (same_ok _ r h) (record { grows = grows_not s; back = λ names agrees. refl })
+  block_back s no_statements r h =
+      subst (λ q. AllBack s no_statements q) (ok_is _ r h)
+      (record { grows = grows_not s; back = λ names agrees. refl })
   block_back s (statement x xs) r h =
       let first = went _ _ r h in
       let rest = went _ _ r first.rest in
       let one = statement_back s x first.value first.first in
       let more = block_back first.value.0 xs rest.value rest.first in
-      subst (λ q. AllBack s (statement x xs) q) (same_ok _ r rest.rest) (record {
+      subst (λ q. AllBack s (statement x xs) q) (ok_is _ r rest.rest) (record {
         grows = grows_on s first.value.0 rest.value.0 one.grows more.grows;
         back = λ names agrees.
             let start = agrees_before names first.value.0 rest.value.0 more.grows agrees in

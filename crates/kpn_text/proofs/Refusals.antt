@@ -9,6 +9,7 @@ use Rattle.kpn_tokens.specs.declared.lexer.LexFault.TheVariants as lex
 use Rattle.kpn_tokens.specs.declared.tokens.Lexeme.{Lexeme}
 use Rattle.kpn_tokens.specs.Lexing as lexing
 use Rattle.kpn_tokens.specs.Lexing.{lexemes_of}
+use Rattle.kpn_tokens.specs.Results.{OkOr}
 use Rattle.kpn_grammar.specs.declared.fault.GrammarFault.{GrammarFault}
 use Rattle.kpn_grammar.specs.declared.fault.GrammarFault.TheVariants as grammar
 use Rattle.kpn_grammar.specs.Syntax.{Description}
@@ -19,41 +20,53 @@ use Rattle.kpn_names.specs.declared.fault.NameFault.TheVariants as name
 use Rattle.kpn_names.specs.Fault as names
 use Rattle.kpn_names.specs.Fault.{unknown, double}
 use Rattle.kpn_names.specs.Named.{Named, resolve}
-use Rattle.kpn_canonical.specs.declared.names.NetworkNames.{NetworkNames}
+use Rattle.kpn_names.specs.declared.network_names.NetworkNames.{NetworkNames}
 use Rattle.kpn_text.specs.declared.fault.TextFault.{TextFault}
 use Rattle.kpn_text.specs.declared.fault.TextFault.TheVariants as text
-use Rattle.kpn_text.specs.Document.{Document, document_named, document_with, names_in}
+use Rattle.kpn_names.specs.NetworkNames.{names_in}
+use Rattle.kpn_text.specs.Document.{Document, document_named, document_with}
 use Rattle.kpn_text.specs.Spells.{Spells}
 use Rattle.kpn_text.specs.Fault.{lex_fault, grammar_fault, name_fault}
 use Rattle.kpn_text.specs.Phases.{Cause, in_tokens, in_grammar, in_names, unless, tables_cause, document_of, TellsWhatIsFound, Refuses}
-use Rattle.kpn_text.specs.Making.{TellsCause, OkOrNoMemory, Reads}
+use Rattle.kpn_text.specs.Making.{TellsCause, Reads}
 use Rattle.kpn_text.proofs.ReadingLaws.{ArePhases, last_phases, one_document, read_spelled, refused_names, refused_tokens, refused_tree, spelled_reads}
 
-found_out : (bytes : List ℕ) (cause : Cause) (f : TextFault) → document_of bytes ≡ Err cause → TellsWhatIsFound (Err cause) f → Refuses bytes f
+found_out : (bytes : List ℕ) (cause : Cause) (f : TextFault) → document_of bytes ≡ Err cause
+    → TellsWhatIsFound (Err cause) f → Refuses bytes f
 found_out bytes cause f e h = inr (subst (λ r. TellsWhatIsFound r f) (sym e) h)
 
-pub tokens_refused : (bytes : List ℕ) (e : LexFault) (f : TextFault) → lexing.Gives {A = Global} (Err e) (lexemes_of bytes) → f ≡ lex_fault e → Refuses bytes f
+pub tokens_refused : (bytes : List ℕ) (e : LexFault) (f : TextFault)
+    → lexing.Gives {A = Global} (Err e) (lexemes_of bytes) → f ≡ lex_fault e → Refuses bytes f
 tokens_refused bytes lex.NoMemory f g h = inl h
 tokens_refused bytes (lex.Token at) f g h =
     found_out bytes (in_tokens (lex.Token at)) f (refused_tokens bytes (lex.Token at) g) h
 tokens_refused bytes (lex.TooLong at) f g h =
     found_out bytes (in_tokens (lex.TooLong at)) f (refused_tokens bytes (lex.TooLong at) g) h
 
-pub tree_refused : (bytes : List ℕ) (ls slice : List Lexeme) (e : GrammarFault) (f : TextFault) → lexemes_of bytes ≡ Ok ls → slice ≡ ls → reading.Fails e (description_of (length bytes) slice) → f ≡ grammar_fault e → Refuses bytes f
+pub tree_refused : (bytes : List ℕ) (ls slice : List Lexeme) (e : GrammarFault) (f : TextFault)
+    → lexemes_of bytes ≡ Ok ls → slice ≡ ls → reading.Fails e (description_of (length bytes) slice)
+    → f ≡ grammar_fault e → Refuses bytes f
 tree_refused bytes ls slice grammar.NoMemory f t s g h = inl h
 tree_refused bytes ls slice (grammar.Grammar at) f t s g h =
-    found_out bytes (in_grammar (grammar.Grammar at)) f (refused_tree bytes ls (grammar.Grammar at) t (ap (description_of (length bytes)) (sym s) ∙ g)) h
+    found_out bytes (in_grammar (grammar.Grammar at)) f
+    (refused_tree bytes ls (grammar.Grammar at) t (ap (description_of (length bytes)) (sym s) ∙ g)) h
 tree_refused bytes ls slice (grammar.TooDeep i) f t s g h =
-    found_out bytes (in_grammar (grammar.TooDeep i)) f (refused_tree bytes ls (grammar.TooDeep i) t (ap (description_of (length bytes)) (sym s) ∙ g)) h
+    found_out bytes (in_grammar (grammar.TooDeep i)) f
+    (refused_tree bytes ls (grammar.TooDeep i) t (ap (description_of (length bytes)) (sym s) ∙ g)) h
 
-pub names_refused : (bytes : List ℕ) (ls slice : List Lexeme) (tree : Description) (e : NameFault) (f : TextFault) → lexemes_of bytes ≡ Ok ls → slice ≡ ls → description_of (length bytes) slice ≡ Ok tree → names.Fails e (resolve tree) → f ≡ name_fault e → Refuses bytes f
+pub names_refused : (bytes : List ℕ) (ls slice : List Lexeme) (tree : Description) (e : NameFault) (f : TextFault)
+    → lexemes_of bytes ≡ Ok ls → slice ≡ ls → description_of (length bytes) slice ≡ Ok tree
+    → names.Fails e (resolve tree) → f ≡ name_fault e → Refuses bytes f
 names_refused bytes ls slice tree name.NoMemory f t s d g h = inl h
 names_refused bytes ls slice tree (name.UnknownName at) f t s d g h =
-    found_out bytes (in_names unknown) f (refused_names bytes ls tree unknown t (ap (description_of (length bytes)) (sym s) ∙ d) g) (at, h)
+    found_out bytes (in_names unknown) f
+    (refused_names bytes ls tree unknown t (ap (description_of (length bytes)) (sym s) ∙ d) g) (at, h)
 names_refused bytes ls slice tree (name.DoubleName at) f t s d g h =
-    found_out bytes (in_names double) f (refused_names bytes ls tree double t (ap (description_of (length bytes)) (sym s) ∙ d) g) (at, h)
+    found_out bytes (in_names double) f
+    (refused_names bytes ls tree double t (ap (description_of (length bytes)) (sym s) ∙ d) g) (at, h)
 
-pub phases : (bytes : List ℕ) (ls slice : List Lexeme) (tree : Description) (n : Named) → lexemes_of bytes ≡ Ok ls → slice ≡ ls → description_of (length bytes) slice ≡ Ok tree → resolve tree ≡ Ok n → ArePhases bytes ls tree n
+pub phases : (bytes : List ℕ) (ls slice : List Lexeme) (tree : Description) (n : Named) → lexemes_of bytes ≡ Ok ls
+    → slice ≡ ls → description_of (length bytes) slice ≡ Ok tree → resolve tree ≡ Ok n → ArePhases bytes ls tree n
 phases bytes ls slice tree n t s d r =
     record { tokens = t; grammar = ap (description_of (length bytes)) (sym s) ∙ d; names = r }
 
@@ -61,17 +74,23 @@ tells_unless : (c : Option Cause) (d : Document) (f : TextFault) → TellsCause 
 tells_unless (Some cause) d f h = h
 tells_unless None d f h = absurd h
 
-pub network_refused : (bytes : List ℕ) (ls : List Lexeme) (tree : Description) (n : Named) (f : TextFault) → ArePhases bytes ls tree n → (f ≡ text.NoMemory) ⊎ TellsCause (tables_cause n.tables) f → Refuses bytes f
+pub network_refused : (bytes : List ℕ) (ls : List Lexeme) (tree : Description) (n : Named) (f : TextFault)
+    → ArePhases bytes ls tree n → (f ≡ text.NoMemory) ⊎ TellsCause (tables_cause n.tables) f → Refuses bytes f
 network_refused bytes ls tree n f is (inl h) = inl h
 network_refused bytes ls tree n f is (inr h) =
-    inr (subst (λ r. TellsWhatIsFound r f) (sym (last_phases bytes ls tree n is)) (tells_unless (tables_cause n.tables) (document_named n) f h))
+    inr
+    (subst (λ r. TellsWhatIsFound r f) (sym (last_phases bytes ls tree n is))
+    (tells_unless (tables_cause n.tables) (document_named n) f h))
 
-pub made_spelled : (bytes : List ℕ) (ls : List Lexeme) (tree : Description) (n : Named) (network : Tables) (own : NetworkNames) → ArePhases bytes ls tree n → network ≡ n.tables → own ≡ names_in n → IsNetwork network → Spells bytes (document_with network own)
+pub made_spelled : (bytes : List ℕ) (ls : List Lexeme) (tree : Description) (n : Named) (network : Tables)
+    (own : NetworkNames) → ArePhases bytes ls tree n → network ≡ n.tables → own ≡ names_in n → IsNetwork network
+    → Spells bytes (document_with network own)
 made_spelled bytes ls tree n network own is e h keeps =
     let same : document_named n ≡ document_with network own = λ i. document_with (sym e i) (sym h i) in
     subst (λ (d : Document). Spells bytes d) same (read_spelled bytes ls tree n is (subst IsNetwork e keeps))
 
-pub only_this : (bytes : List ℕ) (r : Result Document TextFault) → Reads bytes r → (d : Document) → Spells bytes d → OkOrNoMemory d r
+pub only_this : (bytes : List ℕ) (r : Result Document TextFault) → Reads bytes r → (d : Document) → Spells bytes d
+    → OkOr text.NoMemory r (λ found. found ≡ d)
 only_this bytes (Ok found) h d s = one_document bytes found d h s
 only_this bytes (Err f) (inl h) d s = h
 only_this bytes (Err f) (inr h) d s = absurd (subst (λ r. TellsWhatIsFound r f) (spelled_reads bytes d s) h)

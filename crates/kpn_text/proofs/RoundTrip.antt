@@ -1,86 +1,62 @@
 -- A document that a text spells is spelled by its canonical text, where that is short enough.
-use Rattle.std.proofs.Common.{◌≡◌, ℕ, ◌<◌, ◌≤◌, Bool, true, false, cond, List, length, map, Option, Some, None, Result, Ok, Err, refl, sym, ap, subst, ◌∙◌, arith}
-use Rattle.std.specs.Prelude.{nat_lt, nat_eq, position, IfOk}
+use Rattle.std.proofs.Common.{◌≡◌, ℕ, ◌<◌, ◌≤◌, Bool, true, false, cond, List, length, map, Some, None, Result, Ok, Err, refl, sym, ap, subst, ◌∙◌, arith}
+use Rattle.std.specs.Prelude.{nat_lt, IfOk}
 use Rattle.std.specs.List.{AllByRecursion}
 use Rattle.std.proofs.lemmas.Bool.Decides.{nat_tests}
-use Rattle.kpn_lang.proofs.Programs.{neither}
-use Rattle.kpn_net.specs.declared.fault.NetFault.{NetFault}
-use Rattle.kpn_net.specs.declared.fault.NetFault.TheVariants.{NoWriter, TwoWriters, NoReader, TwoReaders, Capacity}
-use Rattle.kpn_net.specs.Tables.{Tables, writers_of, readers_of}
-use Rattle.kpn_net.specs.Faults.{exceeds, has_no_such_capacity, wrong_capacity, first_at, or_else, instances_fault, channels_fault, channel_numbers, is_none, are_several, IsNetwork}
+use Rattle.kpn_limits.specs.declared.TheConstants.{MAX_CAPACITY, MAX_TEXT_BYTES}
+use Rattle.kpn_net.specs.Tables.{Tables}
+use Rattle.kpn_net.specs.Faults.{IsNetwork}
 use Rattle.kpn_tokens.specs.Laws.{tokens_of}
 use Rattle.kpn_grammar.specs.Syntax.{Description}
-use Rattle.kpn_grammar.specs.Spelling.{spell_description, ProcessFits, IsDescription}
-use Rattle.kpn_names.specs.Fault.{and_then}
+use Rattle.kpn_grammar.specs.Spelling.{spell_description, ProcessIsWithin, IsDescription}
+use Rattle.kpn_tokens.specs.Results.{and_then}
 use Rattle.kpn_names.specs.Laws.{BlocksAreTheTree}
 use Rattle.kpn_names.specs.Network.{limit_of, Wiring, wiring}
 use Rattle.kpn_names.specs.Named.{Programs, programs_of, Named, resolve}
-use Rattle.kpn_canonical.specs.declared.names.NetworkNames.{NetworkNames}
+use Rattle.kpn_names.specs.declared.network_names.NetworkNames.{NetworkNames}
 use Rattle.kpn_canonical.specs.Laws.{DescriptionIsRead, ReadDescriptionsAreProper}
 use Rattle.kpn_canonical.specs.Named.{limit_named, description_named}
 use Rattle.kpn_canonical.specs.Proper.{IsProperProcess, IsProperLimit, IsProperItem, IsProper}
 use Rattle.kpn_canonical.specs.Text.{description_text}
-use Rattle.kpn_text.specs.Document.{Document, names_in, canonical_text}
+use Rattle.kpn_names.specs.NetworkNames.{names_in}
+use Rattle.kpn_text.specs.Document.{Document, canonical_text}
 use Rattle.kpn_text.specs.Spells.{Spells, IsSpelled}
 use Rattle.kpn_text.specs.Again.{PrintedTextSpells}
-use Rattle.kpn_text.proofs.KnownNames.{same_ok, went, then_ok}
+use Rattle.kpn_names.proofs.Chains.{ok_is, went, then_ok}
 use Rattle.kpn_text.proofs.NamedProcesses.{processes_back}
 use Rattle.kpn_text.proofs.NamedItems.{items_back}
 
 -- ---- the limit
 
-no_fault : (fault : NetFault) {A : Type 0} → ◌≡◌ {A = Option NetFault} (Some fault) None → A
-no_fault fault h = absurd (cc)
+-- the limit of a network is in range
+abbrev LimitsAreInRange : Type 0
+LimitsAreInRange = (t : Tables) → IsNetwork t → (1 ≤ t.limit) × (t.limit ≤ MAX_CAPACITY)
 
-none_at : (o : Option ℕ) (fault : ℕ → NetFault) (after : Option NetFault) → first_at o fault after ≡ None → (o ≡ None) × (after ≡ None)
-none_at None fault after h = (refl, h)
-none_at (Some k) fault after h = no_fault (fault k) h
+limit_by : (b : Bool) (n : ℕ) → nat_lt n MAX_CAPACITY ≡ b → n ≤ MAX_CAPACITY → limit_of (cond b (Some n) None) ≡ n
+limit_by true n h k = let small : n < MAX_CAPACITY = grind (arith, nat_tests, h) in omega arith
+limit_by false n h k = let large : MAX_CAPACITY ≤ n = grind (arith, nat_tests, h) in omega arith
 
-none_either : (o after : Option NetFault) → or_else o after ≡ None → after ≡ None
-none_either None after h = h
-none_either (Some fault) after h = no_fault fault h
+limit_again : (n : ℕ) → n ≤ MAX_CAPACITY → limit_of (limit_named n) ≡ n
+limit_again n h = limit_by (nat_lt n MAX_CAPACITY) n refl h
 
-not_there : (k : ℕ) {A : Type 0} → ◌≡◌ {A = Option ℕ} (Some k) None → A
-not_there k h = absurd (cc)
-
-limit_if : (b : Bool) (k : ℕ) (o : Option ℕ) → cond b (Some k) o ≡ None → b ≡ false
-limit_if true k o h = not_there k h
-limit_if false k o h = refl
-
-within : (limit cap : ℕ) → exceeds limit cap ≡ false → cap ≤ limit
-within limit cap h =
-    let above : nat_lt limit cap ≡ false = (neither (nat_eq cap 0) (nat_lt limit cap) h).1 in
-    grind (arith, nat_tests, above)
-
-limit_within : (t : Tables) → IsNetwork t → t.limit ≤ 1048576
-limit_within t h =
-    let channels = none_either (instances_fault t) (channels_fault t) h.sound in
-    let a = none_at (position is_none (map (writers_of t) (channel_numbers t))) NoWriter _ channels in
-    let b = none_at (position are_several (map (writers_of t) (channel_numbers t))) TwoWriters _ a.1 in
-    let d = none_at (position is_none (map (readers_of t) (channel_numbers t))) NoReader _ b.1 in
-    let e = none_at (position are_several (map (readers_of t) (channel_numbers t))) TwoReaders _ d.1 in
-    let f = none_at (wrong_capacity t) Capacity None e.1 in
-    within 1048576 t.limit (limit_if (exceeds 1048576 t.limit) (length t.channels) (position (has_no_such_capacity t.limit) t.channels) f.0)
-
-limit_by : (b : Bool) (n : ℕ) → nat_lt n 1048576 ≡ b → n ≤ 1048576 → limit_of (cond b (Some n) None) ≡ n
-limit_by true n h k = let small : n < 1048576 = grind (arith, nat_tests, h) in omega arith
-limit_by false n h k = let large : 1048576 ≤ n = grind (arith, nat_tests, h) in omega arith
-
-limit_again : (n : ℕ) → n ≤ 1048576 → limit_of (limit_named n) ≡ n
-limit_again n h = limit_by (nat_lt n 1048576) n refl h
-
-limit_proper_by : (b : Bool) (n : ℕ) → n ≤ 1048576 → IsProperLimit (cond b (Some n) None)
+limit_proper_by : (b : Bool) (n : ℕ) → n ≤ MAX_CAPACITY → IsProperLimit (cond b (Some n) None)
 limit_proper_by true n h = omega arith
 limit_proper_by false n h = tt
 
-limit_proper : (n : ℕ) → n ≤ 1048576 → IsProperLimit (limit_named n)
-limit_proper n h = limit_proper_by (nat_lt n 1048576) n h
+limit_proper : (n : ℕ) → n ≤ MAX_CAPACITY → IsProperLimit (limit_named n)
+limit_proper n h = limit_proper_by (nat_lt n MAX_CAPACITY) n h
 
 -- ---- what a description names, part by part
 
 abbrev with_limit : (limit : ℕ) → Programs → Wiring → Named
 with_limit limit p w = record {
-  tables = record { programs = map (λ q. q.parts) p.programs; instances = w.instances; channels = w.channels; limit = limit };
+  tables =
+      record {
+        programs = map (λ q. q.parts) p.programs;
+        instances = w.instances;
+        channels = w.channels;
+        limit = limit;
+      };
   processes = p.names;
   scopes = map (λ q. q.names) p.programs;
   instances = w.instance_names;
@@ -98,11 +74,13 @@ resolved : (d : Description) (n : Named) → resolve d ≡ Ok n → Resolved d n
 resolved d n h =
     let p = went _ _ n h in
     let w = went _ _ n p.rest in
-    record { p = p.value; w = w.value; has_processes = p.first; has_items = w.first; is = same_ok _ n w.rest }
+    record { p = p.value; w = w.value; has_processes = p.first; has_items = w.first; is = ok_is _ n w.rest }
 
-resolves : (d : Description) (p : Programs) (w : Wiring) → programs_of d.processes ≡ Ok p → wiring p.names d.network.items ≡ Ok w → resolve d ≡ Ok (with_limit (limit_of d.network.limit) p w)
+resolves : (d : Description) (p : Programs) (w : Wiring) → programs_of d.processes ≡ Ok p
+    → wiring p.names d.network.items ≡ Ok w → resolve d ≡ Ok (with_limit (limit_of d.network.limit) p w)
 resolves d p w hp hw =
-    then_ok (programs_of d.processes) (λ q. and_then (wiring q.names d.network.items) (λ v. Ok (with_limit (limit_of d.network.limit) q v))) p hp
+    then_ok (programs_of d.processes)
+    (λ q. and_then (wiring q.names d.network.items) (λ v. Ok (with_limit (limit_of d.network.limit) q v))) p hp
     ∙ then_ok (wiring p.names d.network.items) (λ v. Ok (with_limit (limit_of d.network.limit) p v)) w hw
 
 -- ---- the description that a document is printed as
@@ -117,7 +95,8 @@ pub record Kept (d : Description) (n : Named) : Type 0 where
   pub items : AllByRecursion IsProperItem d.network.items → AllByRecursion IsProperItem (printed n).network.items
   pub again : resolve (printed n) ≡ Ok n
 
-kept_by : BlocksAreTheTree → (d : Description) (limit : ℕ) (p : Programs) (w : Wiring) → limit ≤ 1048576 → programs_of d.processes ≡ Ok p → wiring p.names d.network.items ≡ Ok w → Kept d (with_limit limit p w)
+kept_by : BlocksAreTheTree → (d : Description) (limit : ℕ) (p : Programs) (w : Wiring) → limit ≤ MAX_CAPACITY
+    → programs_of d.processes ≡ Ok p → wiring p.names d.network.items ≡ Ok w → Kept d (with_limit limit p w)
 kept_by flat d limit p w small hp hw =
     let n : Named = with_limit limit p w in
     let a = processes_back flat d.processes p hp in
@@ -130,17 +109,20 @@ kept_by flat d limit p w small hp hw =
       again = resolves (printed n) p w read b.again ∙ ap (λ l. Ok (with_limit l p w)) (limit_again limit small);
     }
 
-pub kept : BlocksAreTheTree → (d : Description) (n : Named) → resolve d ≡ Ok n → IsNetwork n.tables → Kept d n
-kept flat d n h net =
+pub kept : BlocksAreTheTree → LimitsAreInRange → (d : Description) (n : Named) → resolve d ≡ Ok n → IsNetwork n.tables
+    → Kept d n
+kept flat limits d n h net =
     let r = resolved d n h in
     let limit : limit_of d.network.limit ≡ n.tables.limit = ap (λ (q : Named). q.tables.limit) r.is in
-    let small : limit_of d.network.limit ≤ 1048576 = subst (λ l. l ≤ 1048576) (sym limit) (limit_within n.tables net) in
+    let small : limit_of d.network.limit ≤ MAX_CAPACITY =
+    subst (λ l. l ≤ MAX_CAPACITY) (sym limit) (limits n.tables net).1 in
     subst (λ q. Kept d q) r.is (kept_by flat d (limit_of d.network.limit) r.p r.w small r.has_processes r.has_items)
 
 -- ---- the law
 
 -- the printed description is proper
-proper : (text : List ℕ) (d : Document) (s : Spells text d) → ReadDescriptionsAreProper → Kept s.tree s.named → IsProper (printed s.named)
+proper : (text : List ℕ) (d : Document) (s : Spells text d) → ReadDescriptionsAreProper → Kept s.tree s.named
+    → IsProper (printed s.named)
 proper text d s read k =
     let was : IsProper s.tree = read text s.tree (s.read ∙ ap (λ ts. Some ts) s.spelled.spelled) in
     record {
@@ -149,20 +131,25 @@ proper text d s read k =
     }
 
 -- each of its processes is within the limits of the grammar
-printed_fits : (text : List ℕ) (d : Document) (s : Spells text d) → Kept s.tree s.named → IsDescription (spell_description (printed s.named)) (printed s.named)
-printed_fits text d s k = record { spelled = refl; fits = subst (λ ps. AllByRecursion ProcessFits ps) k.processes s.spelled.fits }
+printed_fits : (text : List ℕ) (d : Document) (s : Spells text d) → Kept s.tree s.named
+    → IsDescription (spell_description (printed s.named)) (printed s.named)
+printed_fits text d s k =
+    record { spelled = refl; within = subst (λ ps. AllByRecursion ProcessIsWithin ps) k.processes s.spelled.within }
 
-spelled_kept : BlocksAreTheTree → (text : List ℕ) (d : Document) (s : Spells text d) → Kept s.tree s.named
-spelled_kept flat text d s = kept flat s.tree s.named s.resolved (subst (λ (e : Document). IsNetwork e.tables) (sym s.is) s.keeps)
+spelled_kept : BlocksAreTheTree → LimitsAreInRange → (text : List ℕ) (d : Document) (s : Spells text d)
+    → Kept s.tree s.named
+spelled_kept flat limits text d s =
+    kept flat limits s.tree s.named s.resolved (subst (λ (e : Document). IsNetwork e.tables) (sym s.is) s.keeps)
 
-pub printed_spells : BlocksAreTheTree → DescriptionIsRead → ReadDescriptionsAreProper → PrintedTextSpells
-printed_spells flat is_read are_proper d h short =
+pub printed_spells : BlocksAreTheTree → LimitsAreInRange → DescriptionIsRead → ReadDescriptionsAreProper
+    → PrintedTextSpells
+printed_spells flat limits is_read are_proper d h short =
     let text : List ℕ = h.0 in
     let s = h.1 in
-    let k = spelled_kept flat text d s in
+    let k = spelled_kept flat limits text d s in
     let same : description_text (printed s.named) ≡ canonical_text d = ap (λ e. canonical_text e) s.is in
     record {
-      fits = short;
+      within = short;
       tokens = spell_description (printed s.named);
       read = ap (λ t. tokens_of t) (sym same) ∙ is_read (printed s.named) (proper text d s are_proper k);
       tree = printed s.named;
@@ -174,9 +161,13 @@ printed_spells flat is_read are_proper d h short =
     }
 
 -- what a call that printed the document, by its tables and names, returned is read again
-pub text_reads_again : {V E : Type 0} (items : V → List ℕ) → PrintedTextSpells → (d : Document) → IsSpelled d → (names : NetworkNames) (tables : Tables) → names ≡ d.names → tables ≡ d.tables
-    → (r : Result V E) → IfOk r (λ v. items v ≡ description_text (description_named names tables)) → IfOk r (λ v. length (items v) ≤ 1048576 → Spells (items v) d)
+pub text_reads_again : {V E : Type 0} (items : V → List ℕ) → PrintedTextSpells → (d : Document) → IsSpelled d
+    → (names : NetworkNames) (tables : Tables) → names ≡ d.names → tables ≡ d.tables
+    → (r : Result V E) → IfOk r (λ v. items v ≡ description_text (description_named names tables))
+    → IfOk r (λ v. length (items v) ≤ MAX_TEXT_BYTES → Spells (items v) d)
 text_reads_again items law d h names tables same_names same_tables (Ok v) e =
-    let is : items v ≡ canonical_text d = e ∙ (λ i. description_text (description_named (same_names i) (same_tables i))) in
-    λ short. subst (λ bytes. Spells bytes d) (sym is) (law d h (subst (λ bytes. length bytes ≤ 1048576) is short))
+    let is : items v ≡ canonical_text d =
+    e ∙ (λ i. description_text (description_named (same_names i) (same_tables i))) in
+    λ short.
+    subst (λ bytes. Spells bytes d) (sym is) (law d h (subst (λ bytes. length bytes ≤ MAX_TEXT_BYTES) is short))
 text_reads_again items law d h names tables same_names same_tables (Err x) e = tt

@@ -19,13 +19,12 @@ use Rattle.kpn_text.specs.declared.fault.TextFault.TheVariants as text
 use Rattle.kpn_names.specs.declared.document.Named.{Named}
 use Rattle.kpn_names.specs.declared.process.ProgramParts.{ProgramParts}
 use Rattle.kpn_names.specs.View.{named_seen, program_seen}
-use Rattle.kpn_canonical.specs.declared.names.NetworkNames.{NetworkNames}
-use Rattle.kpn_canonical.specs.declared.names.ProcessNames.{ProcessNames}
-use Rattle.kpn_text.specs.Document.{names_in, process_names_in}
+use Rattle.kpn_names.specs.declared.network_names.NetworkNames.{NetworkNames}
+use Rattle.kpn_names.specs.declared.network_names.ProcessNames.{ProcessNames}
+use Rattle.kpn_names.specs.NetworkNames.{names_in, process_names_in, paired}
 use Rattle.kpn_text.specs.Fault.{net_fault}
 use Rattle.kpn_text.specs.Making.{TellsCause, numbered}
 use denote.Bor.{Bor}
-use Rattle.kpn_canonical.specs.Named.{paired}
 
 -- ---- an item at a number
 
@@ -36,12 +35,14 @@ some_is x y e = cc
 same_item : {A : Type 0} (xs : List A) (k : ℕ) (x d : A) → k < length xs → get_or xs k x ≡ get_or xs k d
 same_item xs k x d h = some_is _ _ (sym (slice_get-get_or xs k x h) ∙ slice_get-get_or xs k d h)
 
-pub item_read : {A : Type 0} (slice xs : List A) (k : ℕ) (x d : A) → slice ≡ xs → x ≡ get_or slice k x → k < length xs → x ≡ get_or xs k d
+pub item_read : {A : Type 0} (slice xs : List A) (k : ℕ) (x d : A) → slice ≡ xs → x ≡ get_or slice k x → k < length xs
+    → x ≡ get_or xs k d
 item_read slice xs k x d e is h = is ∙ ap (λ l. get_or l k x) e ∙ same_item xs k x d h
 
 -- ---- a table copied name by name
 
-pub is_there : (xs : List (List ℕ)) (i : ℕ) (r : Option (Bor (List ℕ))) → option_copied r ≡ slice_get xs i → i < length xs → IsSome r
+pub is_there : (xs : List (List ℕ)) (i : ℕ) (r : Option (Bor (List ℕ))) → option_copied r ≡ slice_get xs i
+    → i < length xs → IsSome r
 is_there xs i (Some b) e h = refl
 is_there xs i None e h = let f : slice_get xs i ≡ Some (get_or xs i []) = slice_get-get_or xs i [] h in absurd cc
 
@@ -49,9 +50,11 @@ drop_next : {A : Type 0} (xs : List A) (i : ℕ) (x : A) → slice_get xs i ≡ 
 drop_next xs i x e =
     rw (add-one, drop-cons xs i x (slice_get_within xs i x e), get_or_from_slice_get xs i x x e) refl
 
-pub one_more : {A : Type 0} (own new xs : List A) (i : ℕ) (x : A) → own ++ drop i xs ≡ xs → slice_get xs i ≡ Some x → new ≡ own ++ x ∷ [] → new ++ drop (i + 1) xs ≡ xs
+pub one_more : {A : Type 0} (own new xs : List A) (i : ℕ) (x : A) → own ++ drop i xs ≡ xs → slice_get xs i ≡ Some x
+    → new ≡ own ++ x ∷ [] → new ++ drop (i + 1) xs ≡ xs
 one_more own new xs i x e is f =
-    ap (λ l. l ++ drop (i + 1) xs) f ∙ append_assoc own (x ∷ []) (drop (i + 1) xs) ∙ ap (λ l. own ++ l) (sym (drop_next xs i x is)) ∙ e
+    ap (λ l. l ++ drop (i + 1) xs) f ∙ append_assoc own (x ∷ []) (drop (i + 1) xs)
+    ∙ ap (λ l. own ++ l) (sym (drop_next xs i x is)) ∙ e
 
 pub all_there : {A : Type 0} (own xs : List A) (i : ℕ) → own ++ drop i xs ≡ xs → length xs ≤ i → own ≡ xs
 all_there own xs i e h = sym (append-nil own) ∙ ap (λ l. own ++ l) (sym (drop_all i xs h)) ∙ e
@@ -68,27 +71,40 @@ paired-none f [] = refl
 paired-none f (x ∷ xs) = refl
 
 -- what was paired of two lists up to a place, and what is left of them
-pub record Pairs {A B Y C : Type 0} (f : A → B → C) (g : Y → B) (own : List C) (xs : List A) (ys : List Y) (i : ℕ) : Type 0 where
+pub record Pairs {A B Y C : Type 0} (f : A → B → C) (g : Y → B) (own : List C) (xs : List A) (ys : List Y)
+    (i : ℕ) : Type 0 where
   pub is : own ++ paired f (drop i xs) (map g (drop i ys)) ≡ paired f xs (map g ys)
 
-pub pairs_start : {A B Y C : Type 0} (f : A → B → C) (g : Y → B) (xs : List A) (ys : List Y) (own : List C) → own ≡ [] → Pairs f g own xs ys 0
+pub pairs_start : {A B Y C : Type 0} (f : A → B → C) (g : Y → B) (xs : List A) (ys : List Y) (own : List C) → own ≡ []
+    → Pairs f g own xs ys 0
 pairs_start f g xs ys own e = record { is = rw e refl }
 
-pub pairs_next : {A B Y C : Type 0} (f : A → B → C) (g : Y → B) (own new : List C) (xs : List A) (ys : List Y) (i : ℕ) (x : A) (y : Y) → Pairs f g own xs ys i → slice_get xs i ≡ Some x → y ≡ get_or ys i y → i < length ys → new ≡ own ++ f x (g y) ∷ [] → Pairs f g new xs ys (i + 1)
+pub pairs_next : {A B Y C : Type 0} (f : A → B → C) (g : Y → B) (own new : List C) (xs : List A) (ys : List Y) (i : ℕ)
+    (x : A) (y : Y) → Pairs f g own xs ys i → slice_get xs i ≡ Some x → y ≡ get_or ys i y → i < length ys
+    → new ≡ own ++ f x (g y) ∷ [] → Pairs f g new xs ys (i + 1)
 pairs_next f g own new xs ys i x y p is at h e =
     let front : drop i xs ≡ x ∷ drop (i + 1) xs = drop_next xs i x is in
     let back : drop i ys ≡ y ∷ drop (i + 1) ys = drop_next ys i y (slice_get-get_or ys i y h ∙ ap Some (sym at)) in
     let whole : own ++ paired f (x ∷ drop (i + 1) xs) (map g (y ∷ drop (i + 1) ys)) ≡ paired f xs (map g ys) =
-    ap (λ l. own ++ paired f l (map g (y ∷ drop (i + 1) ys))) (sym front) ∙ ap (λ l. own ++ paired f (drop i xs) (map g l)) (sym back) ∙ p.is in
-    record { is = ap (λ l. l ++ paired f (drop (i + 1) xs) (map g (drop (i + 1) ys))) e ∙ append_assoc own (f x (g y) ∷ []) (paired f (drop (i + 1) xs) (map g (drop (i + 1) ys))) ∙ whole }
+    ap (λ l. own ++ paired f l (map g (y ∷ drop (i + 1) ys))) (sym front)
+    ∙ ap (λ l. own ++ paired f (drop i xs) (map g l)) (sym back) ∙ p.is in
+    record {
+      is = ap (λ l. l ++ paired f (drop (i + 1) xs) (map g (drop (i + 1) ys))) e
+          ∙ append_assoc own (f x (g y) ∷ []) (paired f (drop (i + 1) xs) (map g (drop (i + 1) ys))) ∙ whole;
+    }
 
-pub pairs_end : {A B Y C : Type 0} (f : A → B → C) (g : Y → B) (own : List C) (xs : List A) (ys : List Y) (i : ℕ) → Pairs f g own xs ys i → length ys ≤ i → own ≡ paired f xs (map g ys)
+pub pairs_end : {A B Y C : Type 0} (f : A → B → C) (g : Y → B) (own : List C) (xs : List A) (ys : List Y) (i : ℕ)
+    → Pairs f g own xs ys i → length ys ≤ i → own ≡ paired f xs (map g ys)
 pairs_end f g own xs ys i p h =
-    sym (append-nil own) ∙ ap (λ l. own ++ l) (sym (ap (λ l. paired f (drop i xs) (map g l)) (drop_all i ys h) ∙ paired-none f (drop i xs))) ∙ p.is
+    sym (append-nil own)
+    ∙ ap (λ l. own ++ l)
+    (sym (ap (λ l. paired f (drop i xs) (map g l)) (drop_all i ys h) ∙ paired-none f (drop i xs))) ∙ p.is
 
-pub pairs_break : {A B Y C : Type 0} (f : A → B → C) (g : Y → B) (own : List C) (xs : List A) (ys : List Y) (i : ℕ) → Pairs f g own xs ys i → slice_get xs i ≡ None → own ≡ paired f xs (map g ys)
+pub pairs_break : {A B Y C : Type 0} (f : A → B → C) (g : Y → B) (own : List C) (xs : List A) (ys : List Y) (i : ℕ)
+    → Pairs f g own xs ys i → slice_get xs i ≡ None → own ≡ paired f xs (map g ys)
 pairs_break f g own xs ys i p e =
-    sym (append-nil own) ∙ ap (λ l. own ++ l) (sym (ap (λ l. paired f l (map g (drop i ys))) (drop_none xs i e))) ∙ p.is
+    sym (append-nil own) ∙ ap (λ l. own ++ l) (sym (ap (λ l. paired f l (map g (drop i ys))) (drop_none xs i e)))
+    ∙ p.is
 
 -- ---- programs made one after the other
 
@@ -101,12 +117,16 @@ parts_are : (p q : Parts) → ◌≡◌ {A = Result Parts TextFault} (Ok p) (Ok 
 parts_are p q e = cc
 
 -- a program that was made keeps the rules, and has the parts
-pub numbered_made : (number : ℕ) (f : Option ProgramFault) (parts program : Parts) → ◌≡◌ {A = Result Parts TextFault} (Ok program) (numbered number (parts_unless parts f)) → (f ≡ None) × (program ≡ parts)
+pub numbered_made : (number : ℕ) (f : Option ProgramFault) (parts program : Parts)
+    → ◌≡◌ {A = Result Parts TextFault} (Ok program) (numbered number (parts_unless parts f))
+    → (f ≡ None) × (program ≡ parts)
 numbered_made number None parts program e = (refl, parts_are program parts e)
 numbered_made number (Some fault) parts program e = absurd cc
 
 -- a program that was not made breaks a rule, and that is told
-pub numbered_broken : (number : ℕ) (f : Option ProgramFault) (parts : Parts) (told : TextFault) → ◌≡◌ {A = Result Parts TextFault} (Err told) (numbered number (parts_unless parts f)) → (fault : ProgramFault) × (f ≡ Some fault) × (told ≡ text.Program number fault)
+pub numbered_broken : (number : ℕ) (f : Option ProgramFault) (parts : Parts) (told : TextFault)
+    → ◌≡◌ {A = Result Parts TextFault} (Err told) (numbered number (parts_unless parts f))
+    → (fault : ProgramFault) × (f ≡ Some fault) × (told ≡ text.Program number fault)
 numbered_broken number None parts told e = absurd cc
 numbered_broken number (Some fault) parts told e = (fault, refl, cc)
 
@@ -116,28 +136,38 @@ length-pushed made p = simp length-append (omega arith)
 pub made_start : (all made rest : List Parts) → made ≡ [] → rest ≡ all → Made all made rest
 made_start all made rest e f = rw (e, f) (record { parts = refl; cause = refl })
 
-pub made_next : (all made rest after new : List Parts) (p program : Parts) → Made all made rest → rest ≡ p ∷ after → (first_fault p ≡ None) × (program ≡ p) → new ≡ made ++ program ∷ [] → Made all new after
+pub made_next : (all made rest after new : List Parts) (p program : Parts) → Made all made rest → rest ≡ p ∷ after
+    → (first_fault p ≡ None) × (program ≡ p) → new ≡ made ++ program ∷ [] → Made all new after
 made_next all made rest after new p program m e is pushed =
     let same : new ≡ made ++ p ∷ [] = pushed ∙ ap (λ q. made ++ q ∷ []) is.1 in
     let count : length new ≡ suc (length made) = ap length same ∙ length-pushed made p in
     record {
       parts = ap (λ l. l ++ after) same ∙ append_assoc made (p ∷ []) after ∙ ap (λ l. made ++ l) (sym e) ∙ m.parts;
-      cause = m.cause ∙ ap (programs_cause (length made)) e ∙ ap (λ f. program_or (length made) f (programs_cause (suc (length made)) after)) is.0 ∙ ap (λ n. programs_cause n after) (sym count);
+      cause =
+          m.cause ∙ ap (programs_cause (length made)) e
+          ∙ ap (λ f. program_or (length made) f (programs_cause (suc (length made)) after)) is.0
+          ∙ ap (λ n. programs_cause n after) (sym count);
     }
 
-pub made_all : (all made rest : List Parts) → Made all made rest → rest ≡ [] → (programs_cause 0 all ≡ None) × (made ≡ all)
+pub made_all : (all made rest : List Parts) → Made all made rest → rest ≡ []
+    → (programs_cause 0 all ≡ None) × (made ≡ all)
 made_all all made rest m e =
     (m.cause ∙ ap (programs_cause (length made)) e, sym (append-nil made) ∙ ap (λ l. made ++ l) (sym e) ∙ m.parts)
 
-pub made_broken : (all made rest after : List Parts) (p : Parts) (number : ℕ) (told : TextFault) → Made all made rest → rest ≡ p ∷ after → number ≡ length made → (fault : ProgramFault) × (first_fault p ≡ Some fault) × (told ≡ text.Program number fault) → TellsCause (programs_cause 0 all) told
+pub made_broken : (all made rest after : List Parts) (p : Parts) (number : ℕ) (told : TextFault) → Made all made rest
+    → rest ≡ p ∷ after → number ≡ length made
+    → (fault : ProgramFault) × (first_fault p ≡ Some fault) × (told ≡ text.Program number fault)
+    → TellsCause (programs_cause 0 all) told
 made_broken all made rest after p number told m e count (fault, is, tells) =
     let found : programs_cause 0 all ≡ Some (in_program (length made) fault) =
-    m.cause ∙ ap (programs_cause (length made)) e ∙ ap (λ f. program_or (length made) f (programs_cause (suc (length made)) after)) is in
+    m.cause ∙ ap (programs_cause (length made)) e
+    ∙ ap (λ f. program_or (length made) f (programs_cause (suc (length made)) after)) is in
     subst (λ c. TellsCause c told) (sym found) (tells ∙ ap (λ n. text.Program n fault) count)
 
 -- ---- the programs, and then the network
 
-pub made_network : {N : Type 0} (t : Tables) (P : N → Type 0) (n : N) → programs_cause 0 t.programs ≡ None → first_network_fault t ≡ None → P n → (tables_cause t ≡ None) × P n
+pub made_network : {N : Type 0} (t : Tables) (P : N → Type 0) (n : N) → programs_cause 0 t.programs ≡ None
+    → first_network_fault t ≡ None → P n → (tables_cause t ≡ None) × P n
 made_network t P n e f p =
     (ap (λ c. or_else c (network_cause (first_network_fault t))) e ∙ ap network_cause f, p)
 
@@ -146,12 +176,14 @@ cause_first (Some cause) b told t = t
 cause_first None b told t = absurd t
 
 -- the fault of a program is that of the tables
-pub program_first : (t : Tables) (told : TextFault) → TellsCause (programs_cause 0 t.programs) told → TellsCause (tables_cause t) told
+pub program_first : (t : Tables) (told : TextFault) → TellsCause (programs_cause 0 t.programs) told
+    → TellsCause (tables_cause t) told
 program_first t told h =
     cause_first (programs_cause 0 t.programs) (network_cause (first_network_fault t)) told h
 
 -- the fault of the network is that of the tables where each program keeps the rules
-pub network_then : (t : Tables) (fault : NetFault) (told : TextFault) → programs_cause 0 t.programs ≡ None → first_network_fault t ≡ Some fault → told ≡ net_fault fault → TellsCause (tables_cause t) told
+pub network_then : (t : Tables) (fault : NetFault) (told : TextFault) → programs_cause 0 t.programs ≡ None
+    → first_network_fault t ≡ Some fault → told ≡ net_fault fault → TellsCause (tables_cause t) told
 network_then t fault told e f h =
     let found : tables_cause t ≡ Some (in_network fault) =
     ap (λ c. or_else c (network_cause (first_network_fault t))) e ∙ ap network_cause f in
@@ -163,20 +195,30 @@ map_twice : (ps : List ProgramParts) → map (λ p. (program_seen p).names) ps �
 map_twice [] = refl
 map_twice (p ∷ ps) = ap (λ l. (program_seen p).names ∷ l) (map_twice ps)
 
-pub names_are : (n : Named) (processes : List ProcessNames) (instances channels : List (List ℕ)) (slice : List ProgramParts) → slice ≡ n.programs.items → processes ≡ paired process_names_in n.processes (map (λ p. (program_seen p).names) slice) → instances ≡ n.instance_names → channels ≡ n.channel_names
-    → ◌≡◌ {A = NetworkNames} (record { processes = processes; instances = instances; channels = channels }) (names_in (named_seen n))
+pub names_are : (n : Named) (processes : List ProcessNames) (instances channels : List (List ℕ))
+    (slice : List ProgramParts) → slice ≡ n.programs.items
+    → processes ≡ paired process_names_in n.processes (map (λ p. (program_seen p).names) slice)
+    → instances ≡ n.instance_names → channels ≡ n.channel_names
+    → ◌≡◌ {A = NetworkNames} (record { processes = processes; instances = instances; channels = channels })
+    (names_in (named_seen n))
 names_are n processes instances channels slice s e f g =
-    let whole : processes ≡ paired process_names_in n.processes (map (λ q. q.names) (map program_seen n.programs.items)) =
-    e ∙ ap (λ l. paired process_names_in n.processes (map (λ p. (program_seen p).names) l)) s ∙ ap (paired process_names_in n.processes) (map_twice n.programs.items) in
+    let whole : processes
+    ≡ paired process_names_in n.processes (map (λ q. q.names) (map program_seen n.programs.items)) =
+    e ∙ ap (λ l. paired process_names_in n.processes (map (λ p. (program_seen p).names) l)) s
+    ∙ ap (paired process_names_in n.processes) (map_twice n.programs.items) in
     λ i. record { processes = whole i; instances = f i; channels = g i }
 
 -- ---- what a network answers
 
-net_made : (f : Option NetFault) (network t : Tables) → IfSome f (λ fault. ◌≡◌ {A = Result Tables NetFault} (Ok network) (Err fault)) → IfNone f (network ≡ t) → (f ≡ None) × (network ≡ t)
+net_made : (f : Option NetFault) (network t : Tables)
+    → IfSome f (λ fault. ◌≡◌ {A = Result Tables NetFault} (Ok network) (Err fault)) → IfNone f (network ≡ t)
+    → (f ≡ None) × (network ≡ t)
 net_made None network t refused made = (refl, made)
 net_made (Some fault) network t refused made = absurd cc
 
-net_broken : (f : Option NetFault) (fault : NetFault) → IfSome f (λ found. ◌≡◌ {A = Result Tables NetFault} (Err fault) (Err found)) → IfNone f (fault ≡ net.NoMemory) → (fault ≡ net.NoMemory) ⊎ (f ≡ Some fault)
+net_broken : (f : Option NetFault) (fault : NetFault)
+    → IfSome f (λ found. ◌≡◌ {A = Result Tables NetFault} (Err fault) (Err found)) → IfNone f (fault ≡ net.NoMemory)
+    → (fault ≡ net.NoMemory) ⊎ (f ≡ Some fault)
 net_broken None fault refused made = inl made
 net_broken (Some found) fault refused made = inr cc
 
@@ -187,13 +229,18 @@ module _ (programs parts : List Parts) (instances : List Instance) (channels : L
   abbrev meant : Tables
   meant = tables_with parts instances channels limit
 
-  pub network_made : (network : Tables) → programs_cause 0 parts ≡ None → programs ≡ parts → IfSome (first_network_fault given) (λ fault. ◌≡◌ {A = Result Tables NetFault} (Ok network) (Err fault)) → IfNone (first_network_fault given) (network ≡ given) → (tables_cause meant ≡ None) × (network ≡ meant)
+  pub network_made : (network : Tables) → programs_cause 0 parts ≡ None → programs ≡ parts
+      → IfSome (first_network_fault given) (λ fault. ◌≡◌ {A = Result Tables NetFault} (Ok network) (Err fault))
+      → IfNone (first_network_fault given) (network ≡ given) → (tables_cause meant ≡ None) × (network ≡ meant)
   network_made network none e refused made =
       let same : given ≡ meant = ap (λ ps. tables_with ps instances channels limit) e in
       let h = net_made (first_network_fault given) network given refused made in
       made_network meant (λ n. n ≡ meant) network none (ap first_network_fault (sym same) ∙ h.0) (h.1 ∙ same)
 
-  pub network_broken : (fault : NetFault) (told : TextFault) → programs_cause 0 parts ≡ None → programs ≡ parts → IfSome (first_network_fault given) (λ found. ◌≡◌ {A = Result Tables NetFault} (Err fault) (Err found)) → IfNone (first_network_fault given) (fault ≡ net.NoMemory) → told ≡ net_fault fault → (told ≡ text.NoMemory) ⊎ TellsCause (tables_cause meant) told
+  pub network_broken : (fault : NetFault) (told : TextFault) → programs_cause 0 parts ≡ None → programs ≡ parts
+      → IfSome (first_network_fault given) (λ found. ◌≡◌ {A = Result Tables NetFault} (Err fault) (Err found))
+      → IfNone (first_network_fault given) (fault ≡ net.NoMemory) → told ≡ net_fault fault
+      → (told ≡ text.NoMemory) ⊎ TellsCause (tables_cause meant) told
   network_broken fault told none e refused made h =
       let same : given ≡ meant = ap (λ ps. tables_with ps instances channels limit) e in
       elim (net_broken (first_network_fault given) fault refused made) [

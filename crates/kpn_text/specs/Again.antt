@@ -1,8 +1,10 @@
 -- The law of printing.
 use Rattle.std.specs.Prelude.{◌≤◌, length}
+use Rattle.kpn_limits.specs.declared.TheConstants.{MAX_TEXT_BYTES}
 use Rattle.kpn_text.specs.Document.{Document, canonical_text}
 use Rattle.kpn_text.specs.Spells.{Spells, IsSpelled}
 
--- A printed document is read again: its canonical text spells it, where that has at most 1,048,576 bytes.
+-- A printed document is read again: its canonical text spells it, where that is within the limit of bytes.
 abbrev pub PrintedTextSpells : Type 0
-PrintedTextSpells = (d : Document) → IsSpelled d → length (canonical_text d) ≤ 1048576 → Spells (canonical_text d) d
+PrintedTextSpells =
+    (d : Document) → IsSpelled d → length (canonical_text d) ≤ MAX_TEXT_BYTES → Spells (canonical_text d) d

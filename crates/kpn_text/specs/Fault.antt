@@ -29,13 +29,5 @@ name_fault name.NoMemory = text.NoMemory
 
 -- want of memory is told alike, wherever it comes
 abbrev pub net_fault : NetFault → TextFault
-net_fault net.TooMany = text.Net net.TooMany
-net_fault (net.NoSuchProgram p) = text.Net (net.NoSuchProgram p)
-net_fault (net.PortCount p) = text.Net (net.PortCount p)
-net_fault (net.NoSuchChannel p) = text.Net (net.NoSuchChannel p)
-net_fault (net.NoWriter c) = text.Net (net.NoWriter c)
-net_fault (net.TwoWriters c) = text.Net (net.TwoWriters c)
-net_fault (net.NoReader c) = text.Net (net.NoReader c)
-net_fault (net.TwoReaders c) = text.Net (net.TwoReaders c)
-net_fault (net.Capacity c) = text.Net (net.Capacity c)
 net_fault net.NoMemory = text.NoMemory
+net_fault broken = text.Net broken

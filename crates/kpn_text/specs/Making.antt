@@ -1,4 +1,5 @@
--- What the calls of reading give.
+-- What the calls of reading give. Scaffolding: contracts of private calls alone cite it, and read_network says what a
+-- caller needs.
 use Rattle.std.specs.Prelude.{◌≡◌, ◌⊎◌, ℕ, List, Option, Some, None, Result, Ok, Err}
 use Rattle.kpn_lang.specs.declared.program.ProgramFault.{ProgramFault}
 use Rattle.kpn_lang.specs.Parts.{Parts}
@@ -22,11 +23,6 @@ Makes P (Err f) cause = (f ≡ fault.NoMemory) ⊎ TellsCause cause f
 abbrev pub numbered : ℕ → Result Parts ProgramFault → Result Parts TextFault
 numbered number (Ok parts) = Ok parts
 numbered number (Err e) = Err (fault.Program number e)
-
--- the call gave this document, or memory ran out
-abbrev pub OkOrNoMemory : Document → Result Document TextFault → Type 0
-OkOrNoMemory d (Ok found) = found ≡ d
-OkOrNoMemory d (Err f) = f ≡ fault.NoMemory
 
 -- the document that the text spells, or a fault with which it is refused
 abbrev pub Reads : List ℕ → Result Document TextFault → Type 0

@@ -1,5 +1,5 @@
--- The phases of reading: tokens, grammar, names, the programs in order, the network. Each goes on where the one before
--- it finds no fault, and the first that finds one is the cause of a refusal.
+-- The phases of reading: tokens, grammar, names, the programs in order, the network. Each goes on where the one
+-- before it finds no fault, and the first that finds one is the cause of a refusal.
 use Rattle.std.specs.Prelude.{◌≡◌, ◌⊎◌, ℕ, suc, List, [], ◌∷◌, length, Option, Some, None, Result, Ok, Err}
 use Rattle.kpn_lang.specs.declared.program.ProgramFault.{ProgramFault}
 use Rattle.kpn_lang.specs.Parts as lang
@@ -8,6 +8,7 @@ use Rattle.kpn_net.specs.declared.fault.NetFault.{NetFault}
 use Rattle.kpn_net.specs.Tables.{Tables}
 use Rattle.kpn_net.specs.Faults as net
 use Rattle.kpn_tokens.specs.declared.lexer.LexFault.{LexFault}
+use Rattle.kpn_tokens.specs.Results.{◌>>=◌}
 use Rattle.kpn_tokens.specs.Lexing.{lexemes_of}
 use Rattle.kpn_grammar.specs.declared.fault.GrammarFault.{GrammarFault}
 use Rattle.kpn_grammar.specs.Reading.{description_of}
@@ -35,15 +36,6 @@ phase cause (Err e) = Err (cause e)
 abbrev pub unless : {A : Type 0} → Option Cause → A → Result A Cause
 unless None x = Ok x
 unless (Some cause) x = Err cause
-
--- a phase, and then what follows where it had no fault
-unfoldable pub and_then : {A B : Type 0} → Result A Cause → (A → Result B Cause) → Result B Cause
-and_then (Ok x) f = f x
-and_then (Err cause) f = Err cause
-
-infixl 10 ◌>>=◌
-abbrev pub ◌>>=◌ : {A B : Type 0} → Result A Cause → (A → Result B Cause) → Result B Cause
-r >>= f = and_then r f
 
 -- the fault of a program, else what comes after it
 abbrev pub program_or : ℕ → Option ProgramFault → Option Cause → Option Cause
@@ -78,18 +70,16 @@ document_of text = do
 
 -- ---- how a cause is told
 
-abbrev pub IsUnknownName : TextFault → Type 0
-IsUnknownName f = (at : ℕ) × (f ≡ fault.UnknownName at)
-
-abbrev pub IsDoubleName : TextFault → Type 0
-IsDoubleName f = (at : ℕ) × (f ≡ fault.DoubleName at)
+-- the fault tells what is wrong with a name, and some byte
+abbrev pub TellsName : NameError → TextFault → Type 0
+TellsName unknown f = (at : ℕ) × (f ≡ fault.UnknownName at)
+TellsName double f = (at : ℕ) × (f ≡ fault.DoubleName at)
 
 -- the fault tells the cause: all of it, and of a name some byte
 abbrev pub Tells : Cause → TextFault → Type 0
 Tells (in_tokens e) f = f ≡ lex_fault e
 Tells (in_grammar e) f = f ≡ grammar_fault e
-Tells (in_names unknown) f = IsUnknownName f
-Tells (in_names double) f = IsDoubleName f
+Tells (in_names e) f = TellsName e f
 Tells (in_program i e) f = f ≡ fault.Program i e
 Tells (in_network e) f = f ≡ net_fault e
 

@@ -1,5 +1,6 @@
 -- What it is for a text to spell a document.
 use Rattle.std.specs.Prelude.{◌≡◌, ℕ, ◌≤◌, List, length, Some, Ok}
+use Rattle.kpn_limits.specs.declared.TheConstants.{MAX_TEXT_BYTES}
 use Rattle.kpn_tokens.specs.declared.tokens.Token.{Token}
 use Rattle.kpn_tokens.specs.Laws.{tokens_of}
 use Rattle.kpn_net.specs.Faults.{IsNetwork}
@@ -8,10 +9,10 @@ use Rattle.kpn_grammar.specs.Spelling.{IsDescription}
 use Rattle.kpn_names.specs.Named.{Named, resolve}
 use Rattle.kpn_text.specs.Document.{Document, document_named}
 
--- A text spells a document: it has at most 1,048,576 bytes, its tokens are those of a tree, what the tree names is the
--- document, and the document's tables keep the rules of programs and networks.
+-- A text spells a document: it is within the limit of bytes, its tokens are those of a tree, what the tree names is
+-- the document, and the document's tables keep the rules of programs and networks.
 pub record Spells (text : List ℕ) (d : Document) : Type 0 where
-  pub fits : length text ≤ 1048576
+  pub within : length text ≤ MAX_TEXT_BYTES
   pub tokens : List Token
   pub read : tokens_of text ≡ Some tokens
   pub tree : Description

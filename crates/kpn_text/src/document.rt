@@ -1,12 +1,12 @@
 //! Documents: networks with the names of their parts.
 
 ghost use Rattle.std.specs.Prelude.{◌≡◌, ◌<◌, length};
-ghost use Rattle.kpn_canonical.specs.Named.{AreNamed, name_at, process_names};
-ghost use Rattle.kpn_names.specs.Names.{number_of};
+ghost use Rattle.kpn_names.specs.NetworkNames.{AreNamed, process_names};
+ghost use Rattle.kpn_names.specs.Names.{number_of, name_at};
 ghost use Rattle.kpn_text.specs.Document as spec;
 ghost use Rattle.kpn_text.specs.Spells.{IsSpelled};
 
-use kpn_canonical::NetworkNames;
+use kpn_names::NetworkNames;
 use kpn_net::Network;
 use std::marker::Model;
 

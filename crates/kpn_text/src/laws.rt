@@ -6,6 +6,7 @@ ghost use Rattle.kpn_text.specs.Laws.{PhasesGiveWhatIsSpelled, SpelledOnce};
 
 use kpn_canonical::{description_is_read, read_descriptions_are_proper};
 use kpn_names::blocks_are_the_tree;
+use kpn_net::laws::capacities_are_in_range;
 
 /// The phases give a document exactly where the text spells it.
 pub fn phases_give_what_is_spelled()
@@ -22,6 +23,7 @@ pub fn read_again()
     ensures { PrintedTextSpells }
 {
     blocks_are_the_tree();
+    capacities_are_in_range();
     description_is_read();
     read_descriptions_are_proper();
 }

@@ -1,9 +1,9 @@
-#![tactic(auto)]
-//! Descriptions of networks and item files, read and printed: all of it that the layers above see.
+//! Descriptions of networks, read and printed.
 //!
 //! A description is a text. `read_network` gives the one document that it spells, a network with the
 //! names of its parts, or the fault of the first phase that finds one: the tokens, the grammar, the
 //! names, the programs in order, the network. `print_network` gives the canonical text of a document.
+#![tactic(auto)]
 
 mod document;
 mod fault;
@@ -15,12 +15,6 @@ mod reading;
 
 pub use document::Document;
 pub use fault::TextFault;
-pub use kpn_items::{
-    ItemFault, READ_LIMIT, WriteFault, items_of, read_all, read_items, write_items,
-};
 pub use laws::{phases_give_what_is_spelled, read_again, spelled_once};
 pub use printing::print_network;
 pub use reading::read_network;
-
-#[cfg(test)]
-mod tests;

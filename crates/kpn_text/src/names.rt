@@ -1,13 +1,11 @@
 //! The names of a description, copied out of its text.
 
 ghost use Rattle.std.specs.Prelude.{◌≡◌, map, IfOk};
-ghost use Rattle.kpn_canonical.specs.Named.{paired};
+ghost use Rattle.kpn_names.specs.NetworkNames.{paired, names_in, process_names_in};
 ghost use Rattle.kpn_names.specs.View.{named_seen, program_seen};
-ghost use Rattle.kpn_text.specs.Document.{names_in, process_names_in};
 
-use kpn_canonical::{NetworkNames, ProcessNames};
 use kpn_lang::Sequence;
-use kpn_names::{NameTable, Named, ProgramParts, Scope};
+use kpn_names::{NameTable, Named, NetworkNames, ProcessNames, ProgramParts, Scope};
 use std::alloc::{AllocError, Global};
 
 /// A name of its own.
@@ -52,7 +50,9 @@ fn of_processes(
     names: &NameTable<'_>,
     programs: &[ProgramParts<'_>],
 ) -> Result<Sequence<ProcessNames>, AllocError>
-    ensures { IfOk result (λ own. own ≡ paired process_names_in names.now (map (λ p. (program_seen p).names) programs.now)) }
+    ensures { IfOk result
+        (λ own.
+        own ≡ paired process_names_in names.now (map (λ p. (program_seen p).names) programs.now)) }
 {
     let mut own = Sequence::new(alloc);
     for (number, program) in programs.iter().enumerate() {

@@ -14,7 +14,8 @@ use std::alloc::Global;
 
 /// The program of the process with this number.
 fn program(number: usize, process: ProgramParts<'_>) -> Result<Program, TextFault>
-    ensures { let parts = (program_seen process.entry).parts in result ≡ numbered number (parts_unless parts (first_fault parts)) }
+    ensures { let parts = (program_seen process.entry).parts in
+        result ≡ numbered number (parts_unless parts (first_fault parts)) }
 {
     let ins = process.scope.ins.len();
     let outs = process.scope.outs.len();
@@ -26,7 +27,8 @@ fn program(number: usize, process: ProgramParts<'_>) -> Result<Program, TextFaul
 
 /// The programs of the processes in order.
 fn programs(alloc: Global, processes: Vec<ProgramParts<'_>>) -> Result<Vec<Program>, TextFault>
-    ensures { let parts = map (λ p. p.parts) (map program_seen processes.entry.items) in Makes (λ programs. programs.items ≡ parts) result (programs_cause 0 parts) }
+    ensures { let parts = map (λ p. p.parts) (map program_seen processes.entry.items) in
+        Makes (λ programs. programs.items ≡ parts) result (programs_cause 0 parts) }
 {
     let mut programs = Vec::new(alloc);
     for process in processes {
@@ -38,7 +40,8 @@ fn programs(alloc: Global, processes: Vec<ProgramParts<'_>>) -> Result<Vec<Progr
 
 /// The network of the tables, or the first rule that they break: of the programs in order, then of the network.
 pub(crate) fn network(alloc: Global, named: Named<'_>) -> Result<Network, TextFault>
-    ensures { let tables = (named_seen named.entry).tables in Makes (λ network. network ≡ tables) result (tables_cause tables) }
+    ensures { let tables = (named_seen named.entry).tables in
+        Makes (λ network. network ≡ tables) result (tables_cause tables) }
 {
     let Named {
         processes: _,

@@ -1,6 +1,7 @@
 //! Printing a document as the canonical text of its description.
 
 ghost use Rattle.std.specs.Prelude.{◌≡◌, ◌≤◌, length, IfOk};
+ghost use Rattle.kpn_limits.specs.declared.TheConstants.{MAX_TEXT_BYTES};
 ghost use Rattle.kpn_text.specs.Document as spec;
 ghost use Rattle.kpn_text.specs.Spells.{Spells};
 
@@ -14,7 +15,8 @@ use std::alloc::{AllocError, Global};
 /// Where it is no longer than a description may be, it is read as the same document.
 pub fn print_network(alloc: Global, document: &Document) -> Result<Vec<u8>, AllocError>
     ensures canonical { IfOk result (λ text. text.items ≡ spec.canonical_text document.now) }
-    ensures again { IfOk result (λ text. length text.items ≤ 1048576 → Spells text.items document.now) }
+    ensures again { IfOk result (λ text.
+        length text.items ≤ MAX_TEXT_BYTES → Spells text.items document.now) }
 {
     document.known();
     read_again();

@@ -1,10 +1,11 @@
 //! Reading a description, phase by phase.
 
 ghost use Rattle.std.specs.Prelude.{◌≡◌, IfOk, IfErr};
+ghost use Rattle.kpn_tokens.specs.Results.{OkOr};
 ghost use Rattle.kpn_text.specs.Document as spec;
 ghost use Rattle.kpn_text.specs.Spells.{Spells};
 ghost use Rattle.kpn_text.specs.Phases.{Refuses};
-ghost use Rattle.kpn_text.specs.Making.{OkOrNoMemory, Reads};
+ghost use Rattle.kpn_text.specs.Making.{Reads};
 
 use crate::document::Document;
 use crate::fault::TextFault;
@@ -42,7 +43,8 @@ pub fn read_network(alloc: Global, text: &[u8]) -> Result<Document, TextFault>
     // What is returned is what the text spells.
     ensures found { IfOk result (λ d. Spells text.now d) }
     // What the text spells is returned, unless memory runs out.
-    ensures only { (d : spec.Document) → Spells text.now d → OkOrNoMemory d result }
+    ensures only { (d : spec.Document) → Spells text.now d
+        → OkOr TextFault.NoMemory result (λ found. found ≡ d) }
     // Which fault it is.
     ensures fault { IfErr result (Refuses text.now) }
 {

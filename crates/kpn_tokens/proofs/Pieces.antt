@@ -10,6 +10,8 @@ use Rattle.std.proofs.lemmas.Bool.{and_parts, cond_both, cond-true, leb-true, or
 use Rattle.std.proofs.lemmas.Bool.Decides.{nat_tests}
 use Rattle.std.proofs.lemmas.List.Sums.{take_while-cons}
 use Rattle.std.proofs.lemmas.Str.{digit_value_digit}
+use Rattle.kpn_limits.specs.declared.TheConstants.{MAX_NAME_BYTES}
+use Rattle.kpn_tokens.specs.declared.tokens.TheConstants.{MAX_DIGITS, MAX_NUMBER}
 use Rattle.kpn_tokens.specs.declared.lexer.Class.{Class}
 use Rattle.kpn_tokens.specs.declared.lexer.Class.TheVariants as class
 use Rattle.kpn_tokens.specs.declared.lexer.Piece.{Piece}
@@ -25,14 +27,16 @@ pub find_passes : {X : Type 0} (p : X → Bool) (xs : List X) (x : X) → find p
 find_passes p [] x found = cc
 find_passes {X} p (y ∷ ys) x found =
     let Q : Option X → Type 0 = λ o. o ≡ Some x → p x ≡ true in
-    cond_both (p y) (Some y) (find p ys) Q (λ passes same. let e : y ≡ x = cc in ap p (sym e) ∙ passes) (λ _ same. find_passes p ys x same) found
+    cond_both (p y) (Some y) (find p ys) Q (λ passes same. let e : y ≡ x = cc in ap p (sym e) ∙ passes)
+    (λ _ same. find_passes p ys x same) found
 
 -- lists that agree element by element are as long as each other
 pointwise_length : (xs ys : List ℕ) → pointwise nat_eq xs ys ≡ true → length xs ≡ length ys
 pointwise_length [] [] e = refl
 pointwise_length [] (y ∷ ys) e = cc
 pointwise_length (x ∷ xs) [] e = cc
-pointwise_length (x ∷ xs) (y ∷ ys) e = ap suc (pointwise_length xs ys (and_parts (eqb x y) (pointwise nat_eq xs ys) e).1)
+pointwise_length (x ∷ xs) (y ∷ ys) e = ap suc (pointwise_length xs ys
+    (and_parts (eqb x y) (pointwise nat_eq xs ys) e).1)
 
 -- a text is no shorter than what it begins with
 starts_within : (text p : List ℕ) → starts_with nat_eq text p ≡ true → length p ≤ length text
@@ -77,23 +81,33 @@ mark_nonempty mark.Not = lit≤ tt
 marked_fits : (text : List ℕ) (found : Option Mark) → mark_at text ≡ found → TakesWithin (marked found) (length text)
 unfolding mark_at
 marked_fits text None e = tt
-marked_fits text (Some m) e = (mark_nonempty m, starts_within text (mark_bytes m) (find_passes (λ m. starts_with nat_eq text (mark_bytes m)) marks m e))
+marked_fits text (Some m) e = (
+  mark_nonempty m,
+  starts_within text (mark_bytes m)
+      (find_passes (λ m. starts_with nat_eq text (mark_bytes m)) marks m e),
+)
 
 -- the same of the mark at the front
 pub mark_takes : (text : List ℕ) → TakesWithin (mark_piece text) (length text)
 mark_takes text = marked_fits text (mark_at text) refl
 
-word_fits : (b : ℕ) (bs : List ℕ) → is_in class.Word b ≡ true → TakesWithin (word_piece (run class.Word (b ∷ bs))) (suc (length bs))
+word_fits : (b : ℕ) (bs : List ℕ) → is_in class.Word b ≡ true
+    → TakesWithin (word_piece (run class.Word (b ∷ bs))) (suc (length bs))
 word_fits b bs e =
     let word = run class.Word (b ∷ bs) in
     let size = suc (length bs) in
-    cond_both (nat_lt 32 (length word)) piece.LongName (piece.Token (word_token (keyword_of word) word) (length word)) (λ p. TakesWithin p size) (λ _. tt) (λ _. run_takes class.Word b bs e)
+    cond_both (nat_lt MAX_NAME_BYTES (length word)) piece.LongName
+    (piece.Token (word_token (keyword_of word) word) (length word)) (λ p. TakesWithin p size) (λ _. tt)
+    (λ _. run_takes class.Word b bs e)
 
-number_fits : (b : ℕ) (bs : List ℕ) → is_in class.Digit b ≡ true → TakesWithin (number_piece (run class.Digit (b ∷ bs))) (suc (length bs))
+number_fits : (b : ℕ) (bs : List ℕ) → is_in class.Digit b ≡ true
+    → TakesWithin (number_piece (run class.Digit (b ∷ bs))) (suc (length bs))
 number_fits b bs e =
     let digits = run class.Digit (b ∷ bs) in
     let size = suc (length bs) in
-    cond_both (nat_le (length digits) 19 && nat_le (digits_value 10 digits) 9223372036854775807) (piece.Token (token.Number (digits_value 10 digits)) (length digits)) piece.NoToken (λ p. TakesWithin p size) (λ _. run_takes class.Digit b bs e) (λ _. tt)
+    cond_both (nat_le (length digits) MAX_DIGITS && nat_le (digits_value 10 digits) MAX_NUMBER)
+    (piece.Token (token.Number (digits_value 10 digits)) (length digits)) piece.NoToken (λ p. TakesWithin p size)
+    (λ _. run_takes class.Digit b bs e) (λ _. tt)
 
 -- a piece takes at least a byte, and no more than there are
 pub piece_fits : (b : ℕ) (bs : List ℕ) → TakesWithin (piece_of b (b ∷ bs)) (suc (length bs))
@@ -124,7 +138,8 @@ pub run_of_digits : (text : List ℕ) → AllDigits 10 (run class.Digit text)
 run_of_digits [] = tt
 run_of_digits (b ∷ bs) =
     let P : List ℕ → Type 0 = AllDigits 10 in
-    subst P (sym (take_while-cons is_ascii_digit b bs)) (cond_both (is_ascii_digit b) (b ∷ run class.Digit bs) [] P (λ e. (digit_below_ten b e, run_of_digits bs)) (λ _. tt))
+    subst P (sym (take_while-cons is_ascii_digit b bs)) (cond_both (is_ascii_digit b) (b ∷ run class.Digit bs) [] P
+    (λ e. (digit_below_ten b e, run_of_digits bs)) (λ _. tt))
 
 -- the same of a text that is not empty
 pub piece_takes : (text : List ℕ) → 0 < length text → TakesWithin (piece_of (get_or text 0 0) text) (length text)

@@ -32,5 +32,10 @@ run_is c (b ∷ bs) =
     let P : List ℕ → Type 0 = IsRunOf c (b ∷ bs) in
     let more = run_is c bs in
     subst P (sym (take_while-cons (is_in c) b bs)) (cond_both (is_in c b) (b ∷ run c bs) [] P
-    (λ e. record { whole = ap (λ l. b ∷ l) more.whole; all = and_from (is_in c b) (list_all (is_in c) (run c bs)) e more.all; stops = more.stops })
+    (λ e. record {
+      whole = ap (λ l. b ∷ l) more.whole;
+      all =
+          and_from (is_in c b) (list_all (is_in c) (run c bs)) e more.all;
+      stops = more.stops;
+    })
     (λ e. record { whole = refl; all = refl; stops = e }))

@@ -18,7 +18,8 @@ pub with_front-nil : (r : Result (List Lexeme) LexFault) → with_front [] r ≡
 with_front-nil (Ok ls) = refl
 with_front-nil (Err fault) = refl
 
-pub with_front-cons : (front : List Lexeme) (l : Lexeme) (r : Result (List Lexeme) LexFault) → with_front front (cons_lexeme l r) ≡ with_front (front ++ l ∷ []) r
+pub with_front-cons : (front : List Lexeme) (l : Lexeme) (r : Result (List Lexeme) LexFault)
+    → with_front front (cons_lexeme l r) ≡ with_front (front ++ l ∷ []) r
 with_front-cons front l (Ok ls) = ap (λ all. Ok all) (sym (append_assoc front (l ∷ []) ls))
 with_front-cons front l (Err fault) = refl
 
@@ -31,7 +32,8 @@ scan_inside (suc k) place (b ∷ bs) = scan_inside k (suc place) bs ∙ ap (λ p
 -- what follows a piece of n bytes
 follows : (n place b : ℕ) (bs : List ℕ) → 1 ≤ n → scan (n - 1) (suc place) bs ≡ scan 0 (place + n) (drop n (b ∷ bs))
 follows zero place b bs some = absurd (omega arith)
-follows (suc n) place b bs some = ap (λ k. scan k (suc place) bs) (omega arith) ∙ scan_inside n (suc place) bs ∙ ap (λ p. scan 0 p (drop n bs)) (omega arith)
+follows (suc n) place b bs some = ap (λ k. scan k (suc place) bs) (omega arith) ∙ scan_inside n (suc place) bs
+    ∙ ap (λ p. scan 0 p (drop n bs)) (omega arith)
 
 -- text begins with the piece p
 pub record BeginsWith (text : List ℕ) (p : Piece) : Type 0 where
@@ -42,26 +44,35 @@ pub begins_fits : (text : List ℕ) (p : Piece) → BeginsWith text p → TakesW
 begins_fits [] p begins = absurd (omega (arith, begins.some))
 begins_fits (b ∷ bs) p begins = subst (λ (p : Piece). TakesWithin p (suc (length bs))) (sym begins.is) (piece_fits b bs)
 
-begins_scan : (text : List ℕ) (p : Piece) (place : ℕ) → BeginsWith text p → scan 0 place text ≡ after p place (λ inside. scan inside (suc place) (drop 1 text))
+begins_scan : (text : List ℕ) (p : Piece) (place : ℕ) → BeginsWith text p
+    → scan 0 place text ≡ after p place (λ inside. scan inside (suc place) (drop 1 text))
 begins_scan [] p place begins = absurd (omega (arith, begins.some))
-begins_scan (b ∷ bs) p place begins = ap (λ (p : Piece). after p place (λ inside. scan inside (suc place) bs)) (sym begins.is)
+begins_scan (b ∷ bs) p place begins = ap (λ (p : Piece). after p place (λ inside. scan inside (suc place) bs))
+    (sym begins.is)
 
-rest_follows : (n place : ℕ) (text : List ℕ) → 0 < length text → 1 ≤ n → scan (n - 1) (suc place) (drop 1 text) ≡ scan 0 (place + n) (drop n text)
+rest_follows : (n place : ℕ) (text : List ℕ) → 0 < length text → 1 ≤ n
+    → scan (n - 1) (suc place) (drop 1 text) ≡ scan 0 (place + n) (drop n text)
 rest_follows n place [] nonempty some = absurd (omega arith)
 rest_follows n place (b ∷ bs) nonempty some = follows n place b bs some
 
-pub scan_gap : (text : List ℕ) (place n : ℕ) → BeginsWith text (piece.Gap n) → scan 0 place text ≡ scan 0 (place + n) (drop n text)
+pub scan_gap : (text : List ℕ) (place n : ℕ) → BeginsWith text (piece.Gap n)
+    → scan 0 place text ≡ scan 0 (place + n) (drop n text)
 scan_gap text place n begins =
-    begins_scan text (piece.Gap n) place begins ∙ rest_follows n place text begins.some (begins_fits text (piece.Gap n) begins).0
+    begins_scan text (piece.Gap n) place begins ∙ rest_follows n place text begins.some
+    (begins_fits text (piece.Gap n) begins).0
 
-pub scan_token : (text : List ℕ) (place n : ℕ) (t : Token) → BeginsWith text (piece.Token t n) → scan 0 place text ≡ cons_lexeme (record { token = t; start = place }) (scan 0 (place + n) (drop n text))
+pub scan_token : (text : List ℕ) (place n : ℕ) (t : Token) → BeginsWith text (piece.Token t n)
+    → scan 0 place text ≡ cons_lexeme (record { token = t; start = place }) (scan 0 (place + n) (drop n text))
 scan_token text place n t begins =
-    begins_scan text (piece.Token t n) place begins ∙ ap (λ r. cons_lexeme (record { token = t; start = place }) r) (rest_follows n place text begins.some (begins_fits text (piece.Token t n) begins).0)
+    begins_scan text (piece.Token t n) place begins ∙ ap (λ r. cons_lexeme (record { token = t; start = place }) r)
+    (rest_follows n place text begins.some (begins_fits text (piece.Token t n) begins).0)
 
-pub scan_none : (text : List ℕ) (place : ℕ) → BeginsWith text piece.NoToken → scan 0 place text ≡ Err (fault.Token place)
+pub scan_none : (text : List ℕ) (place : ℕ) → BeginsWith text piece.NoToken
+    → scan 0 place text ≡ Err (fault.Token place)
 scan_none text place begins = begins_scan text piece.NoToken place begins
 
-pub scan_long : (text : List ℕ) (place : ℕ) → BeginsWith text piece.LongName → scan 0 place text ≡ Err (fault.TooLong place)
+pub scan_long : (text : List ℕ) (place : ℕ) → BeginsWith text piece.LongName
+    → scan 0 place text ≡ Err (fault.TooLong place)
 scan_long text place begins = begins_scan text piece.LongName place begins
 
 -- A turn passes over n bytes of the rest, and leaves what was found and what follows, taken together, as they were.
@@ -70,16 +81,20 @@ pub record Advances (place : ℕ) (rest : List ℕ) (before : List Lexeme) (n : 
   pub within : n ≤ length rest
   pub whole : with_front found (scan 0 (place + n) (drop n rest)) ≡ with_front before (scan 0 place rest)
 
-pub gap_advances : (place n : ℕ) (rest : List ℕ) (before : List Lexeme) → BeginsWith rest (piece.Gap n) → Advances place rest before n before
+pub gap_advances : (place n : ℕ) (rest : List ℕ) (before : List Lexeme) → BeginsWith rest (piece.Gap n)
+    → Advances place rest before n before
 gap_advances place n rest before begins = let fits = begins_fits rest (piece.Gap n) begins in record {
   some = fits.0;
   within = fits.1;
   whole = ap (λ r. with_front before r) (sym (scan_gap rest place n begins));
 }
 
-pub token_advances : (place n : ℕ) (rest : List ℕ) (before : List Lexeme) (t : Token) → BeginsWith rest (piece.Token t n) → Advances place rest before n (before ++ record { token = t; start = place } ∷ [])
+pub token_advances : (place n : ℕ) (rest : List ℕ) (before : List Lexeme) (t : Token)
+    → BeginsWith rest (piece.Token t n) → Advances place rest before n
+    (before ++ record { token = t; start = place } ∷ [])
 token_advances place n rest before t begins = let fits = begins_fits rest (piece.Token t n) begins in record {
   some = fits.0;
   within = fits.1;
-  whole = sym (with_front-cons before (record { token = t; start = place }) (scan 0 (place + n) (drop n rest))) ∙ ap (λ r. with_front before r) (sym (scan_token rest place n t begins));
+  whole = sym (with_front-cons before (record { token = t; start = place }) (scan 0 (place + n) (drop n rest)))
+      ∙ ap (λ r. with_front before r) (sym (scan_token rest place n t begins));
 }

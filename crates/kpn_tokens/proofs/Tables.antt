@@ -3,6 +3,7 @@ use Rattle.std.proofs.Common.{◌≡◌, ℕ, ◌≤◌, Bool, true, false, cond
 use Rattle.std.specs.List.{find, list_all, starts_with}
 use Rattle.std.specs.Prelude.{nat_eq, codes, not}
 use Rattle.std.proofs.lemmas.Bool.{cond_both, cond-false}
+use Rattle.kpn_limits.specs.declared.TheConstants.{MAX_NAME_BYTES}
 use Rattle.kpn_tokens.specs.declared.tokens.Keyword.{Keyword}
 use Rattle.kpn_tokens.specs.declared.tokens.Keyword.TheVariants as keyword
 use Rattle.kpn_tokens.specs.declared.tokens.Mark.{Mark}
@@ -32,7 +33,7 @@ keyword_is_word keyword.Policy = record { begins = refl; goes_on = refl }
 keyword_is_word keyword.Grow = record { begins = refl; goes_on = refl }
 
 -- a reserved word is short
-pub keyword_is_short : (k : Keyword) → length (keyword_bytes k) ≤ 32
+pub keyword_is_short : (k : Keyword) → length (keyword_bytes k) ≤ MAX_NAME_BYTES
 keyword_is_short keyword.Process = lit≤ tt
 keyword_is_short keyword.In = lit≤ tt
 keyword_is_short keyword.Out = lit≤ tt
@@ -73,7 +74,8 @@ keyword_is_found keyword.Policy = refl
 keyword_is_found keyword.Grow = refl
 
 -- a mark begins with none of the bytes that begin white space, comments, words and numbers
-pub mark_is_reached : (m : Mark) (rest : List ℕ) → piece_of (get_or (mark_bytes m ++ rest) 0 0) (mark_bytes m ++ rest) ≡ mark_piece (mark_bytes m ++ rest)
+pub mark_is_reached : (m : Mark) (rest : List ℕ) → piece_of (get_or (mark_bytes m ++ rest) 0 0) (mark_bytes m ++ rest) ≡
+    mark_piece (mark_bytes m ++ rest)
 unfolding piece_of
 mark_is_reached mark.LeftParen rest = refl
 mark_is_reached mark.RightParen rest = refl
@@ -106,24 +108,29 @@ mark_is_found mark.LeftBrace rest ends = refl
 mark_is_found mark.RightBrace rest ends = refl
 mark_is_found mark.Semicolon rest ends = refl
 mark_is_found mark.Comma rest ends = refl
-mark_is_found mark.Assign rest ends = cond-false (starts_with nat_eq rest (codes "=")) (Some mark.Equal) (Some mark.Assign) ends
+mark_is_found mark.Assign rest ends = cond-false (starts_with nat_eq rest (codes "=")) (Some mark.Equal)
+    (Some mark.Assign) ends
 mark_is_found mark.Plus rest ends = refl
 mark_is_found mark.Minus rest ends = refl
 mark_is_found mark.Star rest ends = refl
 mark_is_found mark.Slash rest ends = refl
 mark_is_found mark.Percent rest ends = refl
-mark_is_found mark.Less rest ends = cond-false (starts_with nat_eq rest (codes "=")) (Some mark.LessOrEqual) (Some mark.Less) ends
+mark_is_found mark.Less rest ends = cond-false (starts_with nat_eq rest (codes "=")) (Some mark.LessOrEqual)
+    (Some mark.Less) ends
 mark_is_found mark.LessOrEqual rest ends = refl
-mark_is_found mark.Greater rest ends = cond-false (starts_with nat_eq rest (codes "=")) (Some mark.GreaterOrEqual) (Some mark.Greater) ends
+mark_is_found mark.Greater rest ends = cond-false (starts_with nat_eq rest (codes "=")) (Some mark.GreaterOrEqual)
+    (Some mark.Greater) ends
 mark_is_found mark.GreaterOrEqual rest ends = refl
 mark_is_found mark.Equal rest ends = refl
 mark_is_found mark.NotEqual rest ends = refl
 mark_is_found mark.And rest ends = refl
 mark_is_found mark.Or rest ends = refl
-mark_is_found mark.Not rest ends = cond-false (starts_with nat_eq rest (codes "=")) (Some mark.NotEqual) (Some mark.Not) ends
+mark_is_found mark.Not rest ends = cond-false (starts_with nat_eq rest (codes "=")) (Some mark.NotEqual) (Some mark.Not)
+    ends
 
 -- of two marks the first is not taken
-other_mark : (longer m : Mark) (test : Bool) → (longer ≡ m → ⊥) → cond test (Some longer) (Some m) ≡ Some m → test ≡ false
+other_mark : (longer m : Mark) (test : Bool) → (longer ≡ m → ⊥) → cond test (Some longer) (Some m) ≡ Some m
+    → test ≡ false
 other_mark longer m true differ e = absurd (differ cc)
 other_mark longer m false differ e = refl
 
@@ -136,15 +143,18 @@ mark_ends mark.LeftBrace rest found = tt
 mark_ends mark.RightBrace rest found = tt
 mark_ends mark.Semicolon rest found = tt
 mark_ends mark.Comma rest found = tt
-mark_ends mark.Assign rest found = other_mark mark.Equal mark.Assign (starts_with nat_eq rest (codes "=")) (λ e. cc) found
+mark_ends mark.Assign rest found = other_mark mark.Equal mark.Assign (starts_with nat_eq rest (codes "=")) (λ e. cc)
+    found
 mark_ends mark.Plus rest found = tt
 mark_ends mark.Minus rest found = tt
 mark_ends mark.Star rest found = tt
 mark_ends mark.Slash rest found = tt
 mark_ends mark.Percent rest found = tt
-mark_ends mark.Less rest found = other_mark mark.LessOrEqual mark.Less (starts_with nat_eq rest (codes "=")) (λ e. cc) found
+mark_ends mark.Less rest found = other_mark mark.LessOrEqual mark.Less (starts_with nat_eq rest (codes "=")) (λ e. cc)
+    found
 mark_ends mark.LessOrEqual rest found = tt
-mark_ends mark.Greater rest found = other_mark mark.GreaterOrEqual mark.Greater (starts_with nat_eq rest (codes "=")) (λ e. cc) found
+mark_ends mark.Greater rest found = other_mark mark.GreaterOrEqual mark.Greater (starts_with nat_eq rest (codes "="))
+    (λ e. cc) found
 mark_ends mark.GreaterOrEqual rest found = tt
 mark_ends mark.Equal rest found = tt
 mark_ends mark.NotEqual rest found = tt
@@ -215,10 +225,13 @@ listed p none mark.And = none.1.1.1.1.0
 listed p none mark.Or = none.1.1.1.1.1.0
 listed p none mark.Not = none.1.1.1.1.1.1.1.1.1.1.1.1.1.1.1.1.1.1.1.1.0
 
-pub no_mark_is_found : (text : List ℕ) → mark_at text ≡ None → (m : Mark) → starts_with nat_eq text (mark_bytes m) ≡ false
+pub no_mark_is_found : (text : List ℕ) → mark_at text ≡ None → (m : Mark)
+    → starts_with nat_eq text (mark_bytes m) ≡ false
 unfolding mark_at
-no_mark_is_found text e = listed (λ m. starts_with nat_eq text (mark_bytes m)) (none_found (λ m. starts_with nat_eq text (mark_bytes m)) marks e)
+no_mark_is_found text e = listed (λ m. starts_with nat_eq text (mark_bytes m))
+    (none_found (λ m. starts_with nat_eq text (mark_bytes m)) marks e)
 
-pub no_mark_stands : (text : List ℕ) → ((m : Mark) → starts_with nat_eq text (mark_bytes m) ≡ false) → mark_at text ≡ None
+pub no_mark_stands : (text : List ℕ) → ((m : Mark) → starts_with nat_eq text (mark_bytes m) ≡ false)
+    → mark_at text ≡ None
 unfolding mark_at
 no_mark_stands text none = find_none (λ m. starts_with nat_eq text (mark_bytes m)) marks none

@@ -3,6 +3,7 @@
 use Rattle.std.specs.Prelude.{◌≡◌, ℕ, ◌+◌, ◌<◌, ◌≤◌, ◌^◌, ◌⊎◌, ◌↔◌, true, not, ◌==◌, List, [], ◌∷◌, ◌++◌, length, map, Option, Some, None, Result, Ok, Err}
 use Rattle.std.specs.Fmt.{decimal}
 use Rattle.std.specs.List.{AllByRecursion, list_all}
+use Rattle.kpn_limits.specs.declared.TheConstants.{MAX_TEXT_BYTES}
 use Rattle.kpn_tokens.specs.declared.lexer.LexFault.{LexFault}
 use Rattle.kpn_tokens.specs.declared.tokens.Lexeme.{Lexeme}
 use Rattle.kpn_tokens.specs.declared.tokens.Token.{Token}
@@ -12,11 +13,12 @@ use Rattle.kpn_tokens.specs.Rules.{EndsBefore, IsSpelled, Reads}
 
 -- A scan gives what the rules say, and they say no more than one thing.
 abbrev pub ScanFollowsTheRules : Type 0
-ScanFollowsTheRules = (place : ℕ) (text : List ℕ) (r : Result (List Lexeme) LexFault) → (scan 0 place text ≡ r) ↔ Reads place text r
+ScanFollowsTheRules = (place : ℕ) (text : List ℕ) (r : Result (List Lexeme) LexFault)
+    → (scan 0 place text ≡ r) ↔ Reads place text r
 
 -- A text within the limit is scanned from its first byte.
 abbrev pub ShortTextIsScanned : Type 0
-ShortTextIsScanned = (text : List ℕ) → length text ≤ 1048576 → lexemes_of text ≡ scan 0 0 text
+ShortTextIsScanned = (text : List ℕ) → length text ≤ MAX_TEXT_BYTES → lexemes_of text ≡ scan 0 0 text
 
 -- the lexemes of a part of a text, and then what follows it
 abbrev pub followed_by : Result (List Lexeme) LexFault → Result (List Lexeme) LexFault → Result (List Lexeme) LexFault
@@ -30,7 +32,8 @@ Parts w before = (is_white_space w ≡ true) × ((w ≡ 10) ⊎ (list_all (λ b.
 
 -- What stands before such a byte is read by itself, and then what stands after it.
 abbrev pub WhiteSpaceParts : Type 0
-WhiteSpaceParts = (place w : ℕ) (before rest : List ℕ) → Parts w before → scan 0 place (before ++ w ∷ rest) ≡ followed_by (scan 0 place before) (scan 0 (place + length before + 1) rest)
+WhiteSpaceParts = (place w : ℕ) (before rest : List ℕ) → Parts w before
+    → scan 0 place (before ++ w ∷ rest) ≡ followed_by (scan 0 place before) (scan 0 (place + length before + 1) rest)
 
 -- the tokens without their places; nothing where there is a fault
 abbrev pub tokens_in : Result (List Lexeme) LexFault → Option (List Token)
@@ -62,7 +65,8 @@ EmptyTextHasNoTokens = tokens_of [] ≡ Some []
 
 -- A spelled token that what follows does not go on with is read as that token.
 abbrev pub SpelledTokenIsRead : Type 0
-SpelledTokenIsRead = (t : Token) (bytes rest : List ℕ) → IsSpelled t bytes → EndsBefore t rest → tokens_of (bytes ++ rest) ≡ cons_token t (tokens_of rest)
+SpelledTokenIsRead = (t : Token) (bytes rest : List ℕ) → IsSpelled t bytes → EndsBefore t rest
+    → tokens_of (bytes ++ rest) ≡ cons_token t (tokens_of rest)
 
 -- White space is no token.
 abbrev pub WhiteSpaceIsDropped : Type 0
@@ -70,7 +74,8 @@ WhiteSpaceIsDropped = (w : ℕ) (rest : List ℕ) → is_white_space w ≡ true 
 
 -- White space parts the tokens of a text.
 abbrev pub WhiteSpacePartsTokens : Type 0
-WhiteSpacePartsTokens = (w : ℕ) (before rest : List ℕ) → Parts w before → tokens_of (before ++ w ∷ rest) ≡ append_tokens (tokens_of before) (tokens_of rest)
+WhiteSpacePartsTokens = (w : ℕ) (before rest : List ℕ) → Parts w before
+    → tokens_of (before ++ w ∷ rest) ≡ append_tokens (tokens_of before) (tokens_of rest)
 
 -- A number in canonical decimal is spelled.
 abbrev pub DecimalIsSpelled : Type 0

@@ -4,6 +4,8 @@ use Rattle.std.specs.Prelude.{ℕ, zero, suc, ◌-◌, ◌≤◌, Bool, not, ◌
 use Rattle.std.specs.Char.{is_ascii_digit, is_ascii_alphabetic}
 use Rattle.std.specs.List.{take_while}
 use Rattle.std.specs.Str.Parse.{digits_value}
+use Rattle.kpn_limits.specs.declared.TheConstants.{MAX_NAME_BYTES, MAX_TEXT_BYTES}
+use Rattle.kpn_tokens.specs.declared.tokens.TheConstants.{MAX_DIGITS, MAX_NUMBER}
 use Rattle.kpn_tokens.specs.declared.lexer.Class.{Class}
 use Rattle.kpn_tokens.specs.declared.lexer.Class.TheVariants as class
 use Rattle.kpn_tokens.specs.declared.lexer.LexFault.{LexFault}
@@ -40,14 +42,15 @@ abbrev pub word_token : Option Keyword → List ℕ → Token
 word_token (Some keyword) word = token.Keyword keyword
 word_token None word = token.Name word
 
--- a word is at most 32 bytes long
+-- a word of more than 32 bytes (MAX_NAME_BYTES) is too long
 abbrev pub word_piece : List ℕ → Piece
-word_piece word = if nat_lt 32 (length word) then piece.LongName else piece.Token (word_token (keyword_of word) word) (length word)
+word_piece word = if nat_lt MAX_NAME_BYTES (length word) then piece.LongName else piece.Token
+    (word_token (keyword_of word) word) (length word)
 
--- a number has at most 19 digits and is at most 2 ^ 63 - 1
+-- a number has at most 19 digits (MAX_DIGITS) and is at most 2 ^ 63 - 1 (MAX_NUMBER)
 abbrev pub number_piece : List ℕ → Piece
 number_piece digits =
-    if nat_le (length digits) 19 && nat_le (digits_value 10 digits) 9223372036854775807
+    if nat_le (length digits) MAX_DIGITS && nat_le (digits_value 10 digits) MAX_NUMBER
     then piece.Token (token.Number (digits_value 10 digits)) (length digits)
     else piece.NoToken
 
@@ -94,9 +97,9 @@ scan inside place [] = Ok []
 scan (suc inside) place (b ∷ bs) = scan inside (suc place) bs
 scan zero place (b ∷ bs) = after (piece_of b (b ∷ bs)) place (λ inside. scan inside (suc place) bs)
 
--- a description is at most 1,048,576 bytes long
+-- a description is at most 1,048,576 bytes long (MAX_TEXT_BYTES)
 abbrev pub lexemes_of : List ℕ → Result (List Lexeme) LexFault
-lexemes_of text = if nat_lt 1048576 (length text) then Err (fault.TooLong 1048576) else scan 0 0 text
+lexemes_of text = if nat_lt MAX_TEXT_BYTES (length text) then Err (fault.TooLong MAX_TEXT_BYTES) else scan 0 0 text
 
 -- a call returned the lexemes, or the fault, or ran out of memory
 abbrev pub Gives : {A : Type 0} → Result (Vec Lexeme A) LexFault → Result (List Lexeme) LexFault → Type 0

@@ -4,6 +4,8 @@ use Rattle.std.specs.Prelude.{◌≡◌, ℕ, ◌+◌, ◌<◌, ◌≤◌, ◌�
 use Rattle.std.specs.Char.{is_ascii_digit}
 use Rattle.std.specs.List.{list_all, starts_with}
 use Rattle.std.specs.Str.Parse.{digits_value}
+use Rattle.kpn_limits.specs.declared.TheConstants.{MAX_NAME_BYTES}
+use Rattle.kpn_tokens.specs.declared.tokens.TheConstants.{MAX_DIGITS, MAX_NUMBER}
 use Rattle.kpn_tokens.specs.declared.lexer.Class.{Class}
 use Rattle.kpn_tokens.specs.declared.lexer.Class.TheVariants as class
 use Rattle.kpn_tokens.specs.declared.lexer.LexFault.{LexFault}
@@ -33,16 +35,16 @@ pub record IsWord (bytes : List ℕ) : Type 0 where
 -- a name is a word of at most 32 bytes that is not reserved
 pub record IsName (bytes : List ℕ) : Type 0 where
   pub word : IsWord bytes
-  pub short : length bytes ≤ 32
+  pub short : length bytes ≤ MAX_NAME_BYTES
   pub free : keyword_of bytes ≡ None
 
 -- a number is written with 1 to 19 digits, leading zeros included, and is at most 2 ^ 63 - 1
 pub record IsNumberOf (value : ℕ) (bytes : List ℕ) : Type 0 where
   pub digits : AllIn class.Digit bytes
   pub some : 0 < length bytes
-  pub few : length bytes ≤ 19
+  pub few : length bytes ≤ MAX_DIGITS
   pub has_value : digits_value 10 bytes ≡ value
-  pub small : value ≤ 9223372036854775807
+  pub small : value ≤ MAX_NUMBER
 
 -- the bytes spell the token
 abbrev pub IsSpelled : Token → List ℕ → Type 0
@@ -77,9 +79,16 @@ pub record BeginsNothing (b : ℕ) (bs : List ℕ) : Type 0 where
 -- A text that begins at a place is read as these lexemes, or has this first fault.
 pub data Reads : ℕ → List ℕ → Result (List Lexeme) LexFault → Type 0 where
   done : {place : ℕ} → Reads place [] (Ok [])
-  white : {place b : ℕ} {rest : List ℕ} {r : Result (List Lexeme) LexFault} → is_white_space b ≡ true → Reads (place + 1) rest r → Reads place (b ∷ rest) r
-  comment : {place : ℕ} (said rest : List ℕ) {r : Result (List Lexeme) LexFault} → AllIn class.Comment said → Stops class.Comment rest → Reads (place + length (35 ∷ said)) rest r → Reads place (35 ∷ said ++ rest) r
-  spelled : {place : ℕ} (t : Token) (bytes rest : List ℕ) {r : Result (List Lexeme) LexFault} → IsSpelled t bytes → EndsBefore t rest → Reads (place + length bytes) rest r → Reads place (bytes ++ rest) (cons_lexeme (record { token = t; start = place }) r)
+  white : {place b : ℕ} {rest : List ℕ} {r : Result (List Lexeme) LexFault} → is_white_space b ≡ true
+      → Reads (place + 1) rest r → Reads place (b ∷ rest) r
+  comment : {place : ℕ} (said rest : List ℕ) {r : Result (List Lexeme) LexFault} → AllIn class.Comment said
+      → Stops class.Comment rest → Reads (place + length (35 ∷ said)) rest r → Reads place (35 ∷ said ++ rest) r
+  spelled : {place : ℕ} (t : Token) (bytes rest : List ℕ) {r : Result (List Lexeme) LexFault} → IsSpelled t bytes
+      → EndsBefore t rest → Reads (place + length bytes) rest r
+      → Reads place (bytes ++ rest) (cons_lexeme (record { token = t; start = place }) r)
   nothing : {place b : ℕ} {bs : List ℕ} → BeginsNothing b bs → Reads place (b ∷ bs) (Err (fault.Token place))
-  bad_number : {place : ℕ} (digits rest : List ℕ) → AllIn class.Digit digits → 0 < length digits → Stops class.Digit rest → (19 < length digits) ⊎ (9223372036854775807 < digits_value 10 digits) → Reads place (digits ++ rest) (Err (fault.Token place))
-  long_name : {place : ℕ} (word rest : List ℕ) → IsWord word → Stops class.Word rest → 32 < length word → Reads place (word ++ rest) (Err (fault.TooLong place))
+  bad_number : {place : ℕ} (digits rest : List ℕ) → AllIn class.Digit digits → 0 < length digits
+      → Stops class.Digit rest → (MAX_DIGITS < length digits) ⊎ (MAX_NUMBER < digits_value 10 digits)
+      → Reads place (digits ++ rest) (Err (fault.Token place))
+  long_name : {place : ℕ} (word rest : List ℕ) → IsWord word → Stops class.Word rest → MAX_NAME_BYTES < length word
+      → Reads place (word ++ rest) (Err (fault.TooLong place))

@@ -54,7 +54,9 @@ keyword_bytes keyword.Grow = codes "grow"
 -- every mark, the longer ones first
 abbrev pub marks : List Mark
 marks =
-    mark.LessOrEqual ∷ mark.GreaterOrEqual ∷ mark.Equal ∷ mark.NotEqual ∷ mark.And ∷ mark.Or ∷ mark.LeftParen ∷ mark.RightParen ∷ mark.LeftBrace ∷ mark.RightBrace ∷ mark.Semicolon ∷ mark.Comma ∷ mark.Assign ∷ mark.Plus ∷ mark.Minus ∷ mark.Star ∷ mark.Slash ∷ mark.Percent ∷ mark.Less ∷ mark.Greater ∷ mark.Not ∷ []
+    mark.LessOrEqual ∷ mark.GreaterOrEqual ∷ mark.Equal ∷ mark.NotEqual ∷ mark.And ∷ mark.Or ∷ mark.LeftParen
+    ∷ mark.RightParen ∷ mark.LeftBrace ∷ mark.RightBrace ∷ mark.Semicolon ∷ mark.Comma ∷ mark.Assign ∷ mark.Plus
+    ∷ mark.Minus ∷ mark.Star ∷ mark.Slash ∷ mark.Percent ∷ mark.Less ∷ mark.Greater ∷ mark.Not ∷ []
 
 -- the longest mark at the front of a text
 unfoldable pub mark_at : List ℕ → Option Mark
@@ -62,7 +64,9 @@ mark_at text = find (λ m. starts_with nat_eq text (mark_bytes m)) marks
 
 -- every reserved word
 abbrev pub keywords : List Keyword
-keywords = keyword.Process ∷ keyword.In ∷ keyword.Out ∷ keyword.Par ∷ keyword.Read ∷ keyword.Write ∷ keyword.If ∷ keyword.Else ∷ keyword.While ∷ keyword.Network ∷ keyword.Limit ∷ keyword.Channel ∷ keyword.Cap ∷ keyword.Source ∷ keyword.Sink ∷ keyword.Policy ∷ keyword.Grow ∷ []
+keywords = keyword.Process ∷ keyword.In ∷ keyword.Out ∷ keyword.Par ∷ keyword.Read ∷ keyword.Write ∷ keyword.If
+    ∷ keyword.Else ∷ keyword.While ∷ keyword.Network ∷ keyword.Limit ∷ keyword.Channel ∷ keyword.Cap ∷ keyword.Source
+    ∷ keyword.Sink ∷ keyword.Policy ∷ keyword.Grow ∷ []
 
 -- the reserved word that the bytes spell
 unfoldable pub keyword_of : List ℕ → Option Keyword

@@ -5,14 +5,10 @@ ghost use Rattle.std.specs.Prelude.{◌≡◌, ◌<◌, ◌≤◌, length, slice
 ghost use Rattle.std.specs.Str.Parse.{AllDigits, digits_value};
 ghost use Rattle.kpn_tokens.specs.Lexing as spec;
 
-use crate::tokens::{
-    Keyword, Lexeme, MAX_DIGITS, MAX_NAME_BYTES, MAX_NUMBER, Mark, Name, Number, Token,
-};
+use crate::tokens::{Keyword, Lexeme, MAX_DIGITS, MAX_NUMBER, Mark, Name, Number, Token};
+use kpn_limits::{MAX_NAME_BYTES, MAX_TEXT_BYTES};
 use std::alloc::{AllocFailed, Global};
 use thiserror::Error;
-
-/// The longest description, in bytes.
-pub const MAX_TEXT_BYTES: usize = 1_048_576;
 
 /// Why a text has no tokens, with the byte at which that shows.
 #[derive(Clone, Copy, Debug, PartialEq, Eq, Error)]
@@ -97,7 +93,7 @@ fn run(class: Class, text: &[u8]) -> &[u8]
 
 /// The value of a few decimal digits.
 fn value_of(digits: &[u8]) -> u64
-    requires few { length digits.now ≤ 19 }
+    requires few { length digits.now ≤ MAX_DIGITS }
     requires digits { AllDigits 10 digits.now }
     ensures { result ≡ digits_value 10 digits.now }
 {
@@ -205,6 +201,3 @@ pub fn lexemes(alloc: Global, text: &[u8]) -> Result<Vec<Lexeme<'_>>, LexFault>
     }
     Ok(found)
 }
-
-#[cfg(test)]
-mod tests;

@@ -1,21 +1,20 @@
-#![tactic(auto)]
 //! The tokens of a network description.
 //!
 //! A description is a text: names, numbers, marks and reserved words, with white space and comments
 //! between them. This crate cuts the text into its tokens, or tells the first byte at which that
 //! fails; what the tokens say together is for the grammar above. `tokens` says what a token is and
 //! how it is spelled, `lexer` cuts a text, and `laws` states what layers above rely on.
+#![tactic(auto)]
 
 mod laws;
 mod lexer;
 mod tokens;
 
+pub use kpn_limits::{MAX_NAME_BYTES, MAX_TEXT_BYTES};
 pub use laws::{
     decimal_is_spelled, empty_text_has_no_tokens, read_tokens_are_spelled, scan_follows_the_rules,
     short_text_is_scanned, spelled_token_is_read, tokens_keep_their_kind, white_space_is_dropped,
     white_space_parts,
 };
-pub use lexer::{LexFault, MAX_TEXT_BYTES, lexemes};
-pub use tokens::{
-    Keyword, Lexeme, MAX_DIGITS, MAX_NAME_BYTES, MAX_NUMBER, Mark, Name, Number, Token,
-};
+pub use lexer::{LexFault, lexemes};
+pub use tokens::{Keyword, Lexeme, MAX_DIGITS, MAX_NUMBER, Mark, Name, Number, Token};

@@ -9,9 +9,6 @@ ghost use Rattle.kpn_tokens.specs.Spelling.{keyword_bytes, keyword_of, mark_at, 
 
 use std::marker::Model;
 
-/// The longest name, in bytes.
-pub const MAX_NAME_BYTES: usize = 32;
-
 /// The most digits that a number is written with, leading zeros included.
 pub const MAX_DIGITS: usize = 19;
 
@@ -19,9 +16,9 @@ pub const MAX_DIGITS: usize = 19;
 pub const MAX_NUMBER: u64 = i64::MAX as u64;
 
 /// A name of the text: a letter or `_`, then letters, digits and `_`, in ASCII, at most
-/// [`MAX_NAME_BYTES`] long, and no reserved word. It borrows its bytes from the text, and contracts
-/// see those bytes; that they are such a name wherever [`crate::lexemes`] made it is the law
-/// [`crate::read_tokens_are_spelled`].
+/// [`MAX_NAME_BYTES`](kpn_limits::MAX_NAME_BYTES) long, and no reserved word. It borrows its bytes
+/// from the text, and contracts see those bytes; that they are such a name wherever
+/// [`crate::lexemes`] made it is the law [`crate::read_tokens_are_spelled`].
 #[derive(Debug, Drop)]
 pub struct Name<'a> {
     bytes: &'a [u8],

@@ -1,6 +1,7 @@
 -- Its parts, one behind the other.
 use Rattle.std.proofs.Common.{◌++◌, codes, sym, ap}
-use Rattle.kpn_canonical.specs.Named.{channel_named, instance_named, limit_named, paired}
+use Rattle.kpn_names.specs.NetworkNames.{paired}
+use Rattle.kpn_canonical.specs.Named.{channel_named, instance_named, limit_named}
 use Rattle.kpn_canonical.specs.Text.{all_text, item_text, limit_text}
 use Rattle.kpn_canonical.proofs.Printing.{all_text-append, same_prints, then_five}
 use Rattle.kpn_canonical.proofs.networks.items.Goals as goal
@@ -12,10 +13,17 @@ returns c =
     let channels = paired channel_named names.channels t.channels in
     let instances = paired (instance_named names) names.instances t.instances in
     same_prints c.bytes-2.result c.args.out.now.items c.bytes-2.new.out.items
-    (λ more. codes "network {\n" ++ limit_text (limit_named t.limit) (all_text item_text channels (all_text item_text instances (codes "}\n" ++ more)))) _
-    (λ more. ap (λ l. codes "network {\n" ++ limit_text (limit_named t.limit) l) (sym (all_text-append item_text channels instances (codes "}\n" ++ more))))
-    (then_five c.bytes-2.result c.args.out.now.items c.bytes.new.out.items c.limit-2.new.out.items c.channels.new.out.items c.instances.new.out.items c.bytes-2.new.out.items
-    (λ more. codes "network {\n" ++ more) (limit_text (limit_named t.limit)) (all_text item_text channels) (all_text item_text instances) (λ more. codes "}\n" ++ more)
+    (λ more.
+    codes "network {\n"
+    ++ limit_text (limit_named t.limit)
+    (all_text item_text channels (all_text item_text instances (codes "}\n" ++ more)))) _
+    (λ more.
+    ap (λ l. codes "network {\n" ++ limit_text (limit_named t.limit) l)
+    (sym (all_text-append item_text channels instances (codes "}\n" ++ more))))
+    (then_five c.bytes-2.result c.args.out.now.items c.bytes.new.out.items c.limit-2.new.out.items
+    c.channels.new.out.items c.instances.new.out.items c.bytes-2.new.out.items
+    (λ more. codes "network {\n" ++ more) (limit_text (limit_named t.limit)) (all_text item_text channels)
+    (all_text item_text instances) (λ more. codes "}\n" ++ more)
     c.in_ok-bytes.ensures
     (rw c.limit.ensures at c.in_ok-limit.ensures)
     (rw c.as_slice.ensures at c.in_ok-channels.ensures)

@@ -6,4 +6,7 @@ use Rattle.kpn_canonical.proofs.Printing.{limit_written, same_prints}
 use Rattle.kpn_canonical.proofs.networks.limit.Goals as goal
 
 pub returns : goal.returns
-returns c = same_prints _ _ _ (limit_text (Some c.args.limit)) _ (λ more. ap (λ l. limit_text l more) (sym (limit_written c.args.limit (omega arith)))) (grind (arith, common_steps))
+returns c =
+    same_prints _ _ _ (limit_text (Some c.args.limit)) _
+    (λ more. ap (λ l. limit_text l more) (sym (limit_written c.args.limit (omega arith))))
+    (grind (arith, common_steps))

@@ -6,4 +6,6 @@ use Rattle.kpn_canonical.proofs.networks.values.Given as goal
 
 abbrev pub invariant-loop-value : goal.invariant-loop-value
 invariant-loop-value l =
-    (more : List ℕ) → l.out.items ++ all_text (further_text literal_text) (map literal_named (drop l.value-index l.others)) more ≡ l.initial.out.items ++ all_text (further_text literal_text) (map literal_named l.others) more
+    (more : List ℕ)
+    → l.out.items ++ all_text (further_text literal_text) (map literal_named (drop l.value-index l.others)) more
+    ≡ l.initial.out.items ++ all_text (further_text literal_text) (map literal_named l.others) more

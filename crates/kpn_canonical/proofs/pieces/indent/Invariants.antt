@@ -4,4 +4,5 @@ use Rattle.kpn_canonical.specs.Text.{indented}
 use Rattle.kpn_canonical.proofs.pieces.indent.Given as goal
 
 abbrev pub invariant-loop-step : goal.invariant-loop-step
-invariant-loop-step l = (more : List ℕ) → l.out.items ++ indented (l.level - l._step) more ≡ l.initial.out.items ++ indented l.level more
+invariant-loop-step l =
+    (more : List ℕ) → l.out.items ++ indented (l.level - l._step) more ≡ l.initial.out.items ++ indented l.level more

@@ -5,4 +5,6 @@ use Rattle.kpn_canonical.proofs.pieces.names.Given as goal
 
 abbrev pub invariant-loop-name : goal.invariant-loop-name
 invariant-loop-name l =
-    (more : List ℕ) → l.out.items ++ all_text (further_text name_text) (drop l.name-index l.others) more ≡ l.initial.out.items ++ all_text (further_text name_text) l.others more
+    (more : List ℕ)
+    → l.out.items ++ all_text (further_text name_text) (drop l.name-index l.others) more
+    ≡ l.initial.out.items ++ all_text (further_text name_text) l.others more

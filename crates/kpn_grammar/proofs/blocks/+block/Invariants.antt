@@ -1,8 +1,8 @@
 -- A block is read by its statements, one level deeper each; what was read so far stands before what is still read.
 use Rattle.std.proofs.Common.{◌+◌, ◌-◌, ◌*◌, length}
 use Rattle.kpn_grammar.specs.Reading.{goes_on, one_statement, block, statements_at}
-use Rattle.kpn_grammar.specs.View.{left, statements_seen}
-use Rattle.kpn_grammar.proofs.Turns.{StandsAt}
+use Rattle.kpn_grammar.specs.View.{tokens_from, statements_seen}
+use Rattle.kpn_grammar.proofs.Rounds.{StandsAt}
 use Rattle.kpn_grammar.proofs.blocks.+block.Given as goal
 
 abbrev pub decreases-block : goal.decreases-block
@@ -25,7 +25,9 @@ decreases-while_statement l = 5 * l.depth + 1
 
 abbrev pub invariant-statements-statements : goal.invariant-statements-statements
 invariant-statements-statements l =
-    StandsAt goes_on (one_statement l.source.scope (block l.source.scope l.depth)) (statements_seen l.found.items) (length l.found.items) (left l.source l.place) (statements_at l.source.scope (block l.source.scope l.depth) (left l.source l.at))
+    StandsAt goes_on (one_statement l.source.scope (block l.source.scope l.depth)) (statements_seen l.found.items)
+    (length l.found.items) (tokens_from l.source l.place) (statements_at l.source.scope (block l.source.scope l.depth)
+    (tokens_from l.source l.at))
 
 abbrev pub decreases-statements-statements : goal.decreases-statements-statements
 decreases-statements-statements l = length l.source.tokens.now - l.place

@@ -10,7 +10,8 @@ returns c = all_there c.loop-number.own c.args.names.now c.loop-number.number c.
 pub loop-number-preserved : goal.loop-number-preserved
 loop-number-preserved c =
     let copied : Option (Bor (List ℕ)) → Option (List ℕ) = λ r. option_copied r in
-    one_more c.loop-number.own c.push.new.self c.args.names.now c.loop-number.number c.in_ok-copied.field-0 c.loop-number.invariant
+    one_more c.loop-number.own c.push.new.self c.args.names.now c.loop-number.number c.in_ok-copied.field-0
+    c.loop-number.invariant
     (sym c.get.ensures ∙ ap copied c.unwrap-name.ensures ∙ ap Some (sym c.in_ok-copied.ensures))
     c.in_ok-push.ensures.items
 

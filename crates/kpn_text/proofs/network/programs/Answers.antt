@@ -18,7 +18,8 @@ none_left (p ∷ ps) e = absurd (omega arith)
 pub returns : goal.returns
 returns c =
     let it = c.loop-process.process-iterator in
-    made_all (seen c.args.processes.items) c.loop-process.programs.items (seen (into_iter_items it)) c.loop-process.invariant.0
+    made_all (seen c.args.processes.items) c.loop-process.programs.items (seen (into_iter_items it))
+    c.loop-process.invariant.0
     (none_left (into_iter_items it) (sym c.loop-process.invariant.1 ∙ c.in-None.ensures.steps.0))
 
 pub returns-in_err-program : goal.returns-in_err-program
@@ -26,8 +27,13 @@ returns-in_err-program c =
     let p = err_from_is_err_and c.from_residual.result c.from_residual.ensures.1 in
     let parts = (program_seen c.in-Some.process).parts in
     let next = ap seen c.in-Some.ensures.steps.0 in
-    let broken = numbered_broken c.len.result (first_fault parts) parts c.in_err-program.field-0.0 c.in_err-program.ensures in
-    rw (p.1, p.2) (inr (made_broken (seen c.args.processes.items) c.loop-process.programs.items (seen (into_iter_items c.loop-process.process-iterator)) (seen (into_iter_items c.next.new.self)) parts c.len.result c.in_err-program.field-0.0
+    let broken =
+    numbered_broken c.len.result (first_fault parts) parts c.in_err-program.field-0.0 c.in_err-program.ensures in
+    rw (p.1, p.2)
+    (inr
+    (made_broken (seen c.args.processes.items) c.loop-process.programs.items
+    (seen (into_iter_items c.loop-process.process-iterator)) (seen (into_iter_items c.next.new.self))
+    parts c.len.result c.in_err-program.field-0.0
     c.loop-process.invariant.0 next (c.len.ensures ∙ c.loop-process.programs.ok.0) broken))
 
 pub loop-process-preserved : goal.loop-process-preserved
@@ -37,14 +43,19 @@ loop-process-preserved c =
     let count = ap length c.in-Some.ensures.steps.0 in
     let fewer = c.in-Some.ensures.steps.1 in
     let is = c.loop-process.invariant.1 in (
-      made_next (seen c.args.processes.items) c.loop-process.programs.items (seen (into_iter_items c.loop-process.process-iterator)) (seen (into_iter_items c.next.new.self)) c.push.new.self.items parts c.in_ok-program.program
-          c.loop-process.invariant.0 next (numbered_made c.len.result (first_fault parts) parts c.in_ok-program.program c.in_ok-program.ensures) c.in_ok-push.ensures.items,
+      made_next (seen c.args.processes.items) c.loop-process.programs.items
+          (seen (into_iter_items c.loop-process.process-iterator)) (seen (into_iter_items c.next.new.self))
+          c.push.new.self.items parts c.in_ok-program.program
+          c.loop-process.invariant.0 next
+          (numbered_made c.len.result (first_fault parts) parts c.in_ok-program.program c.in_ok-program.ensures)
+          c.in_ok-push.ensures.items,
       omega (arith, count, fewer, is),
     )
 
 pub loop-process-init : goal.loop-process-init
 loop-process-init c =
     let gives = c.into_iter-process-iterator.ensures.into_iter_gives in (
-      made_start (seen c.args.processes.items) c.new-programs.result.items (seen (into_iter_items c.into_iter-process-iterator.result)) c.new-programs.ensures.items (ap seen gives.0),
+      made_start (seen c.args.processes.items) c.new-programs.result.items
+          (seen (into_iter_items c.into_iter-process-iterator.result)) c.new-programs.ensures.items (ap seen gives.0),
       gives.1 ∙ c.args.processes.ok.0 ∙ ap length (sym gives.0),
     )

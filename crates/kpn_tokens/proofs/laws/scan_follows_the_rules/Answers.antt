@@ -8,4 +8,8 @@ use Rattle.kpn_tokens.proofs.TokenLaws.{rules_scan}
 use Rattle.kpn_tokens.proofs.laws.scan_follows_the_rules.Goals as goal
 
 pub returns : goal.returns
-returns c place text r = (λ e. subst (λ (r : Result (List Lexeme) LexFault). Reads place text r) e (scan_rules place text), rules_scan)
+returns c place text r = (
+  λ e. subst (λ (r : Result (List Lexeme) LexFault). Reads place text r) e
+      (scan_rules place text),
+  rules_scan,
+)

@@ -1,5 +1,5 @@
--- The names that are left, taken from here, give what all of them gave.
-use Rattle.std.proofs.Common.{◌≡◌, [], drop}
+-- The names that remain, taken from here, give what all of them gave.
+use Rattle.std.proofs.Common.{◌≡◌, drop}
 use Rattle.kpn_grammar.specs.View.{names_seen}
 use Rattle.kpn_names.specs.Fault.{each}
 use Rattle.kpn_names.specs.Names.{with_number, all_known}
@@ -7,4 +7,5 @@ use Rattle.kpn_names.proofs.names.NameTable.all_known.Given as goal
 
 abbrev pub invariant-loop-name : goal.invariant-loop-name
 invariant-loop-name l =
-    each (with_number l.self) l.numbers (names_seen (drop l.name-index l.names)) ≡ all_known l.self (names_seen l.names)
+    each (with_number l.self) l.numbers (names_seen (drop l.name-index l.names))
+    ≡ all_known l.self (names_seen l.names)

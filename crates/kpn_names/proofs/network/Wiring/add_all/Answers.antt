@@ -1,5 +1,5 @@
 -- An item takes the tables a step on, or is the first that is wrong.
-use Rattle.std.proofs.Common.{◌≡◌, sym, ◌∙◌, arith}
+use Rattle.std.proofs.Common.{sym, ◌∙◌, arith}
 use Rattle.std.proofs.lemmas.Result.{err_from_is_err_and}
 use Rattle.kpn_grammar.specs.View.{item_seen}
 use Rattle.kpn_names.specs.Network.{with_item}
@@ -11,14 +11,20 @@ pub returns-in_err-add : goal.returns-in_err-add
 returns-in_err-add c =
     let p = err_from_is_err_and c.from_residual.result c.from_residual.ensures.1 in
     rw (p.1, p.2, ← c.loop-item.invariant)
-    (fails (with_item c.args.programs.now c.args.channels.now) item_seen (wiring_seen c.loop-item.self) c.args.items.now c.loop-item.item-index c.item-item.result c.item-item.result c.in_err-add.field-0.0 (omega arith) (sym c.item-item.is) c.in_err-add.ensures)
+    (fails (with_item c.args.programs.now c.args.channels.now) item_seen (wiring_seen c.loop-item.self)
+    c.args.items.now c.loop-item.item-index c.item-item.result c.item-item.result c.in_err-add.field-0.0
+    (omega arith) (sym c.item-item.is) c.in_err-add.ensures)
 
 pub loop-item-preserved : goal.loop-item-preserved
 loop-item-preserved c =
-    sym (goes (with_item c.args.programs.now c.args.channels.now) item_seen (wiring_seen c.loop-item.self) c.args.items.now c.loop-item.item-index c.item-item.result c.item-item.result (wiring_seen c.add.new.self) (omega arith) (sym c.item-item.is) c.in_ok-add.ensures)
+    sym
+    (goes (with_item c.args.programs.now c.args.channels.now) item_seen (wiring_seen c.loop-item.self)
+    c.args.items.now c.loop-item.item-index c.item-item.result c.item-item.result (wiring_seen c.add.new.self)
+    (omega arith) (sym c.item-item.is) c.in_ok-add.ensures)
     ∙ c.loop-item.invariant
 
 pub returns : goal.returns
 returns c =
     sym c.loop-item.invariant
-    ∙ ends (with_item c.args.programs.now c.args.channels.now) item_seen (wiring_seen c.loop-item.self) c.args.items.now c.loop-item.item-index (omega arith)
+    ∙ ends (with_item c.args.programs.now c.args.channels.now) item_seen (wiring_seen c.loop-item.self)
+    c.args.items.now c.loop-item.item-index (omega arith)

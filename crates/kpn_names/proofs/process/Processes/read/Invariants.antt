@@ -1,4 +1,4 @@
--- The processes that are left, taken from here, give what all of them gave.
+-- The processes that remain, taken from here, give what all of them gave.
 use Rattle.std.proofs.Common.{◌≡◌, drop, map}
 use Rattle.kpn_grammar.specs.View.{process_seen}
 use Rattle.kpn_names.specs.Fault.{each}
@@ -8,4 +8,5 @@ use Rattle.kpn_names.proofs.process.Processes.read.Given as goal
 
 abbrev pub invariant-loop-process : goal.invariant-loop-process
 invariant-loop-process l =
-    each with_process (programs_seen l.read) (map process_seen (drop l.process-index l.processes)) ≡ programs_of (map process_seen l.processes)
+    each with_process (programs_seen l.read) (map process_seen (drop l.process-index l.processes))
+    ≡ programs_of (map process_seen l.processes)

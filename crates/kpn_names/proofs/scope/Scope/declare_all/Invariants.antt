@@ -1,4 +1,4 @@
--- The names that are left, taken from here, give what all of them gave.
+-- The names that remain, taken from here, give what all of them gave.
 use Rattle.std.proofs.Common.{◌≡◌, drop}
 use Rattle.kpn_grammar.specs.View.{names_seen}
 use Rattle.kpn_names.specs.Fault.{each}
@@ -7,4 +7,5 @@ use Rattle.kpn_names.proofs.scope.Scope.declare_all.Given as goal
 
 abbrev pub invariant-loop-name : goal.invariant-loop-name
 invariant-loop-name l =
-    each (declared_in l.part) l.self (names_seen (drop l.name-index l.names)) ≡ each (declared_in l.part) l.fn.self (names_seen l.names)
+    each (declared_in l.part) l.self (names_seen (drop l.name-index l.names))
+    ≡ each (declared_in l.part) l.fn.self (names_seen l.names)

@@ -1,4 +1,4 @@
--- The statements that are left, written from here, give what all of them gave; blocks and variables only become more.
+-- The statements that remain, written from here, give what all of them gave; blocks and variables only become more.
 use Rattle.std.proofs.Common.{◌≡◌, ◌≤◌, [], drop, length}
 use Rattle.kpn_lang.specs.View.{statements_of}
 use Rattle.kpn_grammar.specs.View.{block_seen}
@@ -8,7 +8,9 @@ use Rattle.kpn_names.proofs.writer.Writer.+block.Given as goal
 
 abbrev pub invariant-statements-loop-statement : goal.invariant-statements-loop-statement
 invariant-statements-loop-statement l = record {
-  left : statements_at (written l.self) (statements_of l.own.items) (block_seen (drop l.statement-index l.statements)) ≡ statements_at (written l.fn.self) [] (block_seen l.statements);
+  remains : statements_at (written l.self) (statements_of l.own.items)
+      (block_seen (drop l.statement-index l.statements))
+      ≡ statements_at (written l.fn.self) [] (block_seen l.statements);
   blocks : length l.fn.self.blocks.items ≤ length l.self.blocks.items;
   vars : length l.fn.self.scope.vars ≤ length l.self.scope.vars;
 }

@@ -1,4 +1,4 @@
-//! The names of a description by number.
+//! The names of a network by number, each in memory of its own.
 
 use kpn_lang::Sequence;
 

@@ -6,30 +6,9 @@ use Rattle.std.specs.Cmp.Lexicographic.{bytes_decides}
 use Rattle.std.proofs.lemmas.List.Quantifiers.{position-Some}
 use Rattle.std.proofs.lemmas.List.{get_or_append_left}
 use Rattle.kpn_grammar.specs.Syntax.{Name}
-use Rattle.kpn_names.specs.Fault.{NameError, double, and_then, each}
-use Rattle.kpn_names.specs.Names.{has, number_of, or_unknown, known, with_number, all_known, declared, with_name}
-use Rattle.kpn_canonical.specs.Named.{name_at}
-
--- ---- steps that went well
-
-pub same_ok : {A : Type 0} (x y : A) → ◌≡◌ {A = Result A NameError} (Ok x) (Ok y) → x ≡ y
-same_ok x y e = cc
-
--- a step that gave a value, and what follows it
-pub record Went {A B : Type 0} (r : Result A NameError) (f : A → Result B NameError) (y : B) : Type 0 where
-  pub value : A
-  pub first : r ≡ Ok value
-  pub rest : f value ≡ Ok y
-
-pub went : {A B : Type 0} (r : Result A NameError) (f : A → Result B NameError) (y : B) → and_then r f ≡ Ok y → Went r f y
-unfolding and_then
-went (Ok x) f y h = record { value = x; first = refl; rest = h }
-went (Err e) f y h = absurd (cc)
-
--- what follows a step that gave a value
-pub then_ok : {A B : Type 0} (r : Result A NameError) (f : A → Result B NameError) (x : A) → r ≡ Ok x → and_then r f ≡ f x
-unfolding and_then
-then_ok r f x e = ap (λ q. and_then q f) e
+use Rattle.kpn_names.specs.Fault.{NameError, double, each}
+use Rattle.kpn_names.proofs.Chains.{ok_is, went}
+use Rattle.kpn_names.specs.Names.{has, number_of, or_unknown, known, with_number, all_known, declared, with_name, name_at}
 
 -- ---- the number of a name
 
@@ -39,10 +18,15 @@ pub record IsNamed (table : List Name) (k : ℕ) (x : Name) : Type 0 where
   pub name : name_at table k ≡ x
 
 pub is_named-append : (table more : List Name) (k : ℕ) (x : Name) → IsNamed table k x → IsNamed (table ++ more) k x
-is_named-append table more k x h = record { here = omega (arith, length-append table more); name = get_or_append_left table more [] k h.here ∙ h.name }
+is_named-append table more k x h =
+    record {
+      here = omega (arith, length-append table more);
+      name = get_or_append_left table more [] k h.here
+          ∙ h.name;
+    }
 
 or_known : (o : Option ℕ) (k : ℕ) → or_unknown o ≡ Ok k → o ≡ Some k
-or_known (Some j) k e = ap (λ n. Some n) (same_ok j k e)
+or_known (Some j) k e = ap (λ n. Some n) (ok_is j k e)
 or_known None k e = absurd (cc)
 
 same_bytes : (x y : Name) → bytes_eq x y ≡ true → y ≡ x
@@ -54,7 +38,8 @@ known_named table x k e =
     record { here = p.0; name = same_bytes x (name_at table k) p.1 }
 
 -- a name that is put where it is new
-first_or_later : (b c : Bool) (y x : Name) (table : List Name) (k : ℕ) → (b ≡ true → y ≡ x) → IsNamed (cond c table (table ++ x ∷ [])) k x
+first_or_later : (b c : Bool) (y x : Name) (table : List Name) (k : ℕ) → (b ≡ true → y ≡ x)
+    → IsNamed (cond c table (table ++ x ∷ [])) k x
     → IsNamed (cond (b || c) (y ∷ table) (y ∷ (table ++ x ∷ []))) (cond (not b) (1 + k) 0) x
 first_or_later true c y x table k same rest = record { here = omega arith; name = same refl }
 first_or_later false true y x table k same rest =
@@ -68,7 +53,9 @@ first_or_later false false y x table k same rest =
 
 pub target_named : (table : List Name) (x : Name) → IsNamed (with_name table x) (position_or_len (bytes_eq x) table) x
 target_named [] x = record { here = omega arith; name = refl }
-target_named (y ∷ table) x = first_or_later (bytes_eq x y) (list_any (bytes_eq x) table) y x table (position_or_len (bytes_eq x) table) (same_bytes x y) (target_named table x)
+target_named (y ∷ table) x =
+    first_or_later (bytes_eq x y) (list_any (bytes_eq x) table) y x table (position_or_len (bytes_eq x) table)
+    (same_bytes x y) (target_named table x)
 
 -- ---- tables that grow
 
@@ -85,17 +72,20 @@ pub with_name_longer : (table : List Name) (x : Name) → Longer table (with_nam
 with_name_longer table x = longer_if (has table x) table x
 
 -- what is given only where a test is not passed
-pub if_not : {A : Type 0} (b : Bool) (x y : A) → ◌≡◌ {A = Result A NameError} (cond b (Err double) (Ok x)) (Ok y) → (b ≡ false) × (x ≡ y)
+pub if_not : {A : Type 0} (b : Bool) (x y : A) → ◌≡◌ {A = Result A NameError} (cond b (Err double) (Ok x)) (Ok y)
+    → (b ≡ false) × (x ≡ y)
 if_not true x y h = absurd (cc)
-if_not false x y h = (refl, same_ok x y h)
+if_not false x y h = (refl, ok_is x y h)
 
 -- or only where it is passed
-pub if_so : {A : Type 0} (b : Bool) (x y : A) → ◌≡◌ {A = Result A NameError} (cond b (Ok x) (Err double)) (Ok y) → (b ≡ true) × (x ≡ y)
-if_so true x y h = (refl, same_ok x y h)
+pub if_so : {A : Type 0} (b : Bool) (x y : A) → ◌≡◌ {A = Result A NameError} (cond b (Ok x) (Err double)) (Ok y)
+    → (b ≡ true) × (x ≡ y)
+if_so true x y h = (refl, ok_is x y h)
 if_so false x y h = absurd (cc)
 
 -- a name that was new
-pub declared_is : (table : List Name) (x : Name) (names : List Name) → declared table x ≡ Ok names → (has table x ≡ false) × (table ++ x ∷ [] ≡ names)
+pub declared_is : (table : List Name) (x : Name) (names : List Name) → declared table x ≡ Ok names
+    → (has table x ≡ false) × (table ++ x ∷ [] ≡ names)
 declared_is table x names h = if_not (has table x) (table ++ x ∷ []) names h
 
 pub declared_new : (table : List Name) (x : Name) → has table x ≡ false → declared table x ≡ Ok (table ++ x ∷ [])
@@ -111,15 +101,17 @@ record Numbers (table : List Name) (before : List ℕ) (xs : List Name) (ks : Li
   is : ks ≡ before ++ more
   names : map (name_at table) more ≡ xs
 
-numbers_of : (table : List Name) (before : List ℕ) (xs : List Name) (ks : List ℕ) → each (with_number table) before xs ≡ Ok ks → Numbers table before xs ks
+numbers_of : (table : List Name) (before : List ℕ) (xs : List Name) (ks : List ℕ)
+    → each (with_number table) before xs ≡ Ok ks → Numbers table before xs ks
 unfolding each
-numbers_of table before [] ks e = record { more = []; is = sym (same_ok before ks e) ∙ sym (append-nil before); names = refl }
+numbers_of table before [] ks e =
+    record { more = []; is = sym (ok_is before ks e) ∙ sym (append-nil before); names = refl }
 numbers_of table before (x ∷ xs) ks e =
     let first = went (with_number table before x) (λ t. each (with_number table) t xs) ks e in
     let number = went (known table x) (λ k. Ok (before ++ k ∷ [])) first.value first.first in
     let k = number.value in
     let rest = numbers_of table first.value xs ks first.rest in
-    let at : before ++ k ∷ [] ≡ first.value = same_ok (before ++ k ∷ []) first.value number.rest in
+    let at : before ++ k ∷ [] ≡ first.value = ok_is (before ++ k ∷ []) first.value number.rest in
     let name = known_named table x k number.first in
     record {
       more = k ∷ rest.more;
@@ -127,7 +119,8 @@ numbers_of table before (x ∷ xs) ks e =
       names = λ i. name.name i ∷ rest.names i;
     }
 
-pub all_known_named : (table : List Name) (xs : List Name) (ks : List ℕ) → all_known table xs ≡ Ok ks → map (name_at table) ks ≡ xs
+pub all_known_named : (table : List Name) (xs : List Name) (ks : List ℕ) → all_known table xs ≡ Ok ks
+    → map (name_at table) ks ≡ xs
 all_known_named table xs ks e =
     let n = numbers_of table [] xs ks e in
     ap (λ l. map (name_at table) l) n.is ∙ n.names

@@ -1,13 +1,11 @@
 //! Descriptions that are read, and the first faults of others.
 
-use crate::{Description, GrammarFault, Item, Literal, Statement, description};
+use kpn_grammar::{GrammarFault, Item, Literal, Statement, description};
 use kpn_tokens::{LexFault, lexemes};
 use std::alloc::{AllocError, Global};
 use std::process::Abort;
 use std::test::Fail;
-
-const COPY: &[u8] =
-    b"process copy(in i; out o) { while 1 { read i x; write o x; } }\nnetwork { source s; sink z cap 1; c = copy(s; z); }\n";
+use worked_texts::COPY;
 
 /// The fault of a text, if it has one.
 fn fault_of(alloc: Global, text: &[u8]) -> Result<Option<GrammarFault>, LexFault> {
@@ -39,7 +37,7 @@ fn nested(
 
 #[test]
 fn copy_is_read(rt: HostRuntime) -> Result<(), Fail> {
-    let tokens = lexemes(rt.alloc(), COPY)?;
+    let tokens = lexemes(rt.alloc(), COPY.as_bytes())?;
     let read = description(rt.alloc(), tokens.as_slice(), COPY.len())?;
     assert_eq!(rt; read.processes.len(), 1);
     let copy = &read.processes[0];
@@ -75,8 +73,8 @@ fn number_of(rt: &impl Abort, item: &Item<'_>) -> i64 {
 
 #[test]
 fn every_kind_of_item_is_read(rt: HostRuntime) -> Result<(), Fail> {
-    let text =
-        b"process f(par k, l) { } process g(out c; par k) { } network { limit 7; channel a cap 2; source s; sink z cap 1; i = f(; ; 3, -4); }";
+    let text = b"process f(par k, l) { } process g(out c; par k) { } \
+        network { limit 7; channel a cap 2; source s; sink z cap 1; i = f(; ; 3, -4); }";
     let tokens = lexemes(rt.alloc(), text)?;
     let read = description(rt.alloc(), tokens.as_slice(), text.len())?;
     assert_eq!(rt; read.processes.len(), 2);
@@ -110,17 +108,6 @@ fn the_first_fault_is_told(rt: HostRuntime) -> Result<(), Fail> {
             fault_of(rt.alloc(), text)?,
             Some(GrammarFault::Grammar(at))
         );
-    }
-    Ok(())
-}
-
-#[test]
-fn a_text_that_ends_early_is_refused_at_its_end_or_before(rt: HostRuntime) -> Result<(), Fail> {
-    for end in 0..COPY.len() - 1 {
-        match fault_of(rt.alloc(), &COPY[..end])? {
-            Some(GrammarFault::Grammar(at)) => assert!(rt; at <= end),
-            _ => assert!(rt; false, "the front of {end} bytes is read"),
-        }
     }
     Ok(())
 }

@@ -1,9 +1,9 @@
 //! The first fault of a text with its byte, and the tables of a description.
 
-use crate::{NameFault, resolve};
 use kpn_grammar::description;
 use kpn_lang::{Expr, Op, Stmt};
-use kpn_net::ChannelSpec;
+use kpn_names::{NameFault, ProgramParts, resolve};
+use kpn_net::{ChannelSpec, Instance};
 use kpn_tokens::lexemes;
 use std::alloc::Global;
 use std::test::Fail;
@@ -97,15 +97,16 @@ fn the_tables_are_separate(rt: HostRuntime) -> Result<(), Fail> {
     Ok(())
 }
 
-#[test]
-fn numbers_follow_the_order_of_declaration(rt: HostRuntime) -> Result<(), Fail> {
-    let text =
-        b"process e() { } process p(in i; out o; par k) { while k { read i x; if x { write o x; } else { y = (x + k); } } read i y; }
-        network { limit 4294967296; c = p(b; a; -7); channel a cap 5000000000; sink b cap 1; d = p(a; b; 8); }";
-    let tokens = lexemes(rt.alloc(), text)?;
-    let tree = description(rt.alloc(), tokens.as_slice(), text.len())?;
-    let named = resolve(rt.alloc(), &tree)?;
+/// A channel is used before it is declared, a capacity and the limit are past 32 bits, and a body has each statement.
+const NUMBERED: &[u8] = b"process e() { } process p(in i; out o; par k) { \
+    while k { read i x; if x { write o x; } else { y = (x + k); } } read i y; }\n\
+    network { limit 4294967296; c = p(b; a; -7); channel a cap 5000000000; sink b cap 1; d = p(a; b; 8); }";
 
+#[test]
+fn tables_follow_the_order_of_declaration(rt: HostRuntime) -> Result<(), Fail> {
+    let tokens = lexemes(rt.alloc(), NUMBERED)?;
+    let tree = description(rt.alloc(), tokens.as_slice(), NUMBERED.len())?;
+    let named = resolve(rt.alloc(), &tree)?;
     assert_eq!(rt; named.processes.get(1), Some(b"p".as_slice()));
     assert_eq!(rt; named.channel_names.get(1), Some(b"b".as_slice()));
     assert_eq!(rt; named.instance_names.get(0), Some(b"c".as_slice()));
@@ -118,48 +119,59 @@ fn numbers_follow_the_order_of_declaration(rt: HostRuntime) -> Result<(), Fail> 
         named.channels.as_slice(),
         [ChannelSpec::Inner(4_294_967_295), ChannelSpec::Sink(1)].as_slice()
     );
-    match named.instances.as_slice() {
-        [first, _] => {
-            assert_eq!(rt; first.program, 1);
-            assert_eq!(rt; first.ins.as_slice(), [1].as_slice());
-            assert_eq!(rt; first.outs.as_slice(), [0].as_slice());
-            assert_eq!(rt; first.pars.as_slice(), [-7].as_slice());
-        }
-        _ => assert!(rt; false, "two instances"),
-    }
+    Ok(())
+}
 
-    let [_, program] = named.programs.as_slice() else {
-        assert!(rt; false, "two programs");
-        return Ok(());
-    };
-    assert_eq!(rt; (program.pars, program.locals), (1, 2));
-    assert_eq!(rt; program.scope.vars.get(2), Some(b"y".as_slice()));
-    assert_eq!(rt;
-        (program.scope.ins.len(), program.scope.outs.is_empty()),
-        (1, false)
-    );
-    let [body, inside, then_block, else_block] = program.blocks.as_slice() else {
-        assert!(rt; false, "four blocks");
-        return Ok(());
-    };
-    assert!(rt;
-        matches!(
-            body.as_slice(),
-            [Stmt::While(Expr::Var(0), 1), Stmt::Read(0, 2)]
-        )
-    );
-    assert!(rt;
-        matches!(
-            inside.as_slice(),
-            [Stmt::Read(0, 1), Stmt::If(Expr::Var(1), 2, 3)]
-        )
-    );
-    assert!(rt; matches!(then_block.as_slice(), [Stmt::Write(0, Expr::Var(1))]));
-    assert!(rt;
-        matches!(
-            else_block.as_slice(),
-            [Stmt::Assign(2, Expr::Bin(Op::Add, _, _))]
-        )
-    );
+/// Whether the first of two instances is `c = p(b; a; -7)`.
+fn is_first_instance(instances: &[Instance]) -> bool {
+    match instances {
+        [first, _] => {
+            first.program == 1
+                && first.ins.as_slice() == [1usize].as_slice()
+                && first.outs.as_slice() == [0usize].as_slice()
+                && first.pars.as_slice() == [-7i64].as_slice()
+        }
+        _ => false,
+    }
+}
+
+/// Whether the blocks are numbered in the order of their opening braces.
+fn are_numbered(blocks: &[Vec<Stmt>]) -> bool {
+    match blocks {
+        [body, inside, then_block, else_block] => {
+            matches!(
+                body.as_slice(),
+                [Stmt::While(Expr::Var(0), 1), Stmt::Read(0, 2)]
+            ) && matches!(
+                inside.as_slice(),
+                [Stmt::Read(0, 1), Stmt::If(Expr::Var(1), 2, 3)]
+            ) && matches!(then_block.as_slice(), [Stmt::Write(0, Expr::Var(1))])
+                && matches!(
+                    else_block.as_slice(),
+                    [Stmt::Assign(2, Expr::Bin(Op::Add, _, _))]
+                )
+        }
+        _ => false,
+    }
+}
+
+/// Whether the parts are those of `p`: one parameter, two locals, and the blocks.
+fn is_program(program: &ProgramParts<'_>) -> bool {
+    (program.pars, program.locals) == (1, 2)
+        && program.scope.vars.get(2) == Some(b"y".as_slice())
+        && (program.scope.ins.len(), program.scope.outs.is_empty()) == (1, false)
+        && are_numbered(program.blocks.as_slice())
+}
+
+#[test]
+fn instances_and_programs_have_their_numbers(rt: HostRuntime) -> Result<(), Fail> {
+    let tokens = lexemes(rt.alloc(), NUMBERED)?;
+    let tree = description(rt.alloc(), tokens.as_slice(), NUMBERED.len())?;
+    let named = resolve(rt.alloc(), &tree)?;
+    assert!(rt; is_first_instance(named.instances.as_slice()));
+    match named.programs.as_slice() {
+        [_, program] => assert!(rt; is_program(program)),
+        _ => assert!(rt; false, "two programs"),
+    }
     Ok(())
 }

@@ -1,83 +1,13 @@
 //! Descriptions read and printed, and the first faults of others.
 
-use crate::{Document, TextFault, print_network, read_network};
+use crate::worked::{DENSE, DENSE_PRINTED};
 use kpn_lang::ProgramFault;
+use kpn_limits::MAX_TEXT_BYTES;
 use kpn_net::NetFault;
+use kpn_text::{TextFault, print_network, read_network};
 use std::alloc::{AllocError, Global};
 use std::test::Fail;
-
-const COPY: &str = "process copy(in i; out o) { while 1 { read i x; write o x; } }
-network { source s; sink z cap 1; c = copy(s; z); }
-";
-
-const COPY_PRINTED: &str = "process copy(in i; out o) {
-  while 1 {
-    read i x;
-    write o x;
-  }
-}
-network {
-  source s;
-  sink z cap 1;
-  c = copy(s; z);
-}
-";
-
-const KAHN: &str = "process f(in a, b; out c, d) {
-  while 1 { read a x; write c x; write d x; read b x; write c x; write d x; }
-}
-process g(in a; out b, c) { while 1 { read a x; write b x; read a x; write c x; } }
-process h(in a; out b; par k) { write b k; while 1 { read a x; write b x; } }
-network {
-  channel X cap 1; channel Y cap 1; channel Z cap 1;
-  channel T1 cap 1; channel T2 cap 1; sink o cap 1;
-  pf = f(Y, Z; X, o); pg = g(X; T1, T2); h0 = h(T1; Y; 0); h1 = h(T2; Z; 1);
-}
-";
-
-const TWO: &str = "process p(out a, b) { write a 1; write a 2; write b 3; }
-process q(in a, b; out z) {
-  read b x; read a y; read a w; write z ((100 * x) + ((10 * y) + w));
-}
-network {
-  channel a cap 1; channel b cap 1; sink z cap 1;
-  p = p(; a, b); q = q(a, b; z);
-}
-";
-
-/// Each form of the language, on one line.
-const DENSE: &str =
-    "process e(){}process f(par k){if!k{}else{k=-(007&&k);}}process g(in a,b;out c,d;par k){x=(x+1);while(x<=k){read a y;write c(y%-x);}}process h(in a){}network{limit 9;sink z cap 02;w=g(t,s;m,z;-7);channel m cap 1;source s;v=e(;);source t;u=f(;;0);n=h(m;);}";
-
-const DENSE_PRINTED: &str = "process e() {
-}
-process f(par k) {
-  if !k {
-  } else {
-    k = -(7 && k);
-  }
-}
-process g(in a, b; out c, d; par k) {
-  x = (x + 1);
-  while (x <= k) {
-    read a y;
-    write c (y % -x);
-  }
-}
-process h(in a) {
-}
-network {
-  limit 9;
-  sink z cap 2;
-  channel m cap 1;
-  source s;
-  source t;
-  w = g(t, s; m, z; -7);
-  v = e(;);
-  u = f(;; 0);
-  n = h(m;);
-}
-";
+use worked_texts::{COPY, COPY_PRINTED, KAHN, TWO};
 
 /// Whether a text is read, or its fault.
 fn fault_of(alloc: Global, text: &[u8]) -> Option<TextFault> {
@@ -146,8 +76,8 @@ fn names_go_with_their_numbers(rt: HostRuntime) -> Result<(), Fail> {
 fn a_name_that_is_used_first_has_the_number_of_its_declaration(
     rt: HostRuntime,
 ) -> Result<(), Fail> {
-    let text =
-        b"process p(out a, b) { } process e(in i) { } network { p = p(; b, a); channel a cap 1; channel b cap 2; x = e(a;); y = e(b;); }";
+    let text = b"process p(out a, b) { } process e(in i) { } \
+        network { p = p(; b, a); channel a cap 1; channel b cap 2; x = e(a;); y = e(b;); }";
     let document = read_network(rt.alloc(), text)?;
     assert_eq!(rt; document.find_channel("a"), Some(0));
     assert_eq!(rt; document.network().instances(), 3);
@@ -268,12 +198,12 @@ fn nesting_is_bounded(rt: HostRuntime) -> Result<(), Fail> {
 #[test]
 fn a_text_has_at_most_1048576_bytes(rt: HostRuntime) -> Result<(), Fail> {
     let end = b"network { }";
-    let longest = repeated(rt.alloc(), b"", b" ", 1_048_576 - 11, end)?;
+    let longest = repeated(rt.alloc(), b"", b" ", MAX_TEXT_BYTES - 11, end)?;
     assert_eq!(rt; fault_of(rt.alloc(), longest.as_slice()), None);
-    let longer = repeated(rt.alloc(), b"", b" ", 1_048_577 - 11, end)?;
+    let longer = repeated(rt.alloc(), b"", b" ", MAX_TEXT_BYTES - 10, end)?;
     assert_eq!(rt;
         fault_of(rt.alloc(), longer.as_slice()),
-        Some(TextFault::TooLong(1_048_576))
+        Some(TextFault::TooLong(MAX_TEXT_BYTES))
     );
     let marks = repeated(rt.alloc(), b"process p() { x = ", b"-", 1_048_000, b"")?;
     assert_eq!(rt;

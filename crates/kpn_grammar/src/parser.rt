@@ -1,12 +1,15 @@
-//! Reading the token at a place, and what the rules ask of it. Each reader gives what it read and
-//! the place after it. Places count tokens; the tokens themselves stay where they are.
+//! The parsers of one token at a place, on which all others stand. Each gives what it read and the place after it.
+//! Places count tokens; the tokens themselves stay where they are.
 
 ghost use Rattle.std.specs.Prelude.{◌≡◌};
+ghost use Rattle.kpn_grammar.specs.TokenTests as tests;
 ghost use Rattle.kpn_grammar.specs.Reading as spec;
-ghost use Rattle.kpn_grammar.specs.View.{left};
+ghost use Rattle.kpn_grammar.specs.View.{Parses, Passes, tokens_from};
 
 use crate::fault::GrammarFault;
-use crate::tree::{BinaryOperator, Identifier};
+use crate::operators::operator_of;
+use crate::tree::Identifier;
+use kpn_lang::Op;
 use kpn_tokens::{Keyword, Lexeme, Mark, Number, Token};
 
 /// What faults tell beside the tokens.
@@ -31,7 +34,7 @@ pub(crate) type Read<T> = Result<(T, usize), GrammarFault>;
 /// The token at a place.
 #[tactic(auto, unfolding(crate::specs::Reading::next))]
 pub(crate) fn next<'a>(source: Source<'a>, at: usize) -> Read<&'a Lexeme<'a>>
-    ensures { spec.Gives (λ x. (x.0.now, left source.entry x.1)) result (spec.next source.entry.scope (left source.entry at)) }
+    ensures { Parses (λ token. token.now) spec.next source.entry at result }
 {
     match source.tokens.get(at) {
         Some(first) => Ok((first, at + 1)),
@@ -41,7 +44,7 @@ pub(crate) fn next<'a>(source: Source<'a>, at: usize) -> Read<&'a Lexeme<'a>>
 
 /// Whether a token is this mark.
 fn is_mark(token: &Token<'_>, mark: Mark) -> bool
-    ensures { result ≡ spec.is_mark mark token.now }
+    ensures { result ≡ tests.is_mark mark token.now }
 {
     match token {
         Token::Mark(found) => *found == mark,
@@ -51,7 +54,7 @@ fn is_mark(token: &Token<'_>, mark: Mark) -> bool
 
 /// Whether a token is this reserved word.
 fn is_keyword(token: &Token<'_>, keyword: Keyword) -> bool
-    ensures { result ≡ spec.is_keyword keyword token.now }
+    ensures { result ≡ tests.is_keyword keyword token.now }
 {
     match token {
         Token::Keyword(found) => *found == keyword,
@@ -61,7 +64,7 @@ fn is_keyword(token: &Token<'_>, keyword: Keyword) -> bool
 
 /// Whether this mark stands at a place.
 pub(crate) fn at_mark(source: Source<'_>, mark: Mark, at: usize) -> bool
-    ensures { result ≡ spec.first_is (spec.is_mark mark) (left source.entry at) }
+    ensures { result ≡ spec.first_is (tests.is_mark mark) (tokens_from source.entry at) }
 {
     match source.tokens.get(at) {
         Some(first) => is_mark(&first.token, mark),
@@ -71,7 +74,7 @@ pub(crate) fn at_mark(source: Source<'_>, mark: Mark, at: usize) -> bool
 
 /// Whether this reserved word stands at a place.
 pub(crate) fn at_keyword(source: Source<'_>, keyword: Keyword, at: usize) -> bool
-    ensures { result ≡ spec.first_is (spec.is_keyword keyword) (left source.entry at) }
+    ensures { result ≡ spec.first_is (tests.is_keyword keyword) (tokens_from source.entry at) }
 {
     match source.tokens.get(at) {
         Some(first) => is_keyword(&first.token, keyword),
@@ -81,7 +84,7 @@ pub(crate) fn at_keyword(source: Source<'_>, keyword: Keyword, at: usize) -> boo
 
 /// Whether a name stands at a place.
 pub(crate) fn at_name(source: Source<'_>, at: usize) -> bool
-    ensures { result ≡ spec.first_is spec.is_name (left source.entry at) }
+    ensures { result ≡ spec.first_is tests.is_name (tokens_from source.entry at) }
 {
     match source.tokens.get(at) {
         Some(first) => matches!(&first.token, Token::Name(_)),
@@ -91,7 +94,7 @@ pub(crate) fn at_name(source: Source<'_>, at: usize) -> bool
 
 /// Whether a token other than a closing brace stands at a place.
 pub(crate) fn goes_on(source: Source<'_>, at: usize) -> bool
-    ensures { result ≡ spec.first_is spec.goes_on (left source.entry at) }
+    ensures { result ≡ spec.first_is spec.goes_on (tokens_from source.entry at) }
 {
     match source.tokens.get(at) {
         Some(first) => !is_mark(&first.token, Mark::RightBrace),
@@ -100,9 +103,9 @@ pub(crate) fn goes_on(source: Source<'_>, at: usize) -> bool
 }
 
 /// This mark.
-#[tactic(auto, unfolding(crate::specs::Reading::mark, crate::specs::Reading::and_then))]
+#[tactic(auto, unfolding(crate::specs::Reading::mark, kpn_tokens::specs::Results::and_then))]
 pub(crate) fn mark(source: Source<'_>, expected: Mark, at: usize) -> Result<usize, GrammarFault>
-    ensures { spec.Gives (λ x. left source.entry x) result (spec.mark source.entry.scope expected (left source.entry at)) }
+    ensures { Passes (λ s. spec.mark s expected) source.entry at result }
 {
     let (first, after) = next(source, at)?;
     if is_mark(&first.token, expected) {
@@ -113,13 +116,13 @@ pub(crate) fn mark(source: Source<'_>, expected: Mark, at: usize) -> Result<usiz
 }
 
 /// This reserved word.
-#[tactic(auto, unfolding(crate::specs::Reading::keyword, crate::specs::Reading::and_then))]
+#[tactic(auto, unfolding(crate::specs::Reading::keyword, kpn_tokens::specs::Results::and_then))]
 pub(crate) fn keyword(
     source: Source<'_>,
     expected: Keyword,
     at: usize,
 ) -> Result<usize, GrammarFault>
-    ensures { spec.Gives (λ x. left source.entry x) result (spec.keyword source.entry.scope expected (left source.entry at)) }
+    ensures { Passes (λ s. spec.keyword s expected) source.entry at result }
 {
     let (first, after) = next(source, at)?;
     if is_keyword(&first.token, expected) {
@@ -130,9 +133,9 @@ pub(crate) fn keyword(
 }
 
 /// A name.
-#[tactic(auto, unfolding(crate::specs::Reading::name, crate::specs::Reading::and_then))]
+#[tactic(auto, unfolding(crate::specs::Reading::name, kpn_tokens::specs::Results::and_then))]
 pub(crate) fn name<'a>(source: Source<'a>, at: usize) -> Read<Identifier<'a>>
-    ensures { spec.Gives (λ x. (x.0.bytes.now, left source.entry x.1)) result (spec.name source.entry.scope (left source.entry at)) }
+    ensures { Parses (λ name. name.bytes.now) spec.name source.entry at result }
 {
     let (first, after) = next(source, at)?;
     match &first.token {
@@ -142,9 +145,9 @@ pub(crate) fn name<'a>(source: Source<'a>, at: usize) -> Read<Identifier<'a>>
 }
 
 /// A number.
-#[tactic(auto, unfolding(crate::specs::Reading::number, crate::specs::Reading::and_then))]
+#[tactic(auto, unfolding(crate::specs::Reading::number, kpn_tokens::specs::Results::and_then))]
 pub(crate) fn number(source: Source<'_>, at: usize) -> Read<Number>
-    ensures { spec.Gives (λ x. (x.0, left source.entry x.1)) result (spec.number source.entry.scope (left source.entry at)) }
+    ensures { Parses (λ n. n) spec.number source.entry at result }
 {
     let (first, after) = next(source, at)?;
     match &first.token {
@@ -154,13 +157,13 @@ pub(crate) fn number(source: Source<'_>, at: usize) -> Read<Number>
 }
 
 /// An operator between two expressions.
-#[tactic(auto, unfolding(crate::specs::Reading::operator, crate::specs::Reading::and_then))]
-pub(crate) fn operator(source: Source<'_>, at: usize) -> Read<BinaryOperator>
-    ensures { spec.Gives (λ x. (x.0, left source.entry x.1)) result (spec.operator source.entry.scope (left source.entry at)) }
+#[tactic(auto, unfolding(crate::specs::Reading::operator, kpn_tokens::specs::Results::and_then))]
+pub(crate) fn operator(source: Source<'_>, at: usize) -> Read<Op>
+    ensures { Parses (λ op. op) spec.operator source.entry at result }
 {
     let (first, after) = next(source, at)?;
     let spelled = match &first.token {
-        Token::Mark(mark) => BinaryOperator::spelled(*mark),
+        Token::Mark(mark) => operator_of(*mark),
         _ => None,
     };
     match spelled {

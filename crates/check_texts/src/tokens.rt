@@ -1,12 +1,12 @@
-//! What the definition of lexing is held against: the format's own lists of marks and reserved
+//! What the definition of tokens is held against: the format's own lists of marks and reserved
 //! words, and worked texts, each with its tokens or its first fault.
 
-use super::*;
+use kpn_tokens::{LexFault, Lexeme, MAX_TEXT_BYTES, Token, lexemes};
 use std::alloc::Global;
 use std::fmt::Write;
 use std::test::Fail;
 
-// The lexemes in words: `start name a`, `start number 1`, `start LessOrEqual`, `start Process`, each with a `;`.
+/// The lexemes in words: `start name a`, `start number 1`, `start LessOrEqual`, `start Process`, each with a `;`.
 fn described(alloc: Global, lexemes: &[Lexeme<'_>]) -> Result<String, Fail> {
     let mut words = String::new(alloc);
     for lexeme in lexemes {
@@ -37,15 +37,20 @@ fn cuts_texts_into_tokens(rt: HostRuntime) -> Result<(), Fail> {
         (b"a#\xc8&\n;", "0 name a;5 Semicolon;"),
         (
             b"( ) { } ; , = + - * / % < <= > >= == != && || !",
-            "0 LeftParen;2 RightParen;4 LeftBrace;6 RightBrace;8 Semicolon;10 Comma;12 Assign;14 Plus;16 Minus;18 Star;20 Slash;22 Percent;24 Less;26 LessOrEqual;29 Greater;31 GreaterOrEqual;34 Equal;37 NotEqual;40 And;43 Or;46 Not;",
+            "0 LeftParen;2 RightParen;4 LeftBrace;6 RightBrace;8 Semicolon;10 Comma;12 Assign;\
+            14 Plus;16 Minus;18 Star;20 Slash;22 Percent;24 Less;26 LessOrEqual;29 Greater;\
+            31 GreaterOrEqual;34 Equal;37 NotEqual;40 And;43 Or;46 Not;",
         ),
         (
-            b"process in out par read write if else while network limit channel cap source sink policy grow",
-            "0 Process;8 In;11 Out;15 Par;19 Read;24 Write;30 If;33 Else;38 While;44 Network;52 Limit;58 Channel;66 Cap;70 Source;77 Sink;82 Policy;89 Grow;",
+            b"process in out par read write if else while network limit channel cap \
+            source sink policy grow",
+            "0 Process;8 In;11 Out;15 Par;19 Read;24 Write;30 If;33 Else;38 While;44 Network;\
+            52 Limit;58 Channel;66 Cap;70 Source;77 Sink;82 Policy;89 Grow;",
         ),
         (
             b"<=<<==>>=!!====&&&&",
-            "0 LessOrEqual;2 Less;3 LessOrEqual;5 Assign;6 Greater;7 GreaterOrEqual;9 Not;10 NotEqual;12 Equal;14 Assign;15 And;17 And;",
+            "0 LessOrEqual;2 Less;3 LessOrEqual;5 Assign;6 Greater;7 GreaterOrEqual;9 Not;\
+            10 NotEqual;12 Equal;14 Assign;15 And;17 And;",
         ),
         (b"12abc", "0 number 12;2 name abc;"),
         (b"a12 _ _9", "0 name a12;4 name _;6 name _9;"),

@@ -1,10 +1,13 @@
 //! Printed texts, against rows that were written by hand.
 
-use crate::{NetworkNames, ProcessNames, canonical_text};
+use kpn_canonical::canonical_text;
 use kpn_lang::{Expr, Op, Program, Sequence, Stmt};
+use kpn_limits::MAX_CAPACITY;
+use kpn_names::{NetworkNames, ProcessNames};
 use kpn_net::{ChannelSpec, Instance, Network};
 use std::alloc::{AllocError, Global};
 use std::test::Fail;
+use worked_texts::COPY_PRINTED;
 
 fn name(alloc: Global, bytes: &[u8]) -> Result<Sequence<u8>, AllocError> {
     Ok(Sequence::from_vec(bytes.to_vec(alloc)?))
@@ -71,7 +74,7 @@ fn copy_is_printed_on_lines(rt: HostRuntime) -> Result<(), Fail> {
         vec![in a; program]?,
         vec![in a; only]?,
         vec![in a; ChannelSpec::Source, ChannelSpec::Sink(1)]?,
-        1_048_576,
+        MAX_CAPACITY,
     )?;
     let own = process(a, b"copy", &[b"i"], &[b"o"], &[b"x"])?;
     let named = NetworkNames {
@@ -83,22 +86,7 @@ fn copy_is_printed_on_lines(rt: HostRuntime) -> Result<(), Fail> {
     assert_eq!(rt; named.instances.len(), network.instances());
     assert_eq!(rt; named.channels.len(), network.channels());
     let text = canonical_text(a, &network, &named)?;
-    assert_eq!(rt;
-        text.as_slice(),
-        b"process copy(in i; out o) {
-  while 1 {
-    read i x;
-    write o x;
-  }
-}
-network {
-  source s;
-  sink z cap 1;
-  c = copy(s; z);
-}
-"
-            .as_slice()
-    );
+    assert_eq!(rt; text.as_slice(), COPY_PRINTED.as_bytes());
     Ok(())
 }
 
