@@ -1,16 +1,1 @@
-pub mod FaultLine
-pub mod Refusal
-pub mod Shelf
-pub mod MemoryShelf
-pub mod BuiltIn
-pub mod AloneText
-pub mod Alone
-pub mod Plain
-pub mod Laws
-pub mod CheckText
-pub mod RoundsText
-pub mod Sources
-pub mod Description
-pub mod Answer
-pub mod SourceRefusals
-pub mod Commands
+pub mod Command

@@ -1,0 +1,5 @@
+pub mod BuiltIn
+pub mod AloneText
+pub mod Plain
+pub mod Laws
+pub mod Alone

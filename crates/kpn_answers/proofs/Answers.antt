@@ -1,0 +1,45 @@
+-- What is given for a right text, or for a refusal with its cause, is an answer; no refusal has the status of
+-- success.
+use Rattle.std.proofs.Common.{◌≡◌, ◌⊎◌, ℕ, Bool, true, false, cond, List, Option, Result, Ok, Err, IfOk, IfErr, OnOk, MatchResult, inl, inr, refl, sym, ◌∙◌, arith}
+use Rattle.std.specs.Io.KnownBytes.{Appends}
+use Rattle.kpn_items.specs.declared.fault.WriteFault.{WriteFault}
+use Rattle.kpn_answers.specs.declared.refusal.Refusal.{Refusal}
+use Rattle.kpn_items.specs.declared.fault.ItemFault.TheVariants as item
+use Rattle.kpn_answers.specs.declared.refusal.Refusal.TheVariants.{Input, Description, Output}
+use Rattle.kpn_answers.specs.Refusal.{status_of, wants_memory}
+use Rattle.kpn_answers.specs.Answer.{Answers, answered, refused, unwritten, Writes}
+
+module _ {O E : Type 0} (contents : O → Option (List ℕ)) (IsRight : List ℕ → Type 0) (HasCause : Refusal → Type 0)
+    (out written : O) (err told : E) (status : ℕ) where
+  written_or_not : (text : List ℕ) → IsRight text → Writes contents text out written err told status
+      → (status ≡ 0) ⊎ ((fault : WriteFault) × (status ≡ status_of (Output fault)))
+      → Answers contents IsRight HasCause out written err told status
+  written_or_not text right writes (inl zero) = answered text right (writes.whole zero) (writes.silent zero) zero
+  written_or_not text right writes (inr failed) = unwritten text right failed.0 failed.1
+
+  pub answers_given : {A : Type 0} (answer : Result A Refusal) (items : A → List ℕ)
+      → IfOk answer (λ text. IsRight (items text)) → IfErr answer HasCause
+      → MatchResult answer (λ text. Writes contents (items text) out written err told status)
+      (λ refusal. (written ≡ out) × (status ≡ status_of refusal))
+      → Answers contents IsRight HasCause out written err told status
+  answers_given (Ok text) items right cause given = written_or_not (items text) right given given.statuses
+  answers_given (Err refusal) items right cause given = refused refusal cause given.0 given.1
+
+six_or_one : (b : Bool) (status : ℕ) → status ≡ cond b 6 1 → status ≡ 0 → ⊥
+six_or_one true status six zero = absurd (omega arith)
+six_or_one false status one zero = absurd (omega arith)
+
+is_no_success : (refusal : Refusal) → status_of refusal ≡ 0 → ⊥
+is_no_success (Input (item.BadItem line)) e = absurd (omega arith)
+is_no_success (Input item.Read) e = absurd (omega arith)
+is_no_success (Input item.NoMemory) e = absurd (omega arith)
+is_no_success (Description fault) e = six_or_one (wants_memory fault) (status_of (Description fault)) refl e
+is_no_success other e = absurd (omega arith)
+
+-- what holds where there is an answer holds under success
+pub under_success : {A : Type 0} (P Unwritten : Type 0) (Given : A → Type 0) (status : ℕ) (answer : Result A Refusal)
+    → OnOk answer P
+    → MatchResult answer Given (λ refusal. Unwritten × (status ≡ status_of refusal)) → status ≡ 0 → P
+under_success P Unwritten Given status (Ok text) holds given zero = holds
+under_success P Unwritten Given status (Err refusal) holds given zero =
+    absurd (is_no_success refusal (sym given.1 ∙ zero))

@@ -1,0 +1,9 @@
+pub mod FaultLine
+pub mod Refusal
+pub mod Answer
+pub mod Shelf
+pub mod MemoryShelf
+pub mod Description
+pub mod Sources
+pub mod SourceRefusals
+pub mod Inputs

@@ -1,0 +1,24 @@
+//! Descriptions of networks in the files of a shelf.
+ghost use Rattle.std.specs.Prelude.{IfOk, IfErr};
+ghost use Rattle.kpn_answers.specs.Description.{IsDescribed, IsRefusalOfDescription};
+
+use crate::refusal::Refusal;
+use crate::shelf::Shelf;
+use kpn_text::{Document, read_network};
+use std::alloc::Global;
+
+/// The document that a file spells. A file that can't be read is refused as the shelf refuses it,
+/// a text that spells none with the fault of that text.
+pub fn load_document<S: Shelf>(alloc: Global, shelf: &S, file: &str) -> Result<Document, Refusal>
+    ensures ok { IfOk result (IsDescribed (S.may_give shelf.now) file.now) }
+    ensures refused { IfErr result (IsRefusalOfDescription (S.may_give shelf.now) file.now) }
+{
+    let bytes = match shelf.load(alloc, file) {
+        Ok(bytes) => bytes,
+        Err(fault) => return Err(Refusal::Input(fault)),
+    };
+    match read_network(alloc, &bytes) {
+        Ok(document) => Ok(document),
+        Err(fault) => Err(Refusal::Description(fault)),
+    }
+}

@@ -1,0 +1,12 @@
+//! What all commands of the program share: refusals with the lines and statuses that tell them, the
+//! shelf of files, descriptions and the lists of sources that are loaded from it, and answers, which
+//! are written whole.
+#![tactic(auto)]
+
+pub mod answer;
+pub mod description;
+pub mod fault_line;
+pub mod inputs;
+pub mod refusal;
+pub mod shelf;
+pub mod sources;

@@ -1,0 +1,126 @@
+//! Refusals: why a command gives no answer, how that is told, and the status that the program then
+//! ends with.
+ghost use Rattle.std.specs.Prelude.{◌≡◌, ◌++◌, [], ◌∷◌, OnOk};
+ghost use Rattle.std.specs.Io.KnownBytes.{Appends};
+ghost use Rattle.kpn_answers.specs.Refusal.{wants_memory};
+
+use crate::fault_line::FaultLine;
+use crate::sources::SourceFault;
+use kpn_items::{ItemFault, WriteFault};
+use kpn_lang::ProgramFault;
+use kpn_net::NetFault;
+use kpn_text::TextFault;
+use std::alloc::{AllocError, AllocFailed};
+use std::fmt;
+use std::io::Write;
+
+/// Why a command gives no answer.
+#[derive(Debug, Drop, PartialEq, Eq)]
+pub enum Refusal {
+    /// A word of the command line is no UTF-8 text.
+    NotText,
+    /// `kpn alone` knows no process of this name.
+    UnknownProcess,
+    /// A word behind `--source` has no `=`.
+    SourceWord,
+    /// An input or a file could not be read, or spells no items, or memory was refused while it was
+    /// read.
+    Input(ItemFault),
+    /// A text is no description of a network.
+    Description(TextFault),
+    /// A `--source` option names no source of the network, or one that was named before.
+    Sources(SourceFault),
+    /// The output could not be written.
+    Output(WriteFault),
+    /// Memory was refused elsewhere.
+    NoMemory,
+}
+
+impl From<AllocError> for Refusal {
+    ghost use Rattle.std.specs.Prelude.{◌≡◌};
+    ghost use Rattle.kpn_answers.specs.declared.refusal.Refusal.TheVariants.{NoMemory};
+
+    ghost from_gives = { λ _ refusal. refusal ≡ NoMemory };
+
+    fn from(_error: AllocError) -> Refusal {
+        Refusal::NoMemory
+    }
+}
+
+impl<T: Drop> From<AllocFailed<T>> for Refusal {
+    ghost use Rattle.std.specs.Prelude.{◌≡◌};
+    ghost use Rattle.kpn_answers.specs.declared.refusal.Refusal.TheVariants.{NoMemory};
+
+    ghost from_gives = { λ _ refusal. refusal ≡ NoMemory };
+
+    fn from(_failed: AllocFailed<T>) -> Refusal {
+        Refusal::NoMemory
+    }
+}
+
+impl fmt::Display for Refusal {
+    ghost use Rattle.std.specs.Prelude.{Some};
+    ghost use Rattle.kpn_answers.specs.Refusal.{refusal_line};
+
+    ghost output = { λ refusal. Some (refusal_line refusal) };
+
+    fn fmt<W: fmt::Write>(&self, f: &mut fmt::Formatter<W>) -> fmt::Result {
+        match self {
+            Refusal::NotText => write!(f, "kpn: usage: words of UTF-8 text"),
+            Refusal::UnknownProcess => write!(f, "kpn: usage: copy, double or sum"),
+            Refusal::SourceWord => write!(f, "kpn: usage: --source NAME=FILE"),
+            Refusal::Input(fault) => write!(f, "{}", FaultLine::of_input(fault)),
+            Refusal::Description(fault) => write!(f, "{}", FaultLine::of_text(*fault)),
+            Refusal::Sources(fault) => write!(f, "{}", FaultLine::of_source(*fault)),
+            Refusal::Output(fault) => write!(f, "{}", FaultLine::of_output(fault)),
+            Refusal::NoMemory => write!(f, "{}", FaultLine::new(42, "NoMemory")),
+        }
+    }
+}
+
+impl Refusal {
+    ghost use Rattle.kpn_answers.specs.Refusal.{refusal_line, status_of};
+
+    /// The status that the program ends with: 1 for a refused input and a device's fault, 2 for a
+    /// word that is not understood, 6 for want of memory.
+    pub fn status(&self) -> u8
+        ensures { result ≡ status_of self.now }
+    {
+        match self {
+            Refusal::NotText | Refusal::UnknownProcess | Refusal::SourceWord => 2,
+            Refusal::Input(ItemFault::BadItem(_) | ItemFault::Read) => 1,
+            Refusal::Description(fault) if !is_want_of_memory(*fault) => 1,
+            Refusal::Sources(_) | Refusal::Output(_) => 1,
+            Refusal::Input(ItemFault::NoMemory) | Refusal::Description(_) | Refusal::NoMemory => 6,
+        }
+    }
+
+    /// Writes the one line that tells the refusal.
+    pub fn tell<E: Write>(&self, err: &mut E) -> Result<(), WriteFault>
+        ensures { OnOk result
+            (Appends (E.contents err.old) (E.contents err.new) (refusal_line self.now ++ 10 ∷ [])) }
+    {
+        writeln!(err, "{self}").map_err(|_| WriteFault::Write)
+    }
+
+    /// Tells the refusal and gives its status. Where standard error takes nothing, the status alone
+    /// tells it.
+    pub fn report<E: Write>(&self, err: &mut E) -> u8
+        ensures { result ≡ status_of self.now }
+    {
+        let _ = self.tell(err);
+        self.status()
+    }
+}
+
+// Whether a description was refused for want of memory.
+fn is_want_of_memory(fault: TextFault) -> bool
+    ensures { result ≡ wants_memory fault }
+{
+    matches!(
+        fault,
+        TextFault::NoMemory
+            | TextFault::Program(_, ProgramFault::NoMemory)
+            | TextFault::Net(NetFault::NoMemory)
+    )
+}

@@ -1,0 +1,3 @@
+pub mod CheckText
+pub mod Check
+pub mod Print

@@ -1,5 +1,0 @@
-pub mod Plain
-pub mod Pauses
-pub mod Texts
-pub mod SourceLemmas
-pub mod RefusalLemmas

@@ -1,0 +1,19 @@
+-- Each command does what it does, and touches nothing else.
+use Rattle.std.proofs.Common.{refl}
+use Rattle.kpn_cli.specs.Command.{alone, check, print, rounds, clap}
+use Rattle.kpn_cli.proofs.command.command.Goals as goal
+
+pub returns-in-Ok-Alone : goal.returns-in-Ok-Alone
+returns-in-Ok-Alone g c = alone _ refl c.alone_command.ensures
+
+pub returns-in-Ok-Check : goal.returns-in-Ok-Check
+returns-in-Ok-Check g c = check _ refl refl c.check_command.ensures
+
+pub returns-in-Ok-Print : goal.returns-in-Ok-Print
+returns-in-Ok-Print g c = print _ refl refl c.print_command.ensures
+
+pub returns-in-Ok-Rounds : goal.returns-in-Ok-Rounds
+returns-in-Ok-Rounds g c = rounds _ _ _ refl refl c.rounds_command.ensures
+
+pub returns-in-Err : goal.returns-in-Err
+returns-in-Err g c = clap refl refl c.show.ensures

@@ -1,0 +1,2 @@
+pub mod RoundsText
+pub mod Rounds
