@@ -1,0 +1,97 @@
+//! Calls that want memory are refused it once, by a heap that is filled up for a while: all is as before, and the
+//! repeated call succeeds.
+ghost use Rattle.std.specs.Prelude.{◌≡◌, IfSome, vec_len};
+ghost use Rattle.kpn_configuration.specs.Configuration.{IsConfiguration};
+
+use crate::feeding::{copying, feed};
+use kpn_configuration::Configuration;
+use kpn_net::{Network, Wait};
+use linked_list_allocator::LocalHeap;
+use std::alloc::{AllocError, Allocator, Global};
+use std::process::Abort;
+use std::test::Fail;
+
+/// Takes the greatest block of memory that is left.
+fn fill<'a>(heap: &'a LocalHeap) -> Option<Vec<u8, &'a LocalHeap>>
+    ensures { IfSome result (λ filling. vec_len filling ≡ 0) }
+{
+    for n in (1..256usize).rev() {
+        if let Ok(filling) = Vec::with_capacity(heap, 16 * n) {
+            return Some(filling);
+        }
+    }
+    None
+}
+
+/// Feeds as many items as a channel has room for from the beginning.
+fn feed_four<A: Allocator>(
+    rt: &impl Abort,
+    network: &Network,
+    configuration: &mut Configuration<A>,
+) -> Result<(), AllocError>
+    requires { IsConfiguration network.now configuration.old }
+    ensures { IsConfiguration network.now configuration.new }
+{
+    feed(rt, network, configuration, 0, 5)?;
+    feed(rt, network, configuration, 0, 6)?;
+    feed(rt, network, configuration, 0, 7)?;
+    feed(rt, network, configuration, 0, 8)?;
+    Ok(())
+}
+
+/// These items were fed, and nothing else has happened.
+fn was_fed<A: Allocator>(
+    rt: &impl Abort,
+    alloc: Global,
+    network: &Network,
+    configuration: &Configuration<A>,
+    items: &[i64],
+) -> Result<(), AllocError>
+    requires { IsConfiguration network.now configuration.now }
+{
+    assert!(rt; network.channels() == 2 && network.instances() == 1);
+    let journal = configuration.copy_journal(alloc, 0)?;
+    assert_eq!(rt; journal.as_slice(), items);
+    assert_eq!(rt; configuration.channel(0).len(), items.len());
+    assert_eq!(rt; configuration.channel(0).read_count(), 0);
+    assert_eq!(rt; configuration.channel(1).cap(), Some(1));
+    assert!(rt; !configuration.is_closed(0));
+    assert_eq!(rt; configuration.wait(0), Wait::Nobody);
+    assert_eq!(rt; configuration.end_of(0), None);
+    Ok(())
+}
+
+#[test]
+fn a_refused_reserve_changes_nothing(rt: HostRuntime) -> Result<(), Fail> {
+    let network = copying(rt.alloc())?;
+    let heap = LocalHeap::new(rt.alloc(), 4_096)?;
+    let mut configuration = Configuration::new(&heap, &network)?;
+    feed_four(&rt, &network, &mut configuration)?;
+    let filling = fill(&heap).expect(&rt, "a block is left");
+    assert!(rt; network.channels() == 2);
+    assert!(rt; configuration.reserve_one(0).is_err());
+    assert!(rt; !configuration.channel(0).room());
+    was_fed(&rt, rt.alloc(), &network, &configuration, &[5, 6, 7, 8])?;
+    filling.destroy_empty();
+    assert_eq!(rt; feed(&rt, &network, &mut configuration, 0, 9)?, None);
+    was_fed(&rt, rt.alloc(), &network, &configuration, &[5, 6, 7, 8, 9])?;
+    Ok(())
+}
+
+#[test]
+fn a_refused_copy_changes_nothing(rt: HostRuntime) -> Result<(), Fail> {
+    let network = copying(rt.alloc())?;
+    let heap = LocalHeap::new(rt.alloc(), 4_096)?;
+    let mut configuration = Configuration::new(&heap, &network)?;
+    feed_four(&rt, &network, &mut configuration)?;
+    let filling = fill(&heap).expect(&rt, "a block is left");
+    assert!(rt; network.channels() == 2);
+    assert!(rt; configuration.copy_journal(&heap, 0).is_err());
+    was_fed(&rt, rt.alloc(), &network, &configuration, &[5, 6, 7, 8])?;
+    filling.destroy_empty();
+    assert_eq!(rt;
+        configuration.copy_journal(&heap, 0)?.as_slice(),
+        [5, 6, 7, 8].as_slice()
+    );
+    Ok(())
+}

@@ -1,0 +1,247 @@
+-- Growth: which one is owed is what the search along the waits finds, and the channel made larger is what its event
+-- makes of it.
+use Rattle.std.proofs.Common.{◌≡◌, ◌↔◌, ℕ, ◌+◌, ◌<◌, ◌≤◌, Bool, true, false, not, cond, eq-eqb, ltb, IsTrue, List, [], ◌∷◌, ◌++◌, length, Option, Some, None, is_some, refl, sym, ap, ◌∙◌, subst, inl, inr, arith, IsSomeAnd, ◌||◌, append-nil, add-zero, length-set}
+use Rattle.std.specs.Option.{unwrap_or, option_map}
+use Rattle.std.proofs.lemmas.Bool.{cases_lt, ltb-true, ltb-false, ne_eqb}
+use Rattle.std.proofs.lemmas.List.{get_or_past, get_or-map, ext_get_or, length-map}
+use Rattle.std.proofs.lemmas.List.FromFn.{length-map-range_with_len}
+use Rattle.kpn_net.specs.declared.found.Found.{Found}
+use Rattle.kpn_net.specs.declared.found.Found.TheVariants.{NoCycle, AllEmpty, Full}
+use Rattle.kpn_net.specs.declared.wait.Wait.{Wait}
+use Rattle.kpn_net.specs.declared.wait.Wait.TheVariants as wait
+use Rattle.kpn_net.specs.Tables.{Tables, channel_at, is_source, capacity}
+use Rattle.kpn_net.specs.Faults.{IsNetwork}
+use Rattle.kpn_net.specs.Waits.{AreWaits}
+use Rattle.kpn_net.specs.Finding.{Finds}
+use Rattle.kpn_net.proofs.Findings.{full_is_written, full_below, full_cycle_unique, finding_unique, finding_with_same_capacities}
+use Rattle.kpn_net.proofs.Networks.{Writes-writer_of, source_if_not_written, limit_in_range}
+use Rattle.kpn_cycle.specs.Scan.{cap_in}
+use Rattle.kpn_chan.specs.Channel.{opened, grown, one_more, MayGrow}
+use Rattle.kpn_limits.specs.declared.TheConstants.{MAX_CAPACITY}
+use Rattle.kpn_trace.specs.declared.event.Event.{Event}
+use Rattle.kpn_trace.specs.declared.event.Event.TheVariants.{Grow}
+use Rattle.kpn_trace.specs.Channels.{capacity_after, capacity_or_zero}
+use Rattle.kpn_trace.specs.AfterEvent.{capacity_then}
+use Rattle.kpn_trace.specs.Waiting.{wait_of, waits_of}
+use Rattle.kpn_trace.specs.Legal.{Legal, HasNumbers, OwesGrowth, waiter}
+use Rattle.kpn_trace.proofs.Legality.{by_events, Legal-last}
+use Rattle.kpn_trace.proofs.AfterEvent.{capacity_after-next}
+use Rattle.kpn_trace.proofs.EarlierWaits.{wait_at-waits_of}
+use Rattle.kpn_trace.proofs.Growth.{one_owed}
+use Rattle.kpn_trace.proofs.OwedGrowth.{owed_as_found}
+use Rattle.kpn_trace.proofs.OneMore.{Legal-exactly}
+use Rattle.kpn_configuration.specs.Configuration.{Configuration, channel_in, closed_in, IsConfiguration, capacities, with_channel, with_waits}
+use Rattle.kpn_configuration.specs.Run.{IsRun}
+use Rattle.kpn_configuration.specs.Changes.{Changes}
+use Rattle.kpn_configuration.specs.Owed.{IsOwed, channel_to_grow}
+use Rattle.kpn_configuration.specs.Woken.{is_wait_on_full, AreWoken}
+use Rattle.kpn_configuration.proofs.Parts.{or-false, keeps_reader, channels_set, waits_of_kind, wakes-grow, SameLengths}
+use Rattle.kpn_configuration.proofs.Calls.{Made, Made-from}
+
+-- ---- what is found is what is owed
+
+module _ (t : Tables) (s : Configuration) (p : ℕ) where
+  pub owed_by_finding : (found : Found) → Finds t s.waits (cap_in (capacities s)) p found → (d : ℕ)
+      → (channel_to_grow (cap_in (capacities s)) t.limit found ≡ Some d) ↔ IsOwed t s p d
+  owed_by_finding NoCycle finds d = (
+    λ e. absurd cc,
+    λ owed. absurd (finds owed.smallest.others owed.smallest.cycle),
+  )
+  owed_by_finding AllEmpty finds d = (
+    λ e. absurd cc,
+    λ owed. let same : AllEmpty ≡ Full d =
+        finding_unique t s.waits (cap_in (capacities s)) p AllEmpty (Full d) finds owed.smallest in absurd cc,
+  )
+  owed_by_finding (Full c) finds d = by_test (ltb (cap_in (capacities s) c) t.limit) refl
+    where
+      by_test : (b : Bool) → ltb (cap_in (capacities s) c) t.limit ≡ b
+          → (cond b (Some c) None ≡ Some d) ↔ IsOwed t s p d
+      by_test true is = (
+        λ e. let same : c ≡ d =
+            cc in subst (λ x. IsOwed t s p x) same (record { smallest = finds; below_limit = ltb-true _ _ is }),
+        λ owed. ap Some (full_cycle_unique t s.waits (cap_in (capacities s)) p c d finds owed.smallest),
+      )
+      by_test false is = (
+        λ e. absurd cc,
+        λ owed.
+            let same : d ≡ c = full_cycle_unique t s.waits (cap_in (capacities s)) p d c owed.smallest finds in
+            let below = subst (λ x. cap_in (capacities s) x < t.limit) same owed.below_limit in
+            let above = ltb-false _ _ is in
+            absurd (omega arith),
+      )
+
+-- ---- the tables of a history are those of the configuration
+
+module _ (t : Tables) (network : IsNetwork t) (H : List Event) (s : Configuration) (run : IsRun t H s) where
+  pub same_waits : s.waits ≡ waits_of t H
+  same_waits =
+      ext_get_or wait.Nobody s.waits (waits_of t H)
+      (run.shape.waits.one_each ∙ sym (length-waits_of t H))
+      (λ q below. let there : q < length t.instances = omega (arith, run.shape.waits.one_each) in
+      run.leads.waits q there ∙ sym (wait_at-waits_of t H q there))
+    where
+      length-waits_of : (t : Tables) (H : List Event) → length (waits_of t H) ≡ length t.instances
+      length-waits_of t H = length-map-range_with_len (wait_of t H) 0 (length t.instances)
+
+  outside : (c : ℕ) → length t.channels ≤ c → (H : List Event) → Legal t H
+      → capacity_after t H c ≡ capacity (channel_at t c)
+  outside c past =
+      by_events t (λ H. capacity_after t H c ≡ capacity (channel_at t c)) (first (capacity (channel_at t c)))
+      (λ B e legal h. capacity_after-next t B e c ∙ none e (Legal-last t B e legal).numbers (capacity_after t B c)
+      ∙ h)
+    where
+      first : (o : Option ℕ) → option_map (λ n. n + 0) o ≡ o
+      first None = refl
+      first (Some n) = ap Some (omega arith)
+
+      none : (e : Event) → HasNumbers t e → (o : Option ℕ) → capacity_then c e o ≡ o
+      none (Grow q d) n o = let below =
+          n.1 in ap (λ b. cond b (option_map (λ n. n + 1) o) o) (ne_eqb d c (λ e. absurd (omega arith)))
+      none event n o = refl
+
+  pub same_capacity : (c : ℕ) → cap_in (capacities s) c ≡ capacity_or_zero t H c
+  same_capacity c =
+      elim (cases_lt c (length t.channels)) [
+        | inl below ↦
+            get_or-map (λ x. unwrap_or x.capacity 0) s.channels c (opened None false) 0
+            (omega (arith, run.shape.channels))
+            ∙ ap (λ o. unwrap_or o 0) (run.leads.channels c below).capacity
+        | inr past ↦
+            get_or_past (capacities s) c 0
+            (let len = length-map s.channels (λ x. unwrap_or x.capacity 0) in omega (arith, run.shape.channels))
+            ∙ sym
+            (ap (λ o. unwrap_or o 0) (outside c past H run.legal)
+            ∙ ap (λ ch. unwrap_or (capacity ch) 0) (get_or_past t.channels c _ past))
+      ]
+
+  -- what is owed by the history is what is owed by the configuration
+  pub finds_same : (p : ℕ) (found : Found) → Finds t s.waits (cap_in (capacities s)) p found
+      → Finds t (waits_of t H) (capacity_or_zero t H) p found
+  finds_same p found finds =
+      finding_with_same_capacities t (waits_of t H) (subst (λ ws. AreWaits t ws) same_waits run.shape.waits)
+      (cap_in (capacities s)) (capacity_or_zero t H) (λ c source. same_capacity c) p found
+      (subst (λ ws. Finds t ws (cap_in (capacities s)) p found) same_waits finds)
+
+module _ (t : Tables) (network : IsNetwork t) (B : List Event) (e : Event) (p : ℕ) (last : waiter e ≡ Some p)
+    (s : Configuration) (run : IsRun t (B ++ e ∷ []) s) where
+  pub owed_by_history : (d : ℕ) → IsOwed t s p d ↔ OwesGrowth t (B ++ e ∷ []) p d
+  owed_by_history d = (
+    λ owed.
+        (owed_as_found t B e p last (Full d) (finds_same t network (B ++ e ∷ []) s run p (Full d) owed.smallest) d).1
+        (refl, subst (λ n. n < t.limit) (same_capacity t network (B ++ e ∷ []) s run d) owed.below_limit),
+    λ owes. record {
+      smallest =
+          finding_with_same_capacities t s.waits run.shape.waits (capacity_or_zero t (B ++ e ∷ []))
+          (cap_in (capacities s)) (λ c source. sym (same_capacity t network (B ++ e ∷ []) s run c)) p (Full d)
+          (subst (λ ws. Finds t ws (capacity_or_zero t (B ++ e ∷ [])) p (Full d))
+          (sym (same_waits t network (B ++ e ∷ []) s run))
+          (record { others = owes.others; cycle = owes.cycle; smallest = owes.smallest }));
+      below_limit = subst (λ n. n < t.limit) (sym (same_capacity t network (B ++ e ∷ []) s run d)) owes.below_limit;
+    },
+  )
+
+pub both : {P Q R : Type 0} → P ↔ Q → Q ↔ R → P ↔ R
+both h k = (λ p. k.0 (h.0 p), λ r. h.1 (k.1 r))
+
+-- ---- the channel made larger
+
+module _ (t : Tables) (network : IsNetwork t) (s : Configuration) (shape : IsConfiguration t s) (p d : ℕ)
+    (owed : IsOwed t s p d) where
+  pub owed_below : d < length t.channels
+  owed_below = full_below t s.waits network shape.waits (cap_in (capacities s)) p d owed.smallest
+
+  no_source : is_source (channel_at t d) ≡ false
+  no_source =
+      let written =
+      full_is_written t s.waits shape.waits p owed.smallest.others owed.smallest.cycle d
+      owed.smallest.smallest.among in
+      source_if_not_written t network written.0 d (Writes-writer_of t written.0 d written.1)
+
+  pub owed_may_grow : MayGrow (channel_in s d)
+  owed_may_grow =
+      by_capacity (channel_in s d).capacity (shape.bounded d owed_below ∙ ap not no_source)
+      (sym
+      (get_or-map (λ x. unwrap_or x.capacity 0) s.channels d (opened None false) 0
+      (let b = owed_below in omega (arith, shape.channels))))
+    where
+      by_capacity : (o : Option ℕ) → is_some o ≡ true → unwrap_or o 0 ≡ cap_in (capacities s) d
+          → IsSomeAnd o (λ n. n < MAX_CAPACITY)
+      by_capacity None some is = absurd cc
+      by_capacity (Some n) some is =
+          let limit : t.limit ≤ MAX_CAPACITY = (limit_in_range t network).1 in
+          let below : cap_in (capacities s) d < t.limit = owed.below_limit in
+          omega arith
+
+  Changes-grown : (r : Bool) (waits : List Wait) → (IsTrue (channel_in s d).is_reserved → IsTrue r)
+      → AreWoken (is_wait_on_full d) s.waits waits
+      → Changes t (Grow p d) s (with_waits waits (with_channel d (grown r (channel_in s d)) s))
+  Changes-grown r waits keep woken =
+      record {
+        channels =
+            λ c is.
+            channels_set t (Grow p d) s.channels d (grown r (channel_in s d))
+            (let b = owed_below in omega (arith, shape.channels))
+            (record {
+              journal = sym (append-nil (channel_in s d).journal);
+              read = sym (add-zero (channel_in s d).read);
+              capacity =
+                  larger (channel_in s d).capacity
+                  ∙ sym
+                  (ap (λ b. cond b (option_map (λ n. n + 1) (channel_in s d).capacity) (channel_in s d).capacity)
+                  (eq-eqb d d refl));
+              retired =
+                  sym
+                  (ap (λ b. (channel_in s d).is_retired || b) (keeps_reader t (Grow p d) d (λ r. refl) refl)
+                  ∙ or-false (channel_in s d).is_retired);
+              reserved = λ none was. keep was;
+            })
+            (λ c differ.
+            record {
+              written = refl;
+              read = refl;
+              capacity =
+                  λ cap. ap (λ b. cond b (option_map (λ n. n + 1) cap) cap) (ne_eqb d c (λ e. differ (sym e)));
+              reader = keeps_reader t (Grow p d) c (λ r. refl) refl;
+            }) c;
+        closed = λ c is. sym (or-false (closed_in s c));
+        waits =
+            λ q is.
+            waits_of_kind t (Grow p d) (is_wait_on_full d) s.waits waits woken (wakes-grow t p d) refl
+            (λ q is. absurd cc) refl q;
+        ends = λ q is. refl;
+        frames = λ q is. refl;
+      }
+    where
+      larger : (o : Option ℕ) → one_more o ≡ option_map (λ n. n + 1) o
+      larger None = refl
+      larger (Some n) = refl
+
+  pub Made-grown : (s1 s2 : Configuration)
+      → s1 ≡ with_channel d (grown (channel_in s1 d).is_reserved (channel_in s d)) s
+      → (IsTrue (channel_in s d).is_reserved → IsTrue (channel_in s1 d).is_reserved)
+      → s2 ≡ with_waits s2.waits s1
+      → AreWoken (is_wait_on_full d) s1.waits s2.waits → AreWaits t s2.waits → Made t (Grow p d) s s2
+  Made-grown s1 s2 grew keep woke woken waits =
+      let whole : s2 ≡ with_waits s2.waits (with_channel d (grown (channel_in s1 d).is_reserved (channel_in s d)) s) =
+      woke ∙ ap (with_waits s2.waits) grew in
+      Made-from t (Grow p d) s s2 shape
+      (subst (λ x. Changes t (Grow p d) s x) (sym whole)
+      (Changes-grown (channel_in s1 d).is_reserved s2.waits keep
+      (subst (λ w. AreWoken (is_wait_on_full d) w s2.waits) (ap (λ x. x.waits) grew) woken)))
+      (subst (λ x. SameLengths s x) (sym whole)
+      (record { channels = length-set s.channels d _; closed = refl; ends = refl; frames = refl }))
+      waits
+
+  pub Legal-grown : (H : List Event) → p < length t.instances → IsRun t H s → OwesGrowth t H p d
+      → Legal t (H ++ Grow p d ∷ [])
+  Legal-grown H there run owes =
+      (Legal-exactly t H (Grow p d)).1 (
+        run.legal,
+        record {
+          numbers = (there, owed_below);
+          due = owes;
+          growth = λ q e other. let same =
+              one_owed t H p d q e owes other in ap (λ x. Grow x d) same.0 ∙ ap (λ x. Grow q x) same.1;
+        },
+        tt,
+      )

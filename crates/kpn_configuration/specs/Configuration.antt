@@ -1,0 +1,84 @@
+-- The configuration of a network: the states of its processes and the contents of its channels at one moment of a
+-- run.
+use Rattle.std.specs.Prelude.{◌≡◌, ℕ, ◌<◌, Bool, true, false, not, IsTrue, is_some, List, [], length, map, Option, Some, None, slice_index_or, slice_set}
+use Rattle.std.specs.Option.{unwrap_or}
+use Rattle.kpn_net.specs.declared.wait.Wait.{Wait}
+use Rattle.kpn_net.specs.declared.wait.Wait.TheVariants.{Nobody}
+use Rattle.kpn_net.specs.Tables.{Tables, channel_at, is_source, program_of}
+use Rattle.kpn_net.specs.Waits.{wait_at, AreWaits}
+use Rattle.kpn_step.specs.Frame.{Frame, fits}
+use Rattle.kpn_chan.specs.Channel.{ChannelState, opened}
+use Rattle.kpn_trace.specs.declared.event.How.{How}
+
+-- for each channel what it holds and whether it is closed; for each process what it waits for, how it ended if it
+-- did,
+-- and the frame where it stands
+pub record Configuration : Type 0 where
+  pub channels : List ChannelState
+  pub closed : List Bool
+  pub waits : List Wait
+  pub ends : List (Option How)
+  pub frames : List Frame
+
+-- ---- its parts by number
+
+-- an empty channel stands for one that is not there
+abbrev pub channel_in : Configuration → ℕ → ChannelState
+channel_in s c = slice_index_or s.channels c (opened None false)
+
+abbrev pub closed_in : Configuration → ℕ → Bool
+closed_in s c = slice_index_or s.closed c false
+
+abbrev pub wait_in : Configuration → ℕ → Wait
+wait_in s p = wait_at s.waits p
+
+abbrev pub end_in : Configuration → ℕ → Option How
+end_in s p = slice_index_or s.ends p None
+
+-- a frame without variables
+abbrev pub no_frame : Frame
+no_frame = record { outer = []; inner = record { block = 0; place = 0 }; variables = [] }
+
+-- it stands for one that is not there
+abbrev pub frame_in : Configuration → ℕ → Frame
+frame_in s p = slice_index_or s.frames p no_frame
+
+-- the capacity of each channel, 0 where it has none
+abbrev pub capacities : Configuration → List ℕ
+capacities s = map (λ c. unwrap_or c.capacity 0) s.channels
+
+-- ---- a configuration of a network
+
+-- it has a channel and a mark for each channel of the network, and a wait, an end and a frame for each process; a
+-- source has no capacity, all others have one; each process waits on a channel of its own, and its frame is one of
+-- its program
+pub record IsConfiguration (t : Tables) (s : Configuration) : Type 0 where
+  pub channels : length s.channels ≡ length t.channels
+  pub closed : length s.closed ≡ length t.channels
+  pub ends : length s.ends ≡ length t.instances
+  pub frames : length s.frames ≡ length t.instances
+  pub waits : AreWaits t s.waits
+  pub bounded : (c : ℕ) → c < length t.channels → is_some (channel_in s c).capacity ≡ not (is_source (channel_at t c))
+  pub fit : (p : ℕ) → p < length t.instances → IsTrue (fits (program_of t p) (frame_in s p))
+
+-- a process has not ended and waits for nobody
+pub record IsFree (s : Configuration) (p : ℕ) : Type 0 where
+  pub lives : end_in s p ≡ None
+  pub free : wait_in s p ≡ Nobody
+
+-- ---- one part of it changed
+
+abbrev pub with_channel : (c : ℕ) → ChannelState → Configuration → Configuration
+with_channel c channel s = record s { channels = slice_set s.channels c channel }
+
+abbrev pub with_closed : (c : ℕ) → Configuration → Configuration
+with_closed c s = record s { closed = slice_set s.closed c true }
+
+abbrev pub with_waits : List Wait → Configuration → Configuration
+with_waits waits s = record s { waits = waits }
+
+abbrev pub with_end : (p : ℕ) → How → Configuration → Configuration
+with_end p how s = record s { ends = slice_set s.ends p (Some how) }
+
+abbrev pub with_frame : (p : ℕ) → Frame → Configuration → Configuration
+with_frame p frame s = record s { frames = slice_set s.frames p frame }

@@ -1,0 +1,36 @@
+-- Whom an event on a channel wakes: its writer that waits on it as full, or its reader that waits on it as empty.
+use Rattle.std.specs.Prelude.{◌≡◌, ℕ, Bool, false, nat_eq, if◌then◌else◌, List, Option, Some, None}
+use Rattle.kpn_net.specs.declared.wait.Wait.{Wait}
+use Rattle.kpn_net.specs.declared.wait.Wait.TheVariants.{Nobody, Empty, Full}
+use Rattle.kpn_net.specs.declared.tables.End.{End}
+use Rattle.kpn_net.specs.declared.tables.End.TheVariants.{Process, Source, Sink}
+use Rattle.kpn_net.specs.Tables.{Tables, writer_of, reader_of}
+use Rattle.kpn_net.specs.Waits.{wait_at}
+
+-- the wait is on this channel as full
+abbrev pub is_wait_on_full : (c : ℕ) → Wait → Bool
+is_wait_on_full c (Full d) = nat_eq c d
+is_wait_on_full c wait = false
+
+-- the wait is on this channel as empty
+abbrev pub is_wait_on_empty : (c : ℕ) → Wait → Bool
+is_wait_on_empty c (Empty d) = nat_eq c d
+is_wait_on_empty c wait = false
+
+-- the process at an end of a channel, where its wait is of this kind
+abbrev pub waiting_at : (kind : Wait → Bool) → List Wait → End → Option ℕ
+waiting_at kind waits (Process q) = if kind (wait_at waits q) then Some q else None
+waiting_at kind waits Source = None
+waiting_at kind waits Sink = None
+
+-- the writer of a channel, where it waits on it as full
+abbrev pub waiting_writer : Tables → List Wait → (c : ℕ) → Option ℕ
+waiting_writer t waits c = waiting_at (is_wait_on_full c) waits (writer_of t c)
+
+-- the reader of a channel, where it waits on it as empty
+abbrev pub waiting_reader : Tables → List Wait → (c : ℕ) → Option ℕ
+waiting_reader t waits c = waiting_at (is_wait_on_empty c) waits (reader_of t c)
+
+-- who had a wait of this kind waits for nobody, all others for what they did
+pub record AreWoken (kind : Wait → Bool) (before after : List Wait) : Type 0 where
+  pub each : (q : ℕ) → wait_at after q ≡ (if kind (wait_at before q) then Nobody else wait_at before q)

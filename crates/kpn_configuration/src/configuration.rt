@@ -1,0 +1,132 @@
+//! A configuration as it is kept: the channels, and for each process its wait, its end and its frame.
+ghost use Rattle.std.specs.Prelude.{◌≡◌, ◌<◌, List, length, IsTrue, IsOk, IfOk, is_ok, is_some, if◌then◌else◌};
+ghost use Rattle.kpn_chan.specs.Channel.{with_room, next_item};
+ghost use Rattle.kpn_configuration.specs.Configuration.{channel_in, closed_in, wait_in, end_in, frame_in, with_channel, IsConfiguration};
+ghost use Rattle.kpn_configuration.specs.Run.{IsRun};
+ghost use Rattle.kpn_net.specs.Tables.{Tables};
+ghost use Rattle.kpn_trace.specs.declared.event.Event.{Event};
+
+use kpn_chan::Channel;
+use kpn_cycle::Waits;
+use kpn_net::Wait;
+use kpn_step::Frame;
+use kpn_trace::How;
+use std::alloc::{AllocError, Allocator, Global};
+use std::marker::Model;
+
+mod growth;
+mod outside;
+mod parts;
+mod processes;
+mod start;
+mod steps;
+mod wakes;
+
+pub use processes::Got;
+
+/// The states of the processes of a network and the contents of its channels at one moment of a run.
+///
+/// Each call takes the network whose configuration it is. Contracts see what each channel holds, which
+/// sources are closed, what each process waits for, how it ended if it did, and its frame.
+#[derive(Debug, Drop)]
+pub struct Configuration<A: Allocator = Global> {
+    channels: Vec<Channel<A>, A>,
+    closed: Vec<bool, A>,
+    // the capacity of each channel once more, in the form that the walk along the waits reads
+    capacities: Vec<u32, A>,
+    waits: Waits<A>,
+    ends: Vec<Option<How>, A>,
+    frames: Vec<Frame, A>,
+}
+
+impl<A: Allocator> Model for Configuration<A> {
+    ghost use Rattle.std.specs.Prelude.{◌≡◌, map};
+    ghost use Rattle.std.specs.Option.{unwrap_or};
+    ghost use Rattle.kpn_configuration.specs.Configuration.{Configuration as Seen};
+
+    ghost Value = { Seen };
+
+    ghost view = { λ c. record {
+      channels = c.channels.items;
+      closed = c.closed.items;
+      waits = c.waits;
+      ends = c.ends.items;
+      frames = c.frames.items;
+    } };
+
+    ghost invariant = { λ c.
+        c.capacities.items ≡ map (λ x. unwrap_or x.capacity 0) c.channels.items };
+}
+
+impl<A: Allocator> Configuration<A> {
+    /// A channel, to be looked at.
+    pub fn channel(&self, c: usize) -> &Channel<A>
+        requires { c < length self.now.channels }
+        ensures { result.now ≡ channel_in self.now c }
+    {
+        &self.channels[c]
+    }
+
+    /// Makes room for one more item on a channel, so that the next put or feed there takes no memory. No
+    /// history tells of it. The error is that memory ran out; all is then as before.
+    pub fn reserve_one(&mut self, c: usize) -> Result<(), AllocError>
+        requires { c < length self.old.channels }
+        ensures after { self.new ≡ (if is_ok result then
+            with_channel c (with_room (channel_in self.old c)) self.old else self.old) }
+        ensures already { IsTrue (channel_in self.old c).is_reserved → IsOk result }
+        ensures shape { (t : Tables) → IsConfiguration t self.old → IsConfiguration t self.new }
+        ensures run { (t : Tables) (H : List Event) → IsRun t H self.old → IsRun t H self.new }
+    {
+        self.reserve(c)
+    }
+
+    /// A list of all items that were ever put on a channel, oldest first. The error is that memory ran out.
+    pub fn copy_journal<B: Allocator>(&self, alloc: B, c: usize) -> Result<Vec<i64, B>, AllocError>
+        requires { c < length self.now.channels }
+        ensures { IfOk result (λ items. items.items ≡ (channel_in self.now c).journal) }
+    {
+        self.channels[c].copy_journal(alloc)
+    }
+
+    /// Whether a get from the channel, or a take, would give an item: its reader is there, and an item is
+    /// unread.
+    pub fn has_item(&self, c: usize) -> bool
+        requires { c < length self.now.channels }
+        ensures { result ≡ is_some (next_item (channel_in self.now c)) }
+    {
+        let channel = &self.channels[c];
+        channel.at(channel.read_count()).is_some() && !channel.is_retired()
+    }
+
+    /// Whether a source is closed.
+    pub fn is_closed(&self, c: usize) -> bool
+        requires { c < length self.now.closed }
+        ensures { result ≡ closed_in self.now c }
+    {
+        self.closed[c]
+    }
+
+    /// What a process waits for.
+    pub fn wait(&self, p: usize) -> Wait
+        requires { p < length self.now.waits }
+        ensures { result ≡ wait_in self.now p }
+    {
+        self.waits.get(p)
+    }
+
+    /// How a process has ended, or `None` where it has not.
+    pub fn end_of(&self, p: usize) -> Option<How>
+        requires { p < length self.now.ends }
+        ensures { result ≡ end_in self.now p }
+    {
+        self.ends[p]
+    }
+
+    /// Where a process stands.
+    pub fn frame(&self, p: usize) -> &Frame
+        requires { p < length self.now.frames }
+        ensures { result.now ≡ frame_in self.now p }
+    {
+        &self.frames[p]
+    }
+}

@@ -1,0 +1,91 @@
+//! Growth: which channel has to grow once a process has come to wait, and the channel made larger.
+ghost use Rattle.std.specs.Prelude.{◌≡◌, ◌↔◌, ◌<◌, ℕ, List, [], ◌∷◌, ◌++◌, length, Some, None};
+ghost use Rattle.kpn_trace.specs.declared.event.Event.{Event};
+ghost use Rattle.kpn_trace.specs.declared.event.Event.TheVariants as event;
+ghost use Rattle.kpn_trace.specs.Legal.{OwesGrowth, waiter};
+ghost use Rattle.kpn_trace.specs.Stops.{OwesNothing};
+ghost use Rattle.kpn_trace.specs.Waiting.{waits_of};
+ghost use Rattle.kpn_trace.specs.Channels.{capacity_or_zero};
+ghost use Rattle.kpn_configuration.specs.Configuration.{IsConfiguration, capacities};
+ghost use Rattle.kpn_configuration.specs.Run.{IsRun};
+ghost use Rattle.kpn_configuration.specs.Changes.{Changes};
+ghost use Rattle.kpn_configuration.specs.Owed.{IsOwed, channel_to_grow};
+ghost use Rattle.kpn_cycle.specs.Scan.{cap_in};
+ghost use Rattle.kpn_net.specs.Finding.{Finds};
+ghost use Rattle.kpn_configuration.specs.Woken.{waiting_writer};
+
+use super::Configuration;
+use kpn_cycle::{Found, cycle_through};
+use kpn_net::Network;
+use std::alloc::Allocator;
+
+impl<A: Allocator> Configuration<A> {
+    /// The channel whose growth is owed once process `p` has come to wait: the smallest full channel of the
+    /// cycle of waiting processes through `p`, if its capacity is below the limit.
+    pub fn owed(&self, network: &Network, p: usize) -> Option<usize>
+        requires shape { IsConfiguration network.now self.now }
+        requires process { p < length network.now.instances }
+        ensures channel { (d : ℕ) → ((result ≡ Some d) ↔ IsOwed network.now self.now p d) }
+        ensures growth { (B : List Event) (event : Event) → waiter event ≡ Some p
+            → IsRun network.now (B ++ event ∷ []) self.now
+            → (d : ℕ) → ((result ≡ Some d) ↔ OwesGrowth network.now (B ++ event ∷ []) p d) }
+        ensures nothing { (B : List Event) (event : Event) → waiter event ≡ Some p
+            → IsRun network.now (B ++ event ∷ []) self.now
+            → result ≡ None → OwesNothing network.now (B ++ event ∷ []) }
+    {
+        network.known();
+        let found = self.walk(network, p);
+        self.channel_to_grow(network.limit(), found)
+    }
+
+    /// The cycle of waiting processes through process `p`, and its smallest full channel, whether below the
+    /// limit or not: what a walk along the waits finds.
+    pub fn cycle_from(&self, network: &Network, p: usize) -> Found
+        requires shape { IsConfiguration network.now self.now }
+        requires process { p < length network.now.instances }
+        ensures exact { Finds network.now self.now.waits (cap_in (capacities self.now)) p result }
+        ensures history { (H : List Event) → IsRun network.now H self.now
+            → Finds network.now (waits_of network.now H) (capacity_or_zero network.now H) p result }
+    {
+        network.known();
+        self.walk(network, p)
+    }
+
+    /// What a walk along the waits from process `p` finds.
+    fn walk(&self, network: &Network, p: usize) -> Found
+        requires shape { IsConfiguration network.now self.now }
+        requires process { p < length network.now.instances }
+        ensures exact { Finds network.now self.now.waits (cap_in (capacities self.now)) p result }
+        ensures channel { (c : ℕ) → result ≡ Found.Full c → c < length self.now.channels }
+    {
+        cycle_through(network, &self.waits, self.capacities.as_slice(), p)
+    }
+
+    /// The channel that a search found, if its capacity is below the limit.
+    fn channel_to_grow(&self, limit: u32, found: Found) -> Option<usize>
+        requires { (c : ℕ) → found ≡ Found.Full c → c < length self.now.channels }
+        ensures { result ≡ channel_to_grow (cap_in (capacities self.now)) limit found }
+    {
+        match found {
+            Found::Full(d) if self.capacities[d] < limit => Some(d),
+            _ => None,
+        }
+    }
+
+    /// The capacity of channel `d`, whose growth is owed for the wait of process `p`, becomes 1 larger.
+    /// Returns the process that this wakes: the writer of the channel, if it waited on it as full.
+    pub fn grow(&mut self, network: &Network, p: usize, d: usize) -> Option<usize>
+        requires shape { IsConfiguration network.now self.old }
+        requires process { p < length network.now.instances }
+        requires owed { IsOwed network.now self.old p d }
+        ensures woken { result ≡ waiting_writer network.now self.old.waits d }
+        ensures changes { Changes network.now (event.Grow p d) self.old self.new }
+        ensures shape { IsConfiguration network.now self.new }
+        ensures run { (H : List Event) → IsRun network.now H self.old → OwesGrowth network.now H p d
+            → IsRun network.now (H ++ event.Grow p d ∷ []) self.new }
+    {
+        network.known();
+        self.enlarge(d);
+        self.wake_writer(network, d)
+    }
+}

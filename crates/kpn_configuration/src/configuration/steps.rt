@@ -1,0 +1,49 @@
+//! Steps of a process between its events: they change its frame alone, and no event tells of them.
+ghost use Rattle.std.specs.Prelude.{◌≡◌, ◌<◌, ℕ, List, length};
+ghost use Rattle.kpn_net.specs.Tables.{program_of};
+ghost use Rattle.kpn_step.specs.Stops.{IsAdvance, IsAtPort, IsWithinQuota, advanced_of};
+ghost use Rattle.kpn_trace.specs.declared.event.Event.{Event};
+ghost use Rattle.kpn_configuration.specs.Configuration.{frame_in, with_frame, IsConfiguration};
+ghost use Rattle.kpn_configuration.specs.Run.{IsRun};
+ghost use Rattle.kpn_configuration.specs.Due.{Stands};
+
+use super::Configuration;
+use kpn_net::Network;
+use kpn_step::{Advance, Stop};
+use std::alloc::Allocator;
+
+impl<A: Allocator> Configuration<A> {
+    /// Steps process `p` from its frame on, by no more steps than the quota, and tells how many there were.
+    /// Afterwards the process stands at this stop.
+    pub fn step(&mut self, network: &Network, p: usize, quota: u32, stop: &mut Stop) -> u32
+        requires shape { IsConfiguration network.now self.old }
+        requires process { p < length network.now.instances }
+        ensures advance { let t = network.now in
+            IsAdvance (advanced_of (program_of t p) (frame_in self.old p) (frame_in self.new p) result stop.new) }
+        ensures quota { let t = network.now in IsWithinQuota quota
+            (advanced_of (program_of t p) (frame_in self.old p) (frame_in self.new p) result stop.new) }
+        ensures port { IsAtPort (program_of network.now p) (frame_in self.new p) stop.new }
+        ensures after { self.new ≡ with_frame p (frame_in self.new p) self.old }
+        ensures shape { IsConfiguration network.now self.new }
+        ensures run { (H : List Event) → IsRun network.now H self.old
+            → IsRun network.now H self.new }
+    {
+        self.run_frame(network, p, quota, stop)
+    }
+
+    /// Process `p` stands where these steps, which began at its frame, have led.
+    pub fn step_to(&mut self, network: &Network, p: usize, advance: &Advance)
+        requires shape { IsConfiguration network.now self.old }
+        requires process { p < length network.now.instances }
+        requires program { advance.now.program ≡ program_of network.now p }
+        requires from { advance.now.from ≡ frame_in self.old p }
+        ensures after { self.new ≡ with_frame p advance.now.to self.old }
+        ensures stands { Stands network.now self.new p advance.now.stop }
+        ensures shape { IsConfiguration network.now self.new }
+        ensures run { (H : List Event) → IsRun network.now H self.old
+            → IsRun network.now H self.new }
+    {
+        advance.known();
+        self.load_frame(p, advance.to());
+    }
+}

@@ -1,0 +1,8 @@
+//! What a legal history leads to: the states of the processes of a network and the contents of its channels at one
+//! moment of a run, and how each event changes them.
+#![tactic(auto)]
+
+mod configuration;
+pub mod laws;
+
+pub use configuration::{Configuration, Got};
