@@ -8,7 +8,7 @@ use std::alloc::Global;
 /// Copies one of two frames with two variables, in a block inside the body, again and again, and compares it with the
 /// first: how often they were equal.
 pub fn equal_frames(alloc: Global, count: u64) -> Result<u64> {
-    let Ok(program) = Program::new(0, 0, 1, 1, counting(alloc)?) else {
+    let Ok(program) = Program::new(alloc, 0, 0, 1, 1, counting(alloc)?) else {
         bail!("the loop is no program");
     };
     if program.pars() != 1 {

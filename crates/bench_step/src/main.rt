@@ -18,7 +18,7 @@ fn computed(alloc: Global, name: &str, turns: i64) -> Result<i64> {
     let Some(blocks) = blocks_of(alloc, name)? else {
         bail!("the loops are counting, ifs, arithmetic, computing, remainder and deep");
     };
-    let Ok(program) = Program::new(0, 1, 1, 2, blocks) else {
+    let Ok(program) = Program::new(alloc, 0, 1, 1, 2, blocks) else {
         bail!("the loop is no program");
     };
     if program.pars() != 1 || program.ins() != 0 {

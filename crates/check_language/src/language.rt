@@ -1,4 +1,3 @@
-//! The process language: values, programs, and the plain program.
+//! The process language: programs, and the plain program.
 mod plain;
 mod programs;
-mod values;

@@ -12,7 +12,7 @@ use std::test::Fail;
 fn copy_program(alloc: Global) -> Result<Program, Fail> {
     let body = vec![in alloc; Stmt::While(Expr::Num(1), 1)]?;
     let inner = vec![in alloc; Stmt::Read(0, 0), Stmt::Write(0, Expr::Var(0))]?;
-    Ok(Program::new(1, 1, 0, 1, vec![in alloc; body, inner]?)?)
+    Ok(Program::new(alloc, 1, 1, 0, 1, vec![in alloc; body, inner]?)?)
 }
 
 // if 1 { if 0 { } else { k = 7; } } else { } write o k;
@@ -21,7 +21,7 @@ fn nested_program(alloc: Global) -> Result<Program, Fail> {
     let first = vec![in alloc; Stmt::If(Expr::Num(0), 2, 3)]?;
     let seven = vec![in alloc; Stmt::Assign(0, Expr::Num(7))]?;
     let blocks = vec![in alloc; body, first, vec![in alloc]?, seven, vec![in alloc]?]?;
-    Ok(Program::new(0, 1, 0, 1, blocks)?)
+    Ok(Program::new(alloc, 0, 1, 0, 1, blocks)?)
 }
 
 // 1 / 0
@@ -34,7 +34,7 @@ fn no_value(alloc: Global) -> Result<Expr, Fail> {
 // k = 1; and a second statement
 fn faulting_program(alloc: Global, second: Stmt) -> Result<Program, Fail> {
     let body = vec![in alloc; Stmt::Assign(0, Expr::Num(1)), second]?;
-    Ok(Program::new(0, 1, 0, 1, vec![in alloc; body]?)?)
+    Ok(Program::new(alloc, 0, 1, 0, 1, vec![in alloc; body]?)?)
 }
 
 fn check_alone(
@@ -76,7 +76,14 @@ fn copy_alone_within_each_quota(rt: HostRuntime) -> Result<(), Fail> {
 
 #[test]
 fn finished_bodies_and_branches(rt: HostRuntime) -> Result<(), Fail> {
-    let empty = Program::new(0, 0, 0, 0, vec![in rt.alloc(); vec![in rt.alloc()]?]?)?;
+    let empty = Program::new(
+        rt.alloc(),
+        0,
+        0,
+        0,
+        0,
+        vec![in rt.alloc(); vec![in rt.alloc()]?]?,
+    )?;
     check_alone(&rt, rt.alloc(), &empty, &[], 0, &[], AloneStop::Done)?;
     let nested = nested_program(rt.alloc())?;
     let talk = [Said::Put(0, 7)];

@@ -1,4 +1,5 @@
 pub mod Alike
+pub mod Chains
 pub mod Families
 pub mod Following
 pub mod Further

@@ -10,3 +10,4 @@ pub mod View
 pub mod Codes
 pub mod Plain
 pub mod Counting
+pub mod Flat

@@ -2,17 +2,21 @@
 //! expression, and what a process does when it runs alone on whole lists of items.
 #![tactic(auto)]
 
+mod chain;
 pub mod laws;
 mod plain;
 mod program;
 mod sequence;
 mod syntax;
 mod talk;
+mod turn;
 mod value;
 
+pub use chain::{Chain, Links, Start};
 pub use plain::{Run, run_alone};
 pub use program::{Program, ProgramFault, same};
 pub use sequence::{Sequence, item_at};
 pub use syntax::{BlockId, Expr, Op, Stmt};
 pub use talk::{Ending, Said};
+pub use turn::Turn;
 pub use value::{Fault, eval};

@@ -14,13 +14,15 @@ pub enum Fault {
     ZeroDivisor,
 }
 
-fn truth(holds: bool) -> i64
+#[inline(always)]
+pub(crate) fn truth(holds: bool) -> i64
     ensures { result ≡ truth_of holds }
 {
     if holds { 1 } else { 0 }
 }
 
-fn apply(op: Op, left: i64, right: i64) -> Result<i64, Fault>
+#[inline(always)]
+pub(crate) fn apply(op: Op, left: i64, right: i64) -> Result<i64, Fault>
     ensures { result ≡ result_of op left right }
 {
     match op {

@@ -1,3 +1,4 @@
+pub mod Position
 pub mod Frame
 pub mod Step
 pub mod Residual

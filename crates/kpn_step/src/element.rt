@@ -5,6 +5,7 @@ ghost use Rattle.arrayvec.specs.ArrayVec.{array_vec_len};
 use arrayvec::ArrayVec;
 
 /// Writes one element.
+#[inline(always)]
 pub(crate) fn set_element<T: Drop, const N: usize>(
     items: &mut ArrayVec<T, N>,
     index: usize,
