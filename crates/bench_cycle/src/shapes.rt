@@ -28,7 +28,7 @@ fn programs(alloc: Global) -> Result<Option<Vec<Program>>, AllocError> {
     let mut programs = Vec::new(alloc);
     for (ins, outs) in [(0, 0), (0, 1), (1, 1)] {
         let body = vec![in alloc; Vec::new(alloc)]?;
-        let Ok(program) = Program::new(ins, outs, 0, 0, body) else {
+        let Ok(program) = Program::new(alloc, ins, outs, 0, 0, body) else {
             return Ok(None);
         };
         programs.push(program)?;

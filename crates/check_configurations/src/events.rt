@@ -1,12 +1,10 @@
 //! One event made by its call, after it is asserted that it may follow.
-ghost use Rattle.std.specs.Prelude.{◌≡◌, ◌<◌, true, length, IsTrue, IsSome};
+ghost use Rattle.std.specs.Prelude.{◌≡◌, ◌<◌, true, length, IsTrue};
 ghost use Rattle.kpn_net.specs.Tables.{channel_at, is_sink};
-ghost use Rattle.kpn_chan.specs.Channel.{next_item};
 ghost use Rattle.kpn_configuration.specs.Configuration.{IsConfiguration, IsFree};
 ghost use Rattle.kpn_configuration.specs.Due.{Stands, ReadsFrom, WritesTo, stop_of};
 
 use crate::feeding::feed;
-use kpn_chan::Channel;
 use kpn_configuration::Configuration;
 use kpn_lang::Fault;
 use kpn_net::laws::one_writer_and_one_reader;
@@ -94,13 +92,6 @@ fn stop_of(how: How) -> Stop
     }
 }
 
-/// Whether a channel has an item for its reader.
-fn has_item(channel: &Channel) -> bool
-    ensures { IsTrue result → IsSome (next_item channel.now) }
-{
-    channel.at(channel.read_count()).is_some() && !channel.is_retired()
-}
-
 /// Whether the outside reads a channel.
 fn is_sink(network: &Network, c: usize) -> bool
     requires { c < length network.now.channels }
@@ -122,7 +113,7 @@ fn get(
     ensures { IsConfiguration network.now configuration.new }
 {
     to_read(rt, network, configuration, p, c);
-    assert!(rt; has_item(configuration.channel(c)));
+    assert!(rt; configuration.has_item(c));
     let got = configuration.get(network, p, c);
     assert_eq!(rt; got.item, item);
     got.woken
@@ -210,7 +201,7 @@ fn take(
 {
     assert!(rt; c < network.channels());
     assert!(rt; is_sink(network, c));
-    assert!(rt; has_item(configuration.channel(c)));
+    assert!(rt; configuration.has_item(c));
     let got = configuration.take(network, c);
     assert_eq!(rt; got.item, item);
     got.woken

@@ -1,5 +1,6 @@
 -- Worked networks. The text of each process stands above its tables.
 use Rattle.std.specs.Prelude.{ℕ, pos, List, [], ◌∷◌}
+use Rattle.kpn_limits.specs.declared.TheConstants.{MAX_CAPACITY}
 use Rattle.kpn_lang.specs.declared.syntax.Op.TheVariants.{Add, Mul, Div}
 use Rattle.kpn_lang.specs.Syntax.{Statement, Term, Num, Var, Bin, Read, Write, While}
 use Rattle.kpn_lang.specs.Parts.{Parts}
@@ -19,7 +20,7 @@ instance program ins outs = record { program = program; ins = ins; outs = outs; 
 -- tables with the greatest limit
 abbrev tables : List Parts → List Instance → List ChannelSpec → Tables
 tables programs instances channels =
-    record { programs = programs; instances = instances; channels = channels; limit = 1048576 }
+    record { programs = programs; instances = instances; channels = channels; limit = MAX_CAPACITY }
 
 -- ---- a copy from a source to a sink
 
@@ -85,7 +86,7 @@ two_with limit = record {
 }
 
 unfoldable pub two_network : Tables
-two_network = two_with 1048576
+two_network = two_with MAX_CAPACITY
 
 -- the same where no channel may grow
 unfoldable pub two_at_limit : Tables

@@ -1,12 +1,10 @@
 //! Networks: each refusal at its place and beside the one before it, sizes at their limits, who is at the
-//! ends of a channel, and rounds.
-use crate::worked::{copying, idle, instance, kahn, two};
-use kpn_lang::Sequence;
+//! ends of a channel, and equality.
+use crate::worked::{idle, idle_network, instance};
 use kpn_limits::MAX_CAPACITY;
 use kpn_net::ChannelSpec::{Inner, Sink, Source};
-use kpn_net::{ChannelSpec, End, Instance, NetFault, Network, rounds, same};
+use kpn_net::{ChannelSpec, End, Instance, NetFault, Network, same};
 use std::alloc::{AllocError, Global};
-use std::process::Abort;
 use std::test::Fail;
 
 type Ports<'a> = (usize, &'a [usize], &'a [usize]);
@@ -153,61 +151,31 @@ fn takes_networks_at_the_limits(rt: HostRuntime) -> Result<(), Fail> {
     Ok(())
 }
 
-// The lists of the n-th iterate, each against the one that is wanted.
-fn iterates(
-    rt: &impl Abort,
-    alloc: Global,
-    network: &Network,
-    given: &[Sequence<i64>],
-    n: u32,
-    wanted: &[&[i64]],
-) -> Result<(), AllocError> {
-    assert_eq!(rt; given.len(), network.sources());
-    let lists = rounds(alloc, network, given, n)?.into_vec();
-    assert_eq!(rt; lists.len(), wanted.len());
-    for (list, want) in lists.iter().zip(wanted) {
-        assert_eq!(rt; list.as_slice(), *want);
-    }
-    Ok(())
-}
-
-#[test]
-fn rounds_of_the_worked_networks(rt: HostRuntime) -> Result<(), Fail> {
-    let a = rt.alloc();
-    let copy = copying(a)?;
-    let given = [Sequence::from_vec([1, 2, 3].to_vec(a)?)];
-    iterates(&rt, a, &copy, &given, 0, &[&[1, 2, 3], &[]])?;
-    iterates(&rt, a, &copy, &given, 2, &[&[1, 2, 3], &[1, 2]])?;
-    iterates(&rt, a, &copy, &given, 3, &[&[1, 2, 3], &[1, 2, 3]])?;
-    let example = kahn(a)?;
-    iterates(&rt, a, &example, &[], 0, &[&[], &[], &[], &[], &[], &[]])?;
-    iterates(
-        &rt,
-        a,
-        &example,
-        &[],
-        3,
-        &[&[0, 1], &[0], &[1], &[0], &[1], &[0, 1]],
-    )?;
-    iterates(&rt, a, &two(a, 9)?, &[], 2, &[&[1, 2], &[3], &[312]])?;
-    assert!(rt; same(&kahn(a)?, &example) && !same(&copy, &example));
-    Ok(())
+/// Whether a network of process 0 between the source 0 and the sink 1 has its tables.
+fn has_its_tables(network: &Network) -> bool {
+    network.programs() == 1
+        && network.instances() == 1
+        && network.channels() == 2
+        && network.limit() == 9
+        && (network.writer_of(0), network.reader_of(0)) == (End::Source, End::Process(0))
+        && (network.writer_of(1), network.reader_of(1)) == (End::Process(0), End::Sink)
+        && (network.is_source(0), network.is_source(1)) == (true, false)
+        && (network.cap_of(0), network.cap_of(1)) == (None, Some(1))
+        && network.program_number(0) == 0
+        && (network.program(0).ins(), network.program_at(0).outs()) == (1, 1)
+        && network.ins(0) == [0].as_slice()
+        && network.outs(0) == [1].as_slice()
+        && network.pars(0).is_empty()
 }
 
 #[test]
 fn tables_of_a_network(rt: HostRuntime) -> Result<(), Fail> {
-    let network = copying(rt.alloc())?;
-    assert!(rt; network.programs() == 1 && network.instances() == 1 && network.channels() == 2);
-    assert!(rt; network.writer_of(0) == End::Source && network.reader_of(0) == End::Process(0));
-    assert!(rt; network.writer_of(1) == End::Process(0) && network.reader_of(1) == End::Sink);
-    assert!(rt; network.is_source(0) && !network.is_source(1));
-    assert!(rt; network.cap_of(0).is_none() && network.cap_of(1) == Some(1));
-    assert!(rt; network.limit() == 9 && network.program_number(0) == 0);
-    assert!(rt;
-        network.ins(0) == [0].as_slice()
-            && network.outs(0) == [1].as_slice()
-            && network.pars(0).is_empty()
-    );
-    assert!(rt; network.program(0).ins() == 1 && network.program_at(0).outs() == 1);
+    let a = rt.alloc();
+    let ports: [(&[usize], &[usize]); 1] = [(&[0], &[1])];
+    let channels = [Source, Sink(1)];
+    let network = idle_network(a, &ports, &channels, 9)?;
+    assert!(rt; has_its_tables(&network));
+    assert!(rt; same(&network, &idle_network(a, &ports, &channels, 9)?));
+    assert!(rt; !same(&network, &idle_network(a, &ports, &channels, 8)?));
     Ok(())
 }

@@ -18,3 +18,4 @@ pub mod Starting
 pub mod Talking
 pub mod Woken
 pub mod Waking
+pub mod Verdicts

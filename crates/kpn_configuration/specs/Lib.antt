@@ -7,3 +7,4 @@ pub mod Woken
 pub mod EndSoFar
 pub mod Quiet
 pub mod Settled
+pub mod Stopped

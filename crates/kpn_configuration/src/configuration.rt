@@ -20,6 +20,7 @@ mod parts;
 mod processes;
 mod start;
 mod steps;
+mod verdicts;
 mod wakes;
 
 pub use processes::Got;

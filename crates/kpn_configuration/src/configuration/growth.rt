@@ -52,7 +52,7 @@ impl<A: Allocator> Configuration<A> {
     }
 
     /// What a walk along the waits from process `p` finds.
-    fn walk(&self, network: &Network, p: usize) -> Found
+    pub(super) fn walk(&self, network: &Network, p: usize) -> Found
         requires shape { IsConfiguration network.now self.now }
         requires process { p < length network.now.instances }
         ensures exact { Finds network.now self.now.waits (cap_in (capacities self.now)) p result }

@@ -4,7 +4,7 @@ ghost use Rattle.std.specs.Option.{unwrap_or};
 ghost use Rattle.kpn_net.specs.Tables.{channel_at, instance_at, program_of, capacity};
 ghost use Rattle.kpn_step.specs.Frame.{start_frame};
 ghost use Rattle.kpn_chan.specs.Channel.{opened};
-ghost use Rattle.kpn_configuration.specs.Configuration.{no_frame};
+ghost use Rattle.kpn_configuration.specs.Configuration.{no_frame, frame_in};
 ghost use Rattle.kpn_configuration.specs.Run.{IsRun};
 
 use super::Configuration;
@@ -19,7 +19,10 @@ impl<A: Allocator + Copy> Configuration<A> {
     /// The configuration of a network at the start: its channels are empty, and each process stands at its
     /// beginning. The error is that memory ran out.
     pub fn new(alloc: A, network: &Network) -> Result<Self, AllocError>
-        ensures { IfOk result (λ made. IsRun network.now [] made) }
+        ensures run { IfOk result (λ made. IsRun network.now [] made) }
+        ensures frames { let t = network.now in
+            IfOk result (λ made. (p : ℕ) → p < length t.instances
+            → frame_in made p ≡ start_frame (program_of t p) (instance_at t p).pars) }
     {
         network.known();
         let channels = channels_at_start(alloc, network)?;

@@ -9,8 +9,8 @@ invariant_of-result g c =
     c.in_ok-channels.ensures.len c.in_ok-capacities.ensures.len c.in_ok-channels.ensures.each
     c.in_ok-capacities.ensures.each
 
-pub returns : goal.returns
-returns g c =
+pub returns-clause-run : goal.returns-clause-run
+returns-clause-run g c =
     IsRun-start c.args.network.now c.known.ensures _ c.in_ok-channels.ensures.len c.in_ok-channels.ensures.each
     (c.in_ok-closed.ensures ∙ ap (λ n. replicate n false) c.channels.ensures)
     (c.in_ok-waits.ensures ∙ ap (λ n. replicate n Nobody) c.instances.ensures)

@@ -1,0 +1,13 @@
+use Rattle.std.proofs.Common.{sym, ◌∙◌, arith}
+use Rattle.kpn_configuration.proofs.Verdicts.{quiet_yes, quiet_no}
+use Rattle.kpn_configuration.proofs.configuration.Configuration.all_quiet.Goals as goal
+
+pub returns-then-not-is_quiet_at : goal.returns-then-not-is_quiet_at
+returns-then-not-is_quiet_at g c =
+    quiet_no c.args.network.now c.args.self.now c.loop-p.p (let n = c.instances-p-end.ensures in omega arith)
+    (sym c.is_quiet_at.ensures ∙ c.if-not-is_quiet_at.true)
+
+pub returns : goal.returns
+returns g c =
+    quiet_yes c.args.network.now c.args.self.now
+    (λ p there. c.loop-p.invariant p (let n = c.instances-p-end.ensures in omega arith))
