@@ -1,0 +1,353 @@
+-- A commit and a step in place: a process is held, stands where its steps have led, and is answered there.
+use Rattle.std.proofs.Common.{◌≡◌, ◌≢◌, ℕ, ◌+◌, ◌-◌, ◌<◌, ◌^◌, ℤ, true, false, cond, IsTrue, [], length, set, Option, Some, None, refl, sym, ap, ◌∙◌, subst, inl, inr, arith, IfSome, IfNone, Result, Ok, Err, slice_index}
+use Rattle.std.proofs.lemmas.Bool.{cases_eq, cases_lt, false≢true}
+use Rattle.std.proofs.lemmas.List.{length-set, get_or-set_same, get_or-set_other, get_or_past}
+use Rattle.kpn_net.specs.Tables.{Tables, instance_at, program_of, channel_at, is_source, is_sink}
+use Rattle.kpn_step.specs.Frame.{Frame}
+use Rattle.kpn_step.specs.declared.stop.Stop.{Stop}
+use Rattle.kpn_step.specs.declared.stop.Stop.TheVariants as stop
+use Rattle.kpn_step.specs.Stops.{Advanced, IsAdvance, IsAtPort, IsWithinQuota}
+use Rattle.kpn_trace.specs.declared.event.Event.{Event}
+use Rattle.kpn_trace.specs.declared.state.State.TheVariants.{Ready, Held}
+use Rattle.kpn_trace.specs.Talks.{is_of_process, process_events}
+use Rattle.kpn_trace.specs.Legal.{waiter}
+use Rattle.kpn_trace.proofs.AfterEvent.{process_events-next}
+use Rattle.kpn_trace.specs.Views.{is_held}
+use Rattle.kpn_configuration.specs.Configuration.{channel_in, end_in, wait_in, frame_in}
+use Rattle.kpn_configuration.proofs.Moving.{IsRun-moved}
+use Rattle.kpn_configuration.proofs.Reserving.{IsRun-reserved}
+use Rattle.kpn_schedule.specs.Schedule.{Schedule, state_at, HoldsFirst}
+use Rattle.kpn_book.specs.declared.answers.Done.{Done}
+use Rattle.kpn_book.specs.Book.{Book, IsHeld, held_count, standing_at, put_back, IsClaimed}
+use Rattle.kpn_book.specs.Commits.{IsWriteTo, Settles, IsOwnAdvance, Commits}
+use Rattle.kpn_book.specs.Kept.{IsStateBy, IsKept}
+use Rattle.kpn_book.specs.Open.{Open, Follows, of_process, claims_by, IsReserved, is_but_reserved, reserved_on, reserves_by, reserves_item_by}
+use Rattle.kpn_book.proofs.Counting.{held_in, held_more}
+use Rattle.kpn_book.specs.Stepping.{ClaimsAndSteps, StepsNext, StepsInVain}
+use Rattle.kpn_book.proofs.Appended.{claimed_is_held}
+use Rattle.kpn_book.proofs.Reserved.{settles_unreserved, is_reserved_here}
+use Rattle.kpn_configuration.specs.Changes.{IsChannelAt}
+use Rattle.kpn_book.proofs.Answering.{put_back_in_step, put_back_released, sound_after}
+
+-- ---- memory that is reserved
+
+pub kept_reserved_on : (b : Book) → IsKept b → (c : ℕ) → c < length b.configuration.channels → IsKept (reserved_on c b)
+kept_reserved_on b kept c below = record {
+  in_step = record {
+    run =
+        IsRun-reserved b.configuration c below b.tables b.history true (reserved_on c b).configuration refl
+        kept.in_step.run;
+    processes = kept.in_step.processes;
+    states = kept.in_step.states;
+  };
+  nothing_owed = kept.nothing_owed;
+  committed = kept.committed;
+  countable = kept.countable;
+}
+
+module _ (s : Stop) (b o : Book) (but : is_but_reserved s b o) where
+  -- what holds of the book and of each book with an item reserved
+  by_cases : (P : Book → Type 0) → P b → ((c : ℕ) → c < length b.configuration.channels → P (reserved_on c b)) → P o
+  by_cases P same reserved =
+      elim but [
+        | inl is ↦ subst P (sym is) same
+        | inr is ↦ subst P (sym is.1.2) (reserved is.1.0 is.1.1)
+      ]
+
+  pub kept_reserved : IsKept b → IsKept o
+  kept_reserved kept = by_cases IsKept kept (kept_reserved_on b kept)
+
+  pub held_reserved : (p : ℕ) → IsHeld b p → IsHeld o p
+  held_reserved p held =
+      by_cases (λ x. IsHeld x p) held (λ c below. record { there = held.there; held = held.held })
+
+  pub tables_reserved : o.tables ≡ b.tables
+  tables_reserved = by_cases (λ x. x.tables ≡ b.tables) refl (λ c below. refl)
+
+  pub frame_reserved : (p : ℕ) → frame_in o.configuration p ≡ frame_in b.configuration p
+  frame_reserved p =
+      by_cases (λ x. frame_in x.configuration p ≡ frame_in b.configuration p) refl (λ c below. refl)
+
+  pub standing_reserved : (p : ℕ) (f : Frame) → is_but_reserved s (standing_at p f b) (standing_at p f o)
+  standing_reserved p f =
+      elim but [
+        | inl is ↦ inl (ap (standing_at p f) is)
+        | inr is ↦ inr (is.0, (is.1.0, is.1.1, ap (standing_at p f) is.1.2))
+      ]
+
+  pub settles_reserved : (p : ℕ) (answer : Done) (a : Book) → Settles p s answer o a → Settles p s answer b a
+  settles_reserved p answer a is =
+      elim but [
+        | inl same ↦ subst (λ x. Settles p s answer x a) same is
+        | inr more ↦
+            settles_unreserved b more.1.0 more.1.1 p s answer a more.0
+            (subst (λ x. Settles p s answer x a) more.1.2 is)
+      ]
+
+-- ---- a process that stands elsewhere
+
+pub kept_moved : (b : Book) → IsKept b → (p : ℕ) → p < length b.tables.instances → (a : Advanced) → IsAdvance a
+    → IsOwnAdvance b p a → IsKept (standing_at p a.to b)
+kept_moved b kept p there a advance own = record {
+  in_step = record {
+    run =
+        IsRun-moved b.tables b.configuration p a.to there kept.in_step.run.shape b.history a advance own.program
+        own.from refl kept.in_step.run;
+    processes = kept.in_step.processes;
+    states = kept.in_step.states;
+  };
+  nothing_owed = kept.nothing_owed;
+  committed = kept.committed;
+  countable = kept.countable;
+}
+
+pub held_moved : (b : Book) (p q : ℕ) (f : Frame) → IsHeld b q → IsHeld (standing_at p f b) q
+held_moved b p q f held = record { there = held.there; held = held.held }
+
+-- ---- a process that is put back
+
+pub kept_put_back : (b : Book) → IsKept b → (p : ℕ) → IsHeld b p → IsKept (put_back p b)
+kept_put_back b kept p held =
+    let released = put_back_released b p held in
+    let count = kept.countable in
+    record {
+      in_step = put_back_in_step b kept.in_step p held;
+      nothing_owed = kept.nothing_owed;
+      committed = kept.committed;
+      countable = omega (arith, released, count);
+    }
+
+-- ---- a process that is claimed
+
+next_counts : (commits held now : ℕ) → (commits + held ≡ 2 ^ 64 - 1 → ⊥) → commits + held < 2 ^ 64 → now ≡ held + 1
+    → commits + now < 2 ^ 64
+next_counts commits held now less count is =
+    elim (cases_eq (commits + held) (2 ^ 64 - 1)) [
+      | inl same ↦ absurd (less same)
+      | inr other ↦ omega (arith, other, count, is)
+    ]
+
+module _ (b : Book) (kept : IsKept b) (p : ℕ) (s : Schedule) (holds : HoldsFirst p b.schedule s)
+    (more : b.commits + held_count b ≡ 2 ^ 64 - 1 → ⊥) where
+  abbrev claimed_book : Book
+  claimed_book = record b { schedule = s }
+
+  free_state : IsStateBy (end_in b.configuration p) (wait_in b.configuration p) Held
+  free_state =
+      let there = holds.there in
+      let long = kept.in_step.processes in
+      subst (λ x. IsStateBy (end_in b.configuration p) (wait_in b.configuration p) x) holds.was_ready
+      (kept.in_step.states p (omega (arith, there, long)))
+
+  states_then : (q : ℕ) → q < length b.tables.instances
+      → IsStateBy (end_in b.configuration q) (wait_in b.configuration q) (state_at s.states q)
+  states_then q there =
+      subst (λ xs. IsStateBy (end_in b.configuration q) (wait_in b.configuration q) (state_at xs q)) (sym holds.states)
+      (elim (cases_eq q p) [
+        | inl same ↦
+            subst
+            (λ z. IsStateBy (end_in b.configuration z) (wait_in b.configuration z)
+            (state_at (set b.schedule.states p Held) z)) (sym same)
+            (subst (λ x. IsStateBy (end_in b.configuration p) (wait_in b.configuration p) x)
+            (sym (get_or-set_same b.schedule.states p Held Ready holds.there)) free_state)
+        | inr other ↦
+            subst (λ x. IsStateBy (end_in b.configuration q) (wait_in b.configuration q) x)
+            (sym (get_or-set_other b.schedule.states p q Held Ready other)) (kept.in_step.states q there)
+      ])
+
+  held_then : held_in s.states ≡ held_count b + 1
+  held_then =
+      ap held_in holds.states
+      ∙ held_more b.schedule.states p holds.there (ap is_held holds.was_ready)
+
+  kept_with : IsKept claimed_book
+  kept_with =
+      let count = kept.countable in
+      let held = held_then in
+      record {
+        in_step = record {
+          run = kept.in_step.run;
+          processes = ap length holds.states ∙ length-set b.schedule.states p Held ∙ kept.in_step.processes;
+          states = states_then;
+        };
+        nothing_owed = kept.nothing_owed;
+        committed = kept.committed;
+        countable = next_counts b.commits (held_count b) (held_in s.states) more count held;
+      }
+
+pub kept_claimed : (b : Book) → IsKept b → (p : ℕ) (a : Book) → IsClaimed p b a
+    → (b.commits + held_count b ≡ 2 ^ 64 - 1 → ⊥) → IsKept a
+kept_claimed b kept p a claimed more =
+    subst IsKept (sym claimed.same) (kept_with b kept p a.schedule claimed.holds more)
+
+-- ---- what the calls answer
+
+pub claims_from : (r : Option ℕ) (o a : Open) → IsKept o.book
+    → (o.book.commits + held_count o.book ≡ 2 ^ 64 - 1 → ⊥)
+    → IfSome r (λ p. IsClaimed p o.book a.book) → a.room ≡ o.room
+    → IfNone r ((o.book.schedule.queue ≡ []) × (a ≡ o)) → claims_by r o a
+claims_from None o a kept more held room none = (inl none.0, none.1)
+claims_from (Some p) o a kept more held room none = (held, kept_claimed o.book kept p a.book held more, room)
+
+-- the steps are committed
+pub commits_from : (b o1 o2 a : Book) (p : ℕ) (x : Advanced) (answer : Done) → IsHeld b p → IsOwnAdvance b p x
+    → is_but_reserved x.stop b o1 → o2 ≡ standing_at p x.to o1 → Settles p x.stop answer o2 a
+    → Commits p x answer b a
+commits_from b o1 o2 a p x answer held own but is settles = record {
+  held = held;
+  own = own;
+  settles =
+      settles_reserved x.stop (standing_at p x.to b) (standing_at p x.to o1)
+      (standing_reserved x.stop b o1 but p x.to) p answer a
+      (subst (λ z. Settles p x.stop answer z a) is settles);
+}
+
+-- ---- an event of the outside
+
+pub kept_outside : (b a : Book) (e : Event) → IsKept b → Follows e b a → is_of_process e ≡ false → waiter e ≡ None
+    → IsKept a
+kept_outside b a e kept follows nobody none =
+    let sound = sound_after e b a follows none in
+    let count = kept.countable in
+    let before = kept.committed in
+    let held = follows.held in
+    let zero : of_process e ≡ 0 = ap (λ x. cond x 1 0) nobody in
+    let same = follows.appends.commits in
+    let more : process_events a.history ≡ process_events b.history + of_process e =
+    ap process_events follows.appends.history ∙ process_events-next b.history e in
+    record {
+      in_step = sound.in_step;
+      nothing_owed = sound.nothing_owed;
+      committed = omega (arith, before, zero, same, more);
+      countable = omega (arith, count, held, zero, same);
+    }
+
+-- a source or a sink is a channel of the network
+pub source_below : (t : Tables) (c : ℕ) → is_source (channel_at t c) ≡ true → c < length t.channels
+source_below t c is =
+    elim (cases_lt c (length t.channels)) [
+      | inl below ↦ below
+      | inr past ↦ absurd (false≢true (sym (ap is_source (get_or_past t.channels c _ past)) ∙ is))
+    ]
+
+pub sink_below : (t : Tables) (c : ℕ) → is_sink (channel_at t c) ≡ true → c < length t.channels
+sink_below t c is =
+    elim (cases_lt c (length t.channels)) [
+      | inl below ↦ below
+      | inr past ↦ absurd (false≢true (sym (ap is_sink (get_or_past t.channels c _ past)) ∙ is))
+    ]
+
+-- ---- a commit, call by call
+
+pub port_of : (b : Book) (p : ℕ) (x : Advanced) (s : Stop) → s ≡ x.stop → x.program ≡ program_of b.tables p
+    → IsAtPort x.program x.to x.stop → (f : Frame) × IsAtPort (program_of b.tables p) f s
+port_of b p x s is program at = (
+  x.to,
+  subst (λ z. IsAtPort (program_of b.tables p) x.to z) (sym is) (subst (λ z. IsAtPort z x.to x.stop) program at),
+)
+
+pub port_there : (b o : Book) (p : ℕ) (s : Stop) → o.tables ≡ b.tables
+    → (f : Frame) × IsAtPort (program_of b.tables p) f s → (f : Frame) × IsAtPort (program_of o.tables p) f s
+port_there b o p s same at = (at.0, subst (λ t. IsAtPort (program_of t p) at.0 s) (sym same) at.1)
+
+pub item_there : (t : Tables) (p : ℕ) (s : Stop) (o1 : Open) (o2 : Book) (f : Frame) → IsReserved t p s o1
+    → o2 ≡ standing_at p f o1.book → o1.book.tables ≡ t → (c : ℕ) (v : ℤ) → IsWriteTo o2.tables p s c v
+    → IsTrue (channel_in o2.configuration c).is_reserved
+item_there t p s o1 o2 f reserved is same c v writes =
+    subst (λ b. IsTrue (channel_in b.configuration c).is_reserved) (sym is)
+    (reserved.item c v (subst (λ x. IsWriteTo x p s c v) (ap (λ b. b.tables) is ∙ same) writes))
+
+pub own_reserved : (s : Stop) (b o : Book) → is_but_reserved s b o → (p : ℕ) (x : Advanced) → IsOwnAdvance b p x
+    → IsOwnAdvance o p x
+own_reserved s b o but p x own = record {
+  program = own.program ∙ ap (λ t. program_of t p) (sym (tables_reserved s b o but));
+  from = own.from ∙ sym (frame_reserved s b o but p);
+}
+
+pub kept_stepped : (s : Stop) (b o1 o2 : Book) → is_but_reserved s b o1 → IsKept b → (p : ℕ)
+    → p < length b.tables.instances → (x : Advanced) → IsAdvance x → IsOwnAdvance b p x
+    → o2 ≡ standing_at p x.to o1 → IsKept o2
+kept_stepped s b o1 o2 but kept p there x advance own is =
+    subst IsKept (sym is)
+    (kept_moved o1 (kept_reserved s b o1 but kept) p
+    (subst (λ t. p < length t.instances) (sym (tables_reserved s b o1 but)) there) x advance
+    (own_reserved s b o1 but p x own))
+
+-- the steps of a commit by the stop that was read of them
+pub commits_read : (b : Book) (o1 : Open) (o2 a : Book) (p : ℕ) (x : Advanced) (s : Stop) (answer : Done) → s ≡ x.stop
+    → IsHeld b p → IsOwnAdvance b p x → is_but_reserved s b o1.book → o2 ≡ standing_at p x.to o1.book
+    → Settles p s answer o2 a → Commits p x answer b a
+commits_read b o1 o2 a p x s answer same held own but is settles =
+    commits_from b o1.book o2 a p x answer held own (subst (λ z. is_but_reserved z b o1.book) same but) is
+    (subst (λ z. Settles p z answer o2 a) same settles)
+
+-- ---- a step in place
+
+module _ (quota p : ℕ) (b o0 : Book) (x : Advanced) (claimed : IsClaimed p b o0) (kept : IsKept o0)
+    (own : IsOwnAdvance o0 p x) (advance : IsAdvance x) (within : IsWithinQuota quota x) (o1 : Book)
+    (is : o1 ≡ standing_at p x.to o0) where
+  steps_made : ClaimsAndSteps quota p x b o0
+  steps_made = record { claimed = claimed; own = own; advance = advance; within = within }
+
+  pub stepped_kept : IsKept o1
+  stepped_kept =
+      let held = claimed_is_held p b o0 claimed in
+      let there = held.there in
+      let long = kept.in_step.processes in
+      subst IsKept (sym is) (kept_moved o0 kept p (omega (arith, there, long)) x advance own)
+
+  pub stepped_held : IsHeld o1 p
+  stepped_held =
+      subst (λ z. IsHeld z p) (sym is) (held_moved o0 p p x.to (claimed_is_held p b o0 claimed))
+
+  pub steps_next : (o2 a : Book) (answer : Done) → is_but_reserved x.stop o1 o2 → Settles p x.stop answer o2 a
+      → StepsNext quota answer b a
+  steps_next o2 a answer but settles = record {
+    process = p;
+    advance = x;
+    between = o0;
+    steps = steps_made;
+    commits = record {
+      held = claimed_is_held p b o0 claimed;
+      own = own;
+      settles =
+          subst (λ z. Settles p x.stop answer z a) is (settles_reserved x.stop o1 o2 but p answer a settles);
+    };
+  }
+
+  pub steps_in_vain : (o2 a : Book) → x.stop ≢ stop.Paused → o2 ≡ o1 → a ≡ put_back p o2 → StepsInVain quota b a
+  steps_in_vain o2 a wants same back = record {
+    process = p;
+    advance = x;
+    between = o0;
+    steps = steps_made;
+    wants = wants;
+    back = back ∙ ap (put_back p) (same ∙ is);
+  }
+
+-- ---- memory for a write
+
+no_pause : (s : Stop) (port : ℕ) (v : ℤ) → s ≡ stop.WantWrite port v → s ≡ stop.Paused → ⊥
+no_pause s port v is paused = let clash : stop.WantWrite port v ≡ stop.Paused = sym is ∙ paused in absurd cc
+
+one_port : (p : ℕ) (s : Stop) (port : ℕ) (v : ℤ) (c d : ℕ) (w : ℤ) (t : Tables) → s ≡ stop.WantWrite port v
+    → IsChannelAt (instance_at t p).outs port c → IsWriteTo t p s d w → c ≡ d
+one_port p s port v c d w t is at writes =
+    let same : stop.WantWrite port v ≡ stop.WantWrite writes.port w = sym is ∙ writes.asks in
+    let ports : port ≡ writes.port = cc in
+    sym at.1 ∙ ap (slice_index (instance_at t p).outs) ports ∙ writes.channel.1
+
+pub reserves_write : {T E : Type 0} (p : ℕ) (s : Stop) (port : ℕ) (v : ℤ) (c : ℕ) (o a : Open) (r : Result T E)
+    → s ≡ stop.WantWrite port v → IsChannelAt (instance_at o.book.tables p).outs port c
+    → c < length o.book.configuration.channels → reserves_item_by c r o a → reserves_by p s r o a
+reserves_write p s port v c o a (Ok _) is at below done = (
+  record {
+    events = λ some. done.0;
+    item = λ d w writes.
+        subst (λ z. IsTrue (channel_in z.configuration d).is_reserved) (sym done.1)
+        (subst (λ z. IsTrue (channel_in (reserved_on c o.book).configuration z).is_reserved)
+        (one_port p s port v c d w o.book.tables is at writes) (is_reserved_here o.book c below));
+  },
+  inr (λ paused. no_pause s port v is paused, (c, below, done.1)),
+)
+reserves_write p s port v c o a (Err _) is at below done = (λ paused. no_pause s port v is paused, done)

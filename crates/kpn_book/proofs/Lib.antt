@@ -1,0 +1,15 @@
+pub mod AllReady
+pub mod Appended
+pub mod Counting
+pub mod InStep
+pub mod Woken
+pub mod Following
+pub mod Answering
+pub mod Reserved
+pub mod Committing
+pub mod Standing
+pub mod Outside
+pub mod Split
+pub mod Seen
+pub mod Starting
+pub mod Agreeing

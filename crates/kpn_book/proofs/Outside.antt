@@ -1,0 +1,100 @@
+-- What the calls of the outside come to.
+use Rattle.std.proofs.Common.{◌≡◌, ◌↔◌, IsTrue, is_some, cond, slice_get, ℕ, ◌<◌, ℤ, Bool, true, false, List, [], ◌∷◌, length, Some, None, refl, sym, ap, ◌∙◌, subst}
+use Rattle.std.proofs.lemmas.Bool.{false≢true}
+use Rattle.kpn_net.specs.Tables.{Tables, channel_at, is_source, is_sink, reader_of}
+use Rattle.kpn_net.specs.declared.tables.End.{End}
+use Rattle.kpn_net.specs.declared.tables.End.TheVariants.{Sink}
+use Rattle.kpn_net.proofs.Networks.{reader_of-sink, sink-reader_of}
+use Rattle.kpn_chan.specs.Channel.{ChannelState, unread, next_item}
+use Rattle.kpn_trace.specs.declared.event.Event.TheVariants as event
+use Rattle.kpn_configuration.specs.Configuration.{channel_in, closed_in}
+use Rattle.kpn_book.specs.Book.{Book}
+use Rattle.kpn_book.specs.Appending.{Appends}
+use Rattle.kpn_book.specs.Refusals.{IsAtBound, Feeds, Closes, Takes, Leaves, closes_by, leaves_by}
+use Rattle.kpn_book.specs.Open.{Follows, IsSound, reserved_on}
+use Rattle.kpn_book.specs.Kept.{IsKept}
+use Rattle.kpn_book.proofs.Committing.{kept_reserved_on}
+use Rattle.kpn_book.proofs.Reserved.{appends_unreserved}
+
+pub fed : (b o a : Book) (c : ℕ) (v : ℤ) (bound : ℕ) → is_source (channel_at b.tables c) ≡ true
+    → closed_in b.configuration c ≡ false → (IsAtBound (channel_in b.configuration c) bound → ⊥)
+    → c < length b.configuration.channels → o ≡ reserved_on c b → Follows (event.Feed c v) o a → Feeds c v bound b a
+fed b o a c v bound source not_closed below there is follows = record {
+  source = record { source = source; not_closed = not_closed };
+  below = below;
+  appends =
+      appends_unreserved b c there (event.Feed c v) a
+      (subst (λ x. Appends (event.Feed c v) x a) is follows.appends);
+}
+
+pub closed_now : (b o a : Book) (c : ℕ) → is_source (channel_at b.tables c) ≡ true
+    → closed_in b.configuration c ≡ false → o ≡ b → Follows (event.Close c) o a → Closes c b a
+closed_now b o a c source not_closed is follows = record {
+  source = source;
+  closes =
+      subst (λ x. closes_by x c b a) (sym not_closed) (subst (λ x. Appends (event.Close c) x a) is follows.appends);
+}
+
+pub closed_before : (b : Book) (c : ℕ) → is_source (channel_at b.tables c) ≡ true
+    → closed_in b.configuration c ≡ true → Closes c b b
+closed_before b c source is_closed = record {
+  source = source;
+  closes = subst (λ x. closes_by x c b b) (sym is_closed) refl;
+}
+
+pub taken : (b o a : Book) (c : ℕ) (v : ℤ) → is_sink (channel_at b.tables c) ≡ true
+    → (channel_in b.configuration c).is_retired ≡ false → o ≡ b
+    → next_item (channel_in o.configuration c) ≡ Some v → Follows (event.Take c v) o a → Takes c (Some v) b a
+taken b o a c v sink not_left is item follows = record {
+  sink = record { sink = sink; not_left = not_left };
+  takes = (
+    subst (λ x. next_item (channel_in x.configuration c) ≡ Some v) is item,
+    subst (λ x. Appends (event.Take c v) x a) is follows.appends,
+  );
+}
+
+pub left_now : (b o a : Book) (c : ℕ) → is_sink (channel_at b.tables c) ≡ true
+    → (channel_in b.configuration c).is_retired ≡ false → o ≡ b → Follows (event.Leave c) o a → Leaves c b a
+left_now b o a c sink not_left is follows = record {
+  sink = sink;
+  leaves =
+      subst (λ x. leaves_by x c b a) (sym not_left) (subst (λ x. Appends (event.Leave c) x a) is follows.appends);
+}
+
+pub left_before : (b : Book) (c : ℕ) → is_sink (channel_at b.tables c) ≡ true
+    → (channel_in b.configuration c).is_retired ≡ true → Leaves c b b
+left_before b c sink is_left = record {
+  sink = sink;
+  leaves = subst (λ x. leaves_by x c b b) (sym is_left) refl;
+}
+
+-- the outside reads a channel exactly where it is a sink
+pub sink_by : (t : Tables) (c : ℕ) (end : End) (b sink : Bool) → end ≡ reader_of t c → IsTrue b ↔ (end ≡ Sink)
+    → is_sink (channel_at t c) ≡ sink → b ≡ is_sink (channel_at t c)
+sink_by t c end true true is same now = sym now
+sink_by t c end false false is same now = sym now
+sink_by t c end true false is same now =
+    absurd (false≢true (sym now ∙ sink-reader_of t c (sym is ∙ same.0 refl)))
+sink_by t c end false true is same now =
+    absurd (false≢true (same.1 (is ∙ reader_of-sink t c now)))
+
+-- memory was reserved, and the book is as it was
+pub kept_same : (b o : Book) → o ≡ b → IsKept b → IsKept o
+kept_same b o is kept = subst IsKept (sym is) kept
+
+pub sound_same : (b o : Book) → o ≡ b → IsKept b → IsSound o
+sound_same b o is kept =
+    let now = kept_same b o is kept in record { in_step = now.in_step; nothing_owed = now.nothing_owed }
+
+pub kept_with_item : (b o : Book) (c : ℕ) → c < length b.configuration.channels → o ≡ reserved_on c b → IsKept b
+    → IsKept o
+kept_with_item b o c below is kept = subst IsKept (sym is) (kept_reserved_on b kept c below)
+
+-- nothing is unread on a sink that was not left and has no item
+pub nothing_to_take : (ch : ChannelState) → ch.is_retired ≡ false → is_some (next_item ch) ≡ false → unread ch ≡ []
+nothing_to_take ch lives none =
+    empty_list (unread ch) (sym (ap (λ r. is_some (cond r None (slice_get (unread ch) 0))) lives) ∙ none)
+  where
+    empty_list : (xs : List ℤ) → is_some (slice_get xs 0) ≡ false → xs ≡ []
+    empty_list [] is = refl
+    empty_list (x ∷ xs) is = absurd (false≢true (sym is))

@@ -1,0 +1,40 @@
+use Rattle.std.proofs.Common.{◌≡◌, ◌∙◌, subst, arith}
+use Rattle.kpn_net.specs.Tables.{program_of}
+use Rattle.kpn_net.proofs.Networks.{IsInstance-of}
+use Rattle.kpn_step.specs.Stops.{IsAtPort}
+use Rattle.kpn_book.specs.Commits.{IsReadFrom}
+use Rattle.kpn_book.proofs.Following.{held_is_there}
+use Rattle.kpn_book.proofs.Answering.{asked_otherwise}
+use Rattle.kpn_book.proofs.open_book.OpenBook.answer.Goals as goal
+
+pub in_channel-c-requires-clause-port : goal.in_channel-c-requires-clause-port
+in_channel-c-requires-clause-port g c =
+    let b = c.args.self.now.book in
+    let there = held_is_there b c.requires.sound.in_step c.args.p c.requires.held in
+    let at = subst (λ s. IsAtPort (program_of b.tables c.args.p) c.requires.port.0 s) c.in-WantRead.is
+    c.requires.port.1 in
+    let below = at.0 in
+    let long = (IsInstance-of b.tables c.known.ensures.network c.args.p there).ins in
+    omega (arith, below, long)
+
+pub out_channel-c-requires-clause-port : goal.out_channel-c-requires-clause-port
+out_channel-c-requires-clause-port g c =
+    let b = c.args.self.now.book in
+    let there = held_is_there b c.requires.sound.in_step c.args.p c.requires.held in
+    let at =
+    subst (λ s. IsAtPort (program_of b.tables c.args.p) c.requires.port.0 s) c.in-WantWrite.is c.requires.port.1 in
+    let below = at.0 in
+    let long = (IsInstance-of b.tables c.known.ensures.network c.args.p there).outs in
+    omega (arith, below, long)
+
+pub write-requires-clause-reserved : goal.write-requires-clause-reserved
+write-requires-clause-reserved g c =
+    c.requires.reserved c.out_channel-c.result c.in-WantWrite.item
+    (record { port = c.in-WantWrite.port; asks = c.in-WantWrite.is; channel = c.out_channel-c.ensures })
+
+pub returns-in-WantRead : goal.returns-in-WantRead
+returns-in-WantRead g c =
+    asked_otherwise c.args.p (λ s. IsReadFrom c.args.self.now.book.tables c.args.p s c.in_channel-c.result)
+    (λ s. s ≡ c.args.stop) c.read.result c.args.self.now.book c.read.new.self.book
+    (λ s is. record { port = c.in-WantRead.port; asks = is ∙ c.in-WantRead.is; channel = c.in_channel-c.ensures })
+    c.read.ensures

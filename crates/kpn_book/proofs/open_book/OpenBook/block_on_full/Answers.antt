@@ -1,0 +1,35 @@
+use Rattle.std.proofs.Common.{refl, sym, subst, arith, inr, ◌<◌, length}
+use Rattle.kpn_trace.specs.declared.event.Event.TheVariants as event
+use Rattle.kpn_book.specs.Commits.{IsWriteTo}
+use Rattle.kpn_book.proofs.Following.{held_is_there}
+use Rattle.kpn_book.proofs.Answering.{answered_wait}
+use Rattle.kpn_book.proofs.open_book.OpenBook.block_on_full.Goals as goal
+
+pub grow_if_owed-requires-clause-room : goal.grow_if_owed-requires-clause-room
+grow_if_owed-requires-clause-room g c =
+    let two = c.requires.room in
+    let more = c.wait_on_full.ensures.room in
+    omega (arith, two, more)
+
+pub grow_if_owed-requires-clause-step : goal.grow_if_owed-requires-clause-step
+grow_if_owed-requires-clause-step g c = c.wait_on_full.ensures.follows.in_step
+
+pub grow_if_owed-requires-clause-process : goal.grow_if_owed-requires-clause-process
+grow_if_owed-requires-clause-process g c =
+    subst (λ t. c.args.p < length t.instances) (sym c.wait_on_full.ensures.follows.appends.tables)
+    (held_is_there c.args.self.now.book c.requires.sound.in_step c.args.p c.requires.held)
+
+pub grow_if_owed-requires-clause-waits : goal.grow_if_owed-requires-clause-waits
+grow_if_owed-requires-clause-waits g c = record {
+  before = c.args.self.now.book.history;
+  wait = event.WaitFull c.args.p c.args.c;
+  is = c.wait_on_full.ensures.follows.appends.history;
+  waits = refl;
+}
+
+pub returns : goal.returns
+returns g c =
+    answered_wait c.args.self.now.book c.wait_on_full.new.self.book c.args.p (event.WaitFull c.args.p c.args.c) refl
+    (λ s. IsWriteTo c.args.self.now.book.tables c.args.p s c.args.c c.args.item)
+    (λ s asks. inr (record { channel = c.args.c; item = c.args.item; asks = asks; full = c.requires.ready; is = refl }))
+    c.wait_on_full.ensures.follows c.grow_if_owed.result c.grow_if_owed.new.self.book c.grow_if_owed.ensures

@@ -1,0 +1,15 @@
+use Rattle.std.proofs.Common.{refl}
+use Rattle.kpn_trace.specs.declared.event.Event.TheVariants as event
+use Rattle.kpn_book.proofs.Committing.{kept_outside}
+use Rattle.kpn_book.proofs.Outside.{kept_same, sound_same}
+use Rattle.kpn_book.proofs.open_book.OpenBook.leave_by.Goals as goal
+
+pub leave-requires-clause-sound : goal.leave-requires-clause-sound
+leave-requires-clause-sound g c =
+    sound_same c.args.self.now.book c.reserve_events.new.self.book c.reserve_events.ensures.book c.requires
+
+pub returns-clause-kept : goal.returns-clause-kept
+returns-clause-kept g c =
+    kept_outside c.reserve_events.new.self.book c.leave.new.self.book (event.Leave c.args.c)
+    (kept_same c.args.self.now.book c.reserve_events.new.self.book c.reserve_events.ensures.book c.requires)
+    c.leave.ensures.follows refl refl

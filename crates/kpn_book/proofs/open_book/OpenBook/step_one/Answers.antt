@@ -1,0 +1,90 @@
+use Rattle.std.proofs.Common.{refl, sym, ap, ◌∙◌, subst}
+use Rattle.kpn_net.specs.Tables.{program_of}
+use Rattle.kpn_step.specs.Stops.{advanced_of}
+use Rattle.kpn_configuration.specs.Configuration.{frame_in}
+use Rattle.kpn_book.specs.Kept.{IsKept}
+use Rattle.kpn_book.specs.Commits.{IsWriteTo}
+use Rattle.kpn_book.specs.Book.{put_back}
+use Rattle.kpn_book.proofs.Committing.{port_there, kept_reserved, kept_put_back, tables_reserved, stepped_kept, stepped_held, steps_next, steps_in_vain}
+use Rattle.kpn_book.proofs.open_book.OpenBook.step_one.Goals as goal
+
+pub reserve-requires-clause-step : goal.reserve-requires-clause-step
+reserve-requires-clause-step g c =
+    (stepped_kept c.args.quota c.in-Some.p c.args.self.now.book c.hold_one.new.self.book
+    (advanced_of (program_of c.hold_one.new.self.book.tables c.in-Some.p)
+    (frame_in c.hold_one.new.self.book.configuration c.in-Some.p)
+    (frame_in c.step-steps.new.self.book.configuration c.in-Some.p) c.step-steps.result c.step-steps.new.stop)
+    c.in-Some.ensures.0 c.in-Some.ensures.1 (record { program = refl; from = refl }) c.step-steps.ensures.advance
+    c.step-steps.ensures.quota c.step-steps.new.self.book (ap (λ o. o.book) c.step-steps.ensures.after)).in_step
+
+pub reserve-requires-clause-port : goal.reserve-requires-clause-port
+reserve-requires-clause-port g c =
+    port_there c.hold_one.new.self.book c.step-steps.new.self.book c.in-Some.p c.step-steps.new.stop
+    (ap (λ o. o.book.tables) c.step-steps.ensures.after)
+    (frame_in c.step-steps.new.self.book.configuration c.in-Some.p, c.step-steps.ensures.port)
+
+pub returns-in-Err-clause-steps : goal.returns-in-Err-clause-steps
+returns-in-Err-clause-steps g c =
+    steps_in_vain c.args.quota c.in-Some.p c.args.self.now.book c.hold_one.new.self.book
+    (advanced_of (program_of c.hold_one.new.self.book.tables c.in-Some.p)
+    (frame_in c.hold_one.new.self.book.configuration c.in-Some.p)
+    (frame_in c.step-steps.new.self.book.configuration c.in-Some.p) c.step-steps.result c.step-steps.new.stop)
+    c.in-Some.ensures.0 c.in-Some.ensures.1 (record { program = refl; from = refl }) c.step-steps.ensures.advance
+    c.step-steps.ensures.quota c.step-steps.new.self.book (ap (λ o. o.book) c.step-steps.ensures.after)
+    c.reserve.new.self.book c.make_ready.new.self.book c.in-Err.ensures.0 c.in-Err.ensures.1
+    (ap (λ o. o.book) c.make_ready.ensures)
+
+pub returns-in-Err-clause-kept : goal.returns-in-Err-clause-kept
+returns-in-Err-clause-kept g c =
+    subst IsKept
+    (sym (ap (λ o. o.book) c.make_ready.ensures ∙ ap (put_back c.in-Some.p) c.in-Err.ensures.1))
+    (kept_put_back c.step-steps.new.self.book
+    (stepped_kept c.args.quota c.in-Some.p c.args.self.now.book c.hold_one.new.self.book
+    (advanced_of (program_of c.hold_one.new.self.book.tables c.in-Some.p)
+    (frame_in c.hold_one.new.self.book.configuration c.in-Some.p)
+    (frame_in c.step-steps.new.self.book.configuration c.in-Some.p) c.step-steps.result c.step-steps.new.stop)
+    c.in-Some.ensures.0 c.in-Some.ensures.1 (record { program = refl; from = refl }) c.step-steps.ensures.advance
+    c.step-steps.ensures.quota c.step-steps.new.self.book (ap (λ o. o.book) c.step-steps.ensures.after))
+    c.in-Some.p
+    (stepped_held c.args.quota c.in-Some.p c.args.self.now.book c.hold_one.new.self.book
+    (advanced_of (program_of c.hold_one.new.self.book.tables c.in-Some.p)
+    (frame_in c.hold_one.new.self.book.configuration c.in-Some.p)
+    (frame_in c.step-steps.new.self.book.configuration c.in-Some.p) c.step-steps.result c.step-steps.new.stop)
+    c.in-Some.ensures.0 c.in-Some.ensures.1 (record { program = refl; from = refl }) c.step-steps.ensures.advance
+    c.step-steps.ensures.quota c.step-steps.new.self.book (ap (λ o. o.book) c.step-steps.ensures.after)))
+
+pub settle-done-requires-clause-kept : goal.settle-done-requires-clause-kept
+settle-done-requires-clause-kept g c =
+    kept_reserved c.step-steps.new.stop c.step-steps.new.self.book c.reserve.new.self.book
+    c.in_default-reserve.ensures.1
+    (stepped_kept c.args.quota c.in-Some.p c.args.self.now.book c.hold_one.new.self.book
+    (advanced_of (program_of c.hold_one.new.self.book.tables c.in-Some.p)
+    (frame_in c.hold_one.new.self.book.configuration c.in-Some.p)
+    (frame_in c.step-steps.new.self.book.configuration c.in-Some.p) c.step-steps.result c.step-steps.new.stop)
+    c.in-Some.ensures.0 c.in-Some.ensures.1 (record { program = refl; from = refl }) c.step-steps.ensures.advance
+    c.step-steps.ensures.quota c.step-steps.new.self.book (ap (λ o. o.book) c.step-steps.ensures.after))
+
+pub settle-done-requires-clause-port : goal.settle-done-requires-clause-port
+settle-done-requires-clause-port g c =
+    port_there c.hold_one.new.self.book c.reserve.new.self.book c.in-Some.p c.step-steps.new.stop
+    (tables_reserved c.step-steps.new.stop c.step-steps.new.self.book c.reserve.new.self.book
+    c.in_default-reserve.ensures.1 ∙ ap (λ o. o.book.tables) c.step-steps.ensures.after)
+    (frame_in c.step-steps.new.self.book.configuration c.in-Some.p, c.step-steps.ensures.port)
+
+pub settle-done-requires-clause-reserved : goal.settle-done-requires-clause-reserved
+settle-done-requires-clause-reserved g c d v writes =
+    c.in_default-reserve.ensures.0.item d v
+    (subst (λ t. IsWriteTo t c.in-Some.p c.step-steps.new.stop d v)
+    (tables_reserved c.step-steps.new.stop c.step-steps.new.self.book c.reserve.new.self.book
+    c.in_default-reserve.ensures.1) writes)
+
+pub returns-clause-steps : goal.returns-clause-steps
+returns-clause-steps g c =
+    steps_next c.args.quota c.in-Some.p c.args.self.now.book c.hold_one.new.self.book
+    (advanced_of (program_of c.hold_one.new.self.book.tables c.in-Some.p)
+    (frame_in c.hold_one.new.self.book.configuration c.in-Some.p)
+    (frame_in c.step-steps.new.self.book.configuration c.in-Some.p) c.step-steps.result c.step-steps.new.stop)
+    c.in-Some.ensures.0 c.in-Some.ensures.1 (record { program = refl; from = refl }) c.step-steps.ensures.advance
+    c.step-steps.ensures.quota c.step-steps.new.self.book (ap (λ o. o.book) c.step-steps.ensures.after)
+    c.reserve.new.self.book c.settle-done.new.self.book c.settle-done.result c.in_default-reserve.ensures.1
+    c.settle-done.ensures.settles

@@ -1,0 +1,127 @@
+-- What a commit does: the events that it appends and what it answers, by the stop of the steps that are committed.
+use Rattle.std.specs.Prelude.{◌≡◌, ℕ, ◌⊎◌, true, false, ℤ, List, [], ◌∷◌, ◌++◌, Some}
+use Rattle.kpn_net.specs.Tables.{Tables, instance_at, program_of}
+use Rattle.kpn_step.specs.declared.stop.Stop.{Stop}
+use Rattle.kpn_step.specs.declared.stop.Stop.TheVariants as stop
+use Rattle.kpn_step.specs.Stops.{Advanced}
+use Rattle.kpn_chan.specs.Channel.{unread, is_full, next_item}
+use Rattle.kpn_trace.specs.declared.event.Event.{Event}
+use Rattle.kpn_trace.specs.declared.event.Event.TheVariants as event
+use Rattle.kpn_trace.specs.declared.event.How.{How}
+use Rattle.kpn_trace.specs.Legal.{OwesGrowth}
+use Rattle.kpn_trace.specs.Stops.{OwesNothing}
+use Rattle.kpn_configuration.specs.Configuration.{channel_in, frame_in}
+use Rattle.kpn_configuration.specs.Changes.{IsChannelAt}
+use Rattle.kpn_configuration.specs.Due.{stop_of}
+use Rattle.kpn_book.specs.declared.answers.Done.{Done}
+use Rattle.kpn_book.specs.declared.answers.Done.TheVariants as done
+use Rattle.kpn_book.specs.Book.{Book, IsHeld, standing_at, put_back, counted}
+use Rattle.kpn_book.specs.Appending.{AppendsAll}
+
+-- ---- what a stop of process p asks for
+
+-- it would read from channel c
+pub record IsReadFrom (t : Tables) (p : ℕ) (s : Stop) (c : ℕ) : Type 0 where
+  pub port : ℕ
+  pub asks : s ≡ stop.WantRead port
+  pub channel : IsChannelAt (instance_at t p).ins port c
+
+-- it would write this item to channel c
+pub record IsWriteTo (t : Tables) (p : ℕ) (s : Stop) (c : ℕ) (v : ℤ) : Type 0 where
+  pub port : ℕ
+  pub asks : s ≡ stop.WantWrite port v
+  pub channel : IsChannelAt (instance_at t p).outs port c
+
+-- ---- the events of a commit
+
+-- it got this item, which was the next one of the channel that it would read from
+pub record Gets (b : Book) (p : ℕ) (s : Stop) (v : ℤ) (events : List Event) : Type 0 where
+  pub channel : ℕ
+  pub asks : IsReadFrom b.tables p s channel
+  pub item : next_item (channel_in b.configuration channel) ≡ Some v
+  pub appends : events ≡ event.Get p channel v ∷ []
+
+-- it put the item that it would write on a channel which was not full
+pub record Puts (b : Book) (p : ℕ) (s : Stop) (events : List Event) : Type 0 where
+  pub channel : ℕ
+  pub item : ℤ
+  pub asks : IsWriteTo b.tables p s channel item
+  pub ready : is_full (channel_in b.configuration channel) ≡ false
+  pub appends : events ≡ event.Put p channel item ∷ []
+
+-- it has to wait: the channel that it would read from is empty
+pub record HasToWaitOnEmpty (b : Book) (p : ℕ) (s : Stop) (wait : Event) : Type 0 where
+  pub channel : ℕ
+  pub asks : IsReadFrom b.tables p s channel
+  pub empty : unread (channel_in b.configuration channel) ≡ []
+  pub is : wait ≡ event.WaitEmpty p channel
+
+-- it has to wait: the channel that it would write to is full
+pub record HasToWaitOnFull (b : Book) (p : ℕ) (s : Stop) (wait : Event) : Type 0 where
+  pub channel : ℕ
+  pub item : ℤ
+  pub asks : IsWriteTo b.tables p s channel item
+  pub full : is_full (channel_in b.configuration channel) ≡ true
+  pub is : wait ≡ event.WaitFull p channel
+
+-- it waits from now on, by this event
+abbrev pub HasToWait : Book → (p : ℕ) → Stop → Event → Type 0
+HasToWait b p s wait = HasToWaitOnEmpty b p s wait ⊎ HasToWaitOnFull b p s wait
+
+-- it waits, and no growth is owed for this
+pub record IsBlocked (b : Book) (p : ℕ) (s : Stop) (events : List Event) : Type 0 where
+  pub wait : Event
+  pub waits : HasToWait b p s wait
+  pub nothing : OwesNothing b.tables (b.history ++ wait ∷ [])
+  pub appends : events ≡ wait ∷ []
+
+-- it waits, and the growth of channel d, which is owed for this, follows at once
+pub record Grows (b : Book) (p : ℕ) (s : Stop) (d : ℕ) (events : List Event) : Type 0 where
+  pub wait : Event
+  pub waits : HasToWait b p s wait
+  pub owed : OwesGrowth b.tables (b.history ++ wait ∷ []) p d
+  pub appends : events ≡ wait ∷ event.Grow p d ∷ []
+
+-- it has ended
+pub record Ends (p : ℕ) (s : Stop) (events : List Event) : Type 0 where
+  pub how : How
+  pub asks : s ≡ stop_of how
+  pub appends : events ≡ event.Ended p how ∷ []
+
+-- it has made as many steps as it was allowed
+pub record Pauses (s : Stop) (events : List Event) : Type 0 where
+  pub asks : s ≡ stop.Paused
+  pub appends : events ≡ []
+
+-- what a commit of process p, which stands at this stop, answers, and the events that it appends
+abbrev pub IsAnswer : Book → (p : ℕ) → Stop → Done → List Event → Type 0
+IsAnswer b p s (done.Got v) events = Gets b p s v events
+IsAnswer b p s done.Put events = Puts b p s events
+IsAnswer b p s done.Blocked events = IsBlocked b p s events
+IsAnswer b p s (done.Grew d) events = Grows b p s d events
+IsAnswer b p s done.Ended events = Ends p s events
+IsAnswer b p s done.Paused events = Pauses s events
+
+-- ---- the book after a commit
+
+-- a process that has paused is ready again; of all others their events tell
+abbrev pub ready_if_paused : (p : ℕ) → Done → Book → Book
+ready_if_paused p done.Paused b = put_back p b
+ready_if_paused p other b = b
+
+-- process p stands at this stop and is committed: the commit is counted, and its events are appended
+pub record Settles (p : ℕ) (s : Stop) (answer : Done) (before after : Book) : Type 0 where
+  pub events : List Event
+  pub answers : IsAnswer before p s answer events
+  pub appends : AppendsAll events (ready_if_paused p answer (counted before)) after
+
+-- the steps began at the frame of process p and are steps of its program
+pub record IsOwnAdvance (b : Book) (p : ℕ) (a : Advanced) : Type 0 where
+  pub program : a.program ≡ program_of b.tables p
+  pub from : a.from ≡ frame_in b.configuration p
+
+-- these steps of process p, which is held, are committed: it stands where they have led
+pub record Commits (p : ℕ) (a : Advanced) (answer : Done) (before after : Book) : Type 0 where
+  pub held : IsHeld before p
+  pub own : IsOwnAdvance before p a
+  pub settles : Settles p a.stop answer (standing_at p a.to before) after

@@ -1,0 +1,180 @@
+-- What the code keeps of a book in the midst of a call. A reader of the public contracts needs none of it.
+use Rattle.std.specs.Prelude.{◌≡◌, ◌≢◌, ℕ, ◌+◌, ◌<◌, ◌≤◌, ◌⊎◌, false, ℤ, IsTrue, if◌then◌else◌, List, [], ◌∷◌, ◌++◌, length, Option, Some, None, Contains, Result, Ok, Err}
+use Rattle.kpn_net.specs.Tables.{Tables}
+use Rattle.kpn_net.specs.Waits.{AreDistinct}
+use Rattle.kpn_step.specs.declared.stop.Stop.{Stop}
+use Rattle.kpn_step.specs.declared.stop.Stop.TheVariants as stop
+use Rattle.kpn_chan.specs.Channel.{with_room}
+use Rattle.kpn_trace.specs.declared.event.Event.{Event}
+use Rattle.kpn_trace.specs.declared.event.Event.TheVariants as event
+use Rattle.kpn_trace.specs.declared.state.State.{State}
+use Rattle.kpn_trace.specs.Talks.{is_of_process}
+use Rattle.kpn_trace.specs.Views.{is_ready}
+use Rattle.kpn_trace.specs.Legal.{OwesGrowth, waiter}
+use Rattle.kpn_trace.specs.Stops.{OwesNothing}
+use Rattle.kpn_configuration.specs.Configuration.{Configuration, channel_in, with_channel}
+use Rattle.kpn_schedule.specs.Schedule.{Schedule, state_at, with_state}
+use Rattle.kpn_book.specs.declared.answers.Done.{Done}
+use Rattle.kpn_book.specs.declared.answers.Done.TheVariants as done
+use Rattle.kpn_book.specs.Book.{Book, IsHeld, IsClaimed, held_count, put_back}
+use Rattle.kpn_book.specs.Appending.{Appends, AppendsAll, all_made_ready, schedule_after}
+use Rattle.kpn_book.specs.Commits.{IsWriteTo, IsAnswer, ready_if_paused, Commits}
+use Rattle.kpn_book.specs.Refusals.{RefusesCommit, RefusesPutBack, RefusesFeed, RefusesClose, RefusesTake, RefusesLeave, Feeds, Closes, Takes, Leaves}
+use Rattle.kpn_book.specs.Stepping.{ClaimsNobody, IsStep, StepsInVain}
+use Rattle.kpn_book.specs.declared.answers.Refused.{Refused}
+use Rattle.kpn_step.specs.Stops.{Advanced}
+use Rattle.kpn_book.specs.Kept.{IsInStep, IsKept}
+
+-- a book, and for how many more events memory is reserved
+pub record Open : Type 0 where
+  pub book : Book
+  pub room : ℕ
+
+-- ---- one part of it changed
+
+abbrev pub on_book : (Book → Book) → Open → Open
+on_book change o = record o { book = change o.book }
+
+abbrev pub with_event : Event → Book → Book
+with_event e b = record b { history = b.history ++ e ∷ [] }
+
+abbrev pub with_configuration : Configuration → Book → Book
+with_configuration configuration b = record b { configuration = configuration }
+
+abbrev pub with_schedule : Schedule → Book → Book
+with_schedule schedule b = record b { schedule = schedule }
+
+abbrev pub in_state : (p : ℕ) → State → Book → Book
+in_state p state b = record b { schedule = with_state p state b.schedule }
+
+abbrev pub made_ready_in : List ℕ → Book → Book
+made_ready_in ps b = record b { schedule = all_made_ready ps b.schedule }
+
+-- the next item of channel c is reserved
+abbrev pub reserved_on : (c : ℕ) → Book → Book
+reserved_on c b =
+    record b { configuration = with_channel c (with_room (channel_in b.configuration c)) b.configuration }
+
+-- ---- what is at hand within a call
+
+-- these processes are there and not ready, each once
+pub record MayBeReady (s : Schedule) (ps : List ℕ) : Type 0 where
+  pub once : AreDistinct ps
+  pub each : (p : ℕ) → Contains ps p → (p < length s.states) × (is_ready (state_at s.states p) ≡ false)
+
+-- the book once the event has made this configuration
+abbrev pub next_book : Event → Configuration → Book → Book
+next_book e configuration b =
+    record {
+      tables = b.tables;
+      history = b.history ++ e ∷ [];
+      configuration = configuration;
+      schedule = schedule_after b.tables b.configuration.waits e b.schedule;
+      commits = b.commits;
+    }
+
+-- 1 for an event of a process, else 0
+abbrev pub of_process : Event → ℕ
+of_process e = if is_of_process e then 1 else 0
+
+-- one event has happened: it is appended, the schedule still agrees with the configuration, and its process, if it is
+-- of one, is held no more
+pub record Follows (e : Event) (before after : Book) : Type 0 where
+  pub appends : Appends e before after
+  pub in_step : IsInStep after
+  pub held : held_count after + of_process e ≡ held_count before
+
+-- the history ends with a wait of process p
+pub record EndsWithWait (H : List Event) (p : ℕ) : Type 0 where
+  pub before : List Event
+  pub wait : Event
+  pub is : H ≡ before ++ wait ∷ []
+  pub waits : waiter wait ≡ Some p
+
+-- the growth that is owed for a wait of process p, if one is, is made
+abbrev pub grows_if_owed : (p : ℕ) → Done → (before after : Book) → Type 0
+grows_if_owed p done.Blocked before after = OwesNothing before.tables before.history × (after ≡ before)
+grows_if_owed p (done.Grew d) before after =
+    OwesGrowth before.tables before.history p d × Appends (event.Grow p d) before after
+grows_if_owed p other before after = ⊥
+
+-- process p, which stands at this stop, is answered, and the events are appended
+pub record Answers (p : ℕ) (s : Stop) (answer : Done) (before after : Book) : Type 0 where
+  pub events : List Event
+  pub answers : IsAnswer before p s answer events
+  pub appends : AppendsAll events (ready_if_paused p answer before) after
+
+-- the history leads to the configuration, the schedule agrees with it, and no growth is owed
+pub record IsSound (b : Book) : Type 0 where
+  pub in_step : IsInStep b
+  pub nothing_owed : OwesNothing b.tables b.history
+
+-- memory is reserved for whatever process p, which stands at this stop, may do
+pub record IsReserved (t : Tables) (p : ℕ) (s : Stop) (o : Open) : Type 0 where
+  pub events : s ≢ stop.Paused → 2 ≤ o.room
+  pub item : (c : ℕ) (v : ℤ) → IsWriteTo t p s c v → IsTrue (channel_in o.book.configuration c).is_reserved
+
+-- but for this the book is the same
+abbrev pub is_but_reserved : Stop → (before after : Book) → Type 0
+is_but_reserved s before after =
+    (after ≡ before)
+    ⊎ ((s ≢ stop.Paused) × ((c : ℕ) × (c < length before.configuration.channels) × (after ≡ reserved_on c before)))
+
+-- process p, which stands at a stop of this kind, is answered: the events are appended, the book is sound again, and
+-- the process is held no more
+pub record Answered (p : ℕ) (asks : Stop → Type 0) (answer : Done) (before after : Book) : Type 0 where
+  pub answers : (s : Stop) → asks s → Answers p s answer before after
+  pub sound : IsSound after
+  pub released : held_count after + 1 ≡ held_count before
+
+-- the growth that is owed, if one is, is made, and the book is sound again
+pub record GrowsIfOwed (p : ℕ) (answer : Done) (before after : Book) : Type 0 where
+  pub grows : grows_if_owed p answer before after
+  pub sound : IsSound after
+  pub held : held_count after ≡ held_count before
+
+-- ---- what the calls answer, and the book afterwards
+
+abbrev pub claims_by : Option ℕ → (before after : Open) → Type 0
+claims_by (Some p) before after = IsClaimed p before.book after.book × IsKept after.book × (after.room ≡ before.room)
+claims_by None before after = ClaimsNobody before.book × (after ≡ before)
+
+abbrev pub commits_by : (p : ℕ) → Advanced → Result Done Refused → (before after : Book) → Type 0
+commits_by p a (Ok answer) before after = Commits p a answer before after
+commits_by p a (Err cause) before after = RefusesCommit p a before cause × (after ≡ before)
+
+abbrev pub puts_back_by : {T : Type 0} → (p : ℕ) → Result T Refused → (before after : Book) → Type 0
+puts_back_by p (Ok _) before after = IsHeld before p × (after ≡ put_back p before)
+puts_back_by p (Err cause) before after = RefusesPutBack p before cause × (after ≡ before)
+
+abbrev pub steps_by : {E : Type 0} → (quota : ℕ) → Result (Option Done) E → (before after : Book) → Type 0
+steps_by quota (Ok answer) before after = IsStep quota answer before after
+steps_by quota (Err _) before after = StepsInVain quota before after
+
+abbrev pub feeds_by : {T : Type 0} → (c : ℕ) → (item : ℤ) → (bound : ℕ) → Result T Refused → (before after : Book)
+    → Type 0
+feeds_by c item bound (Ok _) before after = Feeds c item bound before after
+feeds_by c item bound (Err cause) before after = RefusesFeed c item bound before cause × (after ≡ before)
+
+abbrev pub closes_source_by : {T : Type 0} → (c : ℕ) → Result T Refused → (before after : Book) → Type 0
+closes_source_by c (Ok _) before after = Closes c before after
+closes_source_by c (Err cause) before after = RefusesClose c before cause × (after ≡ before)
+
+abbrev pub takes_by : (c : ℕ) → Result (Option ℤ) Refused → (before after : Book) → Type 0
+takes_by c (Ok item) before after = Takes c item before after
+takes_by c (Err cause) before after = RefusesTake c before cause × (after ≡ before)
+
+abbrev pub leaves_sink_by : {T : Type 0} → (c : ℕ) → Result T Refused → (before after : Book) → Type 0
+leaves_sink_by c (Ok _) before after = Leaves c before after
+leaves_sink_by c (Err cause) before after = RefusesLeave c before cause × (after ≡ before)
+
+-- memory is reserved for this stop, or it was refused and nothing has changed
+abbrev pub reserves_by : {T E : Type 0} → (p : ℕ) → Stop → Result T E → (before after : Open) → Type 0
+reserves_by p s (Ok _) before after =
+    IsReserved before.book.tables p s after × is_but_reserved s before.book after.book
+reserves_by p s (Err _) before after = (s ≢ stop.Paused) × (after.book ≡ before.book)
+
+-- two events and an item are reserved, or memory was refused and nothing has changed
+abbrev pub reserves_item_by : {T E : Type 0} → (c : ℕ) → Result T E → (before after : Open) → Type 0
+reserves_item_by c (Ok _) before after = (2 ≤ after.room) × (after.book ≡ reserved_on c before.book)
+reserves_item_by c (Err _) before after = after.book ≡ before.book

@@ -1,0 +1,141 @@
+//! The book as its owner sees it: each call keeps all that holds of a book.
+ghost use Rattle.std.specs.Prelude.{◌≡◌, ◌<◌, [], length, is_some, IfOk};
+ghost use Rattle.kpn_chan.specs.Channel.{next_item};
+ghost use Rattle.kpn_trace.specs.Channels.{read_on};
+ghost use Rattle.kpn_trace.specs.Views.{AreCounts, Agrees};
+ghost use Rattle.kpn_trace.specs.Ends.{IsVerdict};
+ghost use Rattle.kpn_configuration.specs.Configuration.{channel_in};
+ghost use Rattle.kpn_schedule.specs.Schedule.{all_ready};
+ghost use Rattle.kpn_book.specs.Kept.{IsBook};
+
+use crate::open_book::OpenBook;
+use kpn_configuration::Configuration;
+use kpn_net::Network;
+use kpn_schedule::Schedule;
+use kpn_trace::{Counts, History, Verdict, View};
+use std::alloc::{AllocError, Allocator, Global};
+use std::marker::Model;
+
+mod outside;
+mod processes;
+
+/// The value under the lock of a run: its network, the history so far, the configuration to which it has led, the
+/// schedule of the processes, and how many commits were made.
+///
+/// Contracts see these five. Each call leaves a book of which `known` holds, and a call that is refused leaves it as it
+/// was.
+#[derive(Debug, Drop)]
+pub struct Book<'n, A: Allocator = Global> {
+    pages: OpenBook<'n, A>,
+}
+
+impl<'n, A: Allocator> Model for Book<'n, A> {
+    ghost use Rattle.std.specs.Coded.{codes};
+    ghost use Rattle.kpn_lang.specs.Codes.{parts_code};
+    ghost use Rattle.kpn_book.specs.Book.{Book as Seen};
+    ghost use Rattle.kpn_book.specs.Kept.{IsKept};
+
+    ghost Value = { Seen };
+
+    ghost coded = { Prim.hlevel (codes, parts_code) };
+
+    ghost view = { λ b. b.pages.book };
+
+    ghost invariant = { λ b. IsKept b.pages.book };
+}
+
+impl<'n, A: Allocator + Copy> Book<'n, A> {
+    /// The book of a network at the start: nothing has happened, and all processes are ready, in order of number. It
+    /// makes the room of the queue for all of them. The allocator is kept for all that the book comes to hold. The
+    /// error is that memory ran out.
+    pub fn new(alloc: A, network: &'n Network) -> Result<Self, AllocError>
+        ensures tables { IfOk result (λ book. book.tables ≡ network.now) }
+        ensures history { IfOk result (λ book. book.history ≡ []) }
+        ensures schedule { IfOk result (λ book.
+            book.schedule ≡ all_ready (length network.now.instances)) }
+        ensures commits { IfOk result (λ book. book.commits ≡ 0) }
+        ensures book { IfOk result (λ book. IsBook book) }
+    {
+        let configuration = Configuration::new(alloc, network)?;
+        let schedule = Schedule::new(alloc, network.instances())?;
+        let pages = OpenBook::opened(network, configuration, schedule, History::new(alloc));
+        Ok(Book { pages })
+    }
+}
+
+impl<'n, A: Allocator> Book<'n, A> {
+    /// Does nothing. It tells a caller's proof what holds of every book.
+    pub fn known(&self)
+        ensures { IsBook self.now }
+    {
+        self.pages.known_whole();
+    }
+
+    /// The network.
+    pub fn network(&self) -> &'n Network
+        ensures { result.now ≡ self.now.tables }
+    {
+        self.pages.network()
+    }
+
+    /// How many processes are in each state.
+    pub fn counts(&self) -> Counts
+        ensures { AreCounts self.now.schedule.states result }
+    {
+        self.pages.counts()
+    }
+
+    /// How many commits were made.
+    pub fn commits(&self) -> u64
+        ensures { result ≡ self.now.commits }
+    {
+        self.pages.commits()
+    }
+
+    /// The events so far.
+    pub fn history(&self) -> &History<A>
+        ensures { result.now.events ≡ self.now.history }
+    {
+        self.pages.history()
+    }
+
+    /// The events so far, moved out.
+    pub fn into_history(self) -> History<A>
+        ensures { result.events ≡ self.entry.history }
+    {
+        let Book { pages } = self;
+        pages.into_history()
+    }
+
+    /// Whether a take from this sink, or a get from this channel, would give an item.
+    pub fn has_item(&self, c: usize) -> bool
+        requires { c < length self.now.tables.channels }
+        ensures { result ≡ is_some (next_item (channel_in self.now.configuration c)) }
+    {
+        self.pages.offers(c)
+    }
+
+    /// How many items were read from a channel.
+    pub fn read_count(&self, c: usize) -> usize
+        requires { c < length self.now.tables.channels }
+        ensures { result ≡ length (read_on self.now.history c) }
+    {
+        self.pages.read_count(c)
+    }
+
+    /// How the run has come to a stop, if it has: each process has ended or waits, each source is closed and each sink
+    /// is empty or left.
+    pub fn verdict(&self) -> Option<Verdict>
+        ensures { IsVerdict self.now.tables self.now.history result }
+    {
+        self.pages.verdict()
+    }
+
+    /// The run as it is seen at this moment. The error is that memory ran out.
+    pub fn snapshot(&self, alloc: Global) -> Result<View, AllocError>
+        ensures agrees { IfOk result (λ view. Agrees self.now.tables self.now.history view) }
+        ensures states { IfOk result (λ view. view.states ≡ self.now.schedule.states) }
+    {
+        self.pages.snapshot(alloc)
+    }
+}

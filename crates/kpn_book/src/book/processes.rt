@@ -1,0 +1,62 @@
+//! The calls for whoever steps the processes: claim, commit, put back, and all in one for a single owner.
+ghost use Rattle.std.specs.Prelude.{◌≡◌, IfOk, IfErr, OnErr, IfSome, IfNone};
+ghost use Rattle.kpn_net.specs.Tables.{program_of};
+ghost use Rattle.kpn_configuration.specs.Configuration.{frame_in};
+ghost use Rattle.kpn_book.specs.Book.{IsHeld, IsClaimed, put_back};
+ghost use Rattle.kpn_book.specs.Commits.{Commits};
+ghost use Rattle.kpn_book.specs.Refusals.{RefusesCommit, RefusesPutBack};
+ghost use Rattle.kpn_book.specs.Stepping.{ClaimsNobody, IsStep, StepsInVain};
+
+use super::Book;
+use crate::answers::{Done, Refused};
+use crate::claim::Claim;
+use kpn_step::Advance;
+use std::alloc::{AllocError, Allocator};
+
+impl<'n, A: Allocator> Book<'n, A> {
+    /// The first process of the queue, which is held from now on, with its program and the frame where it stands.
+    /// `None` where no process is ready, or where the commits and the processes that are held are as many as can be
+    /// counted.
+    pub fn claim(&mut self) -> Option<Claim<'n>>
+        ensures claimed { IfSome result (λ claim. IsClaimed claim.process self.old self.new) }
+        ensures program { IfSome result (λ claim.
+            claim.program.now ≡ program_of self.old.tables claim.process) }
+        ensures frame { IfSome result (λ claim.
+            claim.frame ≡ frame_in self.old.configuration claim.process) }
+        ensures nobody { IfNone result (ClaimsNobody self.old) }
+        ensures as_before { IfNone result (self.new ≡ self.old) }
+    {
+        self.pages.claim()
+    }
+
+    /// Commits the steps of process `p`, which is held: they are steps of its program from its frame. It gets or puts
+    /// an item, waits, ends or is ready again, by where the steps have stopped, and others are woken by that; where it
+    /// waits and a growth is owed for this, that growth is made.
+    pub fn commit(&mut self, p: usize, advance: &Advance) -> Result<Done, Refused>
+        ensures done { IfOk result (λ answer. Commits p advance.now answer self.old self.new) }
+        ensures refused { IfErr result (λ cause. RefusesCommit p advance.now self.old cause) }
+        ensures as_before { OnErr result (self.new ≡ self.old) }
+    {
+        self.pages.commit(p, advance)
+    }
+
+    /// Puts process `p`, which is held, to the tail of the queue. It stands where it stood.
+    pub fn put_back(&mut self, p: usize) -> Result<(), Refused>
+        ensures held { IfOk result (λ _. IsHeld self.old p) }
+        ensures after { IfOk result (λ _. self.new ≡ put_back p self.old) }
+        ensures refused { IfErr result (λ cause. RefusesPutBack p self.old cause) }
+        ensures as_before { OnErr result (self.new ≡ self.old) }
+    {
+        self.pages.put_back(p)
+    }
+
+    /// Claims a process, advances it by no more steps than the quota and commits this, in place: no frame is copied.
+    /// `None` where nobody can be claimed. The error is that memory ran out: the process has made its steps and is
+    /// ready again, at the tail of the queue.
+    pub fn step_next(&mut self, quota: u32) -> Result<Option<Done>, AllocError>
+        ensures step { IfOk result (λ answer. IsStep quota answer self.old self.new) }
+        ensures in_vain { OnErr result (StepsInVain quota self.old self.new) }
+    {
+        self.pages.step_next(quota)
+    }
+}

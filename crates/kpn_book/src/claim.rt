@@ -1,0 +1,11 @@
+//! A process that was handed out to be stepped.
+use kpn_lang::Program;
+use kpn_step::Frame;
+
+/// A process that is held, its program and the frame where it stands.
+#[derive(Debug, Drop)]
+pub struct Claim<'n> {
+    pub process: usize,
+    pub program: &'n Program,
+    pub frame: Frame,
+}

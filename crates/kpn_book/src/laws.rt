@@ -1,0 +1,115 @@
+//! What holds of every book, as the contracts of functions with nothing to do: the layers above cite them.
+ghost use Rattle.std.specs.Prelude.{◌≡◌, ◌≢◌, ℕ, ◌+◌, ◌<◌, ◌≤◌, false, List, [], ◌∷◌, ◌++◌, length, count_by, Some};
+ghost use Rattle.kpn_net.specs.Iteration.{IsBelowLeast, IsLeast};
+ghost use Rattle.kpn_step.specs.Stops.{Advanced};
+ghost use Rattle.kpn_chan.specs.Channel.{unread};
+ghost use Rattle.kpn_trace.specs.declared.event.Event.{Event};
+ghost use Rattle.kpn_trace.specs.declared.event.Event.TheVariants as event;
+ghost use Rattle.kpn_trace.specs.declared.state.Counts.{Counts};
+ghost use Rattle.kpn_trace.specs.declared.state.Verdict.TheVariants.{Ended, Clogged, Jammed};
+ghost use Rattle.kpn_trace.specs.Channels.{written_on, read_on, fed, capacity_after};
+ghost use Rattle.kpn_trace.specs.Waiting.{waits_of, HasFullCycle};
+ghost use Rattle.kpn_trace.specs.Legal.{Legal, OwesGrowth};
+ghost use Rattle.kpn_trace.specs.Stops.{CanGrow, IsJammedAtLimit, WaitsForBlocked};
+ghost use Rattle.kpn_trace.specs.Ends.{WaitsOnFull, IsQuiet, IsSettled, IsVerdict};
+ghost use Rattle.kpn_trace.specs.Views.{IsStateOf, AreCounts};
+ghost use Rattle.kpn_configuration.specs.Configuration.{channel_in};
+ghost use Rattle.kpn_schedule.specs.Schedule.{state_at};
+ghost use Rattle.kpn_book.specs.declared.answers.Done.{Done};
+ghost use Rattle.kpn_book.specs.Book.{Book, IsHeld, IsClaimed};
+ghost use Rattle.kpn_book.specs.Appending.{AppendsAll};
+ghost use Rattle.kpn_book.specs.Commits.{Commits};
+ghost use Rattle.kpn_book.specs.Kept.{IsBook, is_on_empty, is_on_full};
+
+// ---- at each moment
+
+/// The journal of a channel is what was written on it in the history: what was read and then what lies unread. No more
+/// is unread than the capacity where the reader is there. Each journal is below the least solution for what was fed.
+pub fn journals()
+    ensures written { (b : Book) → IsBook b → (c : ℕ) → c < length b.tables.channels
+        → (channel_in b.configuration c).journal ≡ written_on b.history c }
+    ensures queued { (b : Book) → IsBook b → (c : ℕ) → c < length b.tables.channels
+        → (channel_in b.configuration c).journal
+        ≡ read_on b.history c ++ unread (channel_in b.configuration c) }
+    ensures within { (b : Book) → IsBook b → (c : ℕ) → c < length b.tables.channels
+        → (channel_in b.configuration c).is_retired ≡ false
+        → (cap : ℕ) → (channel_in b.configuration c).capacity ≡ Some cap
+        → length (unread (channel_in b.configuration c)) ≤ cap }
+    ensures below { (b : Book) → IsBook b → (c : ℕ) → c < length b.tables.channels
+        → IsBelowLeast b.tables (fed b.tables b.history) c
+        (channel_in b.configuration c).journal }
+{}
+
+/// The history is legal, the state of each process is what the history says of it, and the counts of those that wait
+/// are the numbers of processes that are blocked by the history.
+pub fn the_history()
+    ensures legal { (b : Book) → IsBook b → Legal b.tables b.history }
+    ensures states { (b : Book) → IsBook b → (p : ℕ) → p < length b.tables.instances
+        → IsStateOf b.tables b.history p (state_at b.schedule.states p) }
+    ensures empty { (b : Book) → IsBook b → (counts : Counts) → AreCounts b.schedule.states counts
+        → counts.empty ≡ count_by is_on_empty (waits_of b.tables b.history) }
+    ensures full { (b : Book) → IsBook b → (counts : Counts) → AreCounts b.schedule.states counts
+        → counts.full ≡ count_by is_on_full (waits_of b.tables b.history) }
+{}
+
+/// Each growth took the smallest full channel of a blocked cycle, below the limit, at the moment when it was owed; and
+/// no blocked cycle with a full channel below the limit is left.
+pub fn growths()
+    ensures owed { (b : Book) → IsBook b → (B rest : List Event) (p d : ℕ)
+        → b.history ≡ B ++ event.Grow p d ∷ rest → OwesGrowth b.tables B p d }
+    ensures none_is_left { (b : Book) → IsBook b → ¬ CanGrow b.tables b.history }
+{}
+
+// ---- at a stop
+
+/// Where each process has ended or waits on an empty channel, each journal is the least solution for what was fed.
+pub fn a_quiet_book()
+    ensures { (b : Book) → IsBook b → IsQuiet b.tables b.history
+        → (c : ℕ) → c < length b.tables.channels
+        → IsLeast b.tables (fed b.tables b.history) c (channel_in b.configuration c).journal }
+{}
+
+/// What a verdict means. Ended is quiet. Jammed: some blocked cycle has full channels, all at the limit. Clogged: each
+/// process that is blocked on a full channel waits for a blocked process, and no blocked cycle has a full
+/// channel. After each of them no legal event but a leave can follow.
+pub fn what_a_verdict_means()
+    ensures ended { (b : Book) → IsBook b → IsVerdict b.tables b.history (Some Ended)
+        → IsQuiet b.tables b.history }
+    ensures jammed { (b : Book) → IsBook b → IsVerdict b.tables b.history (Some Jammed)
+        → IsJammedAtLimit b.tables b.history }
+    ensures clogged { (b : Book) → IsBook b → IsVerdict b.tables b.history (Some Clogged)
+        → (p : ℕ) → WaitsOnFull b.tables b.history p → WaitsForBlocked b.tables b.history p }
+    ensures no_cycle { (b : Book) → IsBook b → IsVerdict b.tables b.history (Some Clogged)
+        → ¬ HasFullCycle b.tables b.history }
+    ensures last { (b : Book) → IsBook b → IsSettled b.tables b.history
+        → (e : Event) → Legal b.tables (b.history ++ e ∷ []) → ((c : ℕ) × (e ≡ event.Leave c)) }
+{}
+
+// ---- from one book to the next
+
+/// Events that are appended, one after the other, stand behind the history, and nothing else happens to the network and
+/// the number of commits.
+pub fn what_is_appended()
+    ensures tables { (events : List Event) (before after : Book) → AppendsAll events before after
+        → after.tables ≡ before.tables }
+    ensures history { (events : List Event) (before after : Book) → AppendsAll events before after
+        → after.history ≡ before.history ++ events }
+    ensures commits { (events : List Event) (before after : Book) → AppendsAll events before after
+        → after.commits ≡ before.commits }
+{}
+
+/// A commit keeps the network, appends its events and counts itself.
+pub fn what_a_commit_does()
+    ensures tables { (p : ℕ) (a : Advanced) (answer : Done) (before after : Book)
+        → Commits p a answer before after → after.tables ≡ before.tables }
+    ensures history { (p : ℕ) (a : Advanced) (answer : Done) (before after : Book)
+        → (commits : Commits p a answer before after)
+        → after.history ≡ before.history ++ commits.settles.events }
+    ensures commits { (p : ℕ) (a : Advanced) (answer : Done) (before after : Book)
+        → Commits p a answer before after → after.commits ≡ before.commits + 1 }
+{}
+
+/// Who is claimed is held.
+pub fn a_claimed_process()
+    ensures { (p : ℕ) (before after : Book) → IsClaimed p before after → IsHeld after p }
+{}

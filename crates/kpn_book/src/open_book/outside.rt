@@ -1,0 +1,166 @@
+//! The calls of the outside.
+ghost use Rattle.std.specs.Prelude.{◌≡◌, ◌↔◌, ◌<◌, length, IsTrue};
+ghost use Rattle.kpn_net.specs.Tables.{channel_at, is_source, is_sink};
+ghost use Rattle.kpn_net.specs.declared.tables.End.TheVariants.{Sink};
+ghost use Rattle.kpn_configuration.specs.Configuration.{channel_in, closed_in};
+ghost use Rattle.kpn_book.specs.Kept.{IsKept};
+ghost use Rattle.kpn_book.specs.Refusals.{IsAtBound};
+ghost use Rattle.kpn_book.specs.Open.{feeds_by, closes_source_by, takes_by, leaves_sink_by};
+
+use super::OpenBook;
+use crate::answers::Refused;
+use kpn_net::{End, Network};
+use std::alloc::Allocator;
+
+impl<'n, A: Allocator> OpenBook<'n, A> {
+    /// Feeds a source.
+    pub(super) fn feed_by(&mut self, c: usize, item: i64, bound: usize) -> Result<(), Refused>
+        requires { IsKept self.old.book }
+        ensures feeds { feeds_by c item bound result self.old.book self.new.book }
+        ensures kept { IsKept self.new.book }
+    {
+        self.known();
+        if !self.is_source(c) {
+            return Err(Refused::NoSuchEnd);
+        }
+        if self.is_closed(c) {
+            return Err(Refused::SourceClosed);
+        }
+        if self.is_at_bound(c, bound) {
+            return Err(Refused::Full(item));
+        }
+        let Ok(()) = self.reserve_write(c) else {
+            return Err(Refused::NoMemory);
+        };
+        self.feed_source(c, item);
+        Ok(())
+    }
+
+    /// Closes a source.
+    pub(super) fn close_by(&mut self, c: usize) -> Result<(), Refused>
+        requires { IsKept self.old.book }
+        ensures closes { closes_source_by c result self.old.book self.new.book }
+        ensures kept { IsKept self.new.book }
+    {
+        self.known();
+        if !self.is_source(c) {
+            return Err(Refused::NoSuchEnd);
+        }
+        if self.is_closed(c) {
+            return Ok(());
+        }
+        let Ok(()) = self.reserve_events() else {
+            return Err(Refused::NoMemory);
+        };
+        self.close(c);
+        Ok(())
+    }
+
+    /// Takes the next item of a sink.
+    pub(super) fn take_by(&mut self, c: usize) -> Result<Option<i64>, Refused>
+        requires { IsKept self.old.book }
+        ensures takes { takes_by c result self.old.book self.new.book }
+        ensures kept { IsKept self.new.book }
+    {
+        self.known();
+        if !self.is_sink(c) {
+            return Err(Refused::NoSuchEnd);
+        }
+        if self.is_left(c) {
+            return Err(Refused::SinkLeft);
+        }
+        if !self.has_item(c) {
+            return Ok(None);
+        }
+        let Ok(()) = self.reserve_events() else {
+            return Err(Refused::NoMemory);
+        };
+        let item = self.take_next(c);
+        Ok(Some(item))
+    }
+
+    /// Leaves a sink.
+    pub(super) fn leave_by(&mut self, c: usize) -> Result<(), Refused>
+        requires { IsKept self.old.book }
+        ensures leaves { leaves_sink_by c result self.old.book self.new.book }
+        ensures kept { IsKept self.new.book }
+    {
+        self.known();
+        if !self.is_sink(c) {
+            return Err(Refused::NoSuchEnd);
+        }
+        if self.is_left(c) {
+            return Ok(());
+        }
+        let Ok(()) = self.reserve_events() else {
+            return Err(Refused::NoMemory);
+        };
+        self.leave(c);
+        Ok(())
+    }
+
+    /// Whether there is a source with this number.
+    fn is_source(&self, c: usize) -> bool
+        ensures { result ≡ is_source (channel_at self.now.book.tables c) }
+    {
+        is_source(self.network, c)
+    }
+
+    /// Whether there is a sink with this number.
+    fn is_sink(&self, c: usize) -> bool
+        ensures { result ≡ is_sink (channel_at self.now.book.tables c) }
+    {
+        is_sink(self.network, c)
+    }
+
+    /// Whether a source is closed.
+    fn is_closed(&self, c: usize) -> bool
+        requires { c < length self.now.book.configuration.closed }
+        ensures { result ≡ closed_in self.now.book.configuration c }
+    {
+        self.configuration.is_closed(c)
+    }
+
+    /// Whether a sink was left.
+    fn is_left(&self, c: usize) -> bool
+        requires { c < length self.now.book.configuration.channels }
+        ensures { result ≡ (channel_in self.now.book.configuration c).is_retired }
+    {
+        self.configuration.channel(c).is_retired()
+    }
+
+    /// Whether the reader of a channel is there, and as many items as the bound are unread.
+    fn is_at_bound(&self, c: usize, bound: usize) -> bool
+        requires { c < length self.now.book.configuration.channels }
+        ensures { IsTrue result ↔ IsAtBound (channel_in self.now.book.configuration c) bound }
+    {
+        let channel = self.configuration.channel(c);
+        !channel.is_retired() && bound <= channel.len()
+    }
+}
+
+fn is_source(network: &Network, c: usize) -> bool
+    ensures { result ≡ is_source (channel_at network.now c) }
+{
+    c < network.channels() && network.is_source(c)
+}
+
+fn is_sink(network: &Network, c: usize) -> bool
+    ensures { result ≡ is_sink (channel_at network.now c) }
+{
+    c < network.channels() && is_read_by_outside(network, c)
+}
+
+fn is_read_by_outside(network: &Network, c: usize) -> bool
+    requires { c < length network.now.channels }
+    ensures { result ≡ is_sink (channel_at network.now c) }
+{
+    is_outside(network.reader_of(c))
+}
+
+/// Whether the outside reads at this end.
+fn is_outside(end: End) -> bool
+    ensures { IsTrue result ↔ (end ≡ Sink) }
+{
+    end == End::Sink
+}

@@ -1,0 +1,87 @@
+//! What is seen of a book.
+ghost use Rattle.std.specs.Prelude.{◌≡◌, ◌↔◌, ◌<◌, true, length, map, Option, IfOk};
+ghost use Rattle.std.specs.List.{range_with_len};
+ghost use Rattle.kpn_trace.specs.declared.state.Verdict.{Verdict as Told};
+ghost use Rattle.kpn_trace.specs.Channels.{read_on};
+ghost use Rattle.kpn_trace.specs.Ends.{IsVerdict};
+ghost use Rattle.kpn_trace.specs.Views.{AreCounts, Agrees};
+ghost use Rattle.kpn_configuration.specs.Configuration.{channel_in, IsConfiguration};
+ghost use Rattle.kpn_configuration.specs.Settled.{IsVerdictNow};
+ghost use Rattle.kpn_schedule.specs.Schedule.{HaveStopped};
+ghost use Rattle.kpn_book.specs.Kept.{IsKept};
+
+use super::OpenBook;
+use crate::view::view_of;
+use kpn_trace::{Verdict, View};
+use std::alloc::{AllocError, Allocator, Global};
+
+impl<'n, A: Allocator> OpenBook<'n, A> {
+    /// How many items were read from a channel.
+    pub(crate) fn read_count(&self, c: usize) -> usize
+        requires kept { IsKept self.now.book }
+        requires channel { c < length self.now.book.tables.channels }
+        ensures { result ≡ length (read_on self.now.book.history c) }
+    {
+        self.read_of(c)
+    }
+
+    fn read_of(&self, c: usize) -> usize
+        requires { c < length self.now.book.configuration.channels }
+        ensures { result ≡ (channel_in self.now.book.configuration c).read }
+    {
+        self.configuration.channel(c).read_count()
+    }
+
+    /// How the run has come to a stop, if it has.
+    pub(crate) fn verdict(&self) -> Option<Verdict>
+        requires { IsKept self.now.book }
+        ensures { IsVerdict self.now.book.tables self.now.book.history result }
+    {
+        self.known();
+        if !self.is_idle() {
+            return None;
+        }
+        self.judge()
+    }
+
+    fn is_idle(&self) -> bool
+        ensures { (result ≡ true) ↔ HaveStopped self.now.book.schedule.states }
+    {
+        self.schedule.is_idle()
+    }
+
+    fn judge(&self) -> Option<Verdict>
+        requires { IsConfiguration self.now.book.tables self.now.book.configuration }
+        ensures { let b = self.now.book in
+            (told : Option Told) → ((result ≡ told) ↔ IsVerdictNow b.tables b.configuration told) }
+    {
+        self.configuration.verdict(self.network)
+    }
+
+    /// The run as it is seen at this moment. The error is that memory ran out.
+    pub(crate) fn snapshot(&self, alloc: Global) -> Result<View, AllocError>
+        requires { IsKept self.now.book }
+        ensures agrees { IfOk result (λ view.
+            Agrees self.now.book.tables self.now.book.history view) }
+        ensures states { IfOk result (λ view. view.states ≡ self.now.book.schedule.states) }
+    {
+        self.copy(alloc, self.network().channels())
+    }
+
+    /// The lists of so many channels, the states of the processes and their counts, copied.
+    fn copy(&self, alloc: Global, channels: usize) -> Result<View, AllocError>
+        requires { channels ≡ length self.now.book.configuration.channels }
+        ensures journals { let s = self.now.book.configuration in IfOk result (λ view.
+            view.journals ≡ map (λ c. (channel_in s c).journal) (range_with_len 0 channels)) }
+        ensures read { let s = self.now.book.configuration in IfOk result (λ view.
+            view.read ≡ map (λ c. (channel_in s c).read) (range_with_len 0 channels)) }
+        ensures caps { let s = self.now.book.configuration in IfOk result (λ view.
+            view.caps ≡ map (λ c. (channel_in s c).capacity) (range_with_len 0 channels)) }
+        ensures retired { let s = self.now.book.configuration in IfOk result (λ view.
+            view.retired ≡ map (λ c. (channel_in s c).is_retired) (range_with_len 0 channels)) }
+        ensures states { IfOk result (λ view. view.states ≡ self.now.book.schedule.states) }
+        ensures counts { IfOk result (λ view. AreCounts view.states view.counts) }
+    {
+        view_of(alloc, channels, &self.configuration, &self.schedule)
+    }
+}

@@ -1,0 +1,179 @@
+//! The calls for whoever steps the processes.
+ghost use Rattle.std.specs.Prelude.{◌≡◌, ◌≢◌, ◌↔◌, ◌+◌, ◌-◌, ◌<◌, ◌≤◌, ◌^◌, ℕ, length, IsTrue, IfSome, IfNone};
+ghost use Rattle.kpn_net.specs.Tables.{program_of};
+ghost use Rattle.kpn_step.specs.declared.stop.Stop.{Stop as Where};
+ghost use Rattle.kpn_step.specs.Frame.{Frame as Place};
+ghost use Rattle.kpn_step.specs.Stops.{IsAtPort};
+ghost use Rattle.kpn_configuration.specs.Configuration.{frame_in};
+ghost use Rattle.kpn_book.specs.Book.{IsHeld, held_count};
+ghost use Rattle.kpn_book.specs.Commits.{IsOwnAdvance};
+ghost use Rattle.kpn_book.specs.Kept.{IsInStep, IsKept};
+ghost use Rattle.kpn_book.specs.Open.{claims_by, commits_by, puts_back_by, steps_by, reserves_by, reserves_item_by};
+
+use super::OpenBook;
+use crate::answers::{Done, Refused};
+use crate::claim::Claim;
+use kpn_lang::same;
+use kpn_step::{Advance, Frame, Stop};
+use std::alloc::{AllocError, Allocator};
+
+impl<'n, A: Allocator> OpenBook<'n, A> {
+    /// The first process of the queue is held from now on. None where nobody can be claimed.
+    pub(super) fn hold_one(&mut self) -> Option<usize>
+        requires { IsKept self.old.book }
+        ensures { claims_by result self.old self.new }
+    {
+        if self.is_counted_out() {
+            return None;
+        }
+        self.hold_next()
+    }
+
+    /// The claim of a process.
+    pub(super) fn claim_of(&self, p: usize) -> Claim<'n>
+        requires process { p < length self.now.book.tables.instances }
+        requires frame { p < length self.now.book.configuration.frames }
+        ensures process { result.process ≡ p }
+        ensures program { result.program.now ≡ program_of self.now.book.tables p }
+        ensures frame { result.frame ≡ frame_in self.now.book.configuration p }
+    {
+        let network = self.network;
+        let program = network.program(p);
+        let frame = self.configuration.frame(p).copy();
+        Claim {
+            process: p,
+            program,
+            frame,
+        }
+    }
+
+    /// Commits the steps of process `p`.
+    pub(super) fn commit_steps(&mut self, p: usize, advance: &Advance) -> Result<Done, Refused>
+        requires { IsKept self.old.book }
+        ensures commits { commits_by p advance.now result self.old.book self.new.book }
+        ensures kept { IsKept self.new.book }
+    {
+        self.known();
+        advance.known();
+        if !self.is_held(p) {
+            return Err(Refused::NotHeld);
+        }
+        if !self.is_own(p, advance) {
+            return Err(Refused::Stranger);
+        }
+        let stop = advance.stop();
+        let Ok(()) = self.reserve(p, stop) else {
+            return Err(Refused::NoMemory);
+        };
+        self.step_to(p, advance);
+        let done = self.settle(p, stop);
+        Ok(done)
+    }
+
+    /// Puts process `p` to the tail of the queue.
+    pub(super) fn release(&mut self, p: usize) -> Result<(), Refused>
+        requires { IsKept self.old.book }
+        ensures back { puts_back_by p result self.old.book self.new.book }
+        ensures kept { IsKept self.new.book }
+    {
+        if !self.is_held(p) {
+            return Err(Refused::NotHeld);
+        }
+        self.make_ready(p);
+        Ok(())
+    }
+
+    /// Claims a process, advances it in place and commits this.
+    pub(super) fn step_one(&mut self, quota: u32) -> Result<Option<Done>, AllocError>
+        requires { IsKept self.old.book }
+        ensures steps { steps_by quota result self.old.book self.new.book }
+        ensures kept { IsKept self.new.book }
+    {
+        self.known();
+        let Some(p) = self.hold_one() else {
+            return Ok(None);
+        };
+        let mut stop = Stop::Paused;
+        let _steps = self.step(p, quota, &mut stop);
+        if let Err(error) = self.reserve(p, stop) {
+            self.make_ready(p);
+            return Err(error);
+        }
+        let done = self.settle(p, stop);
+        Ok(Some(done))
+    }
+
+    /// Whether the commits and the processes that are held are as many as can be counted.
+    fn is_counted_out(&self) -> bool
+        requires { self.now.book.commits + held_count self.now.book < 2 ^ 64 }
+        ensures { IsTrue result ↔ (self.now.book.commits + held_count self.now.book ≡ 2 ^ 64 - 1) }
+    {
+        let held = self.counts().held as u64;
+        self.commits + held == u64::MAX
+    }
+
+    /// Whether the steps are steps of the program of process `p` from its frame.
+    fn is_own(&self, p: usize, advance: &Advance) -> bool
+        requires process { p < length self.now.book.tables.instances }
+        requires frame { p < length self.now.book.configuration.frames }
+        ensures { IsTrue result ↔ IsOwnAdvance self.now.book p advance.now }
+    {
+        self.is_program(p, advance) && self.is_frame(p, advance)
+    }
+
+    fn is_program(&self, p: usize, advance: &Advance) -> bool
+        requires { p < length self.now.book.tables.instances }
+        ensures { IsTrue result ↔ (advance.now.program ≡ program_of self.now.book.tables p) }
+    {
+        same(advance.program(), self.network.program(p))
+    }
+
+    fn is_frame(&self, p: usize, advance: &Advance) -> bool
+        requires { p < length self.now.book.configuration.frames }
+        ensures { IsTrue result ↔ (advance.now.from ≡ frame_in self.now.book.configuration p) }
+    {
+        same_frame(advance.from(), self.frame_of(p))
+    }
+
+    fn frame_of(&self, p: usize) -> &Frame
+        requires { p < length self.now.book.configuration.frames }
+        ensures { result.now ≡ frame_in self.now.book.configuration p }
+    {
+        self.configuration.frame(p)
+    }
+
+    // ---- memory
+
+    /// Reserves what process `p`, which stands at this stop, may need.
+    fn reserve(&mut self, p: usize, stop: Stop) -> Result<(), AllocError>
+        requires process { p < length self.old.book.tables.instances }
+        requires step { IsInStep self.old.book }
+        requires port { (f : Place) × IsAtPort (program_of self.old.book.tables p) f stop }
+        ensures { reserves_by p stop result self.old self.new }
+    {
+        self.known();
+        match stop {
+            Stop::Paused => Ok(()),
+            Stop::WantWrite(port, _) => {
+                let c = self.out_channel(p, port);
+                self.reserve_write(c)
+            }
+            Stop::WantRead(_) | Stop::Done | Stop::Faulted(_) => self.reserve_events(),
+        }
+    }
+
+    /// Reserves two events and an item on a channel.
+    pub(super) fn reserve_write(&mut self, c: usize) -> Result<(), AllocError>
+        requires { c < length self.old.book.configuration.channels }
+        ensures { reserves_item_by c result self.old self.new }
+    {
+        self.reserve_events()?;
+        self.reserve_item(c)
+    }
+}
+
+fn same_frame(left: &Frame, right: &Frame) -> bool
+    ensures { IsTrue result ↔ (left.now ≡ right.now) }
+{
+    *left == *right
+}

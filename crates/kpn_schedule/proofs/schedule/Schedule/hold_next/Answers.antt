@@ -1,0 +1,26 @@
+use Rattle.std.proofs.Common.{arith}
+use Rattle.std.proofs.lemmas.List.{length-set}
+use Rattle.kpn_trace.specs.declared.state.State.TheVariants.{Held}
+use Rattle.kpn_schedule.proofs.Queueing.{popped, first_there, IsSchedule-held, HoldsFirst-popped}
+use Rattle.kpn_schedule.proofs.schedule.Schedule.hold_next.Goals as goal
+
+pub set-requires : goal.set-requires
+set-requires g c =
+    first_there c.self.inside.states c.in_ok-p.p c.pop_front.new.self.items
+    (popped c.self.inside.states c.self.inside.queue.items c.in_ok-p.p c.pop_front.new.self.items c.self.invariant.0
+    c.in_ok-p.ensures.items)
+
+pub invariant_of-self-2 : goal.invariant_of-self-2
+invariant_of-self-2 g c =
+    rw c.set.ensures (
+      IsSchedule-held c.self.inside.states c.in_ok-p.p c.pop_front.new.self.items
+          (popped c.self.inside.states c.self.inside.queue.items c.in_ok-p.p c.pop_front.new.self.items
+          c.self.invariant.0 c.in_ok-p.ensures.items),
+      omega (arith, length-set c.self.inside.states c.in_ok-p.p Held, c.self.invariant.1, c.pop_front.ensures.capacity),
+    )
+
+pub returns-clause-held : goal.returns-clause-held
+returns-clause-held g c =
+    rw (← c.self.view_is, c.set.ensures)
+    (HoldsFirst-popped c.self.inside.states c.self.inside.queue.items c.in_ok-p.p c.pop_front.new.self.items
+    c.self.invariant.0 c.in_ok-p.ensures.items)

@@ -1,0 +1,8 @@
+//! Schedules of a run: which processes are ready and in which order they are to be stepped, who is held, who waits or
+//! has ended, and how many of each there are.
+#![tactic(auto)]
+
+mod schedule;
+mod states;
+
+pub use schedule::Schedule;
