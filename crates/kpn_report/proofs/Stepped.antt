@@ -1,0 +1,419 @@
+-- What a step of a process does to the sinks, and what a take does then.
+use Rattle.std.proofs.Common.{◌≡◌, ◌↔◌, ℕ, ◌+◌, ◌<◌, ◌≤◌, Bool, true, false, cond, IsTrue, ℤ, List, [], ◌∷◌, ◌++◌, length, Option, Some, None, refl, sym, ap, ◌∙◌, subst, inl, inr, arith, length-append, length-drop}
+use Rattle.std.proofs.lemmas.Bool.{cases_eq, both_ways, false≢true}
+use Rattle.kpn_lang.specs.Prefix.{IsPrefix}
+use Rattle.kpn_lang.proofs.Prefixes.{IsPrefix-append, IsPrefix-trans, IsPrefix-refl}
+use Rattle.kpn_net.specs.Tables.{Tables, channel_at, is_source, is_sink}
+use Rattle.kpn_net.specs.Faults.{IsNetwork}
+use Rattle.kpn_trace.specs.declared.event.Event.{Event}
+use Rattle.kpn_trace.specs.declared.event.Event.TheVariants as event
+use Rattle.kpn_trace.specs.Channels.{written_in, read_in, written_on, read_on}
+use Rattle.kpn_trace.specs.Legal.{Legal}
+use Rattle.kpn_trace.proofs.Ownership.{IsOwn-last}
+use Rattle.kpn_trace.proofs.Journals.{no_sink, none_elsewhere}
+use Rattle.kpn_trace.proofs.Events.{written_on-push, written_on-same, read_on-push, read_on-same}
+use Rattle.kpn_trace.proofs.OneMore.{item_here}
+use Rattle.kpn_configuration.specs.Configuration.{channel_in}
+use Rattle.kpn_step.specs.declared.stop.Stop.{Stop}
+use Rattle.kpn_chan.specs.Channel.{unread}
+use Rattle.kpn_book.specs.declared.answers.Done.{Done}
+use Rattle.kpn_book.specs.declared.answers.Done.TheVariants as done
+use Rattle.kpn_book.specs.Book.{Book, held_count, standing_at, counted}
+use Rattle.kpn_book.specs.Kept.{IsBook}
+use Rattle.kpn_book.specs.Commits.{HasToWait, IsAnswer, ready_if_paused}
+use Rattle.kpn_book.specs.Refusals.{Takes, takes_item}
+use Rattle.kpn_book.specs.Stepping.{ClaimsNobody, IsStep, StepsNext}
+use Rattle.kpn_book.proofs.Appended.{tables_stay, history_then, commits_stay}
+use Rattle.kpn_report.specs.declared.outcome.Limits.{Limits}
+use Rattle.kpn_report.specs.Outcomes.{IsEnough}
+use Rattle.kpn_report.specs.Running.{IsLeftToItself, IsLater, IsCommitted, HasPut, KeepsSinks, sinks_after, has_put, sink_of, ReadsOneMore, IsStepped}
+use Rattle.kpn_report.proofs.Ends.{AddNothing, nothing_more, sink_there, closed_later}
+use Rattle.kpn_report.proofs.Held.{held_after_step, held_after_take}
+
+-- ---- what was read
+
+-- where as much was read, there is enough
+enough_same : (t : Tables) (G H : List Event)
+    → ((c : ℕ) → is_sink (channel_at t c) ≡ true → length (read_on H c) ≡ length (read_on G c)) → (wanted : Option ℕ)
+    → IsEnough t H wanted → IsEnough t G wanted
+enough_same t G H same None enough = enough
+enough_same t G H same (Some items) enough =
+    λ c below sink. let long = same c sink in let most = enough c below sink in omega arith
+
+-- ---- the same run, later
+
+pub IsLater-refl : (b : Book) → IsLater b b
+IsLater-refl b = record { tables = refl; history = IsPrefix-refl b.history }
+
+pub IsLater-trans : (a b c : Book) → IsLater a b → IsLater b c → IsLater a c
+IsLater-trans a b c first second = record {
+  tables = second.tables ∙ first.tables;
+  history = IsPrefix-trans a.history b.history c.history first.history second.history;
+}
+
+pub IsLater-events : (before after : Book) (es : List Event) → after.tables ≡ before.tables
+    → after.history ≡ before.history ++ es → IsLater before after
+IsLater-events before after es tables history = record {
+  tables = tables;
+  history = subst (IsPrefix before.history) (sym history) (IsPrefix-append before.history es);
+}
+
+-- ---- a step
+
+-- a process that has paused is ready again: nothing else is changed by that
+ready_tables : (p : ℕ) (answer : Done) (b : Book) → (ready_if_paused p answer b).tables ≡ b.tables
+ready_tables p (done.Got v) b = refl
+ready_tables p done.Put b = refl
+ready_tables p done.Blocked b = refl
+ready_tables p (done.Grew d) b = refl
+ready_tables p done.Ended b = refl
+ready_tables p done.Paused b = refl
+
+ready_history : (p : ℕ) (answer : Done) (b : Book) → (ready_if_paused p answer b).history ≡ b.history
+ready_history p (done.Got v) b = refl
+ready_history p done.Put b = refl
+ready_history p done.Blocked b = refl
+ready_history p (done.Grew d) b = refl
+ready_history p done.Ended b = refl
+ready_history p done.Paused b = refl
+
+ready_commits : (p : ℕ) (answer : Done) (b : Book) → (ready_if_paused p answer b).commits ≡ b.commits
+ready_commits p (done.Got v) b = refl
+ready_commits p done.Put b = refl
+ready_commits p done.Blocked b = refl
+ready_commits p (done.Grew d) b = refl
+ready_commits p done.Ended b = refl
+ready_commits p done.Paused b = refl
+
+module _ (quota : ℕ) (answer : Done) (before after : Book) (steps : StepsNext quota answer before after) where
+  abbrev events : List Event
+  events = steps.commits.settles.events
+
+  abbrev stood : Book
+  stood = standing_at steps.process steps.advance.to steps.between
+
+  abbrev start : Book
+  start = ready_if_paused steps.process answer (counted stood)
+
+  pub step_tables : after.tables ≡ before.tables
+  step_tables =
+      tables_stay events start after steps.commits.settles.appends ∙ ready_tables steps.process answer (counted stood)
+      ∙ ap (λ b. b.tables) steps.steps.claimed.same
+
+  pub step_history : after.history ≡ before.history ++ events
+  step_history =
+      history_then events start after steps.commits.settles.appends
+      ∙ ap (λ H. H ++ events)
+      (ready_history steps.process answer (counted stood) ∙ ap (λ b. b.history) steps.steps.claimed.same)
+
+  pub step_commits : after.commits ≡ before.commits + 1
+  step_commits =
+      commits_stay events start after steps.commits.settles.appends ∙ ready_commits steps.process answer (counted stood)
+      ∙ ap (λ b. b.commits + 1) steps.steps.claimed.same
+
+-- waits and growths read and write nothing
+wait_writes : (b : Book) (p : ℕ) (s : Stop) (wait : Event) → HasToWait b p s wait → (c : ℕ)
+    → (written_in c wait ≡ []) × (read_in c wait ≡ [])
+wait_writes b p s wait waits c =
+    elim waits [
+      | inl empty ↦ (ap (written_in c) empty.is, ap (read_in c) empty.is)
+      | inr full ↦ (ap (written_in c) full.is, ap (read_in c) full.is)
+    ]
+
+-- a process reads no sink
+got_elsewhere : (t : Tables) → IsNetwork t → (B : List Event) (p c : ℕ) (v : ℤ)
+    → Legal t (B ++ event.Get p c v ∷ []) → (d : ℕ) → is_sink (channel_at t d) ≡ true
+    → read_in d (event.Get p c v) ≡ []
+got_elsewhere t network B p c v legal d sink =
+    none_elsewhere c d v
+    (λ same. no_sink t c d p (IsOwn-last t network B (event.Get p c v) legal) sink (sym same))
+
+module _ (before after : Book) where
+  keeps_sinks : (es : List Event) → after.history ≡ before.history ++ es
+      → ((c : ℕ) → is_sink (channel_at before.tables c) ≡ true
+      → AddNothing (written_in c) es × AddNothing (read_in c) es) → KeepsSinks before after
+  keeps_sinks es history none = record {
+    written = λ c sink.
+        ap (λ H. written_on H c) history ∙ nothing_more (written_in c) es before.history (none c sink).0;
+    read = λ c sink. ap (λ H. read_on H c) history ∙ nothing_more (read_in c) es before.history (none c sink).1;
+  }
+
+  module _ (was : IsBook before) (is : IsBook after) (tables : after.tables ≡ before.tables) (b : Book) (p : ℕ)
+      (s : Stop) (es : List Event) (history : after.history ≡ before.history ++ es) where
+    with_events : (own : List Event) → es ≡ own → after.history ≡ before.history ++ own
+    with_events own same = history ∙ ap (λ es. before.history ++ es) same
+
+    sinks_by : (answer : Done) → IsAnswer b p s answer es → sinks_after (has_put (Some answer)) before after
+    sinks_by (done.Got v) got =
+        let own = with_events (event.Get p got.channel v ∷ []) got.appends in
+        let legal : Legal before.tables (before.history ++ event.Get p got.channel v ∷ []) =
+        subst (λ t. Legal t (before.history ++ event.Get p got.channel v ∷ [])) tables
+        (subst (Legal after.tables) own is.kept.in_step.run.legal) in
+        keeps_sinks (event.Get p got.channel v ∷ []) own
+        (λ c sink. (
+          (refl, tt),
+          (got_elsewhere before.tables was.network before.history p got.channel v legal c sink, tt),
+        ))
+    sinks_by done.Put put =
+        record {
+          process = p;
+          channel = put.channel;
+          item = put.item;
+          history = with_events (event.Put p put.channel put.item ∷ []) put.appends;
+        }
+    sinks_by done.Blocked blocked =
+        keeps_sinks (blocked.wait ∷ []) (with_events (blocked.wait ∷ []) blocked.appends)
+        (λ c sink.
+        let none = wait_writes b p s blocked.wait blocked.waits c in
+        ((none.0, tt), (none.1, tt)))
+    sinks_by (done.Grew d) grew =
+        keeps_sinks (grew.wait ∷ event.Grow p d ∷ []) (with_events (grew.wait ∷ event.Grow p d ∷ []) grew.appends)
+        (λ c sink.
+        let none = wait_writes b p s grew.wait grew.waits c in
+        ((none.0, (refl, tt)), (none.1, (refl, tt))))
+    sinks_by done.Ended ended =
+        keeps_sinks (event.Ended p ended.how ∷ []) (with_events (event.Ended p ended.how ∷ []) ended.appends)
+        (λ c sink. ((refl, tt), (refl, tt)))
+    sinks_by done.Paused paused = keeps_sinks [] (with_events [] paused.appends) (λ c sink. (tt, tt))
+
+pub stepped : (quota : ℕ) (answer : Option Done) (before after : Book) → IsBook before → IsBook after
+    → held_count before ≡ 0 → (ClaimsNobody before → ⊥) → IsStep quota answer before after
+    → IsCommitted before after × sinks_after (has_put answer) before after
+stepped quota None before after was is held some steps = absurd (some steps.0)
+stepped quota (Some answer) before after was is held some steps = (
+  record {
+    later = IsLater-events before after (events quota answer before after steps)
+        (step_tables quota answer before after steps) (step_history quota answer before after steps);
+    commits = step_commits quota answer before after steps;
+    nobody_held = held_after_step quota answer before after was steps ∙ held;
+  },
+  sinks_by before after was is (step_tables quota answer before after steps)
+      (stood quota answer before after steps) steps.process steps.advance.stop (events quota answer before after steps)
+      (step_history quota answer before after steps) answer steps.commits.settles.answers,
+)
+
+-- ---- nothing was put on a sink
+
+module _ (limits : Limits) (before after : Book) (left : IsLeftToItself before) (committed : IsCommitted before after)
+  where
+    source_before : (c : ℕ) → is_source (channel_at after.tables c) ≡ true
+        → is_source (channel_at before.tables c) ≡ true
+    source_before c source = subst (λ t. is_source (channel_at t c) ≡ true) committed.later.tables source
+
+    sink_before : (c : ℕ) → is_sink (channel_at after.tables c) ≡ true → is_sink (channel_at before.tables c) ≡ true
+    sink_before c sink = subst (λ t. is_sink (channel_at t c) ≡ true) committed.later.tables sink
+
+    pub not_put : KeepsSinks before after → (IsEnough before.tables before.history limits.take → ⊥)
+        → IsStepped limits false before after
+    not_put keeps few = record {
+      later = committed.later;
+      commits = committed.commits;
+      left = record {
+        nobody_held = committed.nobody_held;
+        closed = λ c source.
+            closed_later before.history after.history committed.later.history c
+            (left.closed c (source_before c source));
+        all_read = λ c sink.
+            let is = sink_before c sink in
+            let all = left.all_read c is in
+            let written = ap length (keeps.written c is) in
+            let read = ap length (keeps.read c is) in
+            omega arith;
+      };
+      decides = (
+        λ is. absurd (false≢true is),
+        λ enough.
+            absurd (few (enough_same before.tables before.history after.history
+            (λ c sink. ap length (keeps.read c sink)) limits.take
+            (subst (λ t. IsEnough t after.history limits.take) committed.later.tables enough))),
+      );
+    }
+
+-- ---- an item was put
+
+module _ (before now : Book) (p c : ℕ) (v : ℤ) (put : now.history ≡ before.history ++ event.Put p c v ∷ []) where
+  put_written : written_on now.history c ≡ written_on before.history c ++ v ∷ []
+  put_written =
+      ap (λ H. written_on H c) put ∙ written_on-push before.history (event.Put p c v) c
+      ∙ ap (λ xs. written_on before.history c ++ xs) (item_here c v)
+
+  put_elsewhere : (d : ℕ) → (c ≡ d → ⊥) → written_on now.history d ≡ written_on before.history d
+  put_elsewhere d other =
+      ap (λ H. written_on H d) put ∙ written_on-same before.history (event.Put p c v) d (none_elsewhere c d v other)
+
+  put_read : (d : ℕ) → read_on now.history d ≡ read_on before.history d
+  put_read d = ap (λ H. read_on H d) put ∙ read_on-same before.history (event.Put p c v) d refl
+
+  -- on no sink
+  pub put_on_no_sink : is_sink (channel_at before.tables c) ≡ false → KeepsSinks before now
+  put_on_no_sink none = record {
+    written = λ d sink.
+        put_elsewhere d
+        (λ same.
+        both_ways (is_sink (channel_at before.tables c)) none
+        (subst (λ x. is_sink (channel_at before.tables x) ≡ true) (sym same) sink));
+    read = λ d sink. put_read d;
+  }
+
+-- what was put on a sink was taken
+pub record IsTaken (before after : Book) (c : ℕ) : Type 0 where
+  pub tables : after.tables ≡ before.tables
+  pub history : IsPrefix before.history after.history
+  pub commits : after.commits ≡ before.commits
+  pub written : (d : ℕ) → written_on after.history d ≡ written_on before.history d
+  pub all : length (written_on after.history c) ≤ length (read_on before.history c) + 1
+      → length (written_on after.history c) ≤ length (read_on after.history c)
+  pub most : length (read_on after.history c) ≤ length (read_on before.history c) + 1
+  pub elsewhere : (d : ℕ) → (c ≡ d → ⊥) → read_on after.history d ≡ read_on before.history d
+
+nothing_unread : (b : Book) → IsBook b → (c : ℕ) → c < length b.tables.channels
+    → unread (channel_in b.configuration c) ≡ []
+    → length (written_on b.history c) ≤ length (read_on b.history c)
+nothing_unread b book c there none =
+    let holds = book.kept.in_step.run.leads.channels c there in
+    let ch = channel_in b.configuration c in
+    let long = length-drop ch.read ch.journal in
+    let zero = ap length none in
+    let written = ap length holds.journal in
+    let read = holds.read in
+    omega arith
+
+pub taken : (c : ℕ) (item : Option ℤ) (before after : Book) → IsBook before → Takes c item before after
+    → IsTaken before after c
+taken c item before after book takes = by item takes.takes
+  where
+    by : (item : Option ℤ) → takes_item c item before after → IsTaken before after c
+    by None same = record {
+      tables = ap (λ b. b.tables) same.1;
+      history = subst (λ b. IsPrefix before.history b.history) (sym same.1) (IsPrefix-refl before.history);
+      commits = ap (λ b. b.commits) same.1;
+      written = λ d. ap (λ b. written_on b.history d) same.1;
+      all = λ bound.
+          subst (λ b. length (written_on b.history c) ≤ length (read_on b.history c)) (sym same.1)
+          (nothing_unread before book c (sink_there before.tables c takes.sink.sink) same.0);
+      most = let long = ap (λ b. length (read_on b.history c)) same.1 in omega arith;
+      elsewhere = λ d other. ap (λ b. read_on b.history d) same.1;
+    }
+    by (Some v) takes =
+        let history = takes.1.history in
+        let here : read_on after.history c ≡ read_on before.history c ++ v ∷ [] =
+        ap (λ H. read_on H c) history ∙ read_on-push before.history (event.Take c v) c
+        ∙ ap (λ xs. read_on before.history c ++ xs) (item_here c v) in
+        let long = ap length here in
+        let one = length-append (read_on before.history c) (v ∷ []) in
+        record {
+          tables = takes.1.tables;
+          history =
+              subst (IsPrefix before.history) (sym history) (IsPrefix-append before.history (event.Take c v ∷ []));
+          commits = takes.1.commits;
+          written = λ d. ap (λ H. written_on H d) history ∙ written_on-same before.history (event.Take c v) d refl;
+          all = λ bound. omega arith;
+          most = omega arith;
+          elsewhere = λ d other.
+              ap (λ H. read_on H d) history
+              ∙ read_on-same before.history (event.Take c v) d (none_elsewhere c d v other);
+        }
+
+-- what was put on a sink was taken: of this sink at most one item more was read, and the outside has nothing to do
+module _ (limits : Limits) (before now after : Book) (left : IsLeftToItself before) (committed : IsCommitted before now)
+    (p c : ℕ) (v : ℤ) (put : now.history ≡ before.history ++ event.Put p c v ∷ []) (book : IsBook now)
+    (item : Option ℤ) (takes : Takes c item now after) where
+  abbrev took : IsTaken now after c
+  took = taken c item now after book takes
+
+  pub put_taken_tables : after.tables ≡ before.tables
+  put_taken_tables = took.tables ∙ committed.later.tables
+
+  pub put_taken_more : ReadsOneMore after.tables c before.history after.history
+  put_taken_more =
+      let here = ap length (put_read before now p c v put c) in
+      let most = took.most in
+      record {
+        here = omega arith;
+        elsewhere = λ d sink other.
+            ap length (took.elsewhere d (λ same. other (sym same)) ∙ put_read before now p c v put d);
+      }
+
+  sinks_read : (d : ℕ) → is_sink (channel_at after.tables d) ≡ true
+      → length (written_on after.history d) ≤ length (read_on after.history d)
+  sinks_read d sink =
+      let was = left.all_read d (subst (λ t. is_sink (channel_at t d) ≡ true) put_taken_tables sink) in
+      elim (cases_eq c d) [
+        | inl same ↦
+            let bound = left.all_read c
+            (subst (λ x. is_sink (channel_at before.tables x) ≡ true) (sym same)
+            (subst (λ t. is_sink (channel_at t d) ≡ true) put_taken_tables sink)) in
+            let written = ap length (took.written c ∙ put_written before now p c v put) in
+            let one = length-append (written_on before.history c) (v ∷ []) in
+            let read = ap length (put_read before now p c v put c) in
+            subst (λ x. length (written_on after.history x) ≤ length (read_on after.history x)) same
+            (took.all (omega arith))
+        | inr other ↦
+            let written = ap length (took.written d ∙ put_elsewhere before now p c v put d other) in
+            let read = ap length (took.elsewhere d other ∙ put_read before now p c v put d) in
+            omega arith
+      ]
+
+  pub put_taken : (enough : Bool) → (IsTrue enough ↔ IsEnough after.tables after.history limits.take)
+      → IsStepped limits enough before after
+  put_taken enough decides = record {
+    later = IsLater-trans before now after committed.later (record { tables = took.tables; history = took.history });
+    commits = took.commits ∙ committed.commits;
+    left = record {
+      nobody_held = held_after_take now book c item after takes ∙ committed.nobody_held;
+      closed = λ d source.
+          closed_later now.history after.history took.history d
+          (closed_later before.history now.history committed.later.history d
+          (left.closed d (subst (λ t. is_source (channel_at t d) ≡ true) put_taken_tables source)));
+      all_read = sinks_read;
+    };
+    decides = decides;
+  }
+
+-- ---- all of it
+
+sink_is : (t : Tables) (p c : ℕ) (v : ℤ) (sink : ℕ) → Some sink ≡ sink_of t (event.Put p c v) → sink ≡ c
+sink_is t p c v sink = by (is_sink (channel_at t c))
+  where
+    by : (b : Bool) → Some sink ≡ cond b (Some c) None → sink ≡ c
+    by true e = cc
+    by false e = absurd cc
+
+no_sink_is : (t : Tables) (p c : ℕ) (v : ℤ) → None ≡ sink_of t (event.Put p c v) → is_sink (channel_at t c) ≡ false
+no_sink_is t p c v = by (is_sink (channel_at t c))
+  where
+    by : (b : Bool) → None ≡ cond b (Some c) None → b ≡ false
+    by true e = absurd cc
+    by false e = refl
+
+module _ (limits : Limits) (before now : Book) (left : IsLeftToItself before) (committed : IsCommitted before now)
+    (put : HasPut before now) (few : IsEnough before.tables before.history limits.take → ⊥) (last : Event)
+    (is_last : (B : List Event) (e : Event) → now.history ≡ B ++ e ∷ [] → Some last ≡ Some e) where
+  last_is : last ≡ event.Put put.process put.channel put.item
+  last_is =
+      let same : Some last ≡ Some (event.Put put.process put.channel put.item) =
+      is_last before.history (event.Put put.process put.channel put.item) put.history in cc
+
+  pub put_elsewhere_stepped : None ≡ sink_of now.tables last → IsStepped limits false before now
+  put_elsewhere_stepped none =
+      let is = no_sink_is now.tables put.process put.channel put.item (none ∙ ap (sink_of now.tables) last_is) in
+      not_put limits before now left committed
+      (put_on_no_sink before now put.process put.channel put.item put.history
+      (subst (λ t. is_sink (channel_at t put.channel) ≡ false) committed.later.tables is)) few
+
+  pub put_taken_stepped : (sink : ℕ) → Some sink ≡ sink_of now.tables last → IsBook now → (item : Option ℤ)
+      (after : Book) → Takes sink item now after → (enough : Bool)
+      → ((B : List Event) → ReadsOneMore after.tables sink B after.history
+      → (IsEnough after.tables B limits.take → ⊥) → IsTrue enough ↔ IsEnough after.tables after.history limits.take)
+      → IsStepped limits enough before after
+  put_taken_stepped sink at book item after takes enough decides =
+      let same =
+      sink_is now.tables put.process put.channel put.item sink (at ∙ ap (sink_of now.tables) last_is) in
+      let here : now.history ≡ before.history ++ event.Put put.process sink put.item ∷ [] =
+      put.history ∙ ap (λ x. before.history ++ event.Put put.process x put.item ∷ []) (sym same) in
+      put_taken limits before now after left committed put.process sink put.item here book item takes enough
+      (decides before.history
+      (put_taken_more limits before now after left committed put.process sink put.item here book item takes)
+      (λ has.
+      few (subst (λ t. IsEnough t before.history limits.take)
+      (put_taken_tables limits before now after left committed put.process sink put.item here book item takes) has)))

@@ -1,0 +1,129 @@
+-- What is told of a run that was left to itself is what a report promises.
+use Rattle.std.proofs.Common.{◌≡◌, ℕ, ◌<◌, ◌≤◌, ℤ, List, length, Some, refl, sym, ap, ◌∙◌, subst, arith, [], ◌∷◌, ◌++◌, take, map, get_or, zero, suc, slice_get, IfSome, None, Option, true, count_by}
+use Rattle.std.proofs.lemmas.List.{take_all}
+use Rattle.std.proofs.lemmas.List.FromFn.{length-map-range_with_len, get_or-map-range_with_len}
+use Rattle.kpn_lang.proofs.Prefixes.{IsPrefix-same, length_of_prefix}
+use Rattle.kpn_lang.specs.Prefix.{IsPrefix}
+use Rattle.kpn_net.specs.Tables.{Tables, channel_at, is_source}
+use Rattle.kpn_net.specs.Iteration.{given_by}
+use Rattle.kpn_net.proofs.RoundLemmas.{list_of}
+use Rattle.kpn_net.specs.Faults.{IsNetwork}
+use Rattle.kpn_trace.specs.Channels.{written_on, read_on}
+use Rattle.kpn_trace.specs.Legal.{Legal, HasNumbers}
+use Rattle.kpn_trace.specs.Stops.{OwesNothing}
+use Rattle.kpn_trace.specs.Talks.{process_events}
+use Rattle.kpn_trace.specs.Views.{Agrees, is_held}
+use Rattle.kpn_trace.specs.declared.event.Event.{Event}
+use Rattle.kpn_trace.specs.declared.state.View.{View}
+use Rattle.kpn_trace.proofs.Journals.{reads_begin_writes}
+use Rattle.kpn_trace.proofs.Kahn.{take-prefix}
+use Rattle.kpn_book.specs.Book.{Book}
+use Rattle.kpn_book.specs.Kept.{IsBook}
+use Rattle.kpn_report.specs.declared.outcome.Limits.{Limits}
+use Rattle.kpn_report.specs.declared.outcome.Outcome.{Outcome}
+use Rattle.kpn_report.specs.declared.report.Report.{Report}
+use Rattle.kpn_report.specs.Outcomes.{IsOutcome}
+use Rattle.kpn_report.specs.Reports.{events_of, read_of_sinks, IsReport, sink_numbers}
+use Rattle.kpn_report.specs.Running.{IsFedBelow, ComesToOutcome, Tells, first_read, ReadsWithin}
+use Rattle.kpn_report.proofs.Ends.{source_there, closed_stays}
+use Rattle.kpn_report.proofs.Parts.{map-agree, sink_below}
+
+-- ---- the events of a legal history
+
+prefix_at : (H : List Event) (k : ℕ) (e : Event) → slice_get H k ≡ Some e
+    → (B : List Event) × IsPrefix (B ++ e ∷ []) H
+prefix_at [] k e is = absurd cc
+prefix_at (x ∷ H) zero e is = ([], (cc, tt))
+prefix_at (x ∷ H) (suc k) e is = let r = prefix_at H k e is in (x ∷ r.0, (refl, r.1))
+
+-- an event that stands in a legal history has numbers of the network
+pub numbers_at : (t : Tables) (H : List Event) → Legal t H → (k : ℕ) (o : Option Event) → o ≡ slice_get H k
+    → IfSome o (λ e. HasNumbers t e)
+numbers_at t H legal k None is = tt
+numbers_at t H legal k (Some e) is =
+    let r = prefix_at H k e (sym is) in (legal.follows r.0 e r.1).numbers
+
+-- ---- what was read, by a view
+
+module _ (t : Tables) (H : List Event) (legal : Legal t H) (view : View) (agrees : Agrees t H view) where
+  pub journals_there : length view.journals ≡ length t.channels
+  journals_there = ap length agrees.journals ∙ length-map-range_with_len (written_on H) 0 (length t.channels)
+
+  pub reads_there : length view.read ≡ length t.channels
+  reads_there = ap length agrees.read ∙ length-map-range_with_len (λ c. length (read_on H c)) 0 (length t.channels)
+
+  read_is : (c : ℕ) → c < length t.channels → get_or view.read c 0 ≡ length (read_on H c)
+  read_is c below =
+      ap (λ ns. get_or ns c 0) agrees.read
+      ∙ get_or-map-range_with_len (λ c. length (read_on H c)) 0 (length t.channels) c c 0 below (omega arith)
+
+  journal_is : (c : ℕ) → c < length t.channels → get_or view.journals c [] ≡ written_on H c
+  journal_is = list_of t (written_on H) view.journals agrees.journals
+
+  pub within : (c : ℕ) → c < length t.channels → ReadsWithin view c
+  within c below =
+      let read = read_is c below in
+      let journal = ap length (journal_is c below) in
+      let most = length_of_prefix (read_on H c) (written_on H c) (reads_begin_writes t H legal c) in
+      omega arith
+
+  first_read_is : (c : ℕ) → c < length t.channels → first_read view c ≡ read_on H c
+  first_read_is c below =
+      ap (λ n. take n (get_or view.journals c [])) (read_is c below)
+      ∙ ap (take (length (read_on H c))) (journal_is c below)
+      ∙ sym (take-prefix (read_on H c) (written_on H c) (reads_begin_writes t H legal c) (length (read_on H c))
+      (omega arith))
+      ∙ take_all (length (read_on H c)) (read_on H c) (omega arith)
+
+  pub reads_of_sinks : map (first_read view) (sink_numbers t) ≡ read_of_sinks t H
+  reads_of_sinks =
+      map-agree (first_read view) (read_on H) (sink_numbers t) (λ c h. first_read_is c (sink_below t c h))
+
+-- ---- all of it
+
+module _ (t : Tables) (network : IsNetwork t) (lists : List (List ℤ)) (limits : Limits) (outcome : Outcome)
+    (fed after : Book) (sources : IsFedBelow t (given_by t lists) (length t.channels) fed)
+    (comes : ComesToOutcome limits outcome fed after) (book : IsBook after) where
+  same_tables : after.tables ≡ t
+  same_tables = comes.later.tables ∙ sources.tables
+
+  is_legal : Legal t after.history
+  is_legal = subst (λ t. Legal t after.history) same_tables book.kept.in_step.run.legal
+
+  whole_list : (c : ℕ) → is_source (channel_at t c) ≡ true → written_on after.history c ≡ given_by t lists c
+  whole_list c source =
+      let there = source_there t c source in
+      closed_stays t network fed.history after.history comes.later.history is_legal c source
+      (sources.closed c there source)
+      ∙ sources.fed c there source
+
+  pub IsReport-told : (report : Report) → Tells after outcome report → IsReport t lists limits report
+  IsReport-told report tells =
+      let same : after.history ≡ events_of report = sym tells.history in
+      record {
+        legal = subst (Legal t) same is_legal;
+        nothing_owed =
+            subst (OwesNothing t) same (subst (λ t. OwesNothing t after.history) same_tables book.kept.nothing_owed);
+        view =
+            subst (λ H. Agrees t H report.view) same
+            (subst (λ t. Agrees t after.history report.view) same_tables tells.view);
+        nobody_held = tells.view.counts.held ∙ ap (count_by is_held) tells.states ∙ comes.nobody_held;
+        fed = record {
+          each = λ c source.
+              subst (λ H. IsPrefix (written_on H c) (given_by t lists c)) same
+              (IsPrefix-same (written_on after.history c) (given_by t lists c) (whole_list c source));
+        };
+        all_fed = λ verdict is. record {
+          each = λ c source. ap (λ H. written_on H c) tells.history ∙ whole_list c source;
+        };
+        taken =
+            tells.taken ∙ ap (λ t. read_of_sinks t after.history) same_tables ∙ ap (read_of_sinks t) same;
+        committed =
+            subst (λ H. process_events H ≤ report.commits) same
+            (subst (λ n. process_events after.history ≤ n) (sym tells.commits) book.kept.committed);
+        outcome =
+            subst (λ H. IsOutcome t H report.commits limits (Some report.outcome)) same
+            (subst (λ n. IsOutcome t after.history n limits (Some report.outcome)) (sym tells.commits)
+            (subst (λ o. IsOutcome t after.history after.commits limits (Some o)) (sym tells.is)
+            (subst (λ t. IsOutcome t after.history after.commits limits (Some outcome)) same_tables comes.comes_to)));
+      }

@@ -1,0 +1,11 @@
+use Rattle.std.proofs.Common.{◌≡◌, count_by, take}
+use Rattle.kpn_net.specs.Tables.{is_source}
+use Rattle.kpn_net.specs.Iteration.{given_by}
+use Rattle.kpn_report.specs.Running.{IsFedBelow}
+use Rattle.kpn_report.proofs.feeding.feed_sources.Given as goal
+
+abbrev pub invariant-channels : goal.invariant-channels
+invariant-channels l = record {
+  source : l.source ≡ count_by is_source (take l.c l.network.channels);
+  so_far : IsFedBelow l.network (given_by l.network l.lists) l.c l.book;
+}

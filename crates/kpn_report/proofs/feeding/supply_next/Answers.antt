@@ -1,0 +1,34 @@
+use Rattle.std.proofs.Common.{◌≡◌, ◌<◌, true, [], length, get_or, sym, ap, ◌∙◌, subst, arith}
+use Rattle.std.proofs.lemmas.List.{get_or_default}
+use Rattle.kpn_net.specs.Tables.{channel_at, is_source}
+use Rattle.kpn_net.specs.Iteration.{given_by}
+use Rattle.kpn_net.proofs.RoundLemmas.{source_below}
+use Rattle.kpn_report.specs.Running.{IsSupplied}
+use Rattle.kpn_report.proofs.Supplying.{IsFedBelow-skip, IsFedBelow-more}
+use Rattle.kpn_report.proofs.feeding.supply_next.Goals as goal
+
+pub returns-then-not-is_source-clause-more : goal.returns-then-not-is_source-clause-more
+returns-then-not-is_source-clause-more c =
+    IsFedBelow-skip c.args.network.now (given_by c.args.network.now c.args.lists.now) c.args.c c.args.book.now
+    (sym c.is_source.ensures ∙ c.if-not-is_source.true) c.requires.so_far
+
+pub bounds-lists-source : goal.bounds-lists-source
+bounds-lists-source c =
+    let below =
+    source_below c.args.network.now c.args.c c.requires.channel (sym c.is_source.ensures ∙ c.if-not-is_source.false) in
+    omega (arith, c.requires.source, c.requires.lists)
+
+pub returns-clause-more : goal.returns-clause-more
+returns-clause-more c =
+    let t = c.args.network.now in
+    let lists = c.args.lists.now in
+    let is : is_source (channel_at t c.args.c) ≡ true = sym c.is_source.ensures ∙ c.if-not-is_source.false in
+    let below = source_below t c.args.c c.requires.channel is in
+    let there : c.args.source < length lists = omega (arith, c.requires.source, c.requires.lists) in
+    let given : c.as_slice.result.now ≡ given_by t lists c.args.c =
+    c.as_slice.ensures ∙ c.index-lists-source.is ∙ get_or_default lists c.args.source _ [] there
+    ∙ ap (λ n. get_or lists n []) c.requires.source in
+    IsFedBelow-more t (given_by t lists) c.args.c c.args.book.now c.supply.new.book is c.requires.so_far
+    (subst (λ items. IsSupplied c.args.c items c.args.book.now c.supply.new.book) given
+    c.in_ok-supply.ensures.supplied)
+    c.in_ok-supply.ensures.closed

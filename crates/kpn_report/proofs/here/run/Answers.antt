@@ -1,0 +1,35 @@
+use Rattle.std.proofs.lemmas.Bool.{both_ways}
+use Rattle.kpn_report.proofs.Stepped.{IsLater-refl, IsLater-trans}
+use Rattle.kpn_report.proofs.here.run.Goals as goal
+
+pub returns-then-has_enough : goal.returns-then-has_enough
+returns-then-has_enough c = record {
+  later = IsLater-refl c.args.book.now;
+  nobody_held = c.requires.nobody_held;
+  comes_to = c.has_enough.ensures.0 c.if-has_enough.true;
+}
+
+pub run-init : goal.run-init
+run-init c = record {
+  later = IsLater-refl c.args.book.now;
+  left = c.requires;
+  few = λ enough. both_ways c.has_enough.result c.if-has_enough.false (c.has_enough.ensures.1 enough);
+}
+
+pub returns-then-branch : goal.returns-then-branch
+returns-then-branch c =
+    let stepped = c.in_ok-step.ensures in
+    record {
+      later = IsLater-trans c.args.book.now c.run.book c.step.new.book c.run.invariant.later stepped.later;
+      nobody_held = stepped.left.nobody_held;
+      comes_to = stepped.decides.0 c.if-branch.true;
+    }
+
+pub run-preserved : goal.run-preserved
+run-preserved c =
+    let stepped = c.in_ok-step.ensures in
+    record {
+      later = IsLater-trans c.args.book.now c.run.book c.step.new.book c.run.invariant.later stepped.later;
+      left = stepped.left;
+      few = λ enough. both_ways c.in_ok-step.field-0 c.if-branch.false (stepped.decides.1 enough);
+    }

@@ -1,0 +1,14 @@
+use Rattle.std.proofs.Common.{◌-◌}
+use Rattle.kpn_report.specs.Outcomes.{IsEnough}
+use Rattle.kpn_report.specs.Running.{IsLeftToItself, IsLater}
+use Rattle.kpn_report.proofs.here.run.Given as goal
+
+abbrev pub invariant-run : goal.invariant-run
+invariant-run l = record {
+  later : IsLater l.initial.book l.book;
+  left : IsLeftToItself l.book;
+  few : ¬ IsEnough l.book.tables l.book.history l.limits.take;
+}
+
+abbrev pub decreases-run : goal.decreases-run
+decreases-run l = l.limits.commits - l.book.commits

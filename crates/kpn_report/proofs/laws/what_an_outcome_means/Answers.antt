@@ -1,0 +1,8 @@
+use Rattle.kpn_report.proofs.Agreement.{jammed_means, clogged_means}
+use Rattle.kpn_report.proofs.laws.what_an_outcome_means.Goals as goal
+
+pub returns-clause-jammed : goal.returns-clause-jammed
+returns-clause-jammed c = jammed_means
+
+pub returns-clause-clogged : goal.returns-clause-clogged
+returns-clause-clogged c = clogged_means

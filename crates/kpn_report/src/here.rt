@@ -1,0 +1,55 @@
+//! A run on the calling thread alone.
+ghost use Rattle.std.specs.Prelude.{◌≡◌, length, IfOk};
+ghost use Rattle.kpn_net.specs.Iteration.{sources};
+ghost use Rattle.kpn_report.specs.Reports.{IsReport};
+ghost use Rattle.kpn_report.specs.Running.{IsLeftToItself, ComesToOutcome};
+
+use crate::feeding::feed_sources;
+use crate::outcome::{Limits, Outcome};
+use crate::report::Report;
+use crate::stepping::step;
+use crate::stopping::{has_enough, stop_of};
+use crate::telling::report_of;
+use kpn_book::Book;
+use kpn_lang::Sequence;
+use kpn_net::Network;
+use std::alloc::{AllocError, Global};
+
+/// Runs a network on these lists, one for each source in order of channel number, until there is an outcome under the
+/// limits.
+///
+/// Each source is fed its whole list and closed. Then the processes are stepped, one after the other, and what they put
+/// on the sinks is taken at once. The error is that memory ran out.
+pub fn run_here(
+    alloc: Global,
+    network: &Network,
+    lists: &[Sequence<i64>],
+    limits: &Limits,
+) -> Result<Report, AllocError>
+    requires { length lists.now ≡ sources network.now }
+    ensures { IfOk result (λ report. IsReport network.now lists.now limits.now report) }
+{
+    let mut book = Book::new(alloc, network)?;
+    feed_sources(&mut book, network, lists)?;
+    let outcome = run(&mut book, limits)?;
+    book.known();
+    report_of(alloc, book, outcome)
+}
+
+/// Steps processes until there is an outcome.
+fn run(book: &mut Book<'_>, limits: &Limits) -> Result<Outcome, AllocError>
+    requires { IsLeftToItself book.old }
+    ensures { IfOk result (λ outcome. ComesToOutcome limits.now outcome book.old book.new) }
+{
+    if has_enough(book, limits.take) {
+        return Ok(Outcome::Enough);
+    }
+    'run: loop {
+        if let Some(outcome) = stop_of(book, limits) {
+            return Ok(outcome);
+        }
+        if step(book, limits)? {
+            return Ok(Outcome::Enough);
+        }
+    }
+}

@@ -1,0 +1,91 @@
+//! What holds of every report, as the contracts of functions with nothing to do: Kahn's theorem on reports, whatever
+//! the schedules of the runs and the number of those who stepped the processes.
+ghost use Rattle.std.specs.Prelude.{◌≡◌, ℕ, ◌<◌, ◌≤◌, ℤ, List, length, take, Option, Some};
+ghost use Rattle.kpn_net.specs.Tables.{Tables};
+ghost use Rattle.kpn_net.specs.Faults.{IsNetwork};
+ghost use Rattle.kpn_net.specs.Iteration.{iterate, given_by, lists_of, IsBelowLeast, IsLeast};
+ghost use Rattle.kpn_trace.specs.declared.event.Event.{Event};
+ghost use Rattle.kpn_trace.specs.Ends.{WaitsOnFull, IsQuiet};
+ghost use Rattle.kpn_trace.specs.Stops.{IsJammedAtLimit, WaitsForBlocked};
+ghost use Rattle.kpn_trace.specs.Waiting.{HasFullCycle};
+ghost use Rattle.kpn_report.specs.declared.outcome.Limits.{Limits};
+ghost use Rattle.kpn_report.specs.declared.outcome.Outcome.{Outcome};
+ghost use Rattle.kpn_report.specs.declared.outcome.Outcome.TheVariants.{Ended, Clogged, Jammed, Enough};
+ghost use Rattle.kpn_report.specs.declared.report.Report.{Report};
+ghost use Rattle.kpn_report.specs.Outcomes.{IsOutcome};
+ghost use Rattle.kpn_report.specs.Reports.{events_of, journal_of, taken_of, IsReport};
+
+// ---- Kahn's theorem on reports
+
+/// Under every outcome each journal is a prefix of the least solution for the whole lists.
+pub fn journals_are_below()
+    ensures { (t : Tables) → IsNetwork t → (lists : List (List ℤ)) (limits : Limits)
+        (report : Report) → IsReport t lists limits report
+        → (c : ℕ) → c < length t.channels
+        → IsBelowLeast t (given_by t lists) c (journal_of report c) }
+{}
+
+/// Under Ended the journals are the least solution for the whole lists.
+pub fn ended_is_least()
+    ensures { (t : Tables) → IsNetwork t → (lists : List (List ℤ)) (limits : Limits)
+        (report : Report) → IsReport t lists limits report → report.outcome ≡ Ended
+        → (c : ℕ) → c < length t.channels → IsLeast t (given_by t lists) c (journal_of report c) }
+{}
+
+/// Two reports of the same network and lists that have ended have equal journals, and these are one iterate of Kahn's
+/// iteration.
+pub fn ended_reports_agree()
+    ensures journals { (t : Tables) → IsNetwork t → (lists : List (List ℤ)) (limits more : Limits)
+        (report other : Report) → IsReport t lists limits report → IsReport t lists more other
+        → report.outcome ≡ Ended → other.outcome ≡ Ended
+        → report.view.journals ≡ other.view.journals }
+    ensures iterate { (t : Tables) → IsNetwork t → (lists : List (List ℤ)) (limits more : Limits)
+        (report other : Report) → IsReport t lists limits report → IsReport t lists more other
+        → report.outcome ≡ Ended → other.outcome ≡ Ended
+        → ((n : ℕ) × (report.view.journals ≡ lists_of t (iterate t (given_by t lists) n))
+        × (other.view.journals ≡ lists_of t (iterate t (given_by t lists) n))) }
+{}
+
+/// The first items that two runs of the same network and lists have taken from a sink are the same. Where both have
+/// enough, by the same number of items, so many were taken from each sink, and these are the same.
+pub fn first_items_agree()
+    ensures first { (t : Tables) → IsNetwork t → (lists : List (List ℤ)) (limits more : Limits)
+        (report other : Report) → IsReport t lists limits report → IsReport t lists more other
+        → (sink items : ℕ)
+        → items ≤ length (taken_of report sink) → items ≤ length (taken_of other sink)
+        → take items (taken_of report sink) ≡ take items (taken_of other sink) }
+    ensures enough { (t : Tables) (lists : List (List ℤ)) (limits : Limits) (report : Report)
+        → IsReport t lists limits report → report.outcome ≡ Enough
+        → (items : ℕ) → limits.take ≡ Some items
+        → (sink : ℕ) → sink < length report.taken → items ≤ length (taken_of report sink) }
+    ensures same { (t : Tables) → IsNetwork t → (lists : List (List ℤ)) (limits more : Limits)
+        (report other : Report) → IsReport t lists limits report → IsReport t lists more other
+        → report.outcome ≡ Enough → other.outcome ≡ Enough
+        → (items : ℕ) → limits.take ≡ Some items → more.take ≡ Some items
+        → (sink : ℕ) → take items (taken_of report sink) ≡ take items (taken_of other sink) }
+{}
+
+// ---- what an outcome means
+
+/// Of a history after so many commits there is one outcome at most.
+pub fn one_outcome()
+    ensures { (t : Tables) (H : List Event) (commits : ℕ) (limits : Limits)
+        (outcome other : Option Outcome) → IsOutcome t H commits limits outcome
+        → IsOutcome t H commits limits other → outcome ≡ other }
+{}
+
+/// Ended is quiet. Jammed: some blocked cycle has full channels, all at the limit. Clogged: each process that is
+/// blocked on a full channel waits for a blocked process, and no blocked cycle has a full channel.
+pub fn what_an_outcome_means()
+    ensures ended { (t : Tables) (lists : List (List ℤ)) (limits : Limits) (report : Report)
+        → IsReport t lists limits report → report.outcome ≡ Ended → IsQuiet t (events_of report) }
+    ensures jammed { (t : Tables) → IsNetwork t → (lists : List (List ℤ)) (limits : Limits)
+        (report : Report) → IsReport t lists limits report → report.outcome ≡ Jammed
+        → IsJammedAtLimit t (events_of report) }
+    ensures clogged { (t : Tables) → IsNetwork t → (lists : List (List ℤ)) (limits : Limits)
+        (report : Report) → IsReport t lists limits report → report.outcome ≡ Clogged
+        → (p : ℕ) → WaitsOnFull t (events_of report) p → WaitsForBlocked t (events_of report) p }
+    ensures no_cycle { (t : Tables) (lists : List (List ℤ)) (limits : Limits) (report : Report)
+        → IsReport t lists limits report → report.outcome ≡ Clogged
+        → ¬ HasFullCycle t (events_of report) }
+{}

@@ -1,0 +1,27 @@
+//! Limits of a run, and what it has come to.
+
+/// When a run is stopped, and by how many steps a process is advanced at once.
+#[derive(Clone, Copy, Debug, PartialEq, Eq)]
+pub struct Limits {
+    /// After so many commits the run is stopped.
+    pub commits: u64,
+    /// Once so many items were read of each sink the run is stopped, where this is asked for.
+    pub take: Option<u64>,
+    /// The most steps that a process makes before it is the next one's turn. It should be 1 or more.
+    pub quota: u32,
+}
+
+/// What a run has come to.
+#[derive(Clone, Copy, Debug, PartialEq, Eq)]
+pub enum Outcome {
+    /// Each process has ended or waits on an empty channel.
+    Ended,
+    /// Some process waits on a full channel, and no cycle of waiting processes has a full channel.
+    Clogged,
+    /// Some cycle of waiting processes has a full channel.
+    Jammed,
+    /// As many items as were wanted were read of each sink.
+    Enough,
+    /// The commits have reached their limit.
+    Stopped,
+}

@@ -1,0 +1,109 @@
+//! A process of a network that is left to itself is stepped, and what it has put on a sink is taken.
+ghost use Rattle.std.specs.Prelude.{◌≡◌, ℕ, ◌+◌, ◌<◌, ◌^◌, ℤ, IfOk, IfSome, List, [], ◌∷◌, ◌++◌, Option, Some, None};
+ghost use Rattle.kpn_trace.specs.declared.event.Event.{Event};
+ghost use Rattle.kpn_trace.specs.Legal.{HasNumbers};
+ghost use Rattle.kpn_trace.specs.Ends.{IsSettled};
+ghost use Rattle.kpn_book.specs.Book.{Book as Seen};
+ghost use Rattle.kpn_book.specs.Kept.{IsBook};
+ghost use Rattle.kpn_book.specs.Refusals.{Takes};
+ghost use Rattle.kpn_report.specs.Outcomes.{IsEnough, IsOutcome};
+ghost use Rattle.kpn_report.specs.Running.{IsLeftToItself, IsStepped, IsCommitted, sinks_after, has_put, HasPut, sink_of};
+
+use crate::outcome::Limits;
+use crate::stopping::{has_enough_by, is_sink};
+use kpn_book::{Book, Done};
+use kpn_net::Network;
+use kpn_trace::Event;
+use std::alloc::AllocError;
+
+/// Steps the first process that is ready, and takes what it has put on a sink. Tells whether there is enough then.
+pub(crate) fn step(book: &mut Book<'_>, limits: &Limits) -> Result<bool, AllocError>
+    requires countable { book.old.commits + 1 < 2 ^ 64 }
+    requires left { IsLeftToItself book.old }
+    requires goes_on { IsOutcome book.old.tables book.old.history book.old.commits limits.now None }
+    ensures { IfOk result (λ enough. IsStepped limits.now enough book.old book.new) }
+{
+    if !step_first(book, limits.quota)? {
+        return Ok(false);
+    }
+    take_what_was_put(book, limits)
+}
+
+/// Steps the first process that is ready. Tells whether it has put an item.
+fn step_first(book: &mut Book<'_>, quota: u32) -> Result<bool, AllocError>
+    requires countable { book.old.commits + 1 < 2 ^ 64 }
+    requires left { IsLeftToItself book.old }
+    requires goes_on { ¬ IsSettled book.old.tables book.old.history }
+    ensures committed { IfOk result (λ _. IsCommitted book.old book.new) }
+    ensures sinks { IfOk result (λ put. sinks_after put book.old book.new) }
+{
+    book.known();
+    let answer = book.step_next(quota)?;
+    book.known();
+    Ok(has_put(answer))
+}
+
+/// Whether a step that answers so has put an item.
+fn has_put(answer: Option<Done>) -> bool
+    ensures { result ≡ has_put answer }
+{
+    matches!(answer, Some(Done::Put))
+}
+
+/// Takes the item that was just put, if it was put on a sink. Tells whether there is enough then.
+fn take_what_was_put(book: &mut Book<'_>, limits: &Limits) -> Result<bool, AllocError>
+    ensures { (before : Seen) → IsLeftToItself before → IsCommitted before book.old
+        → HasPut before book.old → (¬ IsEnough before.tables before.history limits.now.take)
+        → IfOk result (λ enough. IsStepped limits.now enough before book.new) }
+{
+    let Some(event) = last_event(book) else {
+        return Ok(false);
+    };
+    let Some(sink) = sink_of(book.network(), event) else {
+        return Ok(false);
+    };
+    take(book, sink)?;
+    Ok(has_enough_by(book, sink, limits.take))
+}
+
+/// The last event, if anything has happened.
+fn last_event(book: &Book<'_>) -> Option<Event>
+    ensures last { (B : List Event) (event : Event) → book.now.history ≡ B ++ event ∷ []
+        → result ≡ Some event }
+    ensures numbers { IfSome result (λ event. HasNumbers book.now.tables event) }
+{
+    book.known();
+    let history = book.history();
+    let last = history.len().checked_sub(1)?;
+    history.at(last)
+}
+
+/// The sink on which the event has put an item, if it has.
+fn sink_of(network: &Network, event: Event) -> Option<usize>
+    requires { HasNumbers network.now event }
+    ensures { result ≡ sink_of network.now event }
+{
+    match event {
+        Event::Put(_, c, _) if is_sink(network, usize::from(c)) => Some(usize::from(c)),
+        _ => None,
+    }
+}
+
+/// Takes an item from a sink, if one is there.
+fn take(book: &mut Book<'_>, sink: usize) -> Result<(), AllocError>
+    ensures taken { IfOk result (λ _.
+        (item : Option ℤ) × Takes sink item book.old book.new) }
+    ensures books { IsBook book.old × IsBook book.new }
+{
+    book.known();
+    match book.take(sink) {
+        Ok(_) => {
+            book.known();
+            Ok(())
+        }
+        Err(_) => {
+            book.known();
+            Err(AllocError)
+        }
+    }
+}

@@ -1,0 +1,85 @@
+//! Whether a run has come to its outcome.
+ghost use Rattle.std.specs.Prelude.{◌≡◌, ◌↔◌, ℕ, ◌+◌, ◌<◌, ◌^◌, List, length, IsTrue, IfNone};
+ghost use Rattle.kpn_net.specs.Tables.{channel_at, is_sink};
+ghost use Rattle.kpn_trace.specs.declared.event.Event.{Event};
+ghost use Rattle.kpn_trace.specs.Channels.{read_on};
+ghost use Rattle.kpn_report.specs.Outcomes.{HaveRead, IsEnough, IsOutcome};
+ghost use Rattle.kpn_report.specs.Running.{ReadsOneMore};
+
+use crate::outcome::{Limits, Outcome};
+use kpn_book::Book;
+use kpn_net::laws::one_writer_and_one_reader;
+use kpn_net::{End, Network};
+use kpn_trace::Verdict;
+
+/// What a run has come to under its limits, if it has: enough where what is wanted was read of each sink, else the
+/// verdict where there is one, else stopped where the commits have reached their limit.
+pub fn outcome_of(book: &Book<'_>, limits: &Limits) -> Option<Outcome>
+    ensures { IsOutcome book.now.tables book.now.history book.now.commits limits.now result }
+{
+    if has_enough(book, limits.take) {
+        return Some(Outcome::Enough);
+    }
+    stop_of(book, limits)
+}
+
+/// What a run that has not enough has come to, if it has.
+pub(crate) fn stop_of(book: &Book<'_>, limits: &Limits) -> Option<Outcome>
+    ensures countable { IfNone result (book.now.commits + 1 < 2 ^ 64) }
+    ensures outcome { (¬ IsEnough book.now.tables book.now.history limits.now.take)
+        → IsOutcome book.now.tables book.now.history book.now.commits limits.now result }
+{
+    match book.verdict() {
+        Some(Verdict::Ended) => Some(Outcome::Ended),
+        Some(Verdict::Clogged) => Some(Outcome::Clogged),
+        Some(Verdict::Jammed) => Some(Outcome::Jammed),
+        None if limits.commits <= book.commits() => Some(Outcome::Stopped),
+        None => None,
+    }
+}
+
+/// Whether what is wanted of the sinks, if anything, was read.
+pub(crate) fn has_enough(book: &Book<'_>, wanted: Option<u64>) -> bool
+    ensures { IsTrue result ↔ IsEnough book.now.tables book.now.history wanted }
+{
+    match wanted {
+        Some(items) => have_read(book, items),
+        None => false,
+    }
+}
+
+/// Whether there is enough now that at most one item more was read of this sink, and none of the others, where there
+/// was not enough before: all sinks are looked at only where this one has just as many as are wanted.
+pub(crate) fn has_enough_by(book: &Book<'_>, sink: usize, wanted: Option<u64>) -> bool
+    requires { sink < length book.now.tables.channels }
+    ensures { (before : List Event) → ReadsOneMore book.now.tables sink before book.now.history
+        → (¬ IsEnough book.now.tables before wanted)
+        → (IsTrue result ↔ IsEnough book.now.tables book.now.history wanted) }
+{
+    match wanted {
+        Some(items) => book.read_count(sink) as u64 == items && have_read(book, items),
+        None => false,
+    }
+}
+
+/// Whether this many items or more were read of each sink.
+fn have_read(book: &Book<'_>, items: u64) -> bool
+    ensures { IsTrue result ↔ HaveRead book.now.tables book.now.history items }
+{
+    let network = book.network();
+    'channels: for c in 0..network.channels() {
+        if is_sink(network, c) && (book.read_count(c) as u64) < items {
+            return false;
+        }
+    }
+    true
+}
+
+/// Whether the outside reads the channel.
+pub(crate) fn is_sink(network: &Network, c: usize) -> bool
+    requires { c < length network.now.channels }
+    ensures { result ≡ is_sink (channel_at network.now c) }
+{
+    one_writer_and_one_reader();
+    matches!(network.reader_of(c), End::Sink)
+}

@@ -1,0 +1,67 @@
+//! A report is written from a book.
+ghost use Rattle.std.specs.Prelude.{◌≡◌, ℕ, ◌+◌, ◌<◌, List, length, IfOk};
+ghost use Rattle.kpn_net.specs.Tables.{channel_at, is_sink};
+ghost use Rattle.kpn_trace.specs.declared.event.Event.{Event};
+ghost use Rattle.kpn_trace.specs.Legal.{Legal};
+ghost use Rattle.kpn_trace.specs.Views.{Agrees};
+ghost use Rattle.kpn_report.specs.Reports.{read_of_sinks};
+ghost use Rattle.kpn_report.specs.Running.{Tells, ReadsWithin, first_read};
+
+use crate::outcome::Outcome;
+use crate::report::Report;
+use crate::stopping::is_sink;
+use kpn_book::Book;
+use kpn_lang::Sequence;
+use kpn_net::Network;
+use kpn_trace::View;
+use std::alloc::{AllocError, Global};
+
+/// The report of a run that has come to this outcome. The error is that memory ran out.
+pub fn report_of(alloc: Global, book: Book<'_>, outcome: Outcome) -> Result<Report, AllocError>
+    ensures { IfOk result (λ report. Tells book.entry outcome report) }
+{
+    book.known();
+    let view = book.snapshot(alloc)?;
+    let taken = read_of_sinks(alloc, book.network(), &view)?;
+    let commits = book.commits();
+    let history = book.into_history();
+    Ok(Report {
+        outcome,
+        view,
+        taken,
+        commits,
+        history,
+    })
+}
+
+/// The items that were read of each sink, in order of channel number.
+fn read_of_sinks(
+    alloc: Global,
+    network: &Network,
+    view: &View,
+) -> Result<Sequence<Sequence<i64>>, AllocError>
+    requires { (H : List Event) × Legal network.now H × Agrees network.now H view.now }
+    ensures { (H : List Event) → Legal network.now H → Agrees network.now H view.now
+        → IfOk result (λ taken. taken ≡ read_of_sinks network.now H) }
+{
+    let mut taken = Sequence::new(alloc);
+    'channels: for c in 0..network.channels() {
+        if is_sink(network, c) {
+            let items = read_of(alloc, view, c)?;
+            taken.push(items)?;
+        }
+    }
+    Ok(taken)
+}
+
+/// The items that were read of a channel: the first of its journal.
+fn read_of(alloc: Global, view: &View, c: usize) -> Result<Sequence<i64>, AllocError>
+    requires journal { c < length view.now.journals }
+    requires read { c < length view.now.read }
+    requires within { ReadsWithin view.now c }
+    ensures { IfOk result (λ items. items ≡ first_read view.now c) }
+{
+    let journal = view.journals.as_slice()[c].as_slice();
+    let read = view.read.as_slice()[c];
+    Ok(Sequence::from_vec(Vec::from_slice(alloc, &journal[..read])?))
+}
