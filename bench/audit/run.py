@@ -1,0 +1,67 @@
+#!/usr/bin/env python3
+"""Seconds and memory of `kpn audit` beside the `kpn run --trace` that made the trace, and what it takes to write a
+trace beside a plain Rust program that makes and writes the same.
+
+Prints ratios, and checks that the audit says `legal` and that both traces are the same. It is no part of the gate.
+Counts of events may be given as words; the default is 1,000,000 and 10,000,000. The best of three runs is told, by the
+time that it took on its processor.
+"""
+import filecmp
+import pathlib
+import sys
+import tempfile
+
+HERE = pathlib.Path(__file__).resolve().parent
+sys.dont_write_bytecode = True
+sys.path.append(str(HERE.parent))
+
+import measure
+import networks
+
+RUNS = 3
+
+
+def measured_networks(events):
+    """Networks with about so many events: a title, the description, and how many items are wanted of each sink."""
+    yield 'pipeline of 8, capacity 1', networks.pipeline(8, 1, events // 19), 0
+    yield 'Kahn\'s example', networks.kahn(), events * 2 // 19
+
+
+def best(words):
+    return measure.best([measure.Run(words) for _ in range(RUNS)])
+
+
+def tell(folder, kpn, plain, title, text, wanted):
+    folder = pathlib.Path(folder)
+    description, words = folder / 'network.kpn', folder / 'network.words'
+    own, other = folder / 'own.trace', folder / 'other.trace'
+    description.write_text(text)
+    words.write_text(networks.as_words(text))
+    run = [kpn, 'run', description, '--max-commits', '1000000000', *(['--take', str(wanted)] if wanted else [])]
+    silent, traced = best(run), best([*run, '--trace', own])
+    plain_silent, plain_traced = best([plain, words, str(wanted)]), best([plain, words, str(wanted), other])
+    audit = best([kpn, 'audit', description, own, '--steps', '1000000000'])
+    if not audit.wrote.startswith('legal\n') or not filecmp.cmp(own, other, shallow=False):
+        sys.exit('the audit does not say legal, or the traces differ')
+    events = int(plain_silent.told.split()[1])
+    writing, plain_writing = traced.seconds - silent.seconds, plain_traced.seconds - plain_silent.seconds
+    print(f'{title}, {events} events, {own.stat().st_size / 1e6:.0f} MB of text')
+    ratios = [audit.seconds / run.seconds for run in (silent, traced)]
+    print(f'  run {silent.seconds:6.2f} s, with its trace {traced.seconds:6.2f}, audit {audit.seconds:6.2f}:'
+          f' {ratios[0]:.2f} of the run, {ratios[1]:.2f} of it with its trace')
+    print(f'  memory of the audit: {audit.memory / (16 * events):.2f} of 16 bytes an event')
+    print(f'  writing the trace {writing:6.2f} s, {writing / plain_writing:.2f} of plain Rust', flush=True)
+
+
+def main():
+    counts = [int(word) for word in sys.argv[1:]] or [1_000_000, 10_000_000]
+    kpn = measure.kpn()
+    with tempfile.TemporaryDirectory() as folder:
+        plain = measure.plain(HERE.parent / 'run/plain.rs', folder)
+        for events in counts:
+            for title, text, wanted in measured_networks(events):
+                tell(folder, kpn, plain, title, text, wanted)
+
+
+if __name__ == '__main__':
+    main()

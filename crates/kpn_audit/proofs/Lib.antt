@@ -1,0 +1,4 @@
+pub mod Refused
+pub mod Followed
+pub mod Summed
+pub mod Replaying

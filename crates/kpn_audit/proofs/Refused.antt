@@ -1,0 +1,173 @@
+-- Why an event may not follow: what it needs of the configuration is not there.
+use Rattle.std.proofs.Common.{◌≡◌, ◌≢◌, ℕ, true, false, ℤ, List, [], ◌∷◌, ◌++◌, Option, Some, is_some, refl, sym, ap, ◌∙◌, subst}
+use Rattle.std.proofs.lemmas.Bool.{eq-eqb, both_ways}
+use Rattle.kpn_net.specs.Tables.{Tables, instance_at, program_of, channel_at, is_source, is_sink}
+use Rattle.kpn_net.specs.Faults.{IsNetwork}
+use Rattle.kpn_step.specs.declared.stop.Stop.{Stop}
+use Rattle.kpn_step.specs.declared.stop.Stop.TheVariants.{WantRead, WantWrite, Paused}
+use Rattle.kpn_chan.specs.Channel.{unread, is_full, next_item}
+use Rattle.kpn_trace.specs.declared.event.Event.{Event}
+use Rattle.kpn_trace.specs.declared.event.Event.TheVariants.{Get, Put, WaitEmpty, WaitFull, Ended, Feed, Close, Take, Leave, Grow}
+use Rattle.kpn_trace.specs.declared.event.How.{How}
+use Rattle.kpn_trace.specs.declared.event.How.TheVariants as how
+use Rattle.kpn_trace.specs.Talks.{is_of, is_of_process}
+use Rattle.kpn_trace.specs.Legal.{HasNumbers, OwesGrowth, Legal}
+use Rattle.kpn_trace.specs.Stops.{OwesNothing}
+use Rattle.kpn_trace.proofs.OneMore.{Legal-exactly}
+use Rattle.kpn_configuration.specs.Configuration.{Configuration, channel_in, closed_in, frame_in}
+use Rattle.kpn_configuration.specs.Due.{Stands, ReadsFrom, WritesTo, stop_of, IsDueNow}
+use Rattle.kpn_configuration.specs.Run.{IsRun}
+use Rattle.kpn_configuration.proofs.OneStop.{one_stop}
+use Rattle.kpn_configuration.proofs.Exact.{due_here, due_outside}
+use Rattle.kpn_audit.specs.Judged.{IsReadFrom, IsWriteOf, IsStopped}
+
+same_item : (o : Option ℤ) (v w : ℤ) → o ≡ Some v → o ≡ Some w → v ≡ w
+same_item o v w e f = let g : ◌≡◌ {A = Option ℤ} (Some v) (Some w) = sym e ∙ f in cc
+
+-- ---- where a process stands
+
+module _ (t : Tables) (s : Configuration) (p : ℕ) (stop : Stop) (at : IsStopped t s p stop) (c : ℕ) where
+  pub reads_from : IsReadFrom (instance_at t p).ins c stop → ReadsFrom t s p c
+  reads_from read =
+      record { port = read.0; channel = read.1; stands = subst (λ x. Stands t s p x) read.2 at.stands }
+
+  pub is_read : ReadsFrom t s p c → IsReadFrom (instance_at t p).ins c stop
+  is_read reads = (
+    reads.port,
+    reads.channel,
+    one_stop (program_of t p).blocks (frame_in s p) stop (WantRead reads.port) at.stands reads.stands at.is_no_pause
+        (λ e. absurd cc),
+  )
+
+  pub writes_to : (v : ℤ) → IsWriteOf (instance_at t p).outs c v stop → WritesTo t s p c v
+  writes_to v write =
+      record { port = write.0; channel = write.1; stands = subst (λ x. Stands t s p x) write.2 at.stands }
+
+  pub is_write : (v : ℤ) → WritesTo t s p c v → IsWriteOf (instance_at t p).outs c v stop
+  is_write v writes = (
+    writes.port,
+    writes.channel,
+    one_stop (program_of t p).blocks (frame_in s p) stop (WantWrite writes.port v) at.stands writes.stands
+        at.is_no_pause (λ e. absurd cc),
+  )
+
+no_pause : (how : How) → stop_of how ≢ Paused
+no_pause how.Done e = absurd cc
+no_pause how.Overflow e = absurd cc
+no_pause how.ZeroDivisor e = absurd cc
+
+pub is_stop : (t : Tables) (s : Configuration) (p : ℕ) (stop : Stop) → IsStopped t s p stop → (how : How)
+    → Stands t s p (stop_of how) → stop ≡ stop_of how
+is_stop t s p stop at how stands =
+    one_stop (program_of t p).blocks (frame_in s p) stop (stop_of how) at.stands stands at.is_no_pause (no_pause how)
+
+-- ---- events of processes
+
+module _ (t : Tables) (network : IsNetwork t) (H : List Event) (s : Configuration) (run : IsRun t H s) (p : ℕ)
+    (stop : Stop) (at : IsStopped t s p stop) where
+  due : (e : Event) → is_of p e ≡ true → Legal t (H ++ e ∷ []) → IsDueNow t s e
+  due e own legal = due_here t network H s run p at.there stop at.stands at.is_no_pause e own legal
+
+  pub get_elsewhere : (c : ℕ) (v : ℤ) → ¬ IsReadFrom (instance_at t p).ins c stop → ¬ Legal t (H ++ Get p c v ∷ [])
+  get_elsewhere c v not legal = not (is_read t s p stop at c (due (Get p c v) (eq-eqb p p refl) legal).1)
+
+  pub get_of_nothing : (c : ℕ) (v : ℤ) → is_some (next_item (channel_in s c)) ≡ false → ¬ Legal t (H ++ Get p c v ∷ [])
+  get_of_nothing c v none legal =
+      both_ways (is_some (next_item (channel_in s c))) none (ap is_some (due (Get p c v) (eq-eqb p p refl) legal).2)
+
+  pub get_of_another : (c : ℕ) (v w : ℤ) → next_item (channel_in s c) ≡ Some w → w ≢ v → ¬ Legal t (H ++ Get p c v ∷ [])
+  get_of_another c v w is other legal = other (same_item _ w v is (due (Get p c v) (eq-eqb p p refl) legal).2)
+
+  pub put_elsewhere : (c : ℕ) (v : ℤ) → ¬ IsWriteOf (instance_at t p).outs c v stop → ¬ Legal t (H ++ Put p c v ∷ [])
+  put_elsewhere c v not legal = not (is_write t s p stop at c v (due (Put p c v) (eq-eqb p p refl) legal).1)
+
+  pub put_on_full : (c : ℕ) (v : ℤ) → is_full (channel_in s c) ≡ true → ¬ Legal t (H ++ Put p c v ∷ [])
+  put_on_full c v full legal =
+      both_ways (is_full (channel_in s c)) (due (Put p c v) (eq-eqb p p refl) legal).2 full
+
+  pub empty_elsewhere : (c : ℕ) → ¬ IsReadFrom (instance_at t p).ins c stop → ¬ Legal t (H ++ WaitEmpty p c ∷ [])
+  empty_elsewhere c not legal = not (is_read t s p stop at c (due (WaitEmpty p c) (eq-eqb p p refl) legal).1)
+
+  pub not_empty : (c : ℕ) → unread (channel_in s c) ≢ [] → ¬ Legal t (H ++ WaitEmpty p c ∷ [])
+  not_empty c some legal = some (due (WaitEmpty p c) (eq-eqb p p refl) legal).2
+
+  pub full_elsewhere : (c : ℕ) → ¬ ((v : ℤ) × IsWriteOf (instance_at t p).outs c v stop)
+      → ¬ Legal t (H ++ WaitFull p c ∷ [])
+  full_elsewhere c not legal =
+      let writes = (due (WaitFull p c) (eq-eqb p p refl) legal).1 in
+      not (writes.0, is_write t s p stop at c writes.0 writes.1)
+
+  pub not_full : (c : ℕ) → is_full (channel_in s c) ≡ false → ¬ Legal t (H ++ WaitFull p c ∷ [])
+  not_full c room legal =
+      both_ways (is_full (channel_in s c)) room (due (WaitFull p c) (eq-eqb p p refl) legal).2
+
+  pub no_such_end : (how : How) → ¬ (stop ≡ stop_of how) → ¬ Legal t (H ++ Ended p how ∷ [])
+  no_such_end how not legal = not (is_stop t s p stop at how (due (Ended p how) (eq-eqb p p refl) legal).1)
+
+-- ---- events of the outside
+
+module _ (t : Tables) (network : IsNetwork t) (H : List Event) (s : Configuration) (run : IsRun t H s)
+    (owes : OwesNothing t H) (c : ℕ) where
+  pub feed_of_no_source : (v : ℤ) → is_source (channel_at t c) ≡ false → ¬ Legal t (H ++ Feed c v ∷ [])
+  feed_of_no_source v not legal =
+      both_ways (is_source (channel_at t c)) not (due_outside t network H s run owes (Feed c v) refl legal).0
+
+  pub feed_of_closed : (v : ℤ) → closed_in s c ≡ true → ¬ Legal t (H ++ Feed c v ∷ [])
+  feed_of_closed v closed legal =
+      both_ways (closed_in s c) (due_outside t network H s run owes (Feed c v) refl legal).1 closed
+
+  pub close_of_no_source : is_source (channel_at t c) ≡ false → ¬ Legal t (H ++ Close c ∷ [])
+  close_of_no_source not legal =
+      both_ways (is_source (channel_at t c)) not (due_outside t network H s run owes (Close c) refl legal).0
+
+  pub close_of_closed : closed_in s c ≡ true → ¬ Legal t (H ++ Close c ∷ [])
+  close_of_closed closed legal =
+      both_ways (closed_in s c) (due_outside t network H s run owes (Close c) refl legal).1 closed
+
+  pub take_of_no_sink : (v : ℤ) → is_sink (channel_at t c) ≡ false → ¬ Legal t (H ++ Take c v ∷ [])
+  take_of_no_sink v not legal =
+      both_ways (is_sink (channel_at t c)) not (due_outside t network H s run owes (Take c v) refl legal).0
+
+  pub take_of_nothing : (v : ℤ) → is_some (next_item (channel_in s c)) ≡ false → ¬ Legal t (H ++ Take c v ∷ [])
+  take_of_nothing v none legal =
+      both_ways (is_some (next_item (channel_in s c))) none
+      (ap is_some (due_outside t network H s run owes (Take c v) refl legal).1)
+
+  pub take_of_another : (v w : ℤ) → next_item (channel_in s c) ≡ Some w → w ≢ v → ¬ Legal t (H ++ Take c v ∷ [])
+  take_of_another v w is other legal =
+      other (same_item _ w v is (due_outside t network H s run owes (Take c v) refl legal).1)
+
+  pub leave_of_no_sink : is_sink (channel_at t c) ≡ false → ¬ Legal t (H ++ Leave c ∷ [])
+  leave_of_no_sink not legal =
+      both_ways (is_sink (channel_at t c)) not (due_outside t network H s run owes (Leave c) refl legal).0
+
+  pub leave_of_left : (channel_in s c).is_retired ≡ true → ¬ Legal t (H ++ Leave c ∷ [])
+  leave_of_left left legal =
+      both_ways (channel_in s c).is_retired (due_outside t network H s run owes (Leave c) refl legal).1 left
+
+-- ---- growths, and numbers
+
+-- where a growth is owed nothing else may follow
+pub only_growth : (t : Tables) (H : List Event) (e : Event) (p d : ℕ) → OwesGrowth t H p d → Legal t (H ++ e ∷ [])
+    → e ≡ Grow p d
+only_growth t H e p d owes legal = ((Legal-exactly t H e).0 legal).1.growth p d owes
+
+pub has_its_numbers : (t : Tables) (H : List Event) (e : Event) → Legal t (H ++ e ∷ []) → HasNumbers t e
+has_its_numbers t H e legal = ((Legal-exactly t H e).0 legal).1.numbers
+
+-- an event of no process is one of the four of the outside, or a growth, which is not due by itself
+not_due : (t : Tables) (s : Configuration) (e : Event) → is_of_process e ≡ false → ((c : ℕ) (v : ℤ) → e ≢ Feed c v)
+    → ((c : ℕ) → e ≢ Close c) → ((c : ℕ) (v : ℤ) → e ≢ Take c v) → ((c : ℕ) → e ≢ Leave c) → ¬ IsDueNow t s e
+not_due t s (Feed c v) own feed close take leave due = feed c v refl
+not_due t s (Close c) own feed close take leave due = close c refl
+not_due t s (Take c v) own feed close take leave due = take c v refl
+not_due t s (Leave c) own feed close take leave due = leave c refl
+not_due t s (Grow p d) own feed close take leave due = due
+not_due t s e own feed close take leave due = absurd cc
+
+pub growth_of_nothing : (t : Tables) (network : IsNetwork t) (H : List Event) (s : Configuration) → IsRun t H s
+    → OwesNothing t H → (e : Event) → is_of_process e ≡ false → ((c : ℕ) (v : ℤ) → e ≢ Feed c v)
+    → ((c : ℕ) → e ≢ Close c) → ((c : ℕ) (v : ℤ) → e ≢ Take c v) → ((c : ℕ) → e ≢ Leave c)
+    → ¬ Legal t (H ++ e ∷ [])
+growth_of_nothing t network H s run owes e own feed close take leave legal =
+    not_due t s e own feed close take leave (due_outside t network H s run owes e own legal)

@@ -1,0 +1,59 @@
+-- What a configuration shows of the history that led to it.
+use Rattle.std.proofs.Common.{◌≡◌, ◌↔◌, ℕ, zero, suc, ◌+◌, ◌<◌, true, List, [], ◌∷◌, ◌++◌, length, map, slice_index_or, refl, sym, ap, ◌∙◌, subst, arith}
+use Rattle.std.specs.List.{range_with_len}
+use Rattle.std.proofs.lemmas.List.FromFn.{map-range_with_len_more, get_or-map-range_with_len}
+use Rattle.kpn_net.specs.Tables.{Tables}
+use Rattle.kpn_net.specs.Faults.{IsNetwork, channel_numbers}
+use Rattle.kpn_net.specs.Iteration.{lists_of, IsLeast}
+use Rattle.kpn_trace.specs.declared.event.Event.{Event}
+use Rattle.kpn_trace.specs.Channels.{written_on, capacity_after, fed}
+use Rattle.kpn_trace.specs.Ends.{IsQuiet}
+use Rattle.kpn_trace.proofs.Kahn.{least_if_quiet}
+use Rattle.kpn_configuration.specs.Configuration.{Configuration, channel_in}
+use Rattle.kpn_configuration.specs.Run.{IsRun}
+use Rattle.kpn_audit.specs.declared.findings.Audit.{Audit}
+use Rattle.kpn_audit.specs.Audit.{IsAudit, AreLeast}
+
+-- one more entry
+pub one_more : {X : Type 0} (f : ℕ → X) (xs more : List X) (n : ℕ) (x : X) → xs ≡ map f (range_with_len 0 n)
+    → more ≡ xs ++ x ∷ [] → x ≡ f n → more ≡ map f (range_with_len 0 (n + 1))
+one_more f xs more n x e m is =
+    m ∙ ap (λ ys. ys ++ x ∷ []) e ∙ ap (λ y. map f (range_with_len 0 n) ++ y ∷ []) is
+    ∙ sym (map-range_with_len_more f 0 n n (omega arith))
+
+-- entries that are the same one by one
+same_entries : {X : Type 0} (f g : ℕ → X) (a n m : ℕ) → a + n ≡ m → ((c : ℕ) → c < m → f c ≡ g c)
+    → map f (range_with_len a n) ≡ map g (range_with_len a n)
+same_entries f g a zero m fits same = refl
+same_entries f g a (suc n) m fits same =
+    ap (λ x. x ∷ map f (range_with_len (a + 1) n)) (same a (omega arith))
+    ∙ ap (λ xs. g a ∷ xs) (same_entries f g (a + 1) n m (omega arith) same)
+
+-- the entries of a configuration are those of the history
+pub shown : (t : Tables) (H : List Event) (s : Configuration) → IsRun t H s → (audit : Audit)
+    → audit.journals ≡ lists_of t (λ c. (channel_in s c).journal)
+    → audit.caps ≡ map (λ c. (channel_in s c).capacity) (channel_numbers t)
+    → ((audit.exact ≡ true) ↔ IsQuiet t H) → IsAudit t H audit
+shown t H s run audit journals caps exact =
+    record {
+      legal = run.legal;
+      journals =
+          journals ∙ same_entries (λ c. (channel_in s c).journal) (written_on H) 0 (length t.channels)
+          (length t.channels) (omega arith) (λ c below. (run.leads.channels c below).journal);
+      caps =
+          caps ∙ same_entries (λ c. (channel_in s c).capacity) (capacity_after t H) 0 (length t.channels)
+          (length t.channels) (omega arith) (λ c below. (run.leads.channels c below).capacity);
+      exact = exact;
+    }
+
+-- the journals of a quiet history are the least solution for what was fed
+pub least_where_exact : (t : Tables) → IsNetwork t → (H : List Event) (audit : Audit) → IsAudit t H audit
+    → audit.exact ≡ true → AreLeast t H audit
+least_where_exact t network H audit is exact =
+    record {
+      each = λ c below.
+          subst (λ xs. IsLeast t (fed t H) c xs)
+          (sym (ap (λ lists. slice_index_or lists c []) is.journals
+          ∙ get_or-map-range_with_len (written_on H) 0 (length t.channels) c c [] below (omega arith)))
+          (least_if_quiet t network H is.legal (is.exact.0 exact) c);
+    }

@@ -1,0 +1,49 @@
+-- What is found of an event is said of the events before it, and of the place where it stands.
+use Rattle.std.proofs.Common.{pos, take, get_or, refl, subst}
+use Rattle.kpn_trace.specs.declared.event.Event.TheVariants.{Get}
+use Rattle.kpn_audit.specs.Judged.{IsJudged}
+use Rattle.kpn_audit.proofs.Replaying.{followed_by, illegal_at, budget_at}
+use Rattle.kpn_audit.proofs.auditor.replay.Goals as goal
+
+pub returns-in-Illegal-clause-refused : goal.returns-in-Illegal-clause-refused
+returns-in-Illegal-clause-refused c =
+    let t = c.args.network.now in
+    let H = c.args.events.now in
+    let k = c.events.k in
+    let e = get_or H k (Get 0 0 (pos 0)) in
+    let found : IsJudged t (take k H) e c.args.quota c.events.configuration c.judge.new.configuration
+    c.in_ok-growth.field-0 =
+    c.in_ok-growth.ensures.judged (take k H) c.events.invariant.run c.events.invariant.owes in
+    illegal_at t H k e (Get 0 0 (pos 0)) c.events.configuration c.events.invariant.run c.events-test.true refl
+    (subst (λ j. IsJudged t (take k H) e c.args.quota c.events.configuration c.judge.new.configuration j)
+    c.in-Illegal.is found)
+
+pub returns-in-Budget-clause-refused : goal.returns-in-Budget-clause-refused
+returns-in-Budget-clause-refused c =
+    let t = c.args.network.now in
+    let H = c.args.events.now in
+    let k = c.events.k in
+    let e = get_or H k (Get 0 0 (pos 0)) in
+    let found : IsJudged t (take k H) e c.args.quota c.events.configuration c.judge.new.configuration
+    c.in_ok-growth.field-0 =
+    c.in_ok-growth.ensures.judged (take k H) c.events.invariant.run c.events.invariant.owes in
+    budget_at t c.known.ensures H c.args.quota k e (Get 0 0 (pos 0)) c.events.configuration c.events.invariant.run
+    c.events.invariant.places c.events-test.true
+    refl (subst (λ j. IsJudged t (take k H) e c.args.quota c.events.configuration c.judge.new.configuration j)
+    c.in-Budget.is found)
+
+pub events-preserved : goal.events-preserved
+events-preserved c =
+    let t = c.args.network.now in
+    let H = c.args.events.now in
+    let k = c.events.k in
+    let e = get_or H k (Get 0 0 (pos 0)) in
+    let found : IsJudged t (take k H) e c.args.quota c.events.configuration c.judge.new.configuration
+    c.in_ok-growth.field-0 =
+    c.in_ok-growth.ensures.judged (take k H) c.events.invariant.run c.events.invariant.owes in
+    let then =
+    followed_by t H k e (Get 0 0 (pos 0)) c.events.configuration c.judge.new.configuration c.in-Follows.growth
+    c.events-test.true refl c.events.invariant.places
+    (subst (λ j. IsJudged t (take k H) e c.args.quota c.events.configuration c.judge.new.configuration j)
+    c.in-Follows.is found) in
+    record { run = then.run; owes = then.owes; places = then.places }

@@ -1,0 +1,15 @@
+-- The events so far are a legal history, which leads to the configuration and owes what is kept beside it, and each
+-- process stands at its place.
+use Rattle.std.proofs.Common.{take}
+use Rattle.kpn_configuration.specs.Run.{IsRun}
+use Rattle.kpn_audit.specs.Judged.{Owes}
+use Rattle.kpn_audit.proofs.Replaying.{ArePlaces}
+use Rattle.kpn_audit.proofs.auditor.replay.Given as goal
+
+abbrev pub invariant-events : goal.invariant-events
+invariant-events l =
+    record {
+      run : IsRun l.network (take l.k l.events) l.configuration;
+      owes : Owes l.network (take l.k l.events) l.configuration l.owed;
+      places : ArePlaces l.network (take l.k l.events) l.configuration;
+    }

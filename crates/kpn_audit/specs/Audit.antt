@@ -1,0 +1,67 @@
+-- What an audit says of a list of events: that it is a legal history, with what stands after it; or which event is the
+-- first after which no legal history goes on; or at which event a process used up the steps that it was allowed.
+use Rattle.std.specs.Prelude.{◌≡◌, ◌↔◌, ℕ, ◌<◌, suc, true, List, length, take, map, Some, slice_get, slice_index_or, []}
+use Rattle.kpn_net.specs.Tables.{Tables, program_of}
+use Rattle.kpn_net.specs.Faults.{channel_numbers}
+use Rattle.kpn_net.specs.Iteration.{IsLeast, lists_of}
+use Rattle.kpn_step.specs.Frame.{Frame}
+use Rattle.kpn_step.specs.Step.{step_of, Steps}
+use Rattle.kpn_step.specs.Stops.{IsBetween}
+use Rattle.kpn_trace.specs.declared.event.Event.{Event}
+use Rattle.kpn_trace.specs.Talks.{is_of}
+use Rattle.kpn_trace.specs.Channels.{written_on, capacity_after, fed}
+use Rattle.kpn_trace.specs.Ends.{IsQuiet}
+use Rattle.kpn_trace.specs.Legal.{HasNumbers, CanGo, Legal}
+use Rattle.kpn_trace.specs.Stops.{OwesNothing}
+use Rattle.kpn_configuration.specs.Run.{StandsAfter}
+use Rattle.kpn_audit.specs.Place.{IsPlaceAfter}
+use Rattle.kpn_audit.specs.declared.findings.Audit.{Audit}
+use Rattle.kpn_audit.specs.declared.findings.AuditFault.{AuditFault}
+use Rattle.kpn_audit.specs.declared.findings.AuditFault.TheVariants.{Illegal, NoMemory, Budget}
+
+-- the events are a legal history, after which these are the journals and the capacities, and which is quiet or not
+pub record IsAudit (t : Tables) (H : List Event) (audit : Audit) : Type 0 where
+  pub legal : Legal t H
+  pub journals : audit.journals ≡ lists_of t (written_on H)
+  pub caps : audit.caps ≡ map (capacity_after t H) (channel_numbers t)
+  pub exact : (audit.exact ≡ true) ↔ IsQuiet t H
+
+-- the journals are the least solution for what was fed
+pub record AreLeast (t : Tables) (H : List Event) (audit : Audit) : Type 0 where
+  pub each : (c : ℕ) → c < length t.channels → IsLeast t (fed t H) c (slice_index_or audit.journals c [])
+
+-- the events before event k are a legal history, and with it they are none
+pub record IsIllegalAt (t : Tables) (H : List Event) (k : ℕ) : Type 0 where
+  pub there : k < length H
+  pub before : Legal t (take k H)
+  pub ends : ¬ Legal t (take (suc k) H)
+
+-- the event is one of a process that may go on; but from where the process stands after the history it makes as many
+-- steps as it is allowed and is still between two of them: it has come to no read, no write and not to its end. A
+-- place where the next step would be one that faults counts as between
+pub record IsOutOfSteps (t : Tables) (H : List Event) (event : Event) (quota : ℕ) : Type 0 where
+  pub process : ℕ
+  pub own : is_of process event ≡ true
+  pub numbers : HasNumbers t event
+  pub can_go : CanGo t H process
+  pub place : Frame
+  pub is_place : IsPlaceAfter t H process place
+  pub stands : StandsAfter t H process place
+  pub reached : Frame
+  pub steps : Steps (program_of t process).blocks quota place reached
+  pub between : IsBetween (step_of (program_of t process).blocks reached)
+
+-- the events before event k are a legal history that owes no growth, and the process of event k is out of steps
+-- before it comes to the event
+pub record IsBudgetAt (t : Tables) (H : List Event) (quota k : ℕ) : Type 0 where
+  pub event : Event
+  pub there : slice_get H k ≡ Some event
+  pub before : Legal t (take k H)
+  pub nothing_owed : OwesNothing t (take k H)
+  pub out_of_steps : IsOutOfSteps t (take k H) event quota
+
+-- what each fault says
+abbrev pub IsFault : Tables → List Event → (quota : ℕ) → AuditFault → Type 0
+IsFault t H quota (Illegal k) = IsIllegalAt t H k
+IsFault t H quota NoMemory = Unit {0}
+IsFault t H quota (Budget k) = IsBudgetAt t H quota k

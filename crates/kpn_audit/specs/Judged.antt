@@ -1,0 +1,88 @@
+-- What the auditor's code finds of one event. A reader of the public contract needs none of it.
+use Rattle.std.specs.Prelude.{◌≡◌, ◌≢◌, ℕ, ◌<◌, true, ℤ, List, [], ◌∷◌, ◌++◌, length, Option, Some, None}
+use Rattle.kpn_net.specs.Tables.{Tables, program_of}
+use Rattle.kpn_step.specs.declared.stop.Stop.{Stop}
+use Rattle.kpn_step.specs.declared.stop.Stop.TheVariants.{WantRead, WantWrite, Paused}
+use Rattle.kpn_step.specs.Frame.{Frame}
+use Rattle.kpn_step.specs.Step.{step_of, Steps}
+use Rattle.kpn_step.specs.Stops.{IsBetween}
+use Rattle.kpn_trace.specs.declared.event.Event.{Event}
+use Rattle.kpn_trace.specs.Talks.{is_of}
+use Rattle.kpn_trace.specs.Legal.{HasNumbers, Legal, OwesGrowth}
+use Rattle.kpn_trace.specs.Stops.{OwesNothing}
+use Rattle.kpn_configuration.specs.Configuration.{Configuration, frame_in, IsFree}
+use Rattle.kpn_configuration.specs.Changes.{IsChannelAt}
+use Rattle.kpn_configuration.specs.Due.{Stands}
+use Rattle.kpn_configuration.specs.Owed.{IsOwed}
+use Rattle.kpn_configuration.specs.Run.{IsRun}
+use Rattle.kpn_audit.specs.declared.judged.Growth.{Growth}
+use Rattle.kpn_audit.specs.declared.judged.Judged.{Judged}
+use Rattle.kpn_audit.specs.declared.judged.Judged.TheVariants.{Follows, Illegal, Budget}
+use Rattle.kpn_audit.specs.Place.{GoesBy}
+
+-- the stop is a read at a port where this channel is
+abbrev pub IsReadFrom : (ports : List ℕ) → (c : ℕ) → Stop → Type 0
+IsReadFrom ports c stop = (port : ℕ) × IsChannelAt ports port c × (stop ≡ WantRead port)
+
+-- the stop is a write of this item at a port where this channel is
+abbrev pub IsWriteOf : (ports : List ℕ) → (c : ℕ) → (v : ℤ) → Stop → Type 0
+IsWriteOf ports c v stop = (port : ℕ) × IsChannelAt ports port c × (stop ≡ WantWrite port v)
+
+-- a free process stands at this stop, which is no pause
+pub record IsStopped (t : Tables) (s : Configuration) (p : ℕ) (stop : Stop) : Type 0 where
+  pub there : p < length t.instances
+  pub free : IsFree s p
+  pub stands : Stands t s p stop
+  pub is_no_pause : stop ≢ Paused
+
+-- a growth that is owed after a history, by the history and by the configuration
+pub record IsOwing (t : Tables) (H : List Event) (s : Configuration) (growth : Growth) : Type 0 where
+  pub there : growth.process < length t.instances
+  pub now : IsOwed t s growth.process growth.channel
+  pub owed : OwesGrowth t H growth.process growth.channel
+
+-- what a history owes: this growth, or nothing
+abbrev pub Owes : Tables → List Event → Configuration → Option Growth → Type 0
+Owes t H s None = OwesNothing t H
+Owes t H s (Some growth) = IsOwing t H s growth
+
+-- where each process goes by an event
+abbrev pub AllGoBy : Tables → Event → (before after : Configuration) → Type 0
+AllGoBy t event before after =
+    (p : ℕ) → p < length t.instances → GoesBy t p event (frame_in before p) (frame_in after p)
+
+-- an event follows a history, and leads to a configuration where this is owed
+pub record IsFollowed (t : Tables) (H : List Event) (event : Event) (before after : Configuration)
+    (owed : Option Growth) : Type 0 where
+  pub run : IsRun t (H ++ event ∷ []) after
+  pub owes : Owes t (H ++ event ∷ []) after owed
+  pub goes : AllGoBy t event before after
+
+-- what is found of an event where no more steps are needed to judge it
+abbrev pub IsMade : Tables → List Event → Event → (before after : Configuration) → Judged → Type 0
+IsMade t H event before after (Follows owed) = IsFollowed t H event before after owed
+IsMade t H event before after Illegal = ¬ Legal t (H ++ event ∷ [])
+IsMade t H event before after Budget = ⊥
+
+-- so many steps lead one process from where it stands to where it stands then, and all others stay
+pub record IsMoved (t : Tables) (p : ℕ) (before after : Configuration) : Type 0 where
+  pub steps : ℕ
+  pub reached : Steps (program_of t p).blocks steps (frame_in before p) (frame_in after p)
+  pub others : (q : ℕ) → q ≢ p → frame_in after q ≡ frame_in before q
+
+-- the process of an event is free, and so many steps from where it stands it is between two of them
+pub record IsUnreached (t : Tables) (before : Configuration) (event : Event) (quota : ℕ) : Type 0 where
+  pub process : ℕ
+  pub there : process < length t.instances
+  pub own : is_of process event ≡ true
+  pub numbers : HasNumbers t event
+  pub free : IsFree before process
+  pub reached : Frame
+  pub steps : Steps (program_of t process).blocks quota (frame_in before process) reached
+  pub between : IsBetween (step_of (program_of t process).blocks reached)
+
+-- what is found of an event after a history, which leads to the one configuration, and the configuration then
+abbrev pub IsJudged : Tables → List Event → Event → (quota : ℕ) → (before after : Configuration) → Judged → Type 0
+IsJudged t H event quota before after (Follows owed) = IsFollowed t H event before after owed
+IsJudged t H event quota before after Illegal = ¬ Legal t (H ++ event ∷ [])
+IsJudged t H event quota before after Budget = OwesNothing t H × IsUnreached t before event quota

@@ -1,0 +1,36 @@
+//! What an audit finds.
+ghost use Rattle.std.specs.Prelude.{◌≡◌};
+ghost use Rattle.kpn_audit.specs.declared.findings.AuditFault.TheVariants.{NoMemory};
+
+use kpn_lang::Sequence;
+use std::alloc::AllocError;
+
+/// What stands after a legal history. The lists have an entry for each channel, in order of number.
+#[derive(Debug, Drop)]
+pub struct Audit {
+    /// All items that were written on the channel, in order.
+    pub journals: Sequence<Sequence<i64>>,
+    /// How many may lie unread; None for a source.
+    pub caps: Sequence<Option<u32>>,
+    /// Whether each process has ended or is blocked on an empty channel.
+    pub exact: bool,
+}
+
+/// Why a list of events is not accepted, with its number.
+#[derive(Clone, Copy, Debug, PartialEq, Eq)]
+pub enum AuditFault {
+    /// 50: this event, counted from 0, is the first after which no legal history goes on.
+    Illegal(usize),
+    /// 51: memory ran out.
+    NoMemory,
+    /// 52: the process of this event used up its steps before it came to the event.
+    Budget(usize),
+}
+
+impl From<AllocError> for AuditFault {
+    ghost from_gives = { λ _ fault. fault ≡ NoMemory };
+
+    fn from(_error: AllocError) -> AuditFault {
+        AuditFault::NoMemory
+    }
+}

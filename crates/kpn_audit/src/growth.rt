@@ -1,0 +1,58 @@
+//! Growth: what is owed once a process has come to wait, and the event that takes it.
+ghost use Rattle.std.specs.Prelude.{◌≡◌, ◌<◌, List, [], ◌∷◌, ◌++◌, length, Some};
+ghost use Rattle.kpn_trace.specs.declared.event.Event.{Event};
+ghost use Rattle.kpn_trace.specs.Legal.{waiter};
+ghost use Rattle.kpn_configuration.specs.Configuration.{Configuration as Seen, IsConfiguration};
+ghost use Rattle.kpn_configuration.specs.Run.{IsRun};
+ghost use Rattle.kpn_configuration.specs.Owed.{IsOwed};
+ghost use Rattle.kpn_audit.specs.Judged.{IsOwing, AllGoBy, IsMade};
+
+use crate::judged::{Growth, Judged};
+use kpn_configuration::Configuration;
+use kpn_net::Network;
+use kpn_trace::Event;
+
+/// The wait of process `p`, which was just made, may follow, and this is what is owed then.
+pub(crate) fn after_wait(configuration: &Configuration, network: &Network, p: usize) -> Judged
+    requires shape { IsConfiguration network.now configuration.now }
+    requires process { p < length network.now.instances }
+    ensures { (H : List Event) (event : Event) (before : Seen) → waiter event ≡ Some p
+        → IsRun network.now (H ++ event ∷ []) configuration.now
+        → AllGoBy network.now event before configuration.now
+        → IsMade network.now H event before configuration.now result }
+{
+    network.known();
+    match configuration.owed(network, p) {
+        Some(channel) => Judged::Follows(Some(Growth {
+            process: p,
+            channel,
+        })),
+        None => Judged::Follows(None),
+    }
+}
+
+/// Judges an event where this growth is owed: it has to be that growth.
+pub(crate) fn judge_owed(
+    configuration: &mut Configuration,
+    network: &Network,
+    owed: Growth,
+    event: Event,
+) -> Judged
+    requires shape { IsConfiguration network.now configuration.old }
+    requires process { owed.process < length network.now.instances }
+    requires owed { IsOwed network.now configuration.old owed.process owed.channel }
+    ensures shape { IsConfiguration network.now configuration.new }
+    ensures judged { (H : List Event) → IsRun network.now H configuration.old
+        → IsOwing network.now H configuration.old owed
+        → IsMade network.now H event configuration.old configuration.new result }
+{
+    network.known();
+    let Event::Grow(p, c) = event else {
+        return Judged::Illegal;
+    };
+    if usize::from(p) != owed.process || usize::from(c) != owed.channel {
+        return Judged::Illegal;
+    }
+    configuration.grow(network, owed.process, owed.channel);
+    Judged::Follows(None)
+}

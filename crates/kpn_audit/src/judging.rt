@@ -1,0 +1,189 @@
+//! One event judged: first what can be judged before any step, then, once its process has come to a stop, whether it
+//! is due there.
+ghost use Rattle.std.specs.Prelude.{◌≡◌, ◌↔◌, ◌<◌, ℕ, true, false, List, length, IsTrue, IfOk, IfSome, IfNone, Some};
+ghost use Rattle.kpn_trace.specs.declared.event.Event.{Event};
+ghost use Rattle.kpn_trace.specs.Talks.{is_of, is_of_process};
+ghost use Rattle.kpn_trace.specs.Legal.{HasNumbers};
+ghost use Rattle.kpn_trace.specs.Stops.{OwesNothing};
+ghost use Rattle.kpn_configuration.specs.Configuration.{IsConfiguration};
+ghost use Rattle.kpn_configuration.specs.Owed.{IsOwed};
+ghost use Rattle.kpn_configuration.specs.Run.{IsRun};
+ghost use Rattle.kpn_audit.specs.Judged.{IsStopped, Owes, IsMade, IsJudged};
+
+use crate::growth::judge_owed;
+use crate::judged::{Growth, Judged};
+use crate::stepping::come_to_stop;
+use crate::{outside, processes};
+use kpn_configuration::Configuration;
+use kpn_net::Network;
+use kpn_step::Stop;
+use kpn_trace::{Event, How};
+use std::alloc::AllocError;
+
+/// Whether these are the numbers of a process and a channel.
+fn are_numbers(network: &Network, p: u16, c: u16) -> bool
+    ensures { IsTrue result
+        ↔ ((p < length network.now.instances) × (c < length network.now.channels)) }
+{
+    usize::from(p) < network.instances() && usize::from(c) < network.channels()
+}
+
+/// Whether the numbers of the event are numbers of the network.
+fn has_numbers(network: &Network, event: Event) -> bool
+    ensures { IsTrue result ↔ HasNumbers network.now event }
+{
+    match event {
+        Event::Get(p, c, _) | Event::Put(p, c, _) => are_numbers(network, p, c),
+        Event::WaitEmpty(p, c) | Event::WaitFull(p, c) => are_numbers(network, p, c),
+        Event::Grow(p, c) => are_numbers(network, p, c),
+        Event::Ended(p, _) => usize::from(p) < network.instances(),
+        Event::Feed(c, _) | Event::Take(c, _) => usize::from(c) < network.channels(),
+        Event::Close(c) | Event::Leave(c) => usize::from(c) < network.channels(),
+    }
+}
+
+/// The process that an event is of, where it is one of a process.
+fn process_of(event: Event) -> Option<usize>
+    ensures some { IfSome result (λ p. is_of p event ≡ true) }
+    ensures none { IfNone result (is_of_process event ≡ false) }
+{
+    match event {
+        Event::Get(p, _, _) => Some(p.into()),
+        Event::Put(p, _, _) => Some(p.into()),
+        Event::WaitEmpty(p, _) => Some(p.into()),
+        Event::WaitFull(p, _) => Some(p.into()),
+        Event::Ended(p, _) => Some(p.into()),
+        _ => None,
+    }
+}
+
+/// Judges an event of a process, which stands at this stop.
+fn judge_at_stop(
+    configuration: &mut Configuration,
+    network: &Network,
+    event: Event,
+    stop: Stop,
+) -> Result<Judged, AllocError>
+    requires shape { IsConfiguration network.now configuration.old }
+    requires numbers { HasNumbers network.now event }
+    requires stopped { (p : ℕ) → is_of p event ≡ true
+        → IsStopped network.now configuration.old p stop }
+    ensures shape { IsConfiguration network.now configuration.new }
+    ensures judged { (H : List Event) → IsRun network.now H configuration.old
+        → OwesNothing network.now H → is_of_process event ≡ true
+        → IfOk result
+        (IsMade network.now H event configuration.old configuration.new) }
+{
+    match event {
+        Event::Get(p, c, item) => {
+            Ok(processes::get(configuration, network, p.into(), c.into(), item, stop))
+        }
+        Event::Put(p, c, item) => {
+            processes::put(configuration, network, p.into(), c.into(), item, stop)
+        }
+        Event::WaitEmpty(p, c) => {
+            Ok(processes::wait_on_empty(configuration, network, p.into(), c.into(), stop))
+        }
+        Event::WaitFull(p, c) => {
+            Ok(processes::wait_on_full(configuration, network, p.into(), c.into(), stop))
+        }
+        Event::Ended(p, how) => Ok(processes::end(configuration, network, p.into(), how, stop)),
+        _ => Ok(Judged::Illegal),
+    }
+}
+
+/// Judges an event of process `p`: whether it may go on, where it comes to a stop, and what is due there.
+fn judge_process(
+    configuration: &mut Configuration,
+    network: &Network,
+    p: usize,
+    event: Event,
+    quota: u64,
+) -> Result<Judged, AllocError>
+    requires shape { IsConfiguration network.now configuration.old }
+    requires numbers { HasNumbers network.now event }
+    requires own { is_of p event ≡ true }
+    ensures shape { IsConfiguration network.now configuration.new }
+    ensures judged { (H : List Event) → IsRun network.now H configuration.old
+        → OwesNothing network.now H
+        → IfOk result
+        (IsJudged network.now H event quota configuration.old configuration.new) }
+{
+    match come_to_stop(configuration, network, p, quota) {
+        Ok(stop) => judge_at_stop(configuration, network, event, stop),
+        Err(judged) => Ok(judged),
+    }
+}
+
+/// Judges an event of the outside. A growth, which nothing owes, may not follow.
+fn judge_outside(
+    configuration: &mut Configuration,
+    network: &Network,
+    event: Event,
+) -> Result<Judged, AllocError>
+    requires shape { IsConfiguration network.now configuration.old }
+    requires numbers { HasNumbers network.now event }
+    requires outside { is_of_process event ≡ false }
+    ensures shape { IsConfiguration network.now configuration.new }
+    ensures judged { (H : List Event) → IsRun network.now H configuration.old
+        → OwesNothing network.now H
+        → IfOk result
+        (IsMade network.now H event configuration.old configuration.new) }
+{
+    network.known();
+    match event {
+        Event::Feed(c, item) => outside::feed(configuration, network, c.into(), item),
+        Event::Close(c) => Ok(outside::close(configuration, network, c.into())),
+        Event::Take(c, item) => Ok(outside::take(configuration, network, c.into(), item)),
+        Event::Leave(c) => Ok(outside::leave(configuration, network, c.into())),
+        _ => Ok(Judged::Illegal),
+    }
+}
+
+/// Judges an event where nothing is owed.
+fn judge_next(
+    configuration: &mut Configuration,
+    network: &Network,
+    event: Event,
+    quota: u64,
+) -> Result<Judged, AllocError>
+    requires shape { IsConfiguration network.now configuration.old }
+    ensures shape { IsConfiguration network.now configuration.new }
+    ensures judged { (H : List Event) → IsRun network.now H configuration.old
+        → OwesNothing network.now H
+        → IfOk result
+        (IsJudged network.now H event quota configuration.old configuration.new) }
+{
+    if !has_numbers(network, event) {
+        return Ok(Judged::Illegal);
+    }
+    match process_of(event) {
+        Some(p) => judge_process(configuration, network, p, event, quota),
+        None => judge_outside(configuration, network, event),
+    }
+}
+
+/// Judges the event that comes next, where this is owed, and makes it where it may follow. The error is that memory ran
+/// out.
+pub(crate) fn judge(
+    configuration: &mut Configuration,
+    network: &Network,
+    owed: Option<Growth>,
+    event: Event,
+    quota: u64,
+) -> Result<Judged, AllocError>
+    requires shape { IsConfiguration network.now configuration.old }
+    requires owed { (growth : Growth) → owed ≡ Some growth
+        → (growth.process < length network.now.instances)
+        × IsOwed network.now configuration.old growth.process growth.channel }
+    ensures shape { IsConfiguration network.now configuration.new }
+    ensures judged { (H : List Event) → IsRun network.now H configuration.old
+        → Owes network.now H configuration.old owed
+        → IfOk result
+        (IsJudged network.now H event quota configuration.old configuration.new) }
+{
+    match owed {
+        Some(growth) => Ok(judge_owed(configuration, network, growth, event)),
+        None => judge_next(configuration, network, event, quota),
+    }
+}

@@ -1,0 +1,17 @@
+//! The auditor: it replays a list of events on a configuration of its own, and tells whether they are a legal history
+//! of a network and what stands after them, or the first event that goes wrong.
+#![tactic(auto)]
+
+mod auditor;
+mod findings;
+mod growth;
+mod judged;
+mod judging;
+mod outside;
+mod ports;
+mod processes;
+mod stepping;
+mod summary;
+
+pub use auditor::audit;
+pub use findings::{Audit, AuditFault};

@@ -1,0 +1,108 @@
+//! Events of the outside: each is judged by its channel, and made where it may follow.
+ghost use Rattle.std.specs.Prelude.{◌≡◌, ◌↔◌, ◌<◌, true, List, length, IsTrue, IfOk};
+ghost use Rattle.kpn_net.specs.Tables.{channel_at, is_sink};
+ghost use Rattle.kpn_trace.specs.declared.event.Event.{Event};
+ghost use Rattle.kpn_trace.specs.declared.event.Event.TheVariants as event;
+ghost use Rattle.kpn_trace.specs.Stops.{OwesNothing};
+ghost use Rattle.kpn_configuration.specs.Configuration.{IsConfiguration};
+ghost use Rattle.kpn_configuration.specs.Run.{IsRun};
+ghost use Rattle.kpn_audit.specs.Judged.{IsMade};
+
+use crate::judged::Judged;
+use kpn_configuration::Configuration;
+use kpn_net::laws::one_writer_and_one_reader;
+use kpn_net::{End, Network};
+use std::alloc::AllocError;
+
+/// Whether the outside reads channel `c`.
+fn is_sink(network: &Network, c: usize) -> bool
+    requires { c < length network.now.channels }
+    ensures { result ≡ is_sink (channel_at network.now c) }
+{
+    one_writer_and_one_reader();
+    matches!(network.reader_of(c), End::Sink)
+}
+
+/// The outside feeds this item to channel `c`. The error is that memory ran out.
+pub(crate) fn feed(
+    configuration: &mut Configuration,
+    network: &Network,
+    c: usize,
+    item: i64,
+) -> Result<Judged, AllocError>
+    requires shape { IsConfiguration network.now configuration.old }
+    requires channel { c < length network.now.channels }
+    ensures shape { IsConfiguration network.now configuration.new }
+    ensures judged { (H : List Event) → IsRun network.now H configuration.old
+        → OwesNothing network.now H
+        → IfOk result
+        (IsMade network.now H (event.Feed c item) configuration.old configuration.new) }
+{
+    network.known();
+    if !network.is_source(c) || configuration.is_closed(c) {
+        return Ok(Judged::Illegal);
+    }
+    configuration.reserve_one(c)?;
+    configuration.feed(network, c, item);
+    Ok(Judged::Follows(None))
+}
+
+/// The outside closes channel `c`.
+pub(crate) fn close(configuration: &mut Configuration, network: &Network, c: usize) -> Judged
+    requires shape { IsConfiguration network.now configuration.old }
+    requires channel { c < length network.now.channels }
+    ensures shape { IsConfiguration network.now configuration.new }
+    ensures judged { (H : List Event) → IsRun network.now H configuration.old
+        → OwesNothing network.now H
+        → IsMade network.now H (event.Close c) configuration.old configuration.new result }
+{
+    network.known();
+    if !network.is_source(c) || configuration.is_closed(c) {
+        return Judged::Illegal;
+    }
+    configuration.close(network, c);
+    Judged::Follows(None)
+}
+
+/// The outside takes this item from channel `c`.
+pub(crate) fn take(
+    configuration: &mut Configuration,
+    network: &Network,
+    c: usize,
+    item: i64,
+) -> Judged
+    requires shape { IsConfiguration network.now configuration.old }
+    requires channel { c < length network.now.channels }
+    ensures shape { IsConfiguration network.now configuration.new }
+    ensures judged { (H : List Event) → IsRun network.now H configuration.old
+        → OwesNothing network.now H
+        → IsMade network.now H (event.Take c item) configuration.old configuration.new result }
+{
+    network.known();
+    if !is_sink(network, c) || !configuration.has_item(c) {
+        return Judged::Illegal;
+    }
+    let got = configuration.take(network, c);
+    if got.item == item {
+        Judged::Follows(None)
+    } else {
+        Judged::Illegal
+    }
+}
+
+/// The outside leaves channel `c`.
+pub(crate) fn leave(configuration: &mut Configuration, network: &Network, c: usize) -> Judged
+    requires shape { IsConfiguration network.now configuration.old }
+    requires channel { c < length network.now.channels }
+    ensures shape { IsConfiguration network.now configuration.new }
+    ensures judged { (H : List Event) → IsRun network.now H configuration.old
+        → OwesNothing network.now H
+        → IsMade network.now H (event.Leave c) configuration.old configuration.new result }
+{
+    network.known();
+    if !is_sink(network, c) || configuration.channel(c).is_retired() {
+        return Judged::Illegal;
+    }
+    configuration.leave(network, c);
+    Judged::Follows(None)
+}

@@ -1,0 +1,144 @@
+//! Events of processes: each is judged by where its process stands, and made where it may follow.
+ghost use Rattle.std.specs.Prelude.{◌≡◌, ◌<◌, List, length, IfOk};
+ghost use Rattle.kpn_trace.specs.declared.event.Event.{Event};
+ghost use Rattle.kpn_trace.specs.declared.event.Event.TheVariants as event;
+ghost use Rattle.kpn_trace.specs.Stops.{OwesNothing};
+ghost use Rattle.kpn_configuration.specs.Configuration.{IsConfiguration};
+ghost use Rattle.kpn_configuration.specs.Run.{IsRun};
+ghost use Rattle.kpn_audit.specs.Judged.{IsStopped, IsMade};
+
+use crate::growth::after_wait;
+use crate::judged::Judged;
+use crate::ports::{is_end, is_read_from, is_write_of, is_write_to};
+use kpn_configuration::Configuration;
+use kpn_net::Network;
+use kpn_step::Stop;
+use kpn_trace::How;
+use std::alloc::AllocError;
+
+/// Process `p`, which stands at this stop, gets this item from channel `c`.
+pub(crate) fn get(
+    configuration: &mut Configuration,
+    network: &Network,
+    p: usize,
+    c: usize,
+    item: i64,
+    stop: Stop,
+) -> Judged
+    requires shape { IsConfiguration network.now configuration.old }
+    requires channel { c < length network.now.channels }
+    requires stopped { IsStopped network.now configuration.old p stop }
+    ensures shape { IsConfiguration network.now configuration.new }
+    ensures judged { (H : List Event) → IsRun network.now H configuration.old
+        → OwesNothing network.now H
+        → IsMade network.now H (event.Get p c item) configuration.old configuration.new result }
+{
+    network.known();
+    if !is_read_from(network, p, c, stop) || !configuration.has_item(c) {
+        return Judged::Illegal;
+    }
+    let got = configuration.get(network, p, c);
+    if got.item == item {
+        Judged::Follows(None)
+    } else {
+        Judged::Illegal
+    }
+}
+
+/// Process `p`, which stands at this stop, puts this item on channel `c`. The error is that memory ran out.
+pub(crate) fn put(
+    configuration: &mut Configuration,
+    network: &Network,
+    p: usize,
+    c: usize,
+    item: i64,
+    stop: Stop,
+) -> Result<Judged, AllocError>
+    requires shape { IsConfiguration network.now configuration.old }
+    requires channel { c < length network.now.channels }
+    requires stopped { IsStopped network.now configuration.old p stop }
+    ensures shape { IsConfiguration network.now configuration.new }
+    ensures judged { (H : List Event) → IsRun network.now H configuration.old
+        → OwesNothing network.now H
+        → IfOk result
+        (IsMade network.now H (event.Put p c item) configuration.old configuration.new) }
+{
+    network.known();
+    if !is_write_of(network, p, c, item, stop) || configuration.channel(c).is_full() {
+        return Ok(Judged::Illegal);
+    }
+    configuration.reserve_one(c)?;
+    configuration.put(network, p, c, item);
+    Ok(Judged::Follows(None))
+}
+
+/// Process `p`, which stands at this stop, waits on channel `c` as empty.
+pub(crate) fn wait_on_empty(
+    configuration: &mut Configuration,
+    network: &Network,
+    p: usize,
+    c: usize,
+    stop: Stop,
+) -> Judged
+    requires shape { IsConfiguration network.now configuration.old }
+    requires channel { c < length network.now.channels }
+    requires stopped { IsStopped network.now configuration.old p stop }
+    ensures shape { IsConfiguration network.now configuration.new }
+    ensures judged { (H : List Event) → IsRun network.now H configuration.old
+        → OwesNothing network.now H
+        → IsMade network.now H (event.WaitEmpty p c) configuration.old configuration.new result }
+{
+    network.known();
+    if !is_read_from(network, p, c, stop) || !configuration.channel(c).is_empty() {
+        return Judged::Illegal;
+    }
+    configuration.wait_on_empty(network, p, c);
+    after_wait(configuration, network, p)
+}
+
+/// Process `p`, which stands at this stop, waits on channel `c` as full.
+pub(crate) fn wait_on_full(
+    configuration: &mut Configuration,
+    network: &Network,
+    p: usize,
+    c: usize,
+    stop: Stop,
+) -> Judged
+    requires shape { IsConfiguration network.now configuration.old }
+    requires channel { c < length network.now.channels }
+    requires stopped { IsStopped network.now configuration.old p stop }
+    ensures shape { IsConfiguration network.now configuration.new }
+    ensures judged { (H : List Event) → IsRun network.now H configuration.old
+        → OwesNothing network.now H
+        → IsMade network.now H (event.WaitFull p c) configuration.old configuration.new result }
+{
+    network.known();
+    if !is_write_to(network, p, c, stop) || !configuration.channel(c).is_full() {
+        return Judged::Illegal;
+    }
+    configuration.wait_on_full(network, p, c);
+    after_wait(configuration, network, p)
+}
+
+/// Process `p`, which stands at this stop, ends in this way.
+pub(crate) fn end(
+    configuration: &mut Configuration,
+    network: &Network,
+    p: usize,
+    how: How,
+    stop: Stop,
+) -> Judged
+    requires shape { IsConfiguration network.now configuration.old }
+    requires stopped { IsStopped network.now configuration.old p stop }
+    ensures shape { IsConfiguration network.now configuration.new }
+    ensures judged { (H : List Event) → IsRun network.now H configuration.old
+        → OwesNothing network.now H
+        → IsMade network.now H (event.Ended p how) configuration.old configuration.new result }
+{
+    network.known();
+    if !is_end(how, stop) {
+        return Judged::Illegal;
+    }
+    configuration.end(network, p, how);
+    Judged::Follows(None)
+}

@@ -1,0 +1,2 @@
+pub mod AuditText
+pub mod Answers

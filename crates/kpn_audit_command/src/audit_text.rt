@@ -1,0 +1,84 @@
+//! The texts that `kpn audit` writes.
+ghost use Rattle.std.specs.Prelude.{◌≡◌, ◌≤◌, ◌++◌, length, IfOk, OnOk, codes};
+ghost use Rattle.std.specs.Fmt.{decimal};
+ghost use Rattle.kpn_audit_command.specs.AuditText.{audit_text, exact_line, cap_text, channel_line, illegal_line, budget_line};
+
+use kpn_answers::list_text::push_items;
+use kpn_audit::Audit;
+use kpn_text::Document;
+use std::alloc::{AllocError, Global};
+
+/// `legal`, whether the journals are exact, and a line for each channel in order of number: `NAME cap N:`, or `NAME:`
+/// for a source, and its journal. There is a capacity for each journal.
+pub(crate) fn text_of(
+    alloc: Global,
+    document: &Document,
+    audit: &Audit,
+) -> Result<Vec<u8>, AllocError>
+    requires channels { length audit.now.journals ≤ length document.now.tables.channels }
+    requires caps { length audit.now.caps ≡ length audit.now.journals }
+    ensures { IfOk result (λ text.
+        text.items ≡ audit_text document.now.names.channels audit.now) }
+{
+    let mut text = Vec::new(alloc);
+    text.extend_from_slice(b"legal\n")?;
+    push_exact(&mut text, audit.exact)?;
+    let caps = audit.caps.as_slice();
+    for (channel, journal) in audit.journals.as_slice().iter().enumerate() {
+        let name = document.channel_name(channel);
+        push_channel(&mut text, name, caps[channel], journal.as_slice())?;
+    }
+    Ok(text)
+}
+
+// Whether the journals are the least solution.
+fn push_exact(text: &mut Vec<u8>, exact: bool) -> Result<(), AllocError>
+    ensures { OnOk result (text.new.items ≡ text.old.items ++ exact_line exact) }
+{
+    if exact {
+        text.extend_from_slice(b"exact yes\n")
+    } else {
+        text.extend_from_slice(b"exact no\n")
+    }
+}
+
+// The line of one channel.
+fn push_channel(
+    text: &mut Vec<u8>,
+    name: &[u8],
+    cap: Option<u32>,
+    journal: &[i64],
+) -> Result<(), AllocError>
+    ensures { OnOk result
+        (text.new.items ≡ text.old.items ++ channel_line name.now cap journal.now) }
+{
+    text.extend_from_slice(name)?;
+    push_cap(text, cap)?;
+    push_items(text, journal)
+}
+
+// The capacity of a channel that has one.
+fn push_cap(text: &mut Vec<u8>, cap: Option<u32>) -> Result<(), AllocError>
+    ensures { OnOk result (text.new.items ≡ text.old.items ++ cap_text cap) }
+{
+    let Some(cap) = cap else {
+        return Ok(());
+    };
+    let mut buffer = itoa::Buffer::new();
+    text.extend_from_slice(b" cap ")?;
+    text.extend_from_slice(buffer.format(cap).as_bytes())
+}
+
+/// `illegal at K`, and a line feed.
+pub(crate) fn illegal_text(alloc: Global, k: usize) -> Result<Vec<u8>, AllocError>
+    ensures { IfOk result (λ text. text.items ≡ illegal_line k) }
+{
+    Ok(format!(in alloc; "illegal at {k}\n")?.into_bytes())
+}
+
+/// `budget at K`, and a line feed.
+pub(crate) fn budget_text(alloc: Global, k: usize) -> Result<Vec<u8>, AllocError>
+    ensures { IfOk result (λ text. text.items ≡ budget_line k) }
+{
+    Ok(format!(in alloc; "budget at {k}\n")?.into_bytes())
+}

@@ -1,0 +1,98 @@
+//! The command: a network and a trace are read, and what an audit finds is written.
+ghost use Rattle.std.specs.Prelude.{IfOk, IfErr};
+ghost use Rattle.kpn_answers.specs.Answer.{Concludes};
+ghost use Rattle.kpn_audit_command.specs.Answers.{IsTraced, IsRefusalOfTrace, IsAudited, IsRefusalOfAudit, IsConclusion, IsWantOfMemory};
+
+use crate::audit_text::{budget_text, illegal_text, text_of};
+use kpn_answers::answer::{Conclusion, conclude};
+use kpn_answers::description::load_document;
+use kpn_answers::refusal::Refusal;
+use kpn_answers::shelf::Shelf;
+use kpn_audit::{AuditFault, audit};
+use kpn_text::Document;
+use kpn_trace::Event;
+use kpn_trace_text::read_trace;
+use std::alloc::Global;
+use std::io::Write;
+
+/// The command `kpn audit FILE TRACE` over a shelf, an output and a place for faults, where each process may make
+/// `steps` steps before each of its events. It answers the status that the program ends with. The description
+/// is read first, then the trace.
+pub fn audit_command<S: Shelf, O: Write, E: Write>(
+    alloc: Global,
+    file: &str,
+    trace: &str,
+    steps: u64,
+    shelf: &S,
+    out: &mut O,
+    err: &mut E,
+) -> u8
+    ensures { let may_give = S.may_give shelf.now in
+        Concludes O.contents (IsAudited may_give file.now trace.now steps)
+        (IsRefusalOfAudit may_give file.now trace.now) out.old out.new err.old err.new result }
+{
+    conclude(answer(alloc, file, trace, steps, shelf), out, err)
+}
+
+// What an audit of the trace finds, as a text with its status.
+fn answer<S: Shelf>(
+    alloc: Global,
+    file: &str,
+    trace: &str,
+    steps: u64,
+    shelf: &S,
+) -> Result<Conclusion, Refusal>
+    ensures ok { IfOk result (λ conclusion.
+        IsAudited (S.may_give shelf.now) file.now trace.now steps
+        conclusion.text.items conclusion.status) }
+    ensures refused { IfErr result (IsRefusalOfAudit (S.may_give shelf.now) file.now trace.now) }
+{
+    let document = load_document(alloc, shelf, file)?;
+    let events = load_trace(alloc, shelf, trace)?;
+    conclusion(alloc, &document, &events, steps)
+}
+
+// The events of a trace in a file.
+fn load_trace<S: Shelf>(alloc: Global, shelf: &S, trace: &str) -> Result<Vec<Event>, Refusal>
+    ensures ok { IfOk result (λ events.
+        IsTraced (S.may_give shelf.now) trace.now events.items) }
+    ensures refused { IfErr result (IsRefusalOfTrace (S.may_give shelf.now) trace.now) }
+{
+    let bytes = match shelf.load(alloc, trace) {
+        Ok(bytes) => bytes,
+        Err(fault) => return Err(Refusal::Input(fault)),
+    };
+    match read_trace(alloc, &bytes) {
+        Ok(events) => Ok(events),
+        Err(fault) => Err(Refusal::Trace(fault)),
+    }
+}
+
+// What is found of the events of a network.
+fn conclusion(
+    alloc: Global,
+    document: &Document,
+    events: &[Event],
+    steps: u64,
+) -> Result<Conclusion, Refusal>
+    ensures ok { let d = document.now in IfOk result (λ conclusion.
+        IsConclusion d.tables d.names.channels events.now steps
+        conclusion.text.items conclusion.status) }
+    ensures refused { IfErr result (λ refusal. IsWantOfMemory refusal) }
+{
+    match audit(alloc, document.network(), events, steps) {
+        Ok(audit) => Ok(Conclusion {
+            text: text_of(alloc, document, &audit)?,
+            status: 0,
+        }),
+        Err(AuditFault::Illegal(k)) => Ok(Conclusion {
+            text: illegal_text(alloc, k)?,
+            status: 1,
+        }),
+        Err(AuditFault::Budget(k)) => Ok(Conclusion {
+            text: budget_text(alloc, k)?,
+            status: 5,
+        }),
+        Err(AuditFault::NoMemory) => Err(Refusal::NoMemoryToAudit),
+    }
+}

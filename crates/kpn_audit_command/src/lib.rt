@@ -1,0 +1,7 @@
+//! `kpn audit FILE TRACE`: a trace is audited against the network of a description.
+#![tactic(auto)]
+
+mod audit_text;
+mod command;
+
+pub use command::audit_command;

@@ -1,0 +1,4 @@
+-- Lemmas: words and the bytes that part them, the lines of events, whole traces.
+pub mod Parting
+pub mod Lines
+pub mod Traces

@@ -1,0 +1,226 @@
+-- The line of an event: its kind stands before the first space, it has no line feed, and it has no other line.
+use Rattle.std.proofs.Common.{◌≡◌, ℕ, ◌^◌, ◌<◌, List, [], ◌∷◌, ◌++◌, Bool, true, Option, Some, None, refl, sym, ap, ◌∙◌, subst, arith}
+use Rattle.std.specs.Prelude.{ℤ, FitsSigned, MatchOption}
+use Rattle.std.specs.Int.{w64}
+use Rattle.std.specs.List.{find}
+use Rattle.std.specs.Str.{bytes_eq}
+use Rattle.std.proofs.lemmas.Bool.{cond_both}
+use Rattle.std.proofs.lemmas.Slice.Eq.{bytes_eq-Decides}
+use Rattle.std.specs.Fmt.{decimal, signed_decimal}
+use Rattle.kpn_trace.specs.declared.event.Event.{Event}
+use Rattle.kpn_trace.specs.declared.event.Event.TheVariants.{Get, Put, WaitEmpty, WaitFull, Ended, Feed, Close, Take, Leave, Grow}
+use Rattle.kpn_trace.specs.declared.event.How.{How}
+use Rattle.kpn_trace.specs.declared.event.How.TheVariants as how
+use Rattle.kpn_trace_text.specs.declared.kind.Kind.{Kind}
+use Rattle.kpn_trace_text.specs.declared.kind.Kind.TheVariants as kind
+use Rattle.kpn_trace_text.specs.EventLine.{kind_word, kinds, kind_named, how_word, kind_of, parts_of, spaced, line_of, LacksByte, IsInRange, SpellsEvent}
+use Rattle.kpn_trace_text.proofs.Parting.{cut, LacksByte-append, decimal_lacks, item_lacks, front, same_number, same_item, lacks_none}
+
+-- ---- kinds and endings
+
+kind_is_named : (k : Kind) → kind_named (kind_word k) ≡ Some k
+unfolding kind_named
+kind_is_named kind.Get = refl
+kind_is_named kind.Put = refl
+kind_is_named kind.WaitEmpty = refl
+kind_is_named kind.WaitFull = refl
+kind_is_named kind.Ended = refl
+kind_is_named kind.Feed = refl
+kind_is_named kind.Close = refl
+kind_is_named kind.Take = refl
+kind_is_named kind.Leave = refl
+kind_is_named kind.Grow = refl
+
+same_kind : (j k : Kind) → kind_word j ≡ kind_word k → j ≡ k
+same_kind j k e =
+    let named : Some j ≡ Some k = sym (kind_is_named j) ∙ ap kind_named e ∙ kind_is_named k in
+    cc
+
+-- what a search finds passes its test
+find_passes : {X : Type 0} (p : X → Bool) (xs : List X) (x : X) → find p xs ≡ Some x → p x ≡ true
+find_passes p [] x found = cc
+find_passes {X} p (y ∷ ys) x found =
+    let Q : Option X → Type 0 = λ o. o ≡ Some x → p x ≡ true in
+    cond_both (p y) (Some y) (find p ys) Q (λ passes same. let e : y ≡ x = cc in ap p (sym e) ∙ passes)
+    (λ _ same. find_passes p ys x same) found
+
+-- the word that names a kind is its word
+word_of_kind : (word : List ℕ) (k : Kind) → kind_named word ≡ Some k → kind_word k ≡ word
+unfolding kind_named
+word_of_kind word k known =
+    (bytes_eq-Decides (kind_word k) word).0 (find_passes (λ j. bytes_eq (kind_word j) word) kinds k known)
+
+kind_lacks_space : (k : Kind) → LacksByte 32 (kind_word k)
+kind_lacks_space kind.Get = refl
+kind_lacks_space kind.Put = refl
+kind_lacks_space kind.WaitEmpty = refl
+kind_lacks_space kind.WaitFull = refl
+kind_lacks_space kind.Ended = refl
+kind_lacks_space kind.Feed = refl
+kind_lacks_space kind.Close = refl
+kind_lacks_space kind.Take = refl
+kind_lacks_space kind.Leave = refl
+kind_lacks_space kind.Grow = refl
+
+kind_lacks_feed : (k : Kind) → LacksByte 10 (kind_word k)
+kind_lacks_feed kind.Get = refl
+kind_lacks_feed kind.Put = refl
+kind_lacks_feed kind.WaitEmpty = refl
+kind_lacks_feed kind.WaitFull = refl
+kind_lacks_feed kind.Ended = refl
+kind_lacks_feed kind.Feed = refl
+kind_lacks_feed kind.Close = refl
+kind_lacks_feed kind.Take = refl
+kind_lacks_feed kind.Leave = refl
+kind_lacks_feed kind.Grow = refl
+
+how_lacks_feed : (how : How) → LacksByte 10 (how_word how)
+how_lacks_feed how.Done = refl
+how_lacks_feed how.Overflow = refl
+how_lacks_feed how.ZeroDivisor = refl
+
+same_how : (a b : How) → how_word a ≡ how_word b → a ≡ b
+same_how how.Done how.Done e = refl
+same_how how.Overflow how.Overflow e = refl
+same_how how.ZeroDivisor how.ZeroDivisor e = refl
+same_how a b e = absurd (cc)
+
+-- ---- a line is its kind, a space, and its parts
+
+line_is : (event : Event) → line_of event ≡ kind_word (kind_of event) ++ 32 ∷ spaced (parts_of event)
+line_is (Get p c v) = refl
+line_is (Put p c v) = refl
+line_is (WaitEmpty p c) = refl
+line_is (WaitFull p c) = refl
+line_is (Ended p how) = refl
+line_is (Feed c v) = refl
+line_is (Close c) = refl
+line_is (Take c v) = refl
+line_is (Leave c) = refl
+line_is (Grow p c) = refl
+
+-- the kind and the parts of the event that a line spells, where the line has this first word
+pub kind_and_parts : (line word parts : List ℕ) (event : Event) → line ≡ word ++ 32 ∷ parts → LacksByte 32 word
+    → SpellsEvent line event → (kind_word (kind_of event) ≡ word) × (parts ≡ spaced (parts_of event))
+kind_and_parts line word parts event split lacks spells =
+    let both =
+    cut 32 (kind_word (kind_of event)) word (spaced (parts_of event)) parts (kind_lacks_space (kind_of event)) lacks
+    (sym (line_is event) ∙ sym spells.whole ∙ split) in
+    (both.0, sym both.1)
+
+-- a line without a space spells nothing
+pub no_space : (line : List ℕ) (event : Event) → LacksByte 32 line → SpellsEvent line event → ⊥
+no_space line event lacks spells =
+    lacks_none 32 (kind_word (kind_of event)) (spaced (parts_of event))
+    (subst (λ l. LacksByte 32 l) (spells.whole ∙ line_is event) lacks)
+
+-- a line whose first word is no kind spells nothing
+pub no_kind : (line word parts : List ℕ) (event : Event) → line ≡ word ++ 32 ∷ parts → LacksByte 32 word
+    → kind_named word ≡ None → SpellsEvent line event → ⊥
+no_kind line word parts event split lacks unknown spells =
+    let found = kind_and_parts line word parts event split lacks spells in
+    let clash : Some (kind_of event) ≡ None =
+    sym (kind_is_named (kind_of event)) ∙ ap kind_named found.0 ∙ unknown in
+    cc
+
+-- a line spells an event of the kind that its first word names
+pub of_kind : (line word parts : List ℕ) (k : Kind) (event : Event) → line ≡ word ++ 32 ∷ parts → LacksByte 32 word
+    → kind_named word ≡ Some k → SpellsEvent line event → (kind_of event ≡ k) × (parts ≡ spaced (parts_of event))
+of_kind line word parts k event split lacks known spells =
+    let found = kind_and_parts line word parts event split lacks spells in
+    let same : Some (kind_of event) ≡ Some k =
+    sym (kind_is_named (kind_of event)) ∙ ap kind_named found.0 ∙ known in
+    (cc, found.1)
+
+-- what the parts spell as an event of the kind, the line spells
+pub read_of_kind : (line word parts : List ℕ) (k : Kind) (read : Option Event) → line ≡ word ++ 32 ∷ parts
+    → LacksByte 32 word → kind_named word ≡ Some k
+    → MatchOption read
+    ((event : Event) → IsInRange event → kind_of event ≡ k → parts ≡ spaced (parts_of event) → ⊥)
+    (λ event. IsInRange event × (kind_of event ≡ k) × (parts ≡ spaced (parts_of event)))
+    → MatchOption read ((event : Event) → SpellsEvent line event → ⊥) (SpellsEvent line)
+read_of_kind line word parts k None split lacks known none =
+    λ event spells.
+    let found = of_kind line word parts k event split lacks known spells in
+    none event spells.in_range found.0 found.1
+read_of_kind line word parts k (Some event) split lacks known is = record {
+  whole = split ∙ ap (λ w. w ++ 32 ∷ parts) (sym (word_of_kind word k known))
+      ∙ ap (λ j. kind_word j ++ 32 ∷ parts) (sym is.1)
+      ∙ ap (λ p. kind_word (kind_of event) ++ 32 ∷ p) is.2 ∙ sym (line_is event);
+  in_range = is.0;
+}
+
+-- ---- one event for each line
+
+same_parts : (a b : Event) → kind_of a ≡ kind_of b → IsInRange a → IsInRange b
+    → spaced (parts_of a) ≡ spaced (parts_of b) → a ≡ b
+same_parts (Get p c v) (Get q d w) k fits also e =
+    let first = front p q _ _ fits.0 also.0 e in
+    let second = front c d _ _ fits.1 also.1 first.1 in
+    let item = same_item v w fits.2 also.2 second.1 in
+    cc (first.0, second.0, item)
+same_parts (Put p c v) (Put q d w) k fits also e =
+    let first = front p q _ _ fits.0 also.0 e in
+    let second = front c d _ _ fits.1 also.1 first.1 in
+    let item = same_item v w fits.2 also.2 second.1 in
+    cc (first.0, second.0, item)
+same_parts (WaitEmpty p c) (WaitEmpty q d) k fits also e =
+    let first = front p q _ _ fits.0 also.0 e in
+    cc (first.0, same_number c d fits.1 also.1 first.1)
+same_parts (WaitFull p c) (WaitFull q d) k fits also e =
+    let first = front p q _ _ fits.0 also.0 e in
+    cc (first.0, same_number c d fits.1 also.1 first.1)
+same_parts (Ended p how) (Ended q other) k fits also e =
+    let first = front p q _ _ fits also e in
+    cc (first.0, same_how how other first.1)
+same_parts (Feed c v) (Feed d w) k fits also e =
+    let first = front c d _ _ fits.0 also.0 e in
+    cc (first.0, same_item v w fits.1 also.1 first.1)
+same_parts (Close c) (Close d) k fits also e = cc (same_number c d fits also e)
+same_parts (Take c v) (Take d w) k fits also e =
+    let first = front c d _ _ fits.0 also.0 e in
+    cc (first.0, same_item v w fits.1 also.1 first.1)
+same_parts (Leave c) (Leave d) k fits also e = cc (same_number c d fits also e)
+same_parts (Grow p c) (Grow q d) k fits also e =
+    let first = front p q _ _ fits.0 also.0 e in
+    cc (first.0, same_number c d fits.1 also.1 first.1)
+same_parts a b k fits also e = absurd (cc)
+
+pub line_spells_one : (line : List ℕ) (a b : Event) → SpellsEvent line a → SpellsEvent line b → a ≡ b
+line_spells_one line a b spells also =
+    let found =
+    kind_and_parts line (kind_word (kind_of b)) (spaced (parts_of b)) a (also.whole ∙ line_is b)
+    (kind_lacks_space (kind_of b)) spells in
+    same_parts a b (same_kind (kind_of a) (kind_of b) found.0) spells.in_range also.in_range (sym found.1)
+
+-- ---- no line feed stands in a line
+
+with_space : (xs ys : List ℕ) → LacksByte 10 xs → LacksByte 10 ys → LacksByte 10 (xs ++ 32 ∷ ys)
+with_space xs ys lacks also = LacksByte-append 10 xs (32 ∷ ys) lacks also
+
+number_lacks : (n : ℕ) → n < 2 ^ 16 → LacksByte 10 (decimal n)
+number_lacks n small = decimal_lacks 10 n (omega arith) (omega arith)
+
+value_lacks : (item : ℤ) → FitsSigned w64 item → LacksByte 10 (signed_decimal item)
+value_lacks item fits = item_lacks 10 item (omega arith) fits
+
+parts_lack : (event : Event) → IsInRange event → LacksByte 10 (spaced (parts_of event))
+parts_lack (Get p c v) fits =
+    with_space (decimal p) _ (number_lacks p fits.0)
+    (with_space (decimal c) _ (number_lacks c fits.1) (value_lacks v fits.2))
+parts_lack (Put p c v) fits =
+    with_space (decimal p) _ (number_lacks p fits.0)
+    (with_space (decimal c) _ (number_lacks c fits.1) (value_lacks v fits.2))
+parts_lack (WaitEmpty p c) fits = with_space (decimal p) _ (number_lacks p fits.0) (number_lacks c fits.1)
+parts_lack (WaitFull p c) fits = with_space (decimal p) _ (number_lacks p fits.0) (number_lacks c fits.1)
+parts_lack (Ended p how) fits = with_space (decimal p) _ (number_lacks p fits) (how_lacks_feed how)
+parts_lack (Feed c v) fits = with_space (decimal c) _ (number_lacks c fits.0) (value_lacks v fits.1)
+parts_lack (Close c) fits = number_lacks c fits
+parts_lack (Take c v) fits = with_space (decimal c) _ (number_lacks c fits.0) (value_lacks v fits.1)
+parts_lack (Leave c) fits = number_lacks c fits
+parts_lack (Grow p c) fits = with_space (decimal p) _ (number_lacks p fits.0) (number_lacks c fits.1)
+
+pub line_lacks_feed : (event : Event) → IsInRange event → LacksByte 10 (line_of event)
+line_lacks_feed event fits =
+    subst (λ l. LacksByte 10 l) (sym (line_is event))
+    (with_space (kind_word (kind_of event)) _ (kind_lacks_feed (kind_of event)) (parts_lack event fits))

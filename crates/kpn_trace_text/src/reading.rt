@@ -1,0 +1,111 @@
+//! Events read from the lines of a trace.
+ghost use Rattle.std.specs.Prelude.{◌≡◌, ◌≢◌, List, ℕ, ◌++◌, MatchOption, MatchResult, IfOk, IfErr};
+ghost use Rattle.kpn_trace.specs.declared.event.Event.{Event};
+ghost use Rattle.kpn_trace_text.specs.EventLine.{SpellsEvent, IsInRange, kind_of, parts_of, spaced};
+ghost use Rattle.kpn_trace_text.specs.TraceText.{Spells, Refuses, event_text};
+
+use crate::fault::{BadEvent, TraceFault};
+use crate::kind::Kind;
+use crate::parts::{number_and_how, number_and_item, two_numbers, two_numbers_and_item};
+use crate::words::{number, parted};
+use crate::writing::HEAD;
+use kpn_trace::Event;
+use std::alloc::Allocator;
+
+/// The event that a line without its line feed spells. It takes no memory.
+pub fn read_event(line: &[u8]) -> Result<Event, BadEvent>
+    ensures { MatchResult result (SpellsEvent line.now)
+        (λ _. (event : Event) → ¬ SpellsEvent line.now event) }
+{
+    event_of(line).ok_or(BadEvent)
+}
+
+/// The events of a trace, which may hold any numbers from 0 to 65535.
+///
+/// It fails with `TraceFault::BadHead` where the bytes do not begin with the first line of a trace,
+/// with `TraceFault::BadEvent` at the first line that spells no event or lacks its line feed, and
+/// with `TraceFault::NoMemory` where memory for the events was refused.
+pub fn read_trace<A: Allocator>(alloc: A, bytes: &[u8]) -> Result<Vec<Event, A>, TraceFault>
+    ensures ok { IfOk result (λ events. Spells bytes.now events.items) }
+    ensures refused { IfErr result (Refuses bytes.now) }
+{
+    let Some(lines) = bytes.strip_prefix(HEAD) else {
+        return Err(TraceFault::BadHead);
+    };
+    let mut events = Vec::new(alloc);
+    let mut rest = lines;
+    while !rest.is_empty() {
+        let Some((event, after)) = first_event(rest) else {
+            return Err(TraceFault::BadEvent(events.len() + 2));
+        };
+        events.push(event).map_err(|_| TraceFault::NoMemory)?;
+        rest = after;
+    }
+    Ok(events)
+}
+
+/// The event of the first line, and the bytes of the lines after it.
+fn first_event(bytes: &[u8]) -> Option<(Event, &[u8])>
+    ensures { MatchOption result
+        ((event : Event) (more : List ℕ) → IsInRange event → bytes.now ≢ event_text event ++ more)
+        (λ first. (bytes.now ≡ event_text first.0 ++ first.1.now) × IsInRange first.0) }
+{
+    let (line, rest) = parted(bytes, b'\n')?;
+    let event = event_of(line)?;
+    Some((event, rest))
+}
+
+/// The event that a line spells.
+fn event_of(line: &[u8]) -> Option<Event>
+    ensures { MatchOption result ((event : Event) → ¬ SpellsEvent line.now event)
+        (SpellsEvent line.now) }
+{
+    let (word, parts) = parted(line, b' ')?;
+    let kind = Kind::named(word)?;
+    event_of_kind(kind, parts)
+}
+
+/// The event of a kind that the words behind it spell.
+fn event_of_kind(kind: Kind, parts: &[u8]) -> Option<Event>
+    ensures { MatchOption result
+        ((event : Event) → IsInRange event → kind_of event ≡ kind
+        → parts.now ≢ spaced (parts_of event))
+        (λ event. IsInRange event × (kind_of event ≡ kind) × (parts.now ≡ spaced (parts_of event))) }
+{
+    match kind {
+        Kind::Get => {
+            let (process, channel, item) = two_numbers_and_item(parts)?;
+            Some(Event::Get(process, channel, item))
+        }
+        Kind::Put => {
+            let (process, channel, item) = two_numbers_and_item(parts)?;
+            Some(Event::Put(process, channel, item))
+        }
+        Kind::WaitEmpty => {
+            let (process, channel) = two_numbers(parts)?;
+            Some(Event::WaitEmpty(process, channel))
+        }
+        Kind::WaitFull => {
+            let (process, channel) = two_numbers(parts)?;
+            Some(Event::WaitFull(process, channel))
+        }
+        Kind::Ended => {
+            let (process, how) = number_and_how(parts)?;
+            Some(Event::Ended(process, how))
+        }
+        Kind::Feed => {
+            let (channel, item) = number_and_item(parts)?;
+            Some(Event::Feed(channel, item))
+        }
+        Kind::Close => Some(Event::Close(number(parts)?)),
+        Kind::Take => {
+            let (channel, item) = number_and_item(parts)?;
+            Some(Event::Take(channel, item))
+        }
+        Kind::Leave => Some(Event::Leave(number(parts)?)),
+        Kind::Grow => {
+            let (process, channel) = two_numbers(parts)?;
+            Some(Event::Grow(process, channel))
+        }
+    }
+}
