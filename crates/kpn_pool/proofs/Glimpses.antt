@@ -1,0 +1,98 @@
+-- What a view that agrees with a legal history shows of its journals, read by itself.
+use Rattle.std.proofs.Common.{◌≡◌, ◌⊎◌, ℕ, ◌<◌, true, cond, List, [], length, get_or, sym, ap, ◌∙◌, subst, inl, inr, arith}
+use Rattle.std.proofs.lemmas.Bool.{cases_lt, false≢true}
+use Rattle.std.proofs.lemmas.List.{get_or_past}
+use Rattle.std.proofs.lemmas.List.FromFn.{get_or-map-range_with_len}
+use Rattle.std.proofs.lemmas.List.Elements.{All-get_or}
+use Rattle.std.specs.List.{All}
+use Rattle.kpn_net.specs.declared.tables.ChannelSpec.TheVariants.{Inner}
+use Rattle.kpn_net.specs.Tables.{Tables, channel_at, is_source}
+use Rattle.kpn_net.specs.Faults.{IsNetwork}
+use Rattle.kpn_net.specs.Iteration.{IsBelowLeast, IsLeast, AgreeOnSources}
+use Rattle.kpn_net.proofs.Growth.{IsPrefixOnSources-agree}
+use Rattle.kpn_trace.specs.declared.event.Event.{Event}
+use Rattle.kpn_trace.specs.declared.state.State.{State}
+use Rattle.kpn_trace.specs.declared.state.State.TheVariants.{Ready, Held, WaitsEmpty, WaitsFull, Ended}
+use Rattle.kpn_trace.specs.declared.state.View.{View}
+use Rattle.kpn_trace.specs.Channels.{written_on, fed}
+use Rattle.kpn_trace.specs.Legal.{Legal}
+use Rattle.kpn_trace.specs.Talks.{has_ended}
+use Rattle.kpn_trace.specs.Ends.{IsQuiet, WaitsOnEmpty}
+use Rattle.kpn_trace.specs.Views.{Agrees, IsStateOf}
+use Rattle.kpn_trace.proofs.Below.{fed-source}
+use Rattle.kpn_trace.proofs.EndsOnce.{ended_by}
+use Rattle.kpn_trace.proofs.Kahn.{below_least, least_if_quiet_given}
+use Rattle.kpn_book.specs.Book.{Book}
+use Rattle.kpn_pool.specs.Glimpse.{ShowsARun, shown_on, shown_fed, IsBelowKahn, IsAtRest, IsKahnAtRest}
+
+-- a source is a channel of the network
+source_there : (t : Tables) (c : ℕ) → is_source (channel_at t c) ≡ true → c < length t.channels
+source_there t c is =
+    elim (cases_lt c (length t.channels)) [
+      | inl there ↦ there
+      | inr past ↦ absurd (false≢true (sym (ap is_source (get_or_past t.channels c (Inner 0) past)) ∙ is))
+    ]
+
+-- the journal that is shown is what was written
+shown-written : (t : Tables) (H : List Event) (view : View) → Agrees t H view → (c : ℕ) → c < length t.channels
+    → shown_on view c ≡ written_on H c
+shown-written t H view agrees c there =
+    ap (λ xs. get_or xs c []) agrees.journals
+    ∙ get_or-map-range_with_len (written_on H) 0 (length t.channels) c c [] there (omega arith)
+
+shown_fed-source : (t : Tables) (view : View) (c : ℕ) → is_source (channel_at t c) ≡ true
+    → shown_fed t view c ≡ shown_on view c
+shown_fed-source t view c source = ap (λ b. cond b (shown_on view c) []) source
+
+-- what is shown as fed was fed
+fed-shown : (t : Tables) (H : List Event) (view : View) → Agrees t H view
+    → AgreeOnSources t (fed t H) (shown_fed t view)
+fed-shown t H view agrees =
+    record {
+      each = λ c source.
+          fed-source t H c source ∙ sym (shown-written t H view agrees c (source_there t c source))
+          ∙ sym (shown_fed-source t view c source);
+    }
+
+at_rest : (t : Tables) (H : List Event) (p : ℕ) (state : State) → IsStateOf t H p state → IsAtRest state
+    → (has_ended H p ≡ true) ⊎ WaitsOnEmpty t H p
+at_rest t H p (WaitsEmpty c) is rest = inr (record { channel = c; blocked = is.1 })
+at_rest t H p (Ended how) is rest = inl (ended_by H p how is)
+at_rest t H p Ready is rest = absurd rest
+at_rest t H p Held is rest = absurd rest
+at_rest t H p (WaitsFull c) is rest = absurd rest
+
+quiet : (t : Tables) (H : List Event) (view : View) → Agrees t H view → All IsAtRest view.states → IsQuiet t H
+quiet t H view agrees rest =
+    record {
+      each = λ p there.
+          at_rest t H p (get_or view.states p Ready) (agrees.states p there)
+          (All-get_or IsAtRest view.states p Ready (let n = agrees.processes in omega arith) rest);
+    }
+
+module _ (t : Tables) (network : IsNetwork t) (H : List Event) (legal : Legal t H) (view : View) (agrees : Agrees t H view) where
+  pub shows : ShowsARun t view
+  shows = record { history = H; legal = legal; agrees = agrees }
+
+  pub below : IsBelowKahn t view
+  below c there =
+      subst (IsBelowLeast t (shown_fed t view) c) (sym (shown-written t H view agrees c there))
+      (below_least t network H legal (shown_fed t view)
+      (IsPrefixOnSources-agree t (fed t H) (shown_fed t view) (fed-shown t H view agrees)) c)
+
+  pub at_rest_least : IsKahnAtRest t view
+  at_rest_least rest c there =
+      subst (IsLeast t (shown_fed t view) c) (sym (shown-written t H view agrees c there))
+      (least_if_quiet_given t network H legal (quiet t H view agrees rest) (shown_fed t view)
+      (fed-shown t H view agrees) c)
+
+-- the same where the tables are those of a book
+pub below_of : (t : Tables) (b : Book) → b.tables ≡ t → IsNetwork b.tables → Legal b.tables b.history → (view : View)
+    → Agrees b.tables b.history view → IsBelowKahn t view
+below_of t b same network legal view agrees =
+    subst (λ u. IsBelowKahn u view) same (below b.tables network b.history legal view agrees)
+
+pub at_rest_of : (t : Tables) (b : Book) → b.tables ≡ t → IsNetwork b.tables → Legal b.tables b.history → (view : View)
+    → Agrees b.tables b.history view → IsKahnAtRest t view
+at_rest_of t b same network legal view agrees =
+    subst (λ u. IsKahnAtRest u view) same (at_rest_least b.tables network b.history legal view agrees)

@@ -1,0 +1,9 @@
+use Rattle.std.proofs.Common.{subst}
+use Rattle.kpn_book.specs.Kept.{IsBook}
+use Rattle.kpn_pool.specs.Desk.{Desk}
+use Rattle.kpn_pool.proofs.desk.Desk.known.Goals as goal
+
+pub returns-clause-growths : goal.returns-clause-growths
+returns-clause-growths g c = λ B rest p d is.
+    c.growths.ensures.owed c.args.self.now.book
+    (subst (λ (x : Desk). IsBook x.book) c.self.view_is c.self.invariant.book) B rest p d is

@@ -1,0 +1,17 @@
+use Rattle.std.proofs.lemmas.Result.{IfOk-weaker}
+use Rattle.kpn_pool.proofs.Glimpses.{below_of, at_rest_of}
+use Rattle.kpn_pool.proofs.desk.Desk.snapshot.Goals as goal
+
+pub returns-clause-below : goal.returns-clause-below
+returns-clause-below g c =
+    let inner = c.self.inside.book in
+    IfOk-weaker c.snapshot.result _ _
+    (λ view agrees. below_of g.J.Job.network inner c.self.invariant.network c.known.ensures.network
+    (c.the_history.ensures.legal inner c.known.ensures) view agrees) c.snapshot.ensures.agrees
+
+pub returns-clause-quiet : goal.returns-clause-quiet
+returns-clause-quiet g c =
+    let inner = c.self.inside.book in
+    IfOk-weaker c.snapshot.result _ _
+    (λ view agrees. at_rest_of g.J.Job.network inner c.self.invariant.network c.known.ensures.network
+    (c.the_history.ensures.legal inner c.known.ensures) view agrees) c.snapshot.ensures.agrees

@@ -1,0 +1,231 @@
+//! What lies under the lock of a run: each change of it is a call that is lent it.
+ghost use Rattle.std.specs.Prelude.{◌≡◌, false, IfNone, IfSome, IfOk, IfErr, OnErr, IsTrue};
+ghost use Rattle.kpn_net.specs.Tables.{program_of};
+ghost use Rattle.kpn_step.specs.Frame.{fits};
+ghost use Rattle.kpn_trace.specs.Views.{Agrees, AreCounts};
+ghost use Rattle.kpn_configuration.specs.Configuration.{frame_in};
+ghost use Rattle.kpn_book.specs.Book.{IsHeld, IsClaimed, put_back};
+ghost use Rattle.kpn_book.specs.Kept.{IsBook};
+ghost use Rattle.kpn_book.specs.Refusals.{RefusesPutBack};
+ghost use Rattle.kpn_book.specs.Stepping.{ClaimsNobody};
+ghost use Rattle.kpn_pool.specs.Desk.{with_book, halted, IsReason};
+ghost use Rattle.kpn_pool.specs.Glimpse.{ShowsARun, IsBelowKahn, IsKahnAtRest};
+ghost use Rattle.kpn_pool.specs.Headline.{AreBelowLeast, AreReadThenQueued, AreWithinCapacity, AreBlockedCounts, AreOwedGrowths, AreLeastWhenQuiet, HasNoneLeftToGrow};
+
+use crate::job::Job;
+use crate::seat::Why;
+use kpn_book::laws::{a_quiet_book, growths, journals, the_history};
+use kpn_book::{Book, Claim, Counts, Refused, View};
+use kpn_net::Network;
+use std::alloc::{AllocError, Allocator, Global};
+use std::marker::Model;
+use std::sync::ledger;
+use std::sync::ledger::Share;
+
+mod outside;
+
+// for how many milliseconds a worker sleeps while others step, and while nobody does
+const SHORT_NAP: u64 = 2;
+
+const LONG_NAP: u64 = 50;
+
+/// The book of a run, the mark that the workers shall end, and the total of the ledger in which commits are counted.
+#[derive(Drop)]
+pub struct Desk<'n, J: Job, A: Allocator = Global> {
+    pub(crate) book: Book<'n, A>,
+    pub(crate) total: ledger::Book<J>,
+    halts: bool,
+    // how many workers wait: who leaves work behind tells one of them
+    idle: usize,
+}
+
+impl<'n, J: Job, A: Allocator> Model for Desk<'n, J, A> {
+    ghost use Rattle.std.specs.Coded.{codes};
+    ghost use Rattle.kpn_lang.specs.Codes.{parts_code};
+    ghost use Rattle.kpn_pool.specs.Desk.{Desk, IsDesk};
+
+    ghost Value = { Desk };
+
+    ghost coded = { Prim.hlevel (codes, parts_code) };
+
+    ghost view = { λ d. record { book = d.book; total = d.total.total; halts = d.halts } };
+
+    ghost invariant = { λ d.
+        IsDesk J.network (record { book = d.book; total = d.total.total; halts = d.halts }) };
+}
+
+impl<'n, J: Job, A: Allocator + Copy> Desk<'n, J, A> {
+    /// The desk of a run in which nothing has happened yet. The error is that memory ran out.
+    pub(crate) fn new(
+        alloc: A,
+        network: &'n Network,
+        total: ledger::Book<J>,
+    ) -> Result<Self, AllocError>
+        requires network { network.now ≡ J.network }
+        requires total { total.total ≡ 0 }
+        ensures { IfOk result (λ desk. desk.halts ≡ false) }
+    {
+        let book = Book::new(alloc, network)?;
+        Ok(Desk {
+            book,
+            total,
+            halts: false,
+            idle: 0,
+        })
+    }
+}
+
+impl<'n, J: Job, A: Allocator> Desk<'n, J, A> {
+    /// Does nothing. It tells a caller's proof what holds whenever the lock is free: the book is one of the run's
+    /// network, the ledger's total is the number of its commits, and each journal is a prefix of Kahn's least solution
+    /// for the items fed so far, and is what was read followed by what is queued, within capacity; each growth took the
+    /// smallest full channel of a blocked cycle; when every process has ended or waits on an empty channel, the
+    /// journals are that solution; and no blocked cycle has a full channel below the limit.
+    pub fn known(&self)
+        ensures network { self.now.book.tables ≡ J.network }
+        ensures book { IsBook self.now.book }
+        ensures counted { self.now.total ≡ self.now.book.commits }
+        ensures below { AreBelowLeast self.now.book }
+        ensures queued { AreReadThenQueued self.now.book }
+        ensures within { AreWithinCapacity self.now.book }
+        ensures growths { AreOwedGrowths self.now.book }
+        ensures quiet { AreLeastWhenQuiet self.now.book }
+        ensures none_left { HasNoneLeftToGrow self.now.book }
+    {
+        journals();
+        growths();
+        a_quiet_book();
+        let _ = &self.halts;
+    }
+
+    /// How many processes are in each state. Those that wait are exactly those that are blocked.
+    pub fn counts(&self) -> Counts
+        ensures counts { AreCounts self.now.book.schedule.states result }
+        ensures blocked { AreBlockedCounts self.now.book result }
+    {
+        the_history();
+        self.book.known();
+        self.book.counts()
+    }
+
+    /// The run as it is seen at this moment: each journal is a prefix of the least solution for what was fed, and is
+    /// that solution where each process has ended or waits on an empty channel. The error is that memory ran out.
+    pub fn snapshot(&self, alloc: Global) -> Result<View, AllocError>
+        ensures agrees { IfOk result (λ view.
+            Agrees self.now.book.tables self.now.book.history view) }
+        ensures states { IfOk result (λ view. view.states ≡ self.now.book.schedule.states) }
+        ensures run { IfOk result (λ view. ShowsARun J.network view) }
+        ensures below { IfOk result (λ view. IsBelowKahn J.network view) }
+        ensures quiet { IfOk result (λ view. IsKahnAtRest J.network view) }
+    {
+        the_history();
+        self.book.known();
+        self.book.snapshot(alloc)
+    }
+
+    /// Why a worker ends here instead of a claim, where `most` commits are allowed: it is told to; else nothing more
+    /// can happen; else the commits have reached that number.
+    pub fn reason_to_end(&self, most: u64) -> Option<Why>
+        ensures { IsReason self.now most result }
+    {
+        if self.halts {
+            return Some(Why::Halted);
+        }
+        if let Some(_verdict) = self.book.verdict() {
+            return Some(Why::Settled);
+        }
+        if self.book.commits() >= most {
+            return Some(Why::Limit);
+        }
+        None
+    }
+
+    /// The first process of the queue, which is held from now on, with its program and the frame where it stands.
+    pub fn claim(&mut self) -> Option<Claim<'n>>
+        ensures claimed { IfSome result (λ claim.
+            IsClaimed claim.process self.old.book self.new.book) }
+        ensures program { IfSome result (λ claim.
+            claim.program.now ≡ program_of J.network claim.process) }
+        ensures frame { IfSome result (λ claim.
+            claim.frame ≡ frame_in self.old.book.configuration claim.process) }
+        ensures fits { IfSome result (λ claim. IsTrue (fits claim.program.now claim.frame)) }
+        ensures nobody { IfNone result (ClaimsNobody self.old.book) }
+        ensures same { self.new ≡ with_book self.new.book self.old }
+        ensures as_before { IfNone result (self.new ≡ self.old) }
+    {
+        self.book.known();
+        let Some(claim) = self.book.claim() else {
+            return None;
+        };
+        self.book.known();
+        Some(claim)
+    }
+
+    /// Puts a process, which is held, to the tail of the queue. It stands where it stood.
+    pub fn put_back(&mut self, p: usize) -> Result<(), Refused>
+        ensures held { IfOk result (λ _. IsHeld self.old.book p) }
+        ensures after { IfOk result (λ _.
+            self.new ≡ with_book (put_back p self.old.book) self.old) }
+        ensures refused { IfErr result (λ cause. RefusesPutBack p self.old.book cause) }
+        ensures as_before { OnErr result (self.new ≡ self.old) }
+    {
+        self.book.put_back(p)?;
+        self.book.known();
+        Ok(())
+    }
+
+    /// The workers shall end.
+    pub fn halt(&mut self)
+        ensures { self.new ≡ halted self.old }
+    {
+        self.halts = true;
+    }
+
+    /// The book of the run, for a share that has every part: its commits are those of the share.
+    pub(crate) fn into_book(self, all: Share<J>) -> Book<'n, A>
+        requires { all.parts ≡ J.parts }
+        ensures network { result.tables ≡ J.network }
+        ensures book { IsBook result }
+        ensures commits { result.commits ≡ all.amount }
+    {
+        let Desk {
+            book,
+            mut total,
+            halts: _,
+            idle: _,
+        } = self;
+        let mut all = all;
+        total.audit(&mut all);
+        book
+    }
+
+    /// Whether a process is ready while a worker waits for one.
+    pub(crate) fn has_spare(&self) -> bool {
+        self.idle > 0 && self.book.counts().ready > 0
+    }
+
+    /// Whether the run is settled while a worker waits.
+    pub(crate) fn is_over(&self) -> bool {
+        self.idle > 0 && self.book.verdict().is_some()
+    }
+
+    /// One worker more waits: for how many milliseconds it sleeps where nobody tells it of a change. It is short while
+    /// somebody steps a process.
+    pub(crate) fn nap(&mut self) -> u64
+        ensures { self.new ≡ self.old }
+    {
+        self.idle = self.idle.saturating_add(1);
+        if self.book.counts().held > 0 {
+            SHORT_NAP
+        } else {
+            LONG_NAP
+        }
+    }
+
+    /// One worker fewer waits.
+    pub(crate) fn wake(&mut self)
+        ensures { self.new ≡ self.old }
+    {
+        self.idle = self.idle.saturating_sub(1);
+    }
+}

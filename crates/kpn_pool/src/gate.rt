@@ -1,0 +1,16 @@
+//! What is asked between the steps of a process and their commit.
+
+/// Whether a worker goes on.
+#[derive(Clone, Copy, Debug, PartialEq, Eq)]
+pub enum Go {
+    /// The steps are committed.
+    On,
+    /// The steps are dropped, the process is put back, and the worker ends.
+    Abandon,
+}
+
+/// Is asked after the steps of a process and before they are committed, while nobody holds the lock on its behalf.
+pub trait Gate: Sync {
+    /// Whether this worker, which has stepped this process, goes on.
+    fn between(&self, worker: usize, process: usize) -> Go;
+}

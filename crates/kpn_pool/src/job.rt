@@ -1,0 +1,19 @@
+//! Which run the parts of a pool belong to, for contracts.
+ghost use Rattle.std.specs.Prelude.{[]};
+ghost use Rattle.kpn_net.specs.Tables.{Tables};
+
+use std::marker::Brand;
+use std::sync::ledger::Ledger;
+
+/// Names one run: its ledger, in which commits are counted and which has a part for each worker, and its network.
+///
+/// No value of it is made. Who opens a run calls a function of its own over `J: Job` with `Brand` for `J`, and its
+/// proof picks the members there.
+pub trait Job: Ledger {
+    /// The network of the run, by value.
+    ghost network: { Tables };
+}
+
+impl Job for Brand {
+    ghost network = { record { programs = []; instances = []; channels = []; limit = 0 } };
+}

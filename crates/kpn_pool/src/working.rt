@@ -1,0 +1,52 @@
+//! What a worker does.
+ghost use Rattle.std.specs.Prelude.{◌≡◌, ◌<◌, ◌≤◌, IsSome};
+
+use crate::gate::{Gate, Go};
+use crate::job::Job;
+use crate::seat::WorkerSeat;
+use crate::shared::Shared;
+use kpn_book::Claim;
+use kpn_step::advance;
+use std::alloc::Allocator;
+use std::sync::Wait;
+use std::time::Clock;
+
+/// Steps processes and commits their steps until there is a reason to end, which the seat then tells.
+///
+/// A process is claimed, makes at most `quota` steps with the lock free, the gate is asked, and the steps are committed.
+pub fn work<'n, J: Job, A: Allocator, G: Gate, R: Wait + Clock>(
+    rt: &R,
+    shared: &Shared<'n, J, A>,
+    gate: &G,
+    seat: WorkerSeat<J>,
+    quota: u32,
+) -> WorkerSeat<J>
+    requires { 0 < quota }
+    ensures number { result.number ≡ seat.number }
+    ensures why { IsSome result.why }
+    ensures commits { seat.commits ≤ result.commits }
+{
+    let mut seat = seat;
+    let Some(claim) = shared.begin(rt, &mut seat) else {
+        return seat;
+    };
+    let Claim {
+        mut process,
+        program,
+        frame,
+    } = claim;
+    let mut steps = advance(program, frame, 0);
+    for _ in rt.forever() {
+        steps.run(quota);
+        if gate.between(seat.number(), process) == Go::Abandon {
+            shared.abandon(rt, &mut seat, process);
+            return seat;
+        }
+        let Some(claim) = shared.go_on(rt, &mut seat, process, &steps) else {
+            return seat;
+        };
+        process = claim.process;
+        steps.load(claim.program, &claim.frame);
+    }
+    unreachable!()
+}
