@@ -10,10 +10,11 @@ import sys
 
 TOKEN = re.compile(r'\s+|#[^\n]*|([A-Za-z_]\w*|\d+|<=|>=|==|!=|&&|\|\||[-(){};,=+*/%<>!])')
 SMALLEST, LARGEST = -2**63, 2**63 - 1
+LARGEST_CAPACITY = 1_048_576
 
 
 class Fault(Exception):
-    """An expression has no value, which ends its process."""
+    """An expression has no value, which ends its process. It is told as `overflow` or `zero-divisor`."""
 
 
 class Starved(Exception):
@@ -105,21 +106,20 @@ class Parser:
     def network(self):
         self.next('network')
         self.next('{')
-        channels, instances = {}, []
+        channels, instances, limit = {}, {}, LARGEST_CAPACITY
         if self.took('limit'):
-            self.next()
+            limit = int(self.next())
             self.next(';')
         while not self.took('}'):
             word = self.next()
             if word in ('channel', 'sink', 'source'):
-                channels[self.next()] = word
-                if self.took('cap'):
-                    self.next()
+                name = self.next()
+                channels[name] = word, int(self.next()) if self.took('cap') else None
             else:
                 self.next('=')
-                instances.append(self.instance())
+                instances[word] = self.instance()
             self.next(';')
-        return channels, instances
+        return channels, instances, limit
 
     def instance(self):
         program = self.next()
@@ -139,13 +139,13 @@ class Parser:
 
 def exact(value):
     if not SMALLEST <= value <= LARGEST:
-        raise Fault
+        raise Fault('overflow')
     return value
 
 
 def quotient(a, b):
     if b == 0:
-        raise Fault
+        raise Fault('zero-divisor')
     whole = abs(a) // abs(b)
     return exact(whole if (a < 0) == (b < 0) else -whole)
 
@@ -207,12 +207,12 @@ def run(turns, block, variables, ins, outs):
 
 
 def rounds(text, turns, sources):
-    processes, (channels, instances) = Parser(text).description()
-    start = {name: sources.get(name, []) if kind == 'source' else [] for name, kind in channels.items()}
+    processes, (channels, instances, _) = Parser(text).description()
+    start = {name: sources.get(name, []) if kind == 'source' else [] for name, (kind, _) in channels.items()}
     now = start
     for _ in range(turns):
         following = dict(start)
-        for program, ins, outs, values in instances:
+        for program, ins, outs, values in instances.values():
             parts, body = processes[program]
             put = {port: [] for port in parts['out']}
             try:

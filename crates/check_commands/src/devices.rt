@@ -1,9 +1,5 @@
-//! Devices and shelves that fail.
-ghost use Rattle.std.specs.Prelude.{⊤};
+//! Devices that fail.
 
-use kpn_answers::shelf::{MemoryShelf, Shelf};
-use kpn_items::{ItemFault, WriteFault};
-use std::alloc::Global;
 use std::io;
 use std::io::{ErrorKind, Read, Write};
 
@@ -51,27 +47,5 @@ impl Write for Failing {
 
     fn flush(&mut self) -> io::Result<()> {
         self.call()
-    }
-}
-
-/// A shelf that can't read one of its files.
-#[derive(Drop)]
-pub struct Torn<'a> {
-    pub shelf: MemoryShelf,
-    pub name: &'a str,
-}
-
-impl Shelf for Torn<'_> {
-    ghost may_give = { λ _ _ _. ⊤ };
-
-    fn load(&self, alloc: Global, name: &str) -> Result<Vec<u8>, ItemFault> {
-        if name == self.name {
-            return Err(ItemFault::Read);
-        }
-        self.shelf.load(alloc, name)
-    }
-
-    fn store(&mut self, name: &str, bytes: &[u8]) -> Result<(), WriteFault> {
-        self.shelf.store(name, bytes)
     }
 }

@@ -1,19 +1,12 @@
-//! Tests of the program's commands: the worked rows, and devices, files and words that are refused.
+//! Tests of the program's commands: devices that fail, words that are not understood, and want of memory. Rows
+//! that are only compared stand in `check_examples`.
 #![tactic(auto)]
 
-#[cfg(test)]
-mod alone;
 #[cfg(test)]
 mod devices;
 #[cfg(test)]
 mod lines;
 #[cfg(test)]
-mod networks;
-#[cfg(test)]
 mod refusals;
-#[cfg(test)]
-mod shelves;
-#[cfg(test)]
-mod texts;
 #[cfg(test)]
 mod usage;

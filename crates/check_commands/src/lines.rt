@@ -1,9 +1,8 @@
 //! Command lines, run over shelves and devices in memory.
 
-use crate::devices::Broken;
+use crate::devices::{Broken, Failing};
 use kpn_answers::shelf::{MemoryShelf, Shelf};
 use kpn_cli::command::command;
-use kpn_items::WriteFault;
 use std::alloc::{AllocError, Global};
 use std::io::{Read, Write};
 use std::test::Fail;
@@ -18,7 +17,7 @@ pub struct Answer {
 }
 
 /// The words of a command line.
-pub fn words_of(alloc: Global, line: &str) -> Result<Vec<String>, AllocError> {
+fn words_of(alloc: Global, line: &str) -> Result<Vec<String>, AllocError> {
     let mut words = Vec::new(alloc);
     for word in line.split(' ') {
         words.push(String::from_str(alloc, word)?)?;
@@ -28,45 +27,56 @@ pub fn words_of(alloc: Global, line: &str) -> Result<Vec<String>, AllocError> {
 
 /// The answer to a command line over an input, and a shelf that holds nothing.
 pub fn run<R: Read>(alloc: Global, line: &str, input: &mut R) -> Result<Answer, AllocError> {
-    run_over(alloc, line, &mut MemoryShelf::new(alloc), input)
-}
-
-/// The answer to a command line over a shelf and an input.
-pub fn run_over<S: Shelf, R: Read>(
-    alloc: Global,
-    line: &str,
-    shelf: &mut S,
-    input: &mut R,
-) -> Result<Answer, AllocError> {
     let words = words_of(alloc, line)?;
     let mut out = Vec::new(alloc);
     let mut err = Vec::new(alloc);
-    let status = command(alloc, &words, shelf, input, &mut out, &mut err);
+    let mut shelf = MemoryShelf::new(alloc);
+    let status = command(alloc, &words, &mut shelf, input, &mut out, &mut err);
     Ok(Answer { status, out, err })
 }
 
-/// A shelf that holds this description as `n`, and files of items.
-pub fn shelf_of(alloc: Global, description: &str) -> Result<MemoryShelf, WriteFault> {
+/// The status of a command line over a shelf that holds copy as `n`, and this output, and what is told.
+fn write_to<O: Write>(alloc: Global, line: &str, out: &mut O) -> Result<(u8, Vec<u8>), Fail> {
     let mut shelf = MemoryShelf::new(alloc);
-    shelf.store("n", description.as_bytes())?;
-    shelf.store("items", b"1\n2\n3\n")?;
-    shelf.store("bad", b"1\nx\n")?;
-    Ok(shelf)
-}
-
-/// The answer to a command line over a shelf that holds this description, and an input that fails.
-pub fn run_on(alloc: Global, description: &str, line: &str) -> Result<Answer, Fail> {
-    let mut shelf = shelf_of(alloc, description)?;
-    let answer = run_over(alloc, line, &mut shelf, &mut Broken)?;
-    Ok(answer)
-}
-
-/// The status of a command line over a shelf that holds copy, and this output, and what is told.
-pub fn write_to<O: Write>(alloc: Global, line: &str, out: &mut O) -> Result<(u8, Vec<u8>), Fail> {
-    let mut shelf = shelf_of(alloc, COPY)?;
+    shelf.store("n", COPY.as_bytes())?;
     let words = words_of(alloc, line)?;
     let mut err = Vec::new(alloc);
     let mut input = b"1\n".as_slice();
     let status = command(alloc, &words, &mut shelf, &mut input, out, &mut err);
     Ok((status, err))
+}
+
+#[test]
+fn tells_an_input_that_fails(rt: HostRuntime) -> Result<(), Fail> {
+    // The name is looked at before the input is read.
+    let unread = run(rt.alloc(), "kpn alone product", &mut Broken)?;
+    assert_eq!(rt; unread.status, 2);
+    let answer = run(rt.alloc(), "kpn alone sum", &mut Broken)?;
+    assert_eq!(rt; answer.status, 1);
+    assert!(rt; answer.out.is_empty());
+    assert_eq!(rt; answer.err.as_slice(), b"kpn: 26 Read\n".as_slice());
+    Ok(())
+}
+
+#[test]
+fn tells_an_output_that_fails_at_any_call(rt: HostRuntime) -> Result<(), Fail> {
+    for line in [
+        "kpn alone sum",
+        "kpn check n",
+        "kpn print n",
+        "kpn rounds n 3",
+        "kpn --help",
+        "kpn check --help",
+    ] {
+        for (calls, wanted, told) in [
+            (0, 1, "kpn: 27 Write\n"),
+            (1, 1, "kpn: 27 Write\n"),
+            (9, 0, ""),
+        ] {
+            let (status, err) = write_to(rt.alloc(), line, &mut Failing { calls })?;
+            assert_eq!(rt; status, wanted, "{line}");
+            assert_eq!(rt; err.as_slice(), told.as_bytes(), "{line}");
+        }
+    }
+    Ok(())
 }

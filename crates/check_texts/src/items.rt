@@ -1,4 +1,4 @@
-//! Item files: worked files with their items or their first bad line, and inputs that fail, stop or never end.
+//! Item files: inputs that fail, stop or never end, and an output that fails.
 
 use kpn_items::{ItemFault, WriteFault, read_all, read_items, read_up_to, write_items};
 use std::io;
@@ -78,63 +78,13 @@ impl Write for Broken {
 }
 
 #[test]
-fn reads_what_lines_spell(rt: HostRuntime) -> Result<(), Fail> {
-    let rows = [
-        (b"".as_slice(), [].as_slice()),
-        (b"1\n2\n3\n".as_slice(), [1, 2, 3].as_slice()),
-        (b"-0\n007\r\n-08".as_slice(), [0, 7, -8].as_slice()),
-        (b"0000000000000000001\n".as_slice(), [1].as_slice()),
-        (
-            b"9223372036854775807\n-9223372036854775808\n".as_slice(),
-            [i64::MAX, i64::MIN].as_slice(),
-        ),
-    ];
-    for (text, want) in rows {
-        assert_eq!(rt; read_items(rt.alloc(), &mut &*text)?.as_slice(), want);
-    }
-    Ok(())
-}
-
-#[test]
-fn tells_the_first_bad_line(rt: HostRuntime) {
-    let rows = [
-        (b"1\nx\n".as_slice(), 2),
-        (b"1\n\n2\n".as_slice(), 2),
-        (b"\n".as_slice(), 1),
-        (b"1\n2\r".as_slice(), 2),
-        (b"1\r\r\n".as_slice(), 1),
-        (b"-\n".as_slice(), 1),
-        (b"+1\n".as_slice(), 1),
-        (b"1 \n".as_slice(), 1),
-        (b"--1\n".as_slice(), 1),
-        (b"00000000000000000001\n".as_slice(), 1),
-        (b"9223372036854775808\n".as_slice(), 1),
-        (b"1\n2\n-9223372036854775809\nx".as_slice(), 3),
-    ];
-    for (text, line) in rows {
-        assert_eq!(rt;
-            read_items(rt.alloc(), &mut &*text),
-            Err(ItemFault::BadItem(line)),
-            "{text:?}"
-        );
-    }
-}
-
-#[test]
 fn reads_all_before_it_looks_at_a_line(rt: HostRuntime) {
     let mut input = b"x\n".as_slice().chain(Broken);
     assert_eq!(rt; read_items(rt.alloc(), &mut input), Err(ItemFault::Read));
 }
 
 #[test]
-fn writes_canonical_lines(rt: HostRuntime) -> Result<(), Fail> {
-    let mut out = Vec::new(rt.alloc());
-    write_items(&mut out, &[0, 7, -8, i64::MAX, i64::MIN])?;
-    assert_eq!(rt;
-        out.as_slice(),
-        b"0\n7\n-8\n9223372036854775807\n-9223372036854775808\n".as_slice()
-    );
+fn tells_an_output_that_fails(rt: HostRuntime) {
     assert_eq!(rt; write_items(&mut Broken, &[]), Ok(()));
     assert_eq!(rt; write_items(&mut Broken, &[1]), Err(WriteFault::Write));
-    Ok(())
 }

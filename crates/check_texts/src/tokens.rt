@@ -1,7 +1,7 @@
 //! What the definition of tokens is held against: the format's own lists of marks and reserved
-//! words, and worked texts, each with its tokens or its first fault.
+//! words, and worked texts, each with its tokens.
 
-use kpn_tokens::{LexFault, Lexeme, MAX_TEXT_BYTES, Token, lexemes};
+use kpn_tokens::{Lexeme, Token, lexemes};
 use std::alloc::Global;
 use std::fmt::Write;
 use std::test::Fail;
@@ -69,49 +69,5 @@ fn cuts_texts_into_tokens(rt: HostRuntime) -> Result<(), Fail> {
         let words = described(rt.alloc(), &found)?;
         assert_eq!(rt; words.as_str(), wanted);
     }
-    Ok(())
-}
-
-#[test]
-fn tells_the_first_fault(rt: HostRuntime) {
-    let rows: [(&[u8], LexFault); 12] = [
-        (b"network { & }", LexFault::Token(10)),
-        (
-            b"network { source aaaaaaaaaaaaaaaaaaaaaaaaaaaaaaaaa; }",
-            LexFault::TooLong(17),
-        ),
-        (b"a | b", LexFault::Token(2)),
-        (b"a &| b", LexFault::Token(2)),
-        (b"x = 9223372036854775808;", LexFault::Token(4)),
-        (b"00000000000000000001", LexFault::Token(0)),
-        (b"a 12345678901234567890b", LexFault::Token(2)),
-        (b"in\0out", LexFault::Token(2)),
-        (b"# \xc8\n \xc8", LexFault::Token(5)),
-        (b"a.b", LexFault::Token(1)),
-        (b"99999999999999999999 \x80", LexFault::Token(0)),
-        (
-            b"\x80 aaaaaaaaaaaaaaaaaaaaaaaaaaaaaaaaa",
-            LexFault::Token(0),
-        ),
-    ];
-    for (text, wanted) in rows {
-        assert_eq!(rt; lexemes(rt.alloc(), text).err(), Some(wanted));
-    }
-}
-
-#[test]
-fn takes_a_mebibyte_and_no_more(rt: HostRuntime) -> Result<(), Fail> {
-    let mut comment = vec![in rt.alloc(); b'#'; MAX_TEXT_BYTES]?;
-    assert_eq!(rt; lexemes(rt.alloc(), &comment)?.len(), 0);
-    comment.push(b'#')?;
-    assert_eq!(rt;
-        lexemes(rt.alloc(), &comment).err(),
-        Some(LexFault::TooLong(MAX_TEXT_BYTES))
-    );
-    let digits = vec![in rt.alloc(); b'7'; MAX_TEXT_BYTES]?;
-    assert_eq!(rt;
-        lexemes(rt.alloc(), &digits).err(),
-        Some(LexFault::Token(0))
-    );
     Ok(())
 }

@@ -57,10 +57,10 @@ impl BuiltIn {
     {
         let body = vec![in alloc; Stmt::While(Expr::Num(1), 1)]?;
         let blocks = vec![in alloc; body, self.turn(alloc)?]?;
-        match Program::new(1, 1, 0, self.variables(), blocks) {
+        match Program::new(alloc, 1, 1, 0, self.variables(), blocks) {
             Ok(program) => Ok(program),
-            // These parts keep each rule of the language.
-            Err(_) => unreachable!(),
+            // These parts keep each rule of the language, so memory ran out.
+            Err(_) => Err(AllocError),
         }
     }
 

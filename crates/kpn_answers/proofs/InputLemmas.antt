@@ -1,12 +1,10 @@
 -- Each refusal of a stage is a refusal of the inputs.
-use Rattle.std.proofs.Common.{◌≡◌, ℕ, List, map, length, All, Ok, Bor, get_or, inl, inr, sym, ◌∙◌, arith}
-use Rattle.std.specs.List.{Any}
-use Rattle.std.proofs.lemmas.List.{length-map, get_or-map}
+use Rattle.std.proofs.Common.{◌≡◌, ℕ, List, map, All, Ok, inl, inr}
 use Rattle.kpn_text.specs.Document.{Document}
 use Rattle.kpn_answers.specs.declared.refusal.Refusal.{Refusal}
 use Rattle.kpn_answers.specs.declared.refusal.Refusal.TheVariants.{SourceWord, Input, Description, Sources, NoMemory}
 use Rattle.kpn_answers.specs.Description.{IsDescribed, IsRefusalOfDescription}
-use Rattle.kpn_answers.specs.Sources.{HasEquals, LacksEquals, name_in, file_in, sources_named}
+use Rattle.kpn_answers.specs.Sources.{HasEquals, name_in, file_in, sources_named}
 use Rattle.kpn_answers.specs.SourceRefusals.{IsRefusalOfWords, IsRefusalOfNames, IsRefusalOfItems}
 use Rattle.kpn_answers.specs.Inputs.{IsRefusalOfInputs}
 

@@ -28,3 +28,29 @@ pub record Writes {O E : Type 0} (contents : O → Option (List ℕ)) (text : Li
   pub whole : status ≡ 0 → Appends (contents out) (contents written) text
   pub silent : status ≡ 0 → told ≡ err
   pub statuses : (status ≡ 0) ⊎ ((fault : WriteFault) × (status ≡ status_of (Output fault)))
+
+-- ---- texts under other statuses than 0
+
+-- A command concludes. It is given which texts are right under which status and which refusals have their cause, the
+-- output and the place for faults, each as it was and as it is afterwards, and the status.
+pub data Concludes {O E : Type 0} (contents : O → Option (List ℕ)) (IsRight : List ℕ → (status : ℕ) → Type 0)
+    (HasCause : Refusal → Type 0)
+    (out written : O) (err told : E) (status : ℕ) : Type 0 where
+  -- a text that is right under the status went out whole, and nothing was told
+  concluded : (text : List ℕ) → IsRight text status → Appends (contents out) (contents written) text → told ≡ err →
+      Concludes contents IsRight HasCause out written err told status
+  -- nothing went out, and the status is that of a refusal whose cause stands
+  undone : (refusal : Refusal) → HasCause refusal → written ≡ out → status ≡ status_of refusal →
+      Concludes contents IsRight HasCause out written err told status
+  -- a text that would have been right under its status could not be written whole
+  broken : (text : List ℕ) (wanted : ℕ) → IsRight text wanted → (fault : WriteFault) → status ≡ status_of
+      (Output fault) →
+      Concludes contents IsRight HasCause out written err told status
+
+-- this text goes out whole under the status that is wanted, and nothing is told; or it can't be written
+pub data GoesOut {O E : Type 0} (contents : O → Option (List ℕ)) (text : List ℕ) (wanted : ℕ) (out written : O)
+    (err told : E) (status : ℕ) : Type 0 where
+  sent : Appends (contents out) (contents written) text → told ≡ err → status ≡ wanted →
+      GoesOut contents text wanted out written err told status
+  unsent : (fault : WriteFault) → status ≡ status_of (Output fault) →
+      GoesOut contents text wanted out written err told status

@@ -12,6 +12,8 @@ use Rattle.kpn_net.specs.declared.fault.NetFault.{NetFault}
 use Rattle.kpn_net.specs.declared.fault.NetFault.TheVariants as net
 use Rattle.kpn_text.specs.declared.fault.TextFault.{TextFault}
 use Rattle.kpn_text.specs.declared.fault.TextFault.TheVariants as text
+use Rattle.kpn_trace_text.specs.declared.fault.TraceFault.{TraceFault}
+use Rattle.kpn_trace_text.specs.declared.fault.TraceFault.TheVariants as trace
 use Rattle.kpn_answers.specs.declared.sources.SourceFault.{SourceFault}
 use Rattle.kpn_answers.specs.declared.sources.SourceFault.TheVariants as source
 
@@ -71,6 +73,12 @@ text_fault_line (text.DoubleName byte) = fault_line 23 (codes "DoubleName") (Som
 text_fault_line (text.Program process fault) = program_fault_line process fault
 text_fault_line (text.Net fault) = net_fault_line fault
 text_fault_line text.NoMemory = fault_line 28 (codes "NoMemory") None
+
+-- bytes are no trace
+abbrev pub trace_fault_line : TraceFault → List ℕ
+trace_fault_line (trace.BadEvent line) = fault_line 30 (codes "BadEvent") (Some line)
+trace_fault_line trace.BadHead = fault_line 31 (codes "BadHead") None
+trace_fault_line trace.NoMemory = fault_line 32 (codes "NoMemory") None
 
 -- an option names no source, or one that was named before
 abbrev pub source_fault_line : SourceFault → List ℕ

@@ -1,6 +1,7 @@
 pub mod FaultLine
 pub mod Refusal
 pub mod Answer
+pub mod ListText
 pub mod Shelf
 pub mod MemoryShelf
 pub mod Description

@@ -5,9 +5,10 @@ use Rattle.kpn_lang.specs.declared.program.ProgramFault.TheVariants as program
 use Rattle.kpn_net.specs.declared.fault.NetFault.TheVariants as net
 use Rattle.kpn_text.specs.declared.fault.TextFault.{TextFault}
 use Rattle.kpn_text.specs.declared.fault.TextFault.TheVariants as text
+use Rattle.kpn_trace_text.specs.declared.fault.TraceFault.TheVariants as trace
 use Rattle.kpn_answers.specs.declared.refusal.Refusal.{Refusal}
-use Rattle.kpn_answers.specs.declared.refusal.Refusal.TheVariants.{NotText, UnknownProcess, SourceWord, Input, Description, Sources, Output, NoMemory}
-use Rattle.kpn_answers.specs.FaultLine.{fault_line, input_fault_line, output_fault_line, text_fault_line, source_fault_line}
+use Rattle.kpn_answers.specs.declared.refusal.Refusal.TheVariants.{NotText, UnknownProcess, SourceWord, Input, Description, Sources, Output, Trace, NoMemoryToAudit, NoMemory}
+use Rattle.kpn_answers.specs.FaultLine.{fault_line, input_fault_line, output_fault_line, text_fault_line, source_fault_line, trace_fault_line}
 
 -- the line, without its line feed
 abbrev pub refusal_line : Refusal → List ℕ
@@ -18,6 +19,8 @@ refusal_line (Input fault) = input_fault_line fault
 refusal_line (Description fault) = text_fault_line fault
 refusal_line (Sources fault) = source_fault_line fault
 refusal_line (Output fault) = output_fault_line fault
+refusal_line (Trace fault) = trace_fault_line fault
+refusal_line NoMemoryToAudit = fault_line 51 (codes "NoMemory") None
 refusal_line NoMemory = fault_line 42 (codes "NoMemory") None
 
 -- whether a fault of a description is want of memory
@@ -34,5 +37,7 @@ status_of UnknownProcess = 2
 status_of SourceWord = 2
 status_of (Input item.NoMemory) = 6
 status_of (Description fault) = if wants_memory fault then 6 else 1
+status_of (Trace trace.NoMemory) = 6
+status_of NoMemoryToAudit = 6
 status_of NoMemory = 6
 status_of other = 1

@@ -1,7 +1,7 @@
 //! Answers: texts that a command makes whole in memory before it writes them.
 ghost use Rattle.std.specs.Prelude.{◌≡◌, MatchResult, OnOk};
 ghost use Rattle.std.specs.Io.KnownBytes.{Appends};
-ghost use Rattle.kpn_answers.specs.Answer.{Writes};
+ghost use Rattle.kpn_answers.specs.Answer.{GoesOut, Writes};
 ghost use Rattle.kpn_answers.specs.Refusal.{status_of};
 
 use crate::refusal::Refusal;
@@ -18,8 +18,41 @@ pub fn give<O: Write, E: Write>(answer: Result<Vec<u8>, Refusal>, out: &mut O, e
         Ok(text) => text,
         Err(refusal) => return refusal.report(err),
     };
-    match write_whole(out, &text) {
-        Ok(()) => 0,
+    send(&text, 0, out, err)
+}
+
+/// A text that is to go out, and the status that the program ends with where it went out whole.
+#[derive(Debug, Drop)]
+pub struct Conclusion {
+    pub text: Vec<u8>,
+    pub status: u8,
+}
+
+/// Writes a text that goes out under a status of its own, or tells why there is none. It gives the
+/// status that the program ends with.
+pub fn conclude<O: Write, E: Write>(
+    answer: Result<Conclusion, Refusal>,
+    out: &mut O,
+    err: &mut E,
+) -> u8
+    ensures { MatchResult answer
+        (λ conclusion. GoesOut O.contents conclusion.text.items conclusion.status
+        out.old out.new err.old err.new result)
+        (λ refusal. (out.new ≡ out.old) × (result ≡ status_of refusal)) }
+{
+    let conclusion = match answer {
+        Ok(conclusion) => conclusion,
+        Err(refusal) => return refusal.report(err),
+    };
+    send(&conclusion.text, conclusion.status, out, err)
+}
+
+// Writes a text that goes out under this status.
+fn send<O: Write, E: Write>(text: &[u8], status: u8, out: &mut O, err: &mut E) -> u8
+    ensures { GoesOut O.contents text.now status out.old out.new err.old err.new result }
+{
+    match write_whole(out, text) {
+        Ok(()) => status,
         Err(fault) => Refusal::Output(fault).report(err),
     }
 }

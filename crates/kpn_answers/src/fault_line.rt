@@ -1,12 +1,13 @@
 //! Fault lines: how the program tells a fault on standard error.
 ghost use Rattle.std.specs.Prelude.{◌≡◌, Some, None};
-ghost use Rattle.kpn_answers.specs.FaultLine.{told, input_fault_line, output_fault_line, program_fault_line, net_fault_line, text_fault_line, source_fault_line};
+ghost use Rattle.kpn_answers.specs.FaultLine.{told, input_fault_line, output_fault_line, program_fault_line, net_fault_line, text_fault_line, source_fault_line, trace_fault_line};
 
 use crate::sources::SourceFault;
 use kpn_items::{ItemFault, WriteFault};
 use kpn_lang::ProgramFault;
 use kpn_net::NetFault;
 use kpn_text::TextFault;
+use kpn_trace_text::TraceFault;
 use std::fmt;
 
 /// A fault as the program tells it: `kpn: NUMBER NAME`, and ` at PLACE` where it has a place.
@@ -125,6 +126,17 @@ impl FaultLine {
             TextFault::Program(process, fault) => FaultLine::of_program(process, fault),
             TextFault::Net(fault) => FaultLine::of_net(fault),
             TextFault::NoMemory => FaultLine::new(28, "NoMemory"),
+        }
+    }
+
+    /// How it is told that bytes are no trace.
+    pub fn of_trace(fault: &TraceFault) -> FaultLine
+        ensures { told result ≡ trace_fault_line fault.now }
+    {
+        match fault {
+            TraceFault::BadEvent(line) => FaultLine::at(30, "BadEvent", *line),
+            TraceFault::BadHead => FaultLine::new(31, "BadHead"),
+            TraceFault::NoMemory => FaultLine::new(32, "NoMemory"),
         }
     }
 

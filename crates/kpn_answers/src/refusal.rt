@@ -10,6 +10,7 @@ use kpn_items::{ItemFault, WriteFault};
 use kpn_lang::ProgramFault;
 use kpn_net::NetFault;
 use kpn_text::TextFault;
+use kpn_trace_text::TraceFault;
 use std::alloc::{AllocError, AllocFailed};
 use std::fmt;
 use std::io::Write;
@@ -32,6 +33,10 @@ pub enum Refusal {
     Sources(SourceFault),
     /// The output could not be written.
     Output(WriteFault),
+    /// Bytes are no trace, or memory was refused while they were read.
+    Trace(TraceFault),
+    /// Memory was refused while a trace was audited.
+    NoMemoryToAudit,
     /// Memory was refused elsewhere.
     NoMemory,
 }
@@ -73,6 +78,8 @@ impl fmt::Display for Refusal {
             Refusal::Description(fault) => write!(f, "{}", FaultLine::of_text(*fault)),
             Refusal::Sources(fault) => write!(f, "{}", FaultLine::of_source(*fault)),
             Refusal::Output(fault) => write!(f, "{}", FaultLine::of_output(fault)),
+            Refusal::Trace(fault) => write!(f, "{}", FaultLine::of_trace(fault)),
+            Refusal::NoMemoryToAudit => write!(f, "{}", FaultLine::new(51, "NoMemory")),
             Refusal::NoMemory => write!(f, "{}", FaultLine::new(42, "NoMemory")),
         }
     }
@@ -90,8 +97,11 @@ impl Refusal {
             Refusal::NotText | Refusal::UnknownProcess | Refusal::SourceWord => 2,
             Refusal::Input(ItemFault::BadItem(_) | ItemFault::Read) => 1,
             Refusal::Description(fault) if !is_want_of_memory(*fault) => 1,
+            Refusal::Trace(TraceFault::BadHead | TraceFault::BadEvent(_)) => 1,
             Refusal::Sources(_) | Refusal::Output(_) => 1,
-            Refusal::Input(ItemFault::NoMemory) | Refusal::Description(_) | Refusal::NoMemory => 6,
+            Refusal::Input(ItemFault::NoMemory) | Refusal::Description(_) => 6,
+            Refusal::Trace(TraceFault::NoMemory) => 6,
+            Refusal::NoMemoryToAudit | Refusal::NoMemory => 6,
         }
     }
 

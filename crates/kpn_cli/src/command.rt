@@ -9,16 +9,19 @@ use kpn_alone::alone_command;
 use kpn_answers::answer::give;
 use kpn_answers::refusal::Refusal;
 use kpn_answers::shelf::Shelf;
+use kpn_audit_command::audit_command;
 use kpn_check::{check_command, print_command};
 use kpn_rounds::rounds_command;
+use kpn_run::{RunRequest, run_command};
 use std::alloc::Global;
 use std::io;
 use std::io::{Read, Write};
 
 /// The program over a shelf of files, an input, an output and a place for faults. The first of the
 /// words is the name that the program was called by. It answers the status that the program ends
-/// with: 0 for success and for help, 1 for a refused input or a device's fault, 2 for words that are
-/// not understood, 6 for want of memory.
+/// with: 0 for success and for help, 1 for a refused input, a device's fault or an illegal trace, 2 for
+/// words that are not understood, 3 for a run that has clogged, 4 for one that has jammed, 5 for one
+/// that was stopped or an audit without steps left, 6 for want of memory.
 pub fn command<S: Shelf, I: Read, O: Write, E: Write>(
     alloc: Global,
     words: &[String],
@@ -37,6 +40,25 @@ pub fn command<S: Shelf, I: Read, O: Write, E: Write>(
         Ok(Request::Print(file)) => print_command(alloc, file, shelf, out, err),
         Ok(Request::Rounds { file, n, words }) => {
             rounds_command(alloc, file, n, &words, shelf, out, err)
+        }
+        Ok(
+            Request::Run {
+                file,
+                words,
+                limits,
+                trace,
+            },
+        ) => {
+            let request = RunRequest {
+                file,
+                words: &words,
+                limits,
+                trace,
+            };
+            run_command(alloc, &request, shelf, out, err)
+        }
+        Ok(Request::Audit { file, trace, steps }) => {
+            audit_command(alloc, file, trace, steps, shelf, out, err)
         }
         Err(error) => show(alloc, &error, out, err),
     }

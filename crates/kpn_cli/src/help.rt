@@ -3,8 +3,8 @@
 // Below the commands.
 pub(crate) const STATUSES: &str = "\
 Statuses: 0 for success, 1 for a refused input or a device that fails, 2 for words that are not
-understood, 6 for want of memory. A refusal is one line on standard error, and nothing is then on
-standard output.";
+understood, 6 for want of memory; run and audit have more. A refusal is one line on standard error,
+and nothing is then on standard output.";
 
 pub(crate) const ALONE_HELP: &str = "\
 The items stand on lines: an optional `-` and 1 to 19 digits each. What the process puts goes to
@@ -37,3 +37,24 @@ The file of a source has an item on each line: an optional `-` and 1 to 19 digit
 
 Statuses: 0 for success, 1 for a refused file or name, 2 for words that are not understood, 6 for
 want of memory.";
+
+pub(crate) const RUN_HELP: &str = "\
+Feeds each source its items and closes it, and then steps the processes in turn. A process waits
+where it reads an empty channel or writes a full one; where processes wait for one another in a
+cycle, its smallest full channel grows by 1. Writes the items that were taken from each sink, which
+processes have faulted, which wait, and what the run has come to: `ended`, `enough` under --take,
+`clogged` or `jammed` where some process waits on a full channel, `stopped` at the most commits.
+
+The file of a source has an item on each line: an optional `-` and 1 to 19 digits.
+
+Statuses: 0 for ended and enough, 3 for clogged, 4 for jammed, 5 for stopped, 1 for a refused file or
+name or a device that fails, 2 for words that are not understood, 6 for want of memory.";
+
+pub(crate) const AUDIT_HELP: &str = "\
+Replays a trace that `kpn run --trace` has stored. Writes `legal`, whether the journals are exact,
+which are then those of Kahn's least solution, and each channel with its capacity and journal; or
+`illegal at K` where event K, counted from 0, can't follow those before it; or `budget at K` where
+its process made too many steps.
+
+Statuses: 0 for legal, 1 for illegal and for a refused file, 2 for words that are not understood, 5
+for budget, 6 for want of memory.";

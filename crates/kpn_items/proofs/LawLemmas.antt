@@ -69,7 +69,7 @@ excludes_spelling bytes m bad = (
 -- ---- what is written is read back
 
 -- digits and a minus stand above the two bytes that end lines
-digits-high : (ds : List ℕ) → AllDigits 10 ds → All (λ b. 45 ≤ b) ds
+pub digits-high : (ds : List ℕ) → AllDigits 10 ds → All (λ b. 45 ≤ b) ds
 digits-high [] all = All-nil (λ b. 45 ≤ b)
 digits-high (d ∷ ds) all =
     let digit = all.0 in
@@ -111,7 +111,7 @@ spells_minus ds n numeral short value fits = record {
   in_range = fits;
 }
 
-spells_decimal : (item : ℤ) → FitsSigned w64 item → SpellsItem (signed_decimal item) item
+pub spells_decimal : (item : ℤ) → FitsSigned w64 item → SpellsItem (signed_decimal item) item
     × All (λ b. 45 ≤ b) (signed_decimal item)
 spells_decimal (pos n) fits =
     let small : n < 2 ^ 63 = omega (arith, ints) in

@@ -9,7 +9,7 @@ ghost use Rattle.kpn_items.specs.ItemLine.{IsShortNumeral, SpellsItem};
 const MAX_DIGITS: usize = 19;
 
 /// The item that a line without its line end spells, or `None` where it spells none.
-pub(crate) fn item_of_line(line: &[u8]) -> Option<i64>
+pub fn item_of_line(line: &[u8]) -> Option<i64>
     ensures { MatchOption result ((item : ℤ) → ¬ SpellsItem line.now item) (SpellsItem line.now) }
 {
     match line.split_first() {

@@ -1,7 +1,8 @@
 -- The lines of lists, one after another.
 use Rattle.std.proofs.Common.{◌≡◌, ℕ, suc, ◌+◌, ◌<◌, ℤ, List, ◌++◌, length, get_or, drop, sym, ap, ◌∙◌, append_assoc, add-one, drop-cons}
 use Rattle.kpn_names.specs.Names.{name_at}
-use Rattle.kpn_rounds.specs.RoundsText.{list_line, lines_from}
+use Rattle.kpn_answers.specs.ListText.{list_line}
+use Rattle.kpn_rounds.specs.RoundsText.{lines_from}
 
 -- one more line is written, and the lines behind it are still to come
 pub one_line : (names : List (List ℕ)) (lists : List (List ℤ)) (c : ℕ) (items : List ℤ) (text after whole : List ℕ)

@@ -1,8 +1,8 @@
 //! The text that `kpn rounds` writes: the list of each channel.
-ghost use Rattle.std.specs.Prelude.{◌≡◌, ◌≤◌, ◌++◌, length, IfOk, OnOk};
-ghost use Rattle.kpn_rounds.specs.RoundsText.{rounds_text, list_line, spaced_item};
+ghost use Rattle.std.specs.Prelude.{◌≡◌, ◌≤◌, length, IfOk};
+ghost use Rattle.kpn_rounds.specs.RoundsText.{rounds_text};
 
-use itoa::Buffer;
+use kpn_answers::list_text::push_list;
 use kpn_lang::Sequence;
 use kpn_text::Document;
 use std::alloc::{AllocError, Global};
@@ -22,27 +22,4 @@ pub fn text_of(
         push_list(&mut text, document.channel_name(channel), list.as_slice())?;
     }
     Ok(text)
-}
-
-// The line of one list.
-fn push_list(text: &mut Vec<u8>, name: &[u8], items: &[i64]) -> Result<(), AllocError>
-    ensures { OnOk result (text.new.items ≡ text.old.items ++ list_line name.now items.now) }
-{
-    text.extend_from_slice(name)?;
-    text.push(b':')?;
-    for item in items {
-        push_spaced(text, *item)?;
-    }
-    text.push(b'\n')?;
-    Ok(())
-}
-
-// An item behind a space.
-fn push_spaced(text: &mut Vec<u8>, item: i64) -> Result<(), AllocError>
-    ensures { OnOk result (text.new.items ≡ text.old.items ++ spaced_item item) }
-{
-    let mut buffer = Buffer::new();
-    text.push(b' ')?;
-    text.extend_from_slice(buffer.format(item).as_bytes())?;
-    Ok(())
 }

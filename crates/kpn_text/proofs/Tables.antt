@@ -6,7 +6,8 @@ use Rattle.std.proofs.lemmas.List.{drop_all}
 use Rattle.std.proofs.lemmas.Option.{slice_get-get_or, get_or_from_slice_get, slice_get_within}
 use Rattle.kpn_text.specs.Phases.{Cause, in_program, in_network, network_cause, or_else, programs_cause, program_or, tables_cause}
 use Rattle.kpn_lang.specs.declared.program.ProgramFault.{ProgramFault}
-use Rattle.kpn_lang.specs.Parts.{Parts, first_fault, parts_unless}
+use Rattle.kpn_lang.specs.declared.program.ProgramFault.TheVariants as rule
+use Rattle.kpn_lang.specs.Parts.{Parts, first_fault}
 use Rattle.kpn_net.specs.declared.fault.NetFault.{NetFault}
 use Rattle.kpn_net.specs.declared.fault.NetFault.TheVariants as net
 use Rattle.kpn_net.specs.declared.tables.ChannelSpec.{ChannelSpec}
@@ -23,7 +24,7 @@ use Rattle.kpn_names.specs.declared.network_names.NetworkNames.{NetworkNames}
 use Rattle.kpn_names.specs.declared.network_names.ProcessNames.{ProcessNames}
 use Rattle.kpn_names.specs.NetworkNames.{names_in, process_names_in, paired}
 use Rattle.kpn_text.specs.Fault.{net_fault}
-use Rattle.kpn_text.specs.Making.{TellsCause, numbered}
+use Rattle.kpn_text.specs.Making.{TellsCause, program_told}
 use denote.Bor.{Bor}
 
 -- ---- an item at a number
@@ -113,22 +114,38 @@ pub record Made (all made rest : List Parts) : Type 0 where
   pub parts : made ++ rest ≡ all
   pub cause : programs_cause 0 all ≡ programs_cause (length made) rest
 
-parts_are : (p q : Parts) → ◌≡◌ {A = Result Parts TextFault} (Ok p) (Ok q) → p ≡ q
-parts_are p q e = cc
-
 -- a program that was made keeps the rules, and has the parts
-pub numbered_made : (number : ℕ) (f : Option ProgramFault) (parts program : Parts)
-    → ◌≡◌ {A = Result Parts TextFault} (Ok program) (numbered number (parts_unless parts f))
-    → (f ≡ None) × (program ≡ parts)
-numbered_made number None parts program e = (refl, parts_are program parts e)
-numbered_made number (Some fault) parts program e = absurd cc
+pub program_made : (number : ℕ) (f : Option ProgramFault) (parts program : Parts)
+    → IfSome f (λ fault. ◌≡◌ {A = Result Parts ProgramFault} (Ok program) (Err fault)) → IfNone f (program ≡ parts)
+    → (program_or number f None ≡ None) × (program ≡ parts)
+program_made number None parts program e h = (refl, h)
+program_made number (Some fault) parts program e h = absurd cc
 
--- a program that was not made breaks a rule, and that is told
-pub numbered_broken : (number : ℕ) (f : Option ProgramFault) (parts : Parts) (told : TextFault)
-    → ◌≡◌ {A = Result Parts TextFault} (Err told) (numbered number (parts_unless parts f))
-    → (fault : ProgramFault) × (f ≡ Some fault) × (told ≡ text.Program number fault)
-numbered_broken number None parts told e = absurd cc
-numbered_broken number (Some fault) parts told e = (fault, refl, cc)
+told_so : (number : ℕ) (fault : ProgramFault)
+    → (program_told number fault ≡ text.NoMemory) ⊎ (program_told number fault ≡ text.Program number fault)
+told_so number rule.TooMany = inr refl
+told_so number rule.NoSuchBlock = inr refl
+told_so number rule.BlockOrder = inr refl
+told_so number rule.NoSuchVar = inr refl
+told_so number rule.NoSuchPort = inr refl
+told_so number rule.TooDeep = inr refl
+told_so number rule.NoMemory = inl refl
+
+-- a program that was not made breaks a rule, and that is told, or memory ran out
+pub program_broken : (number : ℕ) (f : Option ProgramFault) (fault : ProgramFault) (told : TextFault)
+    → IfSome f (λ found. ◌≡◌ {A = Result Parts ProgramFault} (Err fault) (Err found))
+    → IfNone f (fault ≡ rule.NoMemory) → told ≡ program_told number fault
+    → (told ≡ text.NoMemory) ⊎ TellsCause (program_or number f None) told
+program_broken number None fault told e h t = inl (t ∙ ap (program_told number) h)
+program_broken number (Some found) fault told e h t =
+    let same : fault ≡ found = cc in
+    let by : told ≡ program_told number found = t ∙ ap (program_told number) same in
+    elim (told_so number found) [ inl m ↦ inl (by ∙ m) | inr m ↦ inr (by ∙ m) ]
+
+-- no fault of a program is told: it keeps the rules
+pub program_keeps : (number : ℕ) (f : Option ProgramFault) → program_or number f None ≡ None → f ≡ None
+program_keeps number None e = refl
+program_keeps number (Some fault) e = absurd cc
 
 length-pushed : (made : List Parts) (p : Parts) → length (made ++ p ∷ []) ≡ suc (length made)
 length-pushed made p = simp length-append (omega arith)
@@ -154,15 +171,22 @@ pub made_all : (all made rest : List Parts) → Made all made rest → rest ≡ 
 made_all all made rest m e =
     (m.cause ∙ ap (programs_cause (length made)) e, sym (append-nil made) ∙ ap (λ l. made ++ l) (sym e) ∙ m.parts)
 
+told_first : (number : ℕ) (f : Option ProgramFault) (after : Option Cause) (told : TextFault)
+    → TellsCause (program_or number f None) told → TellsCause (program_or number f after) told
+told_first number None after told t = absurd t
+told_first number (Some fault) after told t = t
+
 pub made_broken : (all made rest after : List Parts) (p : Parts) (number : ℕ) (told : TextFault) → Made all made rest
     → rest ≡ p ∷ after → number ≡ length made
-    → (fault : ProgramFault) × (first_fault p ≡ Some fault) × (told ≡ text.Program number fault)
-    → TellsCause (programs_cause 0 all) told
-made_broken all made rest after p number told m e count (fault, is, tells) =
-    let found : programs_cause 0 all ≡ Some (in_program (length made) fault) =
-    m.cause ∙ ap (programs_cause (length made)) e
-    ∙ ap (λ f. program_or (length made) f (programs_cause (suc (length made)) after)) is in
-    subst (λ c. TellsCause c told) (sym found) (tells ∙ ap (λ n. text.Program n fault) count)
+    → (told ≡ text.NoMemory) ⊎ TellsCause (program_or number (first_fault p) None) told
+    → (told ≡ text.NoMemory) ⊎ TellsCause (programs_cause 0 all) told
+made_broken all made rest after p number told m e count (inl memory) = inl memory
+made_broken all made rest after p number told m e count (inr tells) =
+    let found : programs_cause 0 all ≡ program_or (length made) (first_fault p) (programs_cause (suc (length made)) after) =
+    m.cause ∙ ap (programs_cause (length made)) e in
+    inr (subst (λ c. TellsCause c told) (sym found)
+    (told_first (length made) (first_fault p) _ told
+    (subst (λ n. TellsCause (program_or n (first_fault p) None) told) count tells)))
 
 -- ---- the programs, and then the network
 

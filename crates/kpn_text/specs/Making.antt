@@ -2,7 +2,7 @@
 -- caller needs.
 use Rattle.std.specs.Prelude.{◌≡◌, ◌⊎◌, ℕ, List, Option, Some, None, Result, Ok, Err}
 use Rattle.kpn_lang.specs.declared.program.ProgramFault.{ProgramFault}
-use Rattle.kpn_lang.specs.Parts.{Parts}
+use Rattle.kpn_lang.specs.declared.program.ProgramFault.TheVariants as rule
 use Rattle.kpn_text.specs.declared.fault.TextFault.{TextFault}
 use Rattle.kpn_text.specs.declared.fault.TextFault.TheVariants as fault
 use Rattle.kpn_text.specs.Document.{Document}
@@ -19,10 +19,10 @@ abbrev pub Makes : {A : Type 0} → (A → Type 0) → Result A TextFault → Op
 Makes P (Ok x) cause = (cause ≡ None) × P x
 Makes P (Err f) cause = (f ≡ fault.NoMemory) ⊎ TellsCause cause f
 
--- the fault of the program with this number
-abbrev pub numbered : ℕ → Result Parts ProgramFault → Result Parts TextFault
-numbered number (Ok parts) = Ok parts
-numbered number (Err e) = Err (fault.Program number e)
+-- how the fault of the program with this number is told
+abbrev pub program_told : ℕ → ProgramFault → TextFault
+program_told number rule.NoMemory = fault.NoMemory
+program_told number other = fault.Program number other
 
 -- the document that the text spells, or a fault with which it is refused
 abbrev pub Reads : List ℕ → Result Document TextFault → Type 0

@@ -1,27 +1,44 @@
 //! The network of the tables that a description names: the last two phases of reading.
 
-ghost use Rattle.std.specs.Prelude.{◌≡◌, length, map};
-ghost use Rattle.kpn_lang.specs.Parts.{first_fault, parts_unless};
+ghost use Rattle.std.specs.Prelude.{◌≡◌, None, length, map};
+ghost use Rattle.kpn_lang.specs.Parts.{first_fault};
 ghost use Rattle.kpn_names.specs.View.{named_seen, program_seen};
-ghost use Rattle.kpn_text.specs.Phases.{programs_cause, tables_cause};
-ghost use Rattle.kpn_text.specs.Making.{Makes, numbered};
+ghost use Rattle.kpn_text.specs.Phases.{program_or, programs_cause, tables_cause};
+ghost use Rattle.kpn_text.specs.Making.{Makes, program_told};
 
 use crate::fault::TextFault;
-use kpn_lang::Program;
+use kpn_lang::{Program, ProgramFault};
 use kpn_names::{Named, ProgramParts};
 use kpn_net::Network;
 use std::alloc::Global;
 
 /// The program of the process with this number.
-fn program(number: usize, process: ProgramParts<'_>) -> Result<Program, TextFault>
+fn program(alloc: Global, number: usize, process: ProgramParts<'_>) -> Result<Program, TextFault>
     ensures { let parts = (program_seen process.entry).parts in
-        result ≡ numbered number (parts_unless parts (first_fault parts)) }
+        Makes (λ program. program ≡ parts) result (program_or number (first_fault parts) None) }
 {
     let ins = process.scope.ins.len();
     let outs = process.scope.outs.len();
-    match Program::new(ins, outs, process.pars, process.locals, process.blocks) {
+    match Program::new(
+        alloc,
+        ins,
+        outs,
+        process.pars,
+        process.locals,
+        process.blocks,
+    ) {
         Ok(program) => Ok(program),
-        Err(fault) => Err(TextFault::Program(number, fault)),
+        Err(fault) => Err(told(number, fault)),
+    }
+}
+
+/// How the fault of the program with this number is told.
+fn told(number: usize, fault: ProgramFault) -> TextFault
+    ensures { result ≡ program_told number fault }
+{
+    match fault {
+        ProgramFault::NoMemory => TextFault::NoMemory,
+        _ => TextFault::Program(number, fault),
     }
 }
 
@@ -32,7 +49,7 @@ fn programs(alloc: Global, processes: Vec<ProgramParts<'_>>) -> Result<Vec<Progr
 {
     let mut programs = Vec::new(alloc);
     for process in processes {
-        let program = program(programs.len(), process)?;
+        let program = program(alloc, programs.len(), process)?;
         programs.push(program)?;
     }
     Ok(programs)

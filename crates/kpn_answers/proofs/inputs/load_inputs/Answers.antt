@@ -1,5 +1,5 @@
 -- A refusal of a stage is one of the inputs; what is said of the options is said of the words.
-use Rattle.std.proofs.Common.{rules, ◌≡◌, ℕ, List, All, map, length, IfErr, Ok, sym, ap, ◌∙◌, subst, Bor}
+use Rattle.std.proofs.Common.{rules, ◌≡◌, ℕ, List, All, map, IfErr, Ok, sym, ap, ◌∙◌, subst, Bor}
 use Rattle.std.proofs.lemmas.Result.{IfErr-weaker}
 use Rattle.std.proofs.lemmas.List.Elements.{All-map}
 use Rattle.kpn_net.specs.Iteration.{sources}
@@ -7,9 +7,9 @@ use Rattle.kpn_answers.specs.declared.sources.SourceOption.{SourceOption}
 use Rattle.kpn_answers.specs.declared.sources.Feed.{Feed}
 use Rattle.kpn_answers.specs.Description.{IsRefusalOfDescription}
 use Rattle.kpn_answers.specs.Sources.{HasEquals, name_in, file_in, sources_named, AreGiven}
-use Rattle.kpn_answers.specs.SourceRefusals.{IsRefusalOfWords, IsRefusalOfNames, IsRefusalOfItems}
+use Rattle.kpn_answers.specs.SourceRefusals.{IsRefusalOfNames, IsRefusalOfItems}
 use Rattle.kpn_answers.proofs.SourceLemmas.{map-map}
-use Rattle.kpn_answers.proofs.InputLemmas.{words_refused, description_refused, names_refused, items_refused}
+use Rattle.kpn_answers.proofs.InputLemmas.{description_refused, names_refused, items_refused}
 use Rattle.kpn_answers.proofs.inputs.load_inputs.Goals as goal
 
 name : SourceOption → List ℕ

@@ -1,6 +1,6 @@
 -- Each command does what it does, and touches nothing else.
 use Rattle.std.proofs.Common.{refl}
-use Rattle.kpn_cli.specs.Command.{alone, check, print, rounds, clap}
+use Rattle.kpn_cli.specs.Command.{alone, check, print, rounds, run, audit, clap}
 use Rattle.kpn_cli.proofs.command.command.Goals as goal
 
 pub returns-in-Ok-Alone : goal.returns-in-Ok-Alone
@@ -14,6 +14,12 @@ returns-in-Ok-Print g c = print _ refl refl c.print_command.ensures
 
 pub returns-in-Ok-Rounds : goal.returns-in-Ok-Rounds
 returns-in-Ok-Rounds g c = rounds _ _ _ refl refl c.rounds_command.ensures
+
+pub returns-in-Ok-Run : goal.returns-in-Ok-Run
+returns-in-Ok-Run g c = run _ _ _ _ c.run_command.ensures.shelf refl c.run_command.ensures.answer
+
+pub returns-in-Ok-Audit : goal.returns-in-Ok-Audit
+returns-in-Ok-Audit g c = audit _ _ _ refl refl c.audit_command.ensures
 
 pub returns-in-Err : goal.returns-in-Err
 returns-in-Err g c = clap refl refl c.show.ensures

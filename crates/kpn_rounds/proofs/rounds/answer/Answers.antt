@@ -2,7 +2,7 @@
 use Rattle.std.proofs.Common.{◌≡◌, length, ap, ◌∙◌, arith}
 use Rattle.std.proofs.lemmas.List.FromFn.{length-map-range_with_len}
 use Rattle.kpn_net.specs.Tables.{Tables}
-use Rattle.kpn_net.specs.Iteration.{sources, given_by, iterate, lists_of}
+use Rattle.kpn_net.specs.Iteration.{given_by, iterate, lists_of}
 use Rattle.kpn_rounds.specs.RoundsText.{rounds_text}
 use Rattle.kpn_rounds.proofs.rounds.answer.Goals as goal
 

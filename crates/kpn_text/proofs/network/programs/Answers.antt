@@ -1,11 +1,11 @@
 -- The next program is made, or it is the first that breaks a rule.
-use Rattle.std.proofs.Common.{◌≡◌, List, [], ◌∷◌, length, map, refl, sym, ap, ◌∙◌, inr, arith}
+use Rattle.std.proofs.Common.{◌≡◌, List, [], ◌∷◌, length, map, refl, sym, ap, ◌∙◌, arith}
 use Rattle.std.proofs.lemmas.Result.{err_from_is_err_and}
 use Rattle.std.specs.Vec.Iter.{into_iter_items}
 use Rattle.kpn_lang.specs.Parts.{Parts, first_fault}
 use Rattle.kpn_names.specs.declared.process.ProgramParts.{ProgramParts}
 use Rattle.kpn_names.specs.View.{program_seen}
-use Rattle.kpn_text.proofs.Tables.{made_all, made_broken, made_next, made_start, numbered_broken, numbered_made}
+use Rattle.kpn_text.proofs.Tables.{made_all, made_broken, made_next, made_start, program_keeps}
 use Rattle.kpn_text.proofs.network.programs.Goals as goal
 
 abbrev seen : List ProgramParts → List Parts
@@ -27,14 +27,11 @@ returns-in_err-program c =
     let p = err_from_is_err_and c.from_residual.result c.from_residual.ensures.1 in
     let parts = (program_seen c.in-Some.process).parts in
     let next = ap seen c.in-Some.ensures.steps.0 in
-    let broken =
-    numbered_broken c.len.result (first_fault parts) parts c.in_err-program.field-0.0 c.in_err-program.ensures in
     rw (p.1, p.2)
-    (inr
     (made_broken (seen c.args.processes.items) c.loop-process.programs.items
     (seen (into_iter_items c.loop-process.process-iterator)) (seen (into_iter_items c.next.new.self))
     parts c.len.result c.in_err-program.field-0.0
-    c.loop-process.invariant.0 next (c.len.ensures ∙ c.loop-process.programs.ok.0) broken))
+    c.loop-process.invariant.0 next (c.len.ensures ∙ c.loop-process.programs.ok.0) c.in_err-program.ensures)
 
 pub loop-process-preserved : goal.loop-process-preserved
 loop-process-preserved c =
@@ -47,7 +44,7 @@ loop-process-preserved c =
           (seen (into_iter_items c.loop-process.process-iterator)) (seen (into_iter_items c.next.new.self))
           c.push.new.self.items parts c.in_ok-program.program
           c.loop-process.invariant.0 next
-          (numbered_made c.len.result (first_fault parts) parts c.in_ok-program.program c.in_ok-program.ensures)
+          (program_keeps c.len.result (first_fault parts) c.in_ok-program.ensures.0, c.in_ok-program.ensures.1)
           c.in_ok-push.ensures.items,
       omega (arith, count, fewer, is),
     )

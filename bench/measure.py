@@ -1,0 +1,43 @@
+"""What the scripts that measure whole programs share: one run of a program, and programs that are built for it."""
+import os
+import pathlib
+import subprocess
+import sys
+import tempfile
+
+TOP = pathlib.Path(__file__).resolve().parent.parent
+
+
+class Run:
+    """One run of a program: its seconds on the processor, its peak memory in bytes, and what it wrote."""
+
+    def __init__(self, words, environment=None):
+        with tempfile.TemporaryFile() as out, tempfile.TemporaryFile() as told:
+            child = subprocess.Popen(words, stdin=subprocess.DEVNULL, stdout=out, stderr=told, env=environment)
+            _, status, usage = os.wait4(child.pid, 0)
+            child.returncode = os.waitstatus_to_exitcode(status)
+            out.seek(0)
+            told.seek(0)
+            self.wrote, self.told = out.read().decode(), told.read().decode()
+        if child.returncode != 0:
+            sys.exit(f'{" ".join(map(str, words))} ended with {child.returncode}: {self.told}')
+        self.seconds = usage.ru_utime + usage.ru_stime
+        self.memory = usage.ru_maxrss * 1024
+
+
+def best(runs):
+    """The run that took the least time."""
+    return min(runs, key=lambda run: run.seconds)
+
+
+def kpn():
+    """The program that is measured, built where it is not current."""
+    subprocess.run([TOP / 'kpn', '--version'], check=True, stdout=subprocess.DEVNULL)
+    return TOP / 'crates/kpn/out/kpn'
+
+
+def plain(source, folder):
+    """A plain Rust program, built from its own source."""
+    program = pathlib.Path(folder) / source.stem
+    subprocess.run(['rustc', '--edition', '2021', '-O', '-o', program, source], check=True)
+    return program

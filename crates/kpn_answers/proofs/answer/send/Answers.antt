@@ -1,0 +1,10 @@
+-- The text goes out, or it is told that it can't be written.
+use Rattle.std.proofs.Common.{refl}
+use Rattle.kpn_answers.specs.Answer.{sent, unsent}
+use Rattle.kpn_answers.proofs.answer.send.Goals as goal
+
+pub returns-in-Ok : goal.returns-in-Ok
+returns-in-Ok g c = sent c.in-Ok.ensures refl refl
+
+pub returns-in-Err : goal.returns-in-Err
+returns-in-Err g c = unsent c.in-Err.fault c.report.ensures

@@ -1,0 +1,20 @@
+-- How a list of items stands in a text: one space before each item, so that an empty list adds nothing to its line.
+use Rattle.std.specs.Prelude.{ℕ, ℤ, List, ◌++◌, codes}
+use Rattle.std.specs.List.{flat_map}
+use Rattle.std.specs.Fmt.{signed_decimal}
+
+-- an item behind a space
+abbrev pub spaced_item : ℤ → List ℕ
+spaced_item item = codes " " ++ signed_decimal item
+
+-- one space before each item
+abbrev pub spaced : List ℤ → List ℕ
+spaced items = flat_map spaced_item items
+
+-- `:`, the items, and a line feed
+abbrev pub items_text : List ℤ → List ℕ
+items_text items = codes ":" ++ spaced items ++ codes "\n"
+
+-- `NAME:`, the items, and a line feed
+abbrev pub list_line : (name : List ℕ) → List ℤ → List ℕ
+list_line name items = name ++ items_text items

@@ -1,0 +1,167 @@
+#!/usr/bin/env python3
+"""Writes what crates/check_examples must write for the lines of its standard input below the heading `# The examples`,
+if there is one: each line, and what comes of it, computed by other programs than the proved one (rounds.py,
+histories.py). What stands above that heading stays as it is. Below the heading `# Changed histories` the lines too are
+written anew, by history_tables.py.
+
+It knows the commands `check`, `print`, `rounds`, `run` and `audit`, and of the refusals those that the lines meet.
+"""
+import contextlib
+import pathlib
+import shutil
+import tempfile
+
+import histories
+import history_tables
+import rounds
+
+EXAMPLES, CHANGED = '# The examples\n', '# Changed histories\n'
+FOLDER = pathlib.Path(__file__).resolve().parent.parent / 'crates/check_examples'
+
+
+class Refused(Exception):
+    """What a refused command tells. Its status is 1."""
+
+
+def load(file):
+    try:
+        return pathlib.Path(file).read_text()
+    except FileNotFoundError:
+        raise Refused('kpn: 26 Read') from None
+
+
+def description(file):
+    text = load(file)
+    processes, (channels, instances, limit) = rounds.Parser(text).description()
+    for c, (_, capacity) in enumerate(channels.values()):
+        if capacity is not None and not 1 <= capacity <= limit:
+            raise Refused(f'kpn: 17 Capacity at {c}')
+    return text, processes, channels, instances, limit
+
+
+# ---- the canonical text
+
+def expression(tree):
+    if not isinstance(tree, tuple):
+        return str(tree)
+    mark, *parts = tree
+    if len(parts) == 1:
+        return mark + expression(parts[0])
+    return f'({expression(parts[0])} {mark} {expression(parts[1])})'
+
+
+def block(statements, indent):
+    lines = []
+    for word, *rest in statements:
+        if word == 'if':
+            lines += [f'{indent}if {expression(rest[0])} {{', *block(rest[1], indent + '  ')]
+            lines += [f'{indent}}} else {{', *block(rest[2], indent + '  '), indent + '}']
+        elif word == 'while':
+            lines += [f'{indent}while {expression(rest[0])} {{', *block(rest[1], indent + '  '), indent + '}']
+        elif word == 'assign':
+            lines.append(f'{indent}{rest[0]} = {expression(rest[1])};')
+        elif word == 'read':
+            lines.append(f'{indent}read {rest[0]} {rest[1]};')
+        else:
+            lines.append(f'{indent}write {rest[0]} {expression(rest[1])};')
+    return lines
+
+
+def canonical(processes, channels, instances, limit):
+    lines = []
+    for name, (parts, body) in processes.items():
+        head = '; '.join(f'{part} {", ".join(names)}' for part, names in parts.items() if names)
+        lines += [f'process {name}({head}) {{', *block(body, '  '), '}']
+    lines.append('network {')
+    if limit < rounds.LARGEST_CAPACITY:
+        lines.append(f'  limit {limit};')
+    for name, (kind, capacity) in channels.items():
+        lines.append(f'  {kind} {name};' if kind == 'source' else f'  {kind} {name} cap {capacity};')
+    for name, (program, ins, outs, values) in instances.items():
+        behind = (' ' + ', '.join(outs) if outs else '') + ('; ' + ', '.join(map(str, values)) if values else '')
+        lines.append(f'  {name} = {program}({", ".join(ins)};{behind});')
+    return ''.join(f'{line}\n' for line in [*lines, '}'])
+
+
+# ---- the commands
+
+def check(file):
+    _, processes, channels, instances, _ = description(file)
+    return f'ok: {len(processes)} processes, {len(instances)} instances, {len(channels)} channels\n'
+
+
+def print_text(file):
+    _, *parts = description(file)
+    return canonical(*parts)
+
+
+def lists_of(channels, options):
+    """The lists of the sources, by their names: the names are looked up before a file is read."""
+    named = [word.partition('=') for word in options]
+    for place, (name, _, _) in enumerate(named):
+        if channels.get(name, ('', None))[0] != 'source':
+            raise Refused(f'kpn: 22 UnknownName at {place}')
+    return {name: [int(line) for line in load(file).split()] for name, _, file in named}
+
+
+def rounds_text(file, turns, *options):
+    text, _, channels, _, _ = description(file)
+    lists = rounds.rounds(text, int(turns), lists_of(channels, options[1::2]))
+    return ''.join(f'{name}:{histories.items_text(items)}\n' for name, items in lists.items())
+
+
+def histories_answer(words):
+    """What `run` and `audit` write, and the status. What they would refuse is looked for first."""
+    found = histories.read_words(words)
+    _, _, channels, _, _ = description(found.file)
+    if words[0] == 'run':
+        lists_of(channels, found.source)
+    else:
+        load(found.history)
+    out, told, status = histories.answer(words)
+    return out + told, status
+
+
+def answer(words):
+    """What a command writes, and its status."""
+    command, *rest = words
+    try:
+        if command in ('run', 'audit'):
+            return histories_answer(words)
+        return {'check': check, 'print': print_text, 'rounds': rounds_text}[command](*rest), 0
+    except Refused as refused:
+        return f'{refused}\n', 1
+
+
+def written_for(line):
+    """What is written for a line: the line, and what comes of it."""
+    word, _, rest = line.partition(' ')
+    if word == '#':
+        return f'{line}\n'
+    if word == 'file':
+        name, _, text = rest.partition(' ')
+        pathlib.Path(name).write_bytes(text.replace('\\n', '\n').replace('\\r', '\r').replace('\\0', '\0').encode())
+        return f'$ {line}\n'
+    if word == 'cat':
+        return f'$ {line}\n{load(rest)}'
+    text, status = answer(rest.split())
+    return f'$ {line}\n{text}' + (f'status {status}\n' if status else '')
+
+
+def main():
+    given, wanted = FOLDER / 'stdin', FOLDER / 'stdout'
+    by_hand, mark, lines = given.read_text().rpartition(EXAMPLES)
+    answered_by_hand = wanted.read_text().rpartition(EXAMPLES)[0]
+    lines, changed, _ = lines.partition(CHANGED)
+    if changed:
+        lines += changed + ''.join(f'{line}\n' for line in history_tables.lines())
+    with tempfile.TemporaryDirectory() as name:
+        shutil.copytree(FOLDER / 'data', name, dirs_exist_ok=True)
+        with contextlib.chdir(name):
+            written = ''.join(map(written_for, lines.removesuffix('\n').split('\n')))
+    given.write_text(by_hand + mark + lines)
+    wanted.write_text(answered_by_hand + mark + written)
+
+
+if __name__ == '__main__':
+    main()

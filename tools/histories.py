@@ -1,0 +1,505 @@
+#!/usr/bin/env python3
+"""Runs of networks on one thread, their histories as text, and whether a history is legal, computed by another program
+than the proved one. Words: those of `kpn run` without workers, and those of `kpn audit`.
+
+What a run does is kept step by step; what a history must meet is judged from the lists that it leaves, so the two check
+each other. It trusts descriptions and item files: it is no checker of those.
+"""
+import argparse
+import collections
+import pathlib
+import re
+import sys
+
+import rounds
+
+QUOTA = 1000
+MOST_COMMITS = MOST_STEPS = 10_000_000
+STATUSES = {'ended': 0, 'enough': 0, 'clogged': 3, 'jammed': 4, 'stopped': 5, 'legal': 0, 'illegal': 1, 'budget': 5}
+HEAD = b'kpn-trace 1\n'
+
+# What a process stands at: ('step',), ('read', port), ('write', port, item), ('end', cause); and ('paused',), where it
+# made as many steps as it may.
+STEP, PAUSED = ('step',), ('paused',)
+
+
+class Process:
+    """One process, from stop to stop."""
+
+    def __init__(self, parts, body, values):
+        self.variables = dict(zip(parts['par'], values))
+        self.turns = self.block(body)
+        self.stands_at = None
+        self.move()
+
+    def block(self, statements):
+        for word, *rest in statements:
+            if word == 'read':
+                self.variables[rest[1]] = yield 'read', rest[0]
+            elif word == 'write':
+                yield 'write', rest[0], rounds.value(rest[1], self.variables)
+            elif word == 'assign':
+                yield STEP
+                self.variables[rest[0]] = rounds.value(rest[1], self.variables)
+            elif word == 'if':
+                yield STEP
+                yield from self.inner(rest[1] if rounds.value(rest[0], self.variables) else rest[2])
+            else:
+                yield STEP
+                while rounds.value(rest[0], self.variables):
+                    yield from self.inner(rest[1])
+                    yield STEP
+
+    def inner(self, statements):
+        """A block that is left by a step of its own, which the body is not."""
+        yield from self.block(statements)
+        yield STEP
+
+    def move(self, item=None):
+        """Past what it stands at, with the item that a read gives."""
+        try:
+            self.stands_at = self.turns.send(item)
+        except StopIteration:
+            self.stands_at = 'end', 'done'
+        except rounds.Fault as fault:
+            self.stands_at = 'end', fault.args[0]
+
+    def stop(self, quota):
+        """Steps until the next stop, or until as many steps were made as the quota says."""
+        made = 0
+        while self.stands_at == STEP:
+            if made == quota:
+                return PAUSED
+            self.move()
+            made += 1
+        return self.stands_at
+
+
+class Network:
+    """The tables of a network, by number; and its processes at their beginnings."""
+
+    def __init__(self, text):
+        self.processes, (channels, instances, self.limit) = rounds.Parser(text).description()
+        self.channels, self.instances = list(channels), list(instances)
+        self.kinds = [kind for kind, _ in channels.values()]
+        self.capacities = [capacity for _, capacity in channels.values()]
+        self.writers, self.readers = [None] * len(channels), [None] * len(channels)
+        self.ends, self.given = [], []
+        for p, (program, ins, outs, values) in enumerate(instances.values()):
+            parts, _ = self.processes[program]
+            for c in ins:
+                self.readers[self.channels.index(c)] = p
+            for c in outs:
+                self.writers[self.channels.index(c)] = p
+            ports = list(zip(parts['in'], ins)) + list(zip(parts['out'], outs))
+            self.ends.append({port: self.channels.index(c) for port, c in ports})
+            self.given.append((program, [self.channels.index(c) for c in ins], values))
+
+    def start(self):
+        return [Process(*self.processes[program], values) for program, _, values in self.given]
+
+    def ins(self, p):
+        return self.given[p][1]
+
+    def of_kind(self, kind):
+        return [c for c, other in enumerate(self.kinds) if other == kind]
+
+
+def smallest_full(network, waits, capacities, p):
+    """The full channel of least capacity, and then of least number, in the cycle of waits through p, if there is one.
+    A wait is a pair of `empty` or `full` and a channel, or None."""
+    full, met, q = [], set(), p
+    while q is not None and waits[q] is not None and q not in met:
+        met.add(q)
+        why, c = waits[q]
+        if why == 'full':
+            full.append(c)
+        q = (network.readers if why == 'full' else network.writers)[c]
+    if q != p or not met or not full:
+        return None
+    return min(full, key=lambda c: (capacities[c], c))
+
+
+class Run:
+    """A run on one thread. The ready processes stand in a queue; each in turn goes to its next stop, or makes its
+    quota of steps, and then does at most one thing to a channel."""
+
+    def __init__(self, network, lists):
+        self.network, self.processes = network, network.start()
+        self.unread = [collections.deque() for _ in network.channels]
+        self.read_count, self.capacities = [0] * len(network.channels), list(network.capacities)
+        self.retired = [False] * len(network.channels)
+        self.journals = [[] for _ in network.channels]
+        self.waits, self.ended = [None] * len(self.processes), [None] * len(self.processes)
+        self.ready = collections.deque(range(len(self.processes)))
+        self.history, self.commits, self.outcome = [], 0, None
+        for c in network.of_kind('source'):
+            for item in lists.get(network.channels[c], []):
+                self.append(c, item, 'feed', c, item)
+            self.history.append(('close', c))
+
+    def is_full(self, c):
+        capacity = self.capacities[c]
+        return capacity is not None and not self.retired[c] and len(self.unread[c]) >= capacity
+
+    def append(self, c, item, *event):
+        self.history.append(event)
+        self.journals[c].append(item)
+        self.unread[c].append(item)
+
+    def remove(self, c, word, *who):
+        item = self.unread[c].popleft()
+        self.read_count[c] += 1
+        self.history.append((word, *who, c, item))
+        return item
+
+    def wake(self, q, *wait):
+        if q is not None and self.waits[q] == wait:
+            self.waits[q] = None
+            self.ready.append(q)
+
+    def wait(self, p, why, c):
+        self.history.append((f'wait-{why}', p, c))
+        self.waits[p] = why, c
+        d = smallest_full(self.network, self.waits, self.capacities, p)
+        if d is not None and self.capacities[d] < self.network.limit:
+            self.history.append(('grow', p, d))
+            self.capacities[d] += 1
+            self.wake(self.network.writers[d], 'full', d)
+
+    def end(self, p, cause):
+        self.history.append(('end', p, cause))
+        self.ended[p] = cause
+        for c in self.network.ins(p):
+            self.retired[c] = True
+            self.wake(self.network.writers[c], 'full', c)
+
+    def read(self, p, c):
+        if not self.unread[c]:
+            return self.wait(p, 'empty', c)
+        self.processes[p].move(self.remove(c, 'get', p))
+        self.ready.append(p)
+        self.wake(self.network.writers[c], 'full', c)
+
+    def write(self, p, c, item):
+        if self.is_full(c):
+            return self.wait(p, 'full', c)
+        self.append(c, item, 'put', p, c, item)
+        self.processes[p].move()
+        self.ready.append(p)
+        self.wake(self.network.readers[c], 'empty', c)
+
+    def commit(self):
+        p = self.ready.popleft()
+        word, *rest = self.processes[p].stop(QUOTA)
+        self.commits += 1
+        if word == 'paused':
+            self.ready.append(p)
+        elif word == 'end':
+            self.end(p, *rest)
+        elif word == 'read':
+            self.read(p, self.network.ends[p][rest[0]])
+        else:
+            self.write(p, self.network.ends[p][rest[0]], rest[1])
+
+    def verdict(self):
+        """How a run stands still; None while a process is ready. The sinks are empty and the sources closed."""
+        if self.ready:
+            return None
+        found = [smallest_full(self.network, self.waits, self.capacities, p) for p in range(len(self.processes))]
+        if any(c is not None for c in found):
+            return 'jammed'
+        return 'clogged' if any(wait and wait[0] == 'full' for wait in self.waits) else 'ended'
+
+    def go(self, take=None, most_commits=MOST_COMMITS):
+        sinks = self.network.of_kind('sink')
+        while self.outcome is None:
+            for c in sinks:
+                while self.unread[c]:
+                    self.remove(c, 'take')
+                    self.wake(self.network.writers[c], 'full', c)
+            if take is not None and all(self.read_count[c] >= take for c in sinks):
+                self.outcome = 'enough'
+            elif self.verdict() is not None:
+                self.outcome = self.verdict()
+            elif self.commits >= most_commits:
+                self.outcome = 'stopped'
+            else:
+                self.commit()
+        return self
+
+
+def items_text(items):
+    return ''.join(f' {item}' for item in items)
+
+
+def report_text(run, take=None):
+    network, lines = run.network, []
+    if run.outcome in ('ended', 'enough'):
+        for c in network.of_kind('sink'):
+            lines.append(f'sink {network.channels[c]}:{items_text(run.journals[c][:run.read_count[c]][:take])}')
+    if run.outcome in ('ended', 'clogged', 'jammed'):
+        for p, cause in enumerate(run.ended):
+            if cause not in (None, 'done'):
+                lines.append(f'fault {network.instances[p]} {cause}')
+        for p, wait in enumerate(run.waits):
+            if wait is not None:
+                full = ' full' if wait[0] == 'full' else ''
+                lines.append(f'waits {network.instances[p]} {network.channels[wait[1]]}{full}')
+    return ''.join(f'{line}\n' for line in [*lines, run.outcome])
+
+
+# ---- the text of a history
+
+CAUSES = 'done', 'overflow', 'zero-divisor'
+NUMBER, ITEM = '(0|[1-9][0-9]{0,4})', '(0|-?[1-9][0-9]{0,18})'
+LINES = [re.compile(line.replace('N', NUMBER).replace('V', ITEM).encode()) for line in (
+    '(get) N N V', '(put) N N V', '(wait-empty) N N', '(wait-full) N N', '(end) N (done|overflow|zero-divisor)',
+    '(feed) N V', '(close) N', '(take) N V', '(leave) N', '(grow) N N')]
+ITEM_WORDS = 'get', 'put', 'feed', 'take'
+
+
+def event_text(event):
+    return ' '.join(str(part) for part in event)
+
+
+def trace_text(history):
+    return HEAD + ''.join(event_text(event) + '\n' for event in history).encode()
+
+
+def read_event(line):
+    """The event that a line spells, or None."""
+    for form in LINES:
+        found = form.fullmatch(line)
+        if found:
+            word, *parts = (part.decode() for part in found.groups())
+            event = (word, *(part if part in CAUSES else int(part) for part in parts))
+            numbers, items = (event[1:-1], event[-1:]) if word in ITEM_WORDS else (event[1:], ())
+            right = all(part in CAUSES or part <= 65535 for part in numbers)
+            return event if right and all(rounds.SMALLEST <= item <= rounds.LARGEST for item in items) else None
+    return None
+
+
+class BadText(Exception):
+    """A text is no history; as the program tells it."""
+
+
+def read_trace(text):
+    if not text.startswith(HEAD):
+        raise BadText('kpn: 31 BadHead')
+    history = []
+    *lines, rest = text[len(HEAD):].split(b'\n')
+    for number, line in enumerate(lines, 2):
+        event = read_event(line)
+        if event is None:
+            raise BadText(f'kpn: 30 BadEvent at {number}')
+        history.append(event)
+    if rest:
+        raise BadText(f'kpn: 30 BadEvent at {len(lines) + 2}')
+    return history
+
+
+# ---- what a history must meet
+
+class Wrong(Exception):
+    """No legal history goes on with this event, or a process made its quota of steps without reaching it."""
+
+
+class Audit:
+    """What a history so far says of channels and processes: what was written and how much of it read, how many
+    growths there were, what was closed and left, and the last event of each process."""
+
+    def __init__(self, network, quota=MOST_STEPS):
+        self.network, self.quota, self.processes = network, quota, network.start()
+        self.written = [[] for _ in network.channels]
+        self.read_count, self.growths = [0] * len(network.channels), [0] * len(network.channels)
+        self.closed, self.left = set(), set()
+        self.last_event, self.last_of = None, [None] * len(self.processes)
+
+    def capacity(self, c):
+        first = self.network.capacities[c]
+        return None if first is None else first + self.growths[c]
+
+    def has_ended(self, p):
+        return self.last_of[p] is not None and self.last_of[p][0] == 'end'
+
+    def reader_lives(self, c):
+        reader = self.network.readers[c]
+        return c not in self.left if reader is None else not self.has_ended(reader)
+
+    def unread(self, c):
+        return self.written[c][self.read_count[c]:]
+
+    def is_empty(self, c):
+        return len(self.written[c]) == self.read_count[c]
+
+    def is_full(self, c):
+        if self.network.kinds[c] == 'source' or not self.reader_lives(c):
+            return False
+        return len(self.written[c]) - self.read_count[c] >= self.capacity(c)
+
+    def blocked(self, p):
+        """What p is blocked on: its last event is a wait whose cause still stands."""
+        last = self.last_of[p]
+        if last is None or last[0] not in ('wait-empty', 'wait-full'):
+            return None
+        why, c = last[0].removeprefix('wait-'), last[2]
+        return (why, c) if (self.is_empty(c) if why == 'empty' else self.is_full(c)) else None
+
+    def owed(self):
+        """The growth that has to follow, if one has."""
+        if self.last_event is None or self.last_event[0] not in ('wait-empty', 'wait-full'):
+            return None
+        p = self.last_event[1]
+        waits = [self.blocked(q) for q in range(len(self.processes))]
+        capacities = [self.capacity(c) for c in range(len(self.network.channels))]
+        d = smallest_full(self.network, waits, capacities, p)
+        return ('grow', p, d) if d is not None and capacities[d] < self.network.limit else None
+
+    def is_quiet(self):
+        states = [(self.has_ended(p), self.blocked(p)) for p in range(len(self.processes))]
+        return all(ended or (wait is not None and wait[0] == 'empty') for ended, wait in states)
+
+    def accept(self, event):
+        """Goes on by an event. `Wrong` says why there is no going on."""
+        word, owed = event[0], self.owed()
+        if (owed is not None or word == 'grow') and event != owed:
+            raise Wrong('illegal')
+        if word == 'grow':
+            self.growths[event[2]] += 1
+        elif word in ('feed', 'close', 'take', 'leave'):
+            self.accept_of_outside(word, *event[1:])
+        else:
+            self.accept_of_process(event, word, *event[1:])
+        self.last_event = event
+
+    def accept_of_outside(self, word, c, item=None):
+        kind = 'source' if word in ('feed', 'close') else 'sink'
+        if c >= len(self.network.channels) or self.network.kinds[c] != kind or c in self.closed | self.left:
+            raise Wrong('illegal')
+        if word == 'feed':
+            self.written[c].append(item)
+        elif word == 'close':
+            self.closed.add(c)
+        elif word == 'leave':
+            self.left.add(c)
+        else:
+            self.take_out(c, item)
+
+    def take_out(self, c, item):
+        if self.unread(c)[:1] != [item]:
+            raise Wrong('illegal')
+        self.read_count[c] += 1
+
+    def accept_of_process(self, event, word, p, *rest):
+        channels = [] if word == 'end' else rest[:1]
+        if p >= len(self.processes) or any(c >= len(self.network.channels) for c in channels):
+            raise Wrong('illegal')
+        if self.has_ended(p) or self.blocked(p):
+            raise Wrong('illegal')
+        stop = self.processes[p].stop(self.quota)
+        if stop == PAUSED:
+            raise Wrong('budget')
+        if not self.asks(p, stop, word, *rest):
+            raise Wrong('illegal')
+        if word == 'get':
+            self.take_out(*rest)
+            self.processes[p].move(rest[1])
+        elif word == 'put':
+            self.written[rest[0]].append(rest[1])
+            self.processes[p].move()
+        self.last_of[p] = event
+
+    def asks(self, p, stop, word, *rest):
+        """Whether the process stands where it says this, and the channel is as the event has it."""
+        if word == 'end':
+            return stop == ('end', *rest)
+        if stop[0] == 'end' or self.network.ends[p][stop[1]] != rest[0]:
+            return False
+        if word in ('get', 'wait-empty'):
+            return stop[0] == 'read' and (word == 'get' or self.is_empty(rest[0]))
+        if word == 'wait-full':
+            return stop[0] == 'write' and self.is_full(rest[0])
+        return stop == ('write', stop[1], rest[1]) and not self.is_full(rest[0])
+
+    def text(self):
+        lines = ['legal', f'exact {"yes" if self.is_quiet() else "no"}']
+        for c, name in enumerate(self.network.channels):
+            capacity = '' if self.network.kinds[c] == 'source' else f' cap {self.capacity(c)}'
+            lines.append(f'{name}{capacity}:{items_text(self.written[c])}')
+        return ''.join(f'{line}\n' for line in lines)
+
+
+def audit_text(network, history, quota=MOST_STEPS):
+    """The answer, of which the first word decides the status."""
+    audit = Audit(network, quota)
+    for place, event in enumerate(history):
+        try:
+            audit.accept(event)
+        except Wrong as wrong:
+            return f'{wrong} at {place}\n'
+    return audit.text()
+
+
+def status_of(text):
+    """The status that the program ends with: a report's last word, or an audit's first."""
+    first, last = text.split()[0], text.split()[-1]
+    return STATUSES[first if first in ('legal', 'illegal', 'budget') else last]
+
+
+# ---- the two commands
+
+def run_command(words):
+    lists = {}
+    for word in words.source:
+        name, _, items = word.partition('=')
+        lists[name] = [int(line) for line in pathlib.Path(items).read_text().split()]
+    network = Network(pathlib.Path(words.file).read_text())
+    run = Run(network, lists).go(words.take, words.max_commits)
+    if words.trace:
+        pathlib.Path(words.trace).write_bytes(trace_text(run.history))
+    return report_text(run, words.take)
+
+
+def audit_command(words):
+    network = Network(pathlib.Path(words.file).read_text())
+    return audit_text(network, read_trace(pathlib.Path(words.history).read_bytes()), words.steps)
+
+
+def read_words(words):
+    parser = argparse.ArgumentParser(description='kpn run and kpn audit, computed by another program.')
+    commands = parser.add_subparsers(required=True)
+    run = commands.add_parser('run')
+    run.add_argument('file')
+    run.add_argument('--source', action='append', default=[], metavar='NAME=FILE')
+    run.add_argument('--take', type=int)
+    run.add_argument('--max-commits', type=int, default=MOST_COMMITS)
+    run.add_argument('--trace')
+    run.set_defaults(command=run_command)
+    audit = commands.add_parser('audit')
+    audit.add_argument('file')
+    audit.add_argument('history')
+    audit.add_argument('--steps', type=int, default=MOST_STEPS)
+    audit.set_defaults(command=audit_command)
+    return parser.parse_args(words)
+
+
+def answer(words):
+    """What a command writes on standard output and on standard error, and its status."""
+    found = read_words(words)
+    try:
+        text = found.command(found)
+    except BadText as bad:
+        return '', f'{bad}\n', 1
+    return text, '', status_of(text)
+
+
+def main():
+    out, told, status = answer(sys.argv[1:])
+    sys.stdout.write(out)
+    sys.stderr.write(told)
+    return status
+
+
+if __name__ == '__main__':
+    sys.exit(main())
