@@ -48,7 +48,8 @@ def main():
             if read != wanted:
                 sys.exit(f'capacity {capacity}: {read} where the plain program read {wanted}')
             print(f'capacity {capacity:6} {items / ours / 1e6:8.2f} million puts and gets a second, '
-                  f'{theirs / ours:5.2f} of the plain program; {bytes_ours:5.1f} bytes an item beside {bytes_theirs:5.1f}')
+                  f'{theirs / ours:5.2f} of the plain program; '
+                  f'{bytes_ours:5.1f} bytes an item beside {bytes_theirs:5.1f}')
 
 
 if __name__ == '__main__':

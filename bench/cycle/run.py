@@ -42,7 +42,8 @@ def main():
                 walks = max(steps // length, 1)
                 seconds = run(shape, length, processes, walks)
                 nanoseconds = seconds / (walks * length) * 1e9
-                print(f'{shape} of {length:3} in {processes:3} processes: {walks / seconds / 1e6:7.2f} million walks a second, {nanoseconds:5.2f} ns a step')
+                print(f'{shape} of {length:3} in {processes:3} processes: {walks / seconds / 1e6:7.2f} million walks a'
+                      f' second, {nanoseconds:5.2f} ns a step')
 
 
 if __name__ == '__main__':

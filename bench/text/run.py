@@ -77,8 +77,9 @@ def main():
             size = len(text) / 1e6
             answer = subprocess.run([kpn, 'check', file], capture_output=True, text=True)
             own = seconds([kpn, 'check', str(file)])
-            print(f'{title:10} {size:5.2f} MB: kpn check {size / own:7.2f} MB a second, wc -l {size / seconds(["wc", "-l"], file):8.2f},'
-                  f' plain Rust {size / seconds([plain, "bytes"], file):8.2f}   {(answer.stdout + answer.stderr).strip()}')
+            line, rust = seconds(['wc', '-l'], file), seconds([plain, 'bytes'], file)
+            print(f'{title:10} {size:5.2f} MB: kpn check {size / own:7.2f} MB a second, wc -l {size / line:8.2f},'
+                  f' plain Rust {size / rust:8.2f}   {(answer.stdout + answer.stderr).strip()}')
         given = folder / 'items'
         items_file(given)
         size = given.stat().st_size / 1e6
@@ -89,7 +90,8 @@ def main():
         line = seconds(['wc', '-l'], given)
         rust = seconds([plain, 'items'], given)
         print(f'{ITEMS} items, {size:.1f} MB: read and written by kpn rounds {size / own:.2f} MB a second,'
-              f' read, stepped and written by kpn alone copy {size / alone:.2f}, wc -l {size / line:.2f}, read by plain Rust {size / rust:.2f}')
+              f' read, stepped and written by kpn alone copy {size / alone:.2f}, wc -l {size / line:.2f},'
+              f' read by plain Rust {size / rust:.2f}')
         print(f'  kpn rounds takes {own / rust:.2f} of the time of the plain reader')
         spent = seconds([kpn, 'rounds', str(TOP / 'examples/kahn.kpn'), '1000'])
         print(f'kpn rounds kahn.kpn 1000: {spent:.3f} seconds')

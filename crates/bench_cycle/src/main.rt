@@ -1,6 +1,6 @@
 //! Walks along waits alone, for `bench/cycle`, which measures them.
-//! Words: the shape (`chain` or `cycle`), how many processes wait for one another, how many processes there are, and how
-//! many walks are made. It writes how many of the walks found a full channel.
+//! Words: the shape (`chain` or `cycle`), how many processes wait for one another, how many processes there are, and
+//! how many walks are made. It writes how many of the walks found a full channel.
 #![tactic(auto)]
 
 ghost use Rattle.std.specs.Prelude.{◌≡◌, ◌<◌, length};

@@ -7,7 +7,7 @@ use crate::worked::idle_network;
 use kpn_cycle::Wait::{Empty, Full, Nobody};
 use kpn_cycle::{Found, Wait, Waits, cycle_through, scan_all};
 use kpn_net::ChannelSpec::{Inner, Sink};
-use kpn_net::{End, Network};
+use kpn_net::{ChannelSpec, End, Network};
 use linked_list_allocator::LocalHeap;
 use std::alloc::{AllocError, Global};
 use std::process::Abort;
@@ -42,163 +42,192 @@ fn table(
     Ok(waits)
 }
 
-// What is found from each process in order, and by a scan.
-fn finds(
+/// Waits and capacities, what is found from each process in order, and what a scan finds.
+type Row<'a> = (&'a [Wait], &'a [u32], &'a [Found], Found);
+
+// Whether all is found of a row.
+fn is_found(
     rt: &impl Abort,
     alloc: Global,
     network: &Network,
-    list: &[Wait],
-    caps: &[u32],
-    wanted: &[Found],
-    scanned: Found,
-) -> Result<(), AllocError> {
+    row: &Row<'_>,
+) -> Result<bool, AllocError> {
+    let (list, caps, wanted, scanned) = row;
     let waits = table(rt, alloc, network, list)?;
     assert_eq!(rt; caps.len(), network.channels());
     assert_eq!(rt; wanted.len(), network.instances());
+    let mut all = scan_all(network, &waits, caps) == *scanned;
     for (p, want) in wanted.iter().enumerate() {
-        assert_eq!(rt; cycle_through(network, &waits, caps, p), *want);
+        all = all && cycle_through(network, &waits, caps, p) == *want;
     }
-    assert_eq!(rt; scan_all(network, &waits, caps), scanned);
+    Ok(all)
+}
+
+// Asserts that all is found of each row, on a network of processes with these ports that do nothing.
+fn assert_found(
+    rt: &impl Abort,
+    alloc: Global,
+    ports: &[(&[usize], &[usize])],
+    channels: &[ChannelSpec],
+    limit: u32,
+    rows: &[Row<'_>],
+) -> Result<(), Fail> {
+    let network = idle_network(alloc, ports, channels, limit)?;
+    for (k, row) in rows.iter().enumerate() {
+        let found = is_found(rt, alloc, &network, row)?;
+        assert!(rt; found, "row {k}");
+    }
     Ok(())
 }
 
-#[test]
-fn writer_of_a_full_channel_and_reader_of_an_empty_one(rt: HostRuntime) -> Result<(), Fail> {
-    let a = rt.alloc();
-    let ports: [(&[usize], &[usize]); 2] = [(&[], &[0, 1]), (&[0, 1], &[2])];
-    for (limit, waits, each, scanned) in [
-        (9, [Full(0), Empty(1)], Found::Full(0), Found::Full(0)),
-        (1, [Full(0), Empty(1)], Found::Full(0), Found::NoCycle),
-        (9, [Nobody, Nobody], Found::NoCycle, Found::NoCycle),
-        (9, [Full(0), Full(2)], Found::NoCycle, Found::NoCycle),
-    ] {
-        let network = idle_network(a, &ports, &[Inner(1), Inner(1), Sink(1)], limit)?;
-        finds(&rt, a, &network, &waits, &[1, 1, 1], &[each, each], scanned)?;
-    }
-    Ok(())
-}
+// The writer of the full channel 0 and the reader of the empty channel 1.
+const PAIR: [Row<'static>; 3] = [
+    (
+        &[Full(0), Empty(1)],
+        &[1, 1, 1],
+        &[Found::Full(0), Found::Full(0)],
+        Found::Full(0),
+    ),
+    (
+        &[Nobody, Nobody],
+        &[1, 1, 1],
+        &[Found::NoCycle, Found::NoCycle],
+        Found::NoCycle,
+    ),
+    (
+        &[Full(0), Full(2)],
+        &[1, 1, 1],
+        &[Found::NoCycle, Found::NoCycle],
+        Found::NoCycle,
+    ),
+];
 
-// Process 0 writes to process 1, and processes 1 and 2 write to each other.
-#[test]
-fn tail_is_on_no_cycle(rt: HostRuntime) -> Result<(), Fail> {
-    let a = rt.alloc();
-    let ports: [(&[usize], &[usize]); 3] = [(&[], &[0]), (&[0, 1], &[2]), (&[2], &[1])];
-    let network = idle_network(a, &ports, &[Inner(1), Inner(1), Inner(1)], 9)?;
-    let caps = [1, 3, 2];
-    for (waits, wanted, scanned) in [
-        (
-            [Full(0), Empty(1), Empty(2)],
-            [Found::NoCycle, Found::AllEmpty, Found::AllEmpty],
-            Found::NoCycle,
-        ),
-        (
-            [Full(0), Full(2), Full(1)],
-            [Found::NoCycle, Found::Full(2), Found::Full(2)],
-            Found::Full(2),
-        ),
-        (
-            [Full(0), Full(2), Nobody],
-            [Found::NoCycle, Found::NoCycle, Found::NoCycle],
-            Found::NoCycle,
-        ),
-    ] {
-        finds(&rt, a, &network, &waits, &caps, &wanted, scanned)?;
-    }
-    Ok(())
-}
+// The same at the limit.
+const PAIR_AT_LIMIT: [Row<'static>; 1] = [(
+    &[Full(0), Empty(1)],
+    &[1, 1, 1],
+    &[Found::Full(0), Found::Full(0)],
+    Found::NoCycle,
+)];
+
+// Process 0, which writes to process 1, is on no cycle of processes 1 and 2, which write to each other.
+const TAIL: [Row<'static>; 3] = [
+    (
+        &[Full(0), Empty(1), Empty(2)],
+        &[1, 3, 2],
+        &[Found::NoCycle, Found::AllEmpty, Found::AllEmpty],
+        Found::NoCycle,
+    ),
+    (
+        &[Full(0), Full(2), Full(1)],
+        &[1, 3, 2],
+        &[Found::NoCycle, Found::Full(2), Found::Full(2)],
+        Found::Full(2),
+    ),
+    (
+        &[Full(0), Full(2), Nobody],
+        &[1, 3, 2],
+        &[Found::NoCycle, Found::NoCycle, Found::NoCycle],
+        Found::NoCycle,
+    ),
+];
 
 // A process that reads what it writes.
-#[test]
-fn process_waits_for_itself(rt: HostRuntime) -> Result<(), Fail> {
-    let a = rt.alloc();
-    let ports: [(&[usize], &[usize]); 1] = [(&[0], &[0, 1])];
-    let network = idle_network(a, &ports, &[Inner(1), Sink(1)], 9)?;
-    for (wait, wanted, scanned) in [
-        (Full(0), Found::Full(0), Found::Full(0)),
-        (Empty(0), Found::AllEmpty, Found::NoCycle),
-        (Full(1), Found::NoCycle, Found::NoCycle),
-    ] {
-        finds(&rt, a, &network, &[wait], &[8, 1], &[wanted], scanned)?;
-    }
-    Ok(())
-}
+const SELF_LOOP: [Row<'static>; 3] = [
+    (&[Full(0)], &[8, 1], &[Found::Full(0)], Found::Full(0)),
+    (&[Empty(0)], &[8, 1], &[Found::AllEmpty], Found::NoCycle),
+    (&[Full(1)], &[8, 1], &[Found::NoCycle], Found::NoCycle),
+];
 
 // Processes 0 and 1 write to each other, and so do 2 and 3.
-#[test]
-fn two_cycles_apart(rt: HostRuntime) -> Result<(), Fail> {
-    let a = rt.alloc();
-    let ports: [(&[usize], &[usize]); 4] = [(&[1], &[0]), (&[0], &[1]), (&[3], &[2]), (&[2], &[3])];
-    let network = idle_network(a, &ports, &[Inner(1), Inner(1), Inner(1), Inner(1)], 9)?;
-    let full = [Full(0), Full(1), Full(2), Full(3)];
-    let empty = [Empty(1), Empty(0), Full(2), Empty(2)];
-    for (waits, caps, first, second, scanned) in [
-        (
-            full,
-            [5, 4, 3, 2],
+const TWO_PAIRS: [Row<'static>; 4] = [
+    (
+        &[Full(0), Full(1), Full(2), Full(3)],
+        &[5, 4, 3, 2],
+        &[
+            Found::Full(1),
             Found::Full(1),
             Found::Full(3),
-            Found::Full(1),
-        ),
-        (
-            full,
-            [9, 9, 8, 9],
+            Found::Full(3),
+        ],
+        Found::Full(1),
+    ),
+    (
+        &[Full(0), Full(1), Full(2), Full(3)],
+        &[9, 9, 8, 9],
+        &[
+            Found::Full(0),
             Found::Full(0),
             Found::Full(2),
             Found::Full(2),
-        ),
-        (
-            full,
-            [9, 9, 9, 9],
+        ],
+        Found::Full(2),
+    ),
+    (
+        &[Full(0), Full(1), Full(2), Full(3)],
+        &[9, 9, 9, 9],
+        &[
+            Found::Full(0),
             Found::Full(0),
             Found::Full(2),
-            Found::NoCycle,
-        ),
-        (
-            empty,
-            [1, 1, 7, 1],
+            Found::Full(2),
+        ],
+        Found::NoCycle,
+    ),
+    (
+        &[Empty(1), Empty(0), Full(2), Empty(2)],
+        &[1, 1, 7, 1],
+        &[
+            Found::AllEmpty,
             Found::AllEmpty,
             Found::Full(2),
             Found::Full(2),
-        ),
-    ] {
-        let wanted = [first, first, second, second];
-        finds(&rt, a, &network, &waits, &caps, &wanted, scanned)?;
-    }
-    Ok(())
-}
+        ],
+        Found::Full(2),
+    ),
+];
 
-// Each of five processes writes to the next, and the last to the first.
+// Each of five processes writes to the next, and the last to the first; all wait as full.
+const RING: &[Wait] = &[Full(0), Full(1), Full(2), Full(3), Full(4)];
+
+const SMALLEST_OF_RING: [Row<'static>; 8] = [
+    (RING, &[1, 2, 3, 4, 5], &[Found::Full(0); 5], Found::Full(0)),
+    (RING, &[5, 4, 1, 2, 3], &[Found::Full(2); 5], Found::Full(2)),
+    (RING, &[5, 4, 3, 2, 1], &[Found::Full(4); 5], Found::Full(4)),
+    (RING, &[2, 2, 2, 2, 2], &[Found::Full(0); 5], Found::Full(0)),
+    (RING, &[1, 2, 2, 2, 1], &[Found::Full(0); 5], Found::Full(0)),
+    (RING, &[3, 1, 1, 2, 2], &[Found::Full(1); 5], Found::Full(1)),
+    (RING, &[3, 2, 1, 2, 1], &[Found::Full(2); 5], Found::Full(2)),
+    (RING, &[3, 2, 2, 1, 1], &[Found::Full(3); 5], Found::Full(3)),
+];
+
 #[test]
-fn smallest_of_a_ring(rt: HostRuntime) -> Result<(), Fail> {
+fn cycles_are_found(rt: HostRuntime) -> Result<(), Fail> {
     let a = rt.alloc();
-    let ports: [(&[usize], &[usize]); 5] = [
+    let pair: [(&[usize], &[usize]); 2] = [(&[], &[0, 1]), (&[0, 1], &[2])];
+    let tail: [(&[usize], &[usize]); 3] = [(&[], &[0]), (&[0, 1], &[2]), (&[2], &[1])];
+    let itself: [(&[usize], &[usize]); 1] = [(&[0], &[0, 1])];
+    let pairs: [(&[usize], &[usize]); 4] = [(&[1], &[0]), (&[0], &[1]), (&[3], &[2]), (&[2], &[3])];
+    let ring: [(&[usize], &[usize]); 5] = [
         (&[4], &[0]),
         (&[0], &[1]),
         (&[1], &[2]),
         (&[2], &[3]),
         (&[3], &[4]),
     ];
-    let network = idle_network(
+    assert_found(&rt, a, &pair, &[Inner(1), Inner(1), Sink(1)], 9, &PAIR)?;
+    assert_found(
+        &rt,
         a,
-        &ports,
-        &[Inner(1), Inner(1), Inner(1), Inner(1), Inner(1)],
-        9,
+        &pair,
+        &[Inner(1), Inner(1), Sink(1)],
+        1,
+        &PAIR_AT_LIMIT,
     )?;
-    let waits = [Full(0), Full(1), Full(2), Full(3), Full(4)];
-    for (caps, smallest) in [
-        ([1, 2, 3, 4, 5], 0),
-        ([5, 4, 1, 2, 3], 2),
-        ([5, 4, 3, 2, 1], 4),
-        ([2, 2, 2, 2, 2], 0),
-        ([1, 2, 2, 2, 1], 0),
-        ([3, 1, 1, 2, 2], 1),
-        ([3, 2, 1, 2, 1], 2),
-        ([3, 2, 2, 1, 1], 3),
-    ] {
-        let found = Found::Full(smallest);
-        finds(&rt, a, &network, &waits, &caps, &[found; 5], found)?;
-    }
-    Ok(())
+    assert_found(&rt, a, &tail, &[Inner(1); 3], 9, &TAIL)?;
+    assert_found(&rt, a, &itself, &[Inner(1), Sink(1)], 9, &SELF_LOOP)?;
+    assert_found(&rt, a, &pairs, &[Inner(1); 4], 9, &TWO_PAIRS)?;
+    assert_found(&rt, a, &ring, &[Inner(1); 5], 9, &SMALLEST_OF_RING)
 }
 
 // The table that is asked for while the heap is filled up is refused. The one that is asked for then is made.

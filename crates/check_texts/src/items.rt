@@ -1,28 +1,13 @@
 //! Item files: inputs that fail, stop or never end, and an output that fails.
 
+use failing_devices::{Broken, Halting};
 use kpn_items::{ItemFault, WriteFault, read_all, read_items, read_up_to, write_items};
 use std::io;
-use std::io::{ErrorKind, Read, Write};
+use std::io::Read;
 use std::test::Fail;
 
 /// How many bytes one read asks for.
 const CHUNK: usize = 8192;
-
-/// Gives one byte at each read, and fails once so many were given.
-#[derive(Drop)]
-struct Halting {
-    reads: u8,
-}
-
-impl Read for Halting {
-    fn read(&mut self, buf: &mut [u8]) -> io::Result<usize> {
-        if self.reads == 0 {
-            return Err(io::Error::from(ErrorKind::Other));
-        }
-        self.reads -= 1;
-        io::repeat(b'1').take(1).read(buf)
-    }
-}
 
 #[test]
 fn gives_all_bytes_of_many_reads(rt: HostRuntime) -> Result<(), Fail> {
@@ -55,26 +40,6 @@ fn stops_past_the_limit(rt: HostRuntime) -> Result<(), Fail> {
         Err(ItemFault::Read)
     );
     Ok(())
-}
-
-/// Fails at its first read, or at its first write.
-#[derive(Drop)]
-struct Broken;
-
-impl Read for Broken {
-    fn read(&mut self, _buf: &mut [u8]) -> io::Result<usize> {
-        Err(io::Error::from(ErrorKind::Other))
-    }
-}
-
-impl Write for Broken {
-    fn write(&mut self, _buf: &[u8]) -> io::Result<usize> {
-        Err(io::Error::from(ErrorKind::Other))
-    }
-
-    fn flush(&mut self) -> io::Result<()> {
-        Ok(())
-    }
 }
 
 #[test]

@@ -27,47 +27,49 @@ fn described(alloc: Global, lexemes: &[Lexeme<'_>]) -> Result<String, Fail> {
     Ok(words)
 }
 
+/// Texts, each with its tokens in words.
+const ROWS: [(&[u8], &str); 13] = [
+    (b"", ""),
+    (b" \t\r\n", ""),
+    (b"a", "0 name a;"),
+    (b"# \0 & \xc8 |", ""),
+    (b"a#\xc8&\n;", "0 name a;5 Semicolon;"),
+    (
+        b"( ) { } ; , = + - * / % < <= > >= == != && || !",
+        "0 LeftParen;2 RightParen;4 LeftBrace;6 RightBrace;8 Semicolon;10 Comma;12 Assign;\
+        14 Plus;16 Minus;18 Star;20 Slash;22 Percent;24 Less;26 LessOrEqual;29 Greater;\
+        31 GreaterOrEqual;34 Equal;37 NotEqual;40 And;43 Or;46 Not;",
+    ),
+    (
+        b"process in out par read write if else while network limit channel cap \
+        source sink policy grow",
+        "0 Process;8 In;11 Out;15 Par;19 Read;24 Write;30 If;33 Else;38 While;44 Network;\
+        52 Limit;58 Channel;66 Cap;70 Source;77 Sink;82 Policy;89 Grow;",
+    ),
+    (
+        b"<=<<==>>=!!====&&&&",
+        "0 LessOrEqual;2 Less;3 LessOrEqual;5 Assign;6 Greater;7 GreaterOrEqual;9 Not;\
+        10 NotEqual;12 Equal;14 Assign;15 And;17 And;",
+    ),
+    (b"12abc", "0 number 12;2 name abc;"),
+    (b"a12 _ _9", "0 name a12;4 name _;6 name _9;"),
+    (b"Process processes", "0 name Process;8 name processes;"),
+    (
+        b"0 007 9223372036854775807 0000000000000000007",
+        "0 number 0;2 number 7;6 number 9223372036854775807;26 number 7;",
+    ),
+    (
+        b"z23456789012345678901234567890_2",
+        "0 name z23456789012345678901234567890_2;",
+    ),
+];
+
 #[test]
 fn cuts_texts_into_tokens(rt: HostRuntime) -> Result<(), Fail> {
-    let rows: [(&[u8], &str); 13] = [
-        (b"", ""),
-        (b" \t\r\n", ""),
-        (b"a", "0 name a;"),
-        (b"# \0 & \xc8 |", ""),
-        (b"a#\xc8&\n;", "0 name a;5 Semicolon;"),
-        (
-            b"( ) { } ; , = + - * / % < <= > >= == != && || !",
-            "0 LeftParen;2 RightParen;4 LeftBrace;6 RightBrace;8 Semicolon;10 Comma;12 Assign;\
-            14 Plus;16 Minus;18 Star;20 Slash;22 Percent;24 Less;26 LessOrEqual;29 Greater;\
-            31 GreaterOrEqual;34 Equal;37 NotEqual;40 And;43 Or;46 Not;",
-        ),
-        (
-            b"process in out par read write if else while network limit channel cap \
-            source sink policy grow",
-            "0 Process;8 In;11 Out;15 Par;19 Read;24 Write;30 If;33 Else;38 While;44 Network;\
-            52 Limit;58 Channel;66 Cap;70 Source;77 Sink;82 Policy;89 Grow;",
-        ),
-        (
-            b"<=<<==>>=!!====&&&&",
-            "0 LessOrEqual;2 Less;3 LessOrEqual;5 Assign;6 Greater;7 GreaterOrEqual;9 Not;\
-            10 NotEqual;12 Equal;14 Assign;15 And;17 And;",
-        ),
-        (b"12abc", "0 number 12;2 name abc;"),
-        (b"a12 _ _9", "0 name a12;4 name _;6 name _9;"),
-        (b"Process processes", "0 name Process;8 name processes;"),
-        (
-            b"0 007 9223372036854775807 0000000000000000007",
-            "0 number 0;2 number 7;6 number 9223372036854775807;26 number 7;",
-        ),
-        (
-            b"z23456789012345678901234567890_2",
-            "0 name z23456789012345678901234567890_2;",
-        ),
-    ];
-    for (text, wanted) in rows {
+    for (text, wanted) in &ROWS {
         let found = lexemes(rt.alloc(), text)?;
         let words = described(rt.alloc(), &found)?;
-        assert_eq!(rt; words.as_str(), wanted);
+        assert_eq!(rt; words.as_str(), *wanted);
     }
     Ok(())
 }

@@ -27,7 +27,8 @@ module _ {O E : Type 0} (contents : O → Option (List ℕ)) (IsRight : List ℕ
 
 -- a text that goes out under the status 0
 pub Writes-sent : {O E : Type 0} (contents : O → Option (List ℕ)) (text : List ℕ) (out written : O) (err told : E)
-    (status : ℕ) → GoesOut contents text 0 out written err told status → Writes contents text out written err told status
+    (status : ℕ) → GoesOut contents text 0 out written err told status
+    → Writes contents text out written err told status
 Writes-sent contents text out written err told status (sent appends silent same) =
     record { whole = λ zero. appends; silent = λ zero. silent; statuses = inl same }
 Writes-sent contents text out written err told status (unsent fault same) = record {

@@ -2,19 +2,13 @@
 use Rattle.std.proofs.Common.{◌≡◌, ℕ, List, map, All, Ok, inl, inr}
 use Rattle.kpn_text.specs.Document.{Document}
 use Rattle.kpn_answers.specs.declared.refusal.Refusal.{Refusal}
-use Rattle.kpn_answers.specs.declared.refusal.Refusal.TheVariants.{SourceWord, Input, Description, Sources, NoMemory}
+use Rattle.kpn_answers.specs.declared.refusal.Refusal.TheVariants.{Input, Description, Sources, NoMemory}
 use Rattle.kpn_answers.specs.Description.{IsDescribed, IsRefusalOfDescription}
 use Rattle.kpn_answers.specs.Sources.{HasEquals, name_in, file_in, sources_named}
-use Rattle.kpn_answers.specs.SourceRefusals.{IsRefusalOfWords, IsRefusalOfNames, IsRefusalOfItems}
+use Rattle.kpn_answers.specs.SourceRefusals.{IsRefusalOfNames, IsRefusalOfItems}
 use Rattle.kpn_answers.specs.Inputs.{IsRefusalOfInputs}
 
 module _ (may_give : List ℕ → List ℕ → Type 0) (file : List ℕ) (words : List (List ℕ)) where
-  pub words_refused : (refusal : Refusal) → IsRefusalOfWords words refusal
-      → IsRefusalOfInputs may_give file words refusal
-  words_refused SourceWord h = h
-  words_refused NoMemory h = h
-  words_refused other h = absurd h
-
   module _ (cut : All HasEquals words) where
     pub description_refused : (refusal : Refusal) → IsRefusalOfDescription may_give file refusal
         → IsRefusalOfInputs may_give file words refusal

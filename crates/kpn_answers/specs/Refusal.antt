@@ -7,7 +7,7 @@ use Rattle.kpn_text.specs.declared.fault.TextFault.{TextFault}
 use Rattle.kpn_text.specs.declared.fault.TextFault.TheVariants as text
 use Rattle.kpn_trace_text.specs.declared.fault.TraceFault.TheVariants as trace
 use Rattle.kpn_answers.specs.declared.refusal.Refusal.{Refusal}
-use Rattle.kpn_answers.specs.declared.refusal.Refusal.TheVariants.{NotText, UnknownProcess, SourceWord, Input, Description, Sources, Output, Trace, NoMemoryToAudit, NoMemory}
+use Rattle.kpn_answers.specs.declared.refusal.Refusal.TheVariants.{NotText, UnknownProcess, SourceWord, Input, Description, Sources, Output, Trace, NoMemoryToAudit, Threads, Abandoned, Foreign, NoMemory}
 use Rattle.kpn_answers.specs.FaultLine.{fault_line, input_fault_line, output_fault_line, text_fault_line, source_fault_line, trace_fault_line}
 
 -- the line, without its line feed
@@ -21,6 +21,9 @@ refusal_line (Sources fault) = source_fault_line fault
 refusal_line (Output fault) = output_fault_line fault
 refusal_line (Trace fault) = trace_fault_line fault
 refusal_line NoMemoryToAudit = fault_line 51 (codes "NoMemory") None
+refusal_line Threads = fault_line 48 (codes "Threads") None
+refusal_line Abandoned = fault_line 49 (codes "Abandoned") None
+refusal_line Foreign = fault_line 47 (codes "Foreign") None
 refusal_line NoMemory = fault_line 42 (codes "NoMemory") None
 
 -- whether a fault of a description is want of memory
@@ -30,7 +33,8 @@ wants_memory (text.Net net.NoMemory) = true
 wants_memory text.NoMemory = true
 wants_memory other = false
 
--- 2 for a word that is not understood, 6 for want of memory, 1 for a refused input and a device's fault
+-- 2 for a word that is not understood, 6 for want of memory, 7 for what befell workers, 1 for a refused input and a
+-- device's fault
 abbrev pub status_of : Refusal → ℕ
 status_of NotText = 2
 status_of UnknownProcess = 2
@@ -40,4 +44,7 @@ status_of (Description fault) = if wants_memory fault then 6 else 1
 status_of (Trace trace.NoMemory) = 6
 status_of NoMemoryToAudit = 6
 status_of NoMemory = 6
+status_of Threads = 7
+status_of Abandoned = 7
+status_of Foreign = 7
 status_of other = 1

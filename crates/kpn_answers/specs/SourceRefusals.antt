@@ -1,4 +1,6 @@
--- Why `--source` options are refused, stage by stage: their words, the names in them, the files in them.
+-- Why `--source` options are refused, stage by stage: their words, the names in them, the files in them. Of these a
+-- reader of the public contracts needs `IsFaultOfItems` alone, on which `IsRefusalOfInputs` stands; the rest is
+-- scaffolding.
 use Rattle.std.specs.Prelude.{◌≡◌, ◌⊎◌, ℕ, ℤ, List, ◌∷◌, ◌++◌, Err, ⊤}
 use Rattle.std.specs.List.{AllZip, Any}
 use Rattle.kpn_items.specs.declared.fault.ItemFault.{ItemFault}

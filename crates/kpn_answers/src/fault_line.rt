@@ -12,7 +12,7 @@ use std::fmt;
 
 /// A fault as the program tells it: `kpn: NUMBER NAME`, and ` at PLACE` where it has a place.
 #[derive(Clone, Copy, Debug)]
-pub struct FaultLine {
+pub(crate) struct FaultLine {
     /// The number of the fault.
     pub number: u8,
     /// The name of the fault.
@@ -39,7 +39,7 @@ impl fmt::Display for FaultLine {
 
 impl FaultLine {
     /// A fault that has no place.
-    pub fn new(number: u8, name: &'static str) -> FaultLine
+    pub(crate) fn new(number: u8, name: &'static str) -> FaultLine
         ensures { result ≡ record { number = number; name = name.entry; place = None } }
     {
         FaultLine {
@@ -50,7 +50,7 @@ impl FaultLine {
     }
 
     /// A fault at a place.
-    pub fn at(number: u8, name: &'static str, place: usize) -> FaultLine
+    pub(crate) fn at(number: u8, name: &'static str, place: usize) -> FaultLine
         ensures { result ≡ record { number = number; name = name.entry; place = Some place } }
     {
         FaultLine {
@@ -61,7 +61,7 @@ impl FaultLine {
     }
 
     /// How a fault of an input is told.
-    pub fn of_input(fault: &ItemFault) -> FaultLine
+    pub(crate) fn of_input(fault: &ItemFault) -> FaultLine
         ensures { told result ≡ input_fault_line fault.now }
     {
         match fault {
@@ -72,7 +72,7 @@ impl FaultLine {
     }
 
     /// How a fault of an output is told.
-    pub fn of_output(fault: &WriteFault) -> FaultLine
+    pub(crate) fn of_output(fault: &WriteFault) -> FaultLine
         ensures { told result ≡ output_fault_line fault.now }
     {
         match fault {
@@ -81,7 +81,7 @@ impl FaultLine {
     }
 
     /// How it is told that the program of a process breaks a rule.
-    pub fn of_program(process: usize, fault: ProgramFault) -> FaultLine
+    pub(crate) fn of_program(process: usize, fault: ProgramFault) -> FaultLine
         ensures { told result ≡ program_fault_line process fault }
     {
         match fault {
@@ -96,7 +96,7 @@ impl FaultLine {
     }
 
     /// How it is told that tables break a rule of networks.
-    pub fn of_net(fault: NetFault) -> FaultLine
+    pub(crate) fn of_net(fault: NetFault) -> FaultLine
         ensures { told result ≡ net_fault_line fault }
     {
         match fault {
@@ -114,7 +114,7 @@ impl FaultLine {
     }
 
     /// How it is told that a text is no description of a network.
-    pub fn of_text(fault: TextFault) -> FaultLine
+    pub(crate) fn of_text(fault: TextFault) -> FaultLine
         ensures { told result ≡ text_fault_line fault }
     {
         match fault {
@@ -130,7 +130,7 @@ impl FaultLine {
     }
 
     /// How it is told that bytes are no trace.
-    pub fn of_trace(fault: &TraceFault) -> FaultLine
+    pub(crate) fn of_trace(fault: &TraceFault) -> FaultLine
         ensures { told result ≡ trace_fault_line fault.now }
     {
         match fault {
@@ -141,7 +141,7 @@ impl FaultLine {
     }
 
     /// How it is told that an option names no source, or one that was named before.
-    pub fn of_source(fault: SourceFault) -> FaultLine
+    pub(crate) fn of_source(fault: SourceFault) -> FaultLine
         ensures { told result ≡ source_fault_line fault }
     {
         match fault {

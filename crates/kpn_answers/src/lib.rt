@@ -5,7 +5,7 @@
 
 pub mod answer;
 pub mod description;
-pub mod fault_line;
+mod fault_line;
 pub mod inputs;
 pub mod list_text;
 pub mod refusal;

@@ -37,6 +37,12 @@ pub enum Refusal {
     Trace(TraceFault),
     /// Memory was refused while a trace was audited.
     NoMemoryToAudit,
+    /// A worker could not be started on a thread of its own.
+    Threads,
+    /// All workers of a run went before there was an outcome.
+    Abandoned,
+    /// After a run by workers its sources did not have what they were to be fed.
+    Foreign,
     /// Memory was refused elsewhere.
     NoMemory,
 }
@@ -80,6 +86,9 @@ impl fmt::Display for Refusal {
             Refusal::Output(fault) => write!(f, "{}", FaultLine::of_output(fault)),
             Refusal::Trace(fault) => write!(f, "{}", FaultLine::of_trace(fault)),
             Refusal::NoMemoryToAudit => write!(f, "{}", FaultLine::new(51, "NoMemory")),
+            Refusal::Threads => write!(f, "{}", FaultLine::new(48, "Threads")),
+            Refusal::Abandoned => write!(f, "{}", FaultLine::new(49, "Abandoned")),
+            Refusal::Foreign => write!(f, "{}", FaultLine::new(47, "Foreign")),
             Refusal::NoMemory => write!(f, "{}", FaultLine::new(42, "NoMemory")),
         }
     }
@@ -89,7 +98,7 @@ impl Refusal {
     ghost use Rattle.kpn_answers.specs.Refusal.{refusal_line, status_of};
 
     /// The status that the program ends with: 1 for a refused input and a device's fault, 2 for a
-    /// word that is not understood, 6 for want of memory.
+    /// word that is not understood, 6 for want of memory, 7 for what befell workers.
     pub fn status(&self) -> u8
         ensures { result ≡ status_of self.now }
     {
@@ -102,6 +111,7 @@ impl Refusal {
             Refusal::Input(ItemFault::NoMemory) | Refusal::Description(_) => 6,
             Refusal::Trace(TraceFault::NoMemory) => 6,
             Refusal::NoMemoryToAudit | Refusal::NoMemory => 6,
+            Refusal::Threads | Refusal::Abandoned | Refusal::Foreign => 7,
         }
     }
 

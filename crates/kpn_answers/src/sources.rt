@@ -15,7 +15,7 @@ use std::alloc::{AllocError, Global};
 
 /// A `--source` option: the name of a source, and the name of the file with its items.
 #[derive(Clone, Copy, Debug)]
-pub struct SourceOption<'a> {
+pub(crate) struct SourceOption<'a> {
     pub name: &'a str,
     pub file: &'a str,
 }
@@ -23,7 +23,7 @@ pub struct SourceOption<'a> {
 /// A source of a network, by its number among the sources, which stand in order of their channels, and
 /// the name of the file with its items.
 #[derive(Clone, Copy, Debug)]
-pub struct Feed<'a> {
+pub(crate) struct Feed<'a> {
     pub source: usize,
     pub file: &'a str,
 }
@@ -39,7 +39,10 @@ pub enum SourceFault {
 
 /// The options that these words spell, each cut at its first `=`. A word without one is refused as
 /// `SourceWord`.
-pub fn options_of<'a>(alloc: Global, words: &[&'a str]) -> Result<Vec<SourceOption<'a>>, Refusal>
+pub(crate) fn options_of<'a>(
+    alloc: Global,
+    words: &[&'a str],
+) -> Result<Vec<SourceOption<'a>>, Refusal>
     ensures names { IfOk result (λ options.
         map (λ o. o.name.now) options.items ≡ map (λ word. name_in word.now) words.now) }
     ensures files { IfOk result (λ options.
@@ -69,7 +72,7 @@ fn option_of(word: &str) -> Option<SourceOption<'_>>
 /// The sources of a network that options name, in the order of the options. The first option that
 /// names none, or one that an earlier option names, is refused.
 #[tactic(auto, unfolding(kpn_tokens::specs::Results::and_then))]
-pub fn feeds_of<'a>(
+pub(crate) fn feeds_of<'a>(
     alloc: Global,
     document: &Document,
     options: &[SourceOption<'a>],
@@ -145,7 +148,7 @@ fn number_of(document: &Document, name: &str) -> Option<usize>
 
 /// A list for each of so many sources: the items of the files, which are read in this order, and the
 /// empty list for sources without a file.
-pub fn lists_of<S: Shelf>(
+pub(crate) fn lists_of<S: Shelf>(
     alloc: Global,
     shelf: &S,
     count: usize,

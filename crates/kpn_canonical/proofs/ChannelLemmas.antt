@@ -1,5 +1,5 @@
 -- What kind of channel has which capacity and which reader.
-use Rattle.std.proofs.Common.{◌≡◌, ℕ, suc, true, false, cond, List, [], ◌∷◌, ◌++◌, get_or, Some, None, refl}
+use Rattle.std.proofs.Common.{◌≡◌, ℕ, suc, true, false, cond, List, [], ◌∷◌, ◌++◌, get_or, Some}
 use Rattle.std.specs.Prelude.{nat_eq}
 use Rattle.kpn_net.specs.declared.tables.ChannelSpec.{ChannelSpec}
 use Rattle.kpn_net.specs.declared.tables.ChannelSpec.TheVariants as channel
@@ -37,26 +37,8 @@ sink_by (channel.Inner n) ends cap none h r = absurd (none r)
 sink_by channel.Source ends cap none h r = absurd cc
 sink_by (channel.Sink n) ends cap none h r = cc
 
-inner_by : (spec : ChannelSpec) (ends : List End) (cap : ℕ) → capacity spec ≡ Some cap → (reader spec ends ≡ Sink → ⊥)
-    → channel.Inner cap ≡ spec
-inner_by (channel.Inner n) ends cap h r = cc
-inner_by channel.Source ends cap h r = absurd cc
-inner_by (channel.Sink n) ends cap h r = absurd (r refl)
-
-source_by : (spec : ChannelSpec) → capacity spec ≡ None → channel.Source ≡ spec
-source_by (channel.Inner n) h = absurd cc
-source_by channel.Source h = refl
-source_by (channel.Sink n) h = absurd cc
-
-pub source_is : (t : Tables) (c : ℕ) → capacity (channel_at t c) ≡ None → channel.Source ≡ channel_at t c
-source_is t c h = source_by (channel_at t c) h
-
 pub sink_is : (t : Tables) (c cap : ℕ) → capacity (channel_at t c) ≡ Some cap → reader_of t c ≡ Sink
     → channel.Sink cap ≡ channel_at t c
 sink_is t c cap h r =
     sink_by (channel_at t c) (ends_from (λ i. i.ins) c 0 t.instances) cap (ends_begin (λ i. i.ins) c 0 t.instances) h
     r
-
-pub inner_is : (t : Tables) (c cap : ℕ) → capacity (channel_at t c) ≡ Some cap → (reader_of t c ≡ Sink → ⊥)
-    → channel.Inner cap ≡ channel_at t c
-inner_is t c cap h r = inner_by (channel_at t c) (ends_from (λ i. i.ins) c 0 t.instances) cap h r

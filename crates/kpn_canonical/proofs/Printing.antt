@@ -1,18 +1,13 @@
 -- Texts that are printed one behind the other.
-use Rattle.std.proofs.Common.{◌≡◌, ℕ, ℤ, pos, negsuc, suc, ◌+◌, ◌-◌, ◌<◌, false, List, [], ◌∷◌, ◌++◌, length, get_or, drop, map, nat_lt, ◌≤◌, Some, None, Result, Ok, Err, codes, OnOk, refl, ap, ◌∙◌, sym, arith, append-nil}
+use Rattle.std.proofs.Common.{◌≡◌, ℕ, ℤ, pos, negsuc, suc, ◌+◌, ◌-◌, ◌<◌, false, List, [], ◌∷◌, ◌++◌, length, get_or, drop, map, nat_lt, Some, Result, Ok, Err, codes, OnOk, refl, ap, ◌∙◌, arith}
 use Rattle.std.specs.Fmt.{signed_decimal}
 use Rattle.std.specs.Prelude.{◌==◌}
-use Rattle.std.proofs.lemmas.Bool.{cond-false, cond-true, le-ltb, lt-ltb}
-use Rattle.std.proofs.lemmas.List.{drop_all, drop_more}
-use Rattle.kpn_names.specs.NetworkNames.{paired}
+use Rattle.std.proofs.lemmas.Bool.{cond-true, lt-ltb}
+use Rattle.std.proofs.lemmas.List.{drop_more}
 use Rattle.kpn_limits.specs.declared.TheConstants.{MAX_CAPACITY}
 use Rattle.kpn_canonical.specs.Named.{number_named, literal_named, limit_named}
 use Rattle.kpn_canonical.specs.Text.{all_text, further_text, indented, names_text, outs_text, term_text, literal_text}
 use Rattle.kpn_canonical.specs.Writing.{Writes}
-
--- nothing was put
-pub prints_nothing : (a : List ℕ) → Writes a a (λ more. more)
-prints_nothing a more = refl
 
 -- one text and then another
 pub prints_then : (a b c : List ℕ) (f g : List ℕ → List ℕ) → Writes a b f → Writes b c g
@@ -54,38 +49,6 @@ pub value_text : (z : ℤ) (more : List ℕ) → signed_decimal z ++ more ≡ li
 value_text (pos n) more = refl
 value_text (negsuc n) more = refl
 
--- an item more of two lists, of which each item is printed with the one at its place in the other
-module _ {A B C : Type 0} (f : A → B → C) (text : C → List ℕ → List ℕ) (xs : List A) (ys : List B) (i : ℕ) (x : A)
-    (y : B) (in_xs : i < length xs) (in_ys : i < length ys) (read_x : x ≡ get_or xs i x) (read_y : y ≡ get_or ys i y)
-  where
-    pair_left : paired f (drop i xs) (drop i ys) ≡ f x y ∷ paired f (drop (i + 1) xs) (drop (i + 1) ys)
-    pair_left =
-        let left : drop i xs ≡ x ∷ drop (i + 1) xs =
-        drop_more xs i x in_xs ∙ ap (λ v. v ∷ drop (i + 1) xs) (sym read_x) in
-        let right : drop i ys ≡ y ∷ drop (i + 1) ys =
-        drop_more ys i y in_ys ∙ ap (λ v. v ∷ drop (i + 1) ys) (sym read_y) in
-        ap (λ l. paired f l (drop i ys)) left ∙ ap (λ l. paired f (x ∷ drop (i + 1) xs) l) right
-
-    pub pair_more : (a now next : List ℕ)
-        → ((more : List ℕ)
-        → now ++ all_text text (paired f (drop i xs) (drop i ys)) more ≡ a ++ all_text text (paired f xs ys) more)
-        → Writes now next (text (f x y))
-        → (more : List ℕ)
-        → next ++ all_text text (paired f (drop (i + 1) xs) (drop (i + 1) ys)) more
-        ≡ a ++ all_text text (paired f xs ys) more
-    pair_more a now next so_far put more =
-        put (all_text text (paired f (drop (i + 1) xs) (drop (i + 1) ys)) more) ∙ (rw pair_left at (so_far more))
-
--- all pairs were put
-pub pairs_done : {A B C : Type 0} (f : A → B → C) (text : C → List ℕ → List ℕ) (xs : List A) (ys : List B) (i : ℕ)
-    (a now : List ℕ) → length xs ≤ i
-    → ((more : List ℕ)
-    → now ++ all_text text (paired f (drop i xs) (drop i ys)) more ≡ a ++ all_text text (paired f xs ys) more)
-    → Writes a now (all_text text (paired f xs ys))
-pairs_done f text xs ys i a now all so_far more =
-    let none : drop i xs ≡ [] = drop_all i xs all in
-    (rw none at (so_far more))
-
 -- lines in front of other lines
 pub all_text-append : {A : Type 0} (text : A → List ℕ → List ℕ) (xs ys : List A) (more : List ℕ)
     → all_text text (xs ++ ys) more ≡ all_text text xs (all_text text ys more)
@@ -95,13 +58,6 @@ all_text-append text (x ∷ xs) ys more = ap (text x) (all_text-append text xs y
 -- the limit is written, or not
 pub limit_written : (n : ℕ) → n < MAX_CAPACITY → limit_named n ≡ Some n
 limit_written n small = cond-true (nat_lt n MAX_CAPACITY) _ _ (lt-ltb n MAX_CAPACITY small)
-
-pub limit_unwritten : (n : ℕ) → MAX_CAPACITY ≤ n → limit_named n ≡ None
-limit_unwritten n great = cond-false (nat_lt n MAX_CAPACITY) _ _ (le-ltb n MAX_CAPACITY great)
-
--- all that was put behind nothing
-pub whole_text : (now : List ℕ) (f : List ℕ → List ℕ) → Writes [] now f → now ≡ f []
-whole_text now f put = sym (append-nil now) ∙ put []
 
 -- some names, behind a space
 pub some_outs : {A : Type 0} (name : A → List ℕ) (xs : List A) → false ≡ (length xs == 0) → (more : List ℕ)

@@ -1,6 +1,6 @@
 -- A channel as contracts see it: a journal of every item that was put, of which the first ones were read. Whether the
--- next item is reserved stands apart from every change: only a put may end a reservation, and whether one comes about is
--- the storage's own business. So each change takes whether an item is reserved after it.
+-- next item is reserved stands apart from every change: only a put may end a reservation, and whether one comes about
+-- is the storage's own business. So each change takes whether an item is reserved after it.
 use Rattle.std.specs.Prelude.{ℕ, ◌+◌, ℤ, Bool, true, false, not, ◌&&◌, nat_le, if◌then◌else◌, List, [], ◌∷◌, ◌++◌, length, take, drop, Option, Some, None, slice_get, IsSomeAnd, ◌<◌}
 use Rattle.kpn_limits.specs.declared.TheConstants.{MAX_CAPACITY}
 

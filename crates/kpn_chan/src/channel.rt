@@ -181,6 +181,14 @@ impl<A: Allocator> Channel<A> {
         Vec::from_slice(alloc, self.journal.as_slice())
     }
 
+    /// All items that were ever put, oldest first, moved out of the channel.
+    pub fn into_journal(self) -> Vec<i64, A>
+        ensures { result.items ≡ self.journal }
+    {
+        let Channel { journal, .. } = self;
+        journal
+    }
+
     /// Does nothing. It tells a caller's proof what holds of every channel: no more items were read
     /// than were put, and their number is one of the machine's.
     pub fn known(&self)

@@ -28,16 +28,17 @@ module _ (t : Tables) (waits : List Wait) where
       → cap d < t.limit → Contains (q ∷ others) p) → (found : Found) → ScanFinds t waits cap found → (c : ℕ)
       → (found ≡ Full c) ↔ (IsSmallestOfCycle t waits cap p c × (cap c < t.limit))
   scan_search cap p below only NoCycle scan c =
-      (λ e. absurd cc, λ (h, small). absurd (scan p c below (record { found = h; below = small })))
+      (λ e. absurd cc, λ (h, small). absurd (scan p c below (record { smallest = h; below_limit = small })))
   scan_search cap p below only AllEmpty scan c = absurd scan
   scan_search cap p below only (Full d) (q, first) c =
       let there = first.here in
-      let h = there.found in
-      let here = full_from_member t waits cap q d h p (only q h.others d h.cycle h.smallest.among there.below) in (
+      let h = there.smallest in
+      let member = only q h.others d h.cycle h.smallest.among there.below_limit in
+      let here = full_from_member t waits cap q d h p member in (
         λ e.
             let same : d ≡ c = cc in
             let P : ℕ → Type 0 = λ z. IsSmallestOfCycle t waits cap p z × (cap z < t.limit) in
-            subst P same (here, there.below),
+            subst P same (here, there.below_limit),
         λ (k, small). ap Full (full_cycle_unique t waits cap p d c here k),
       )
 
@@ -49,7 +50,7 @@ module _ (t : Tables) (waits : List Wait) where
       elim (cases_lt (cap s.channel) t.limit) [
         | inl small ↦ absurd
             (scan p s.channel below
-            (record { found = record { others = others; cycle = cycle; smallest = s.is }; below = small }))
+            (record { smallest = record { others = others; cycle = cycle; smallest = s.is }; below_limit = small }))
         | inr large ↦ elim (s.is.least d among) [ inl less ↦ omega arith | inr tie ↦ omega arith ]
       ]
 
@@ -64,7 +65,7 @@ module _ (t : Tables) (waits : List Wait) where
             let same : q ≡ p = omega arith in
             λ b.
             let at_p : IsBelowLimit t waits cap p d = subst (λ r. IsBelowLimit t waits cap r d) same b in
-            let limit = large d (finding_unique t waits cap p found (Full d) here at_p.found) in
-            let small = at_p.below in
+            let limit = large d (finding_unique t waits cap p found (Full d) here at_p.smallest) in
+            let small = at_p.below_limit in
             omega arith
       ]

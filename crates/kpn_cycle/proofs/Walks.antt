@@ -1,13 +1,13 @@
 -- The walk from a process along the waits: it goes the way of the cycle through the process, if there is one.
-use Rattle.std.proofs.Common.{◌≡◌, ◌≢◌, ℕ, ◌+◌, ◌<◌, ◌≤◌, List, [], ◌∷◌, ◌++◌, length, Option, Some, None, refl, sym, ap, ◌∙◌, subst, inl, inr, arith, length-append, append_assoc}
-use Rattle.std.specs.Prelude.{Contains, IfSome}
+use Rattle.std.proofs.Common.{◌≡◌, ◌≢◌, ℕ, ◌+◌, ◌≤◌, List, [], ◌∷◌, ◌++◌, length, Option, Some, None, refl, sym, ap, ◌∙◌, subst, inl, inr, arith, length-append, append_assoc}
+use Rattle.std.specs.Prelude.{Contains}
 use Rattle.std.specs.Option.{option_to_list}
 use Rattle.std.specs.List.{cons_option}
 use Rattle.std.proofs.lemmas.List.Elements.{filter_map-append}
 use Rattle.kpn_net.specs.declared.wait.Wait.{Wait}
 use Rattle.kpn_net.specs.Tables.{Tables}
 use Rattle.kpn_net.specs.Waits.{wait_at, awaited, full_channel, WaitsFor, WaitInTurn, IsCycle, full_channels}
-use Rattle.kpn_net.specs.declared.found.Found.TheVariants.{NoCycle, Full}
+use Rattle.kpn_net.specs.declared.found.Found.TheVariants.{NoCycle}
 use Rattle.kpn_net.specs.Finding.{Finds}
 use Rattle.kpn_cycle.specs.WalkSoFar.{IsSmallestSoFar, found_on}
 use Rattle.kpn_net.proofs.Cycles.{Contains-none, Contains-cases, cycle_from, cycle_short, waits_for_one}
@@ -34,19 +34,13 @@ pub record Walked (t : Tables) (waits : List Wait) (cap : ℕ → ℕ) (p steps 
   pub closes : (rest : List ℕ) → WaitInTurn t waits at rest p → ¬ Contains rest p → IsClosed t waits p before at rest
   pub met : IsSmallestSoFar cap (full_channels waits before) smallest
 
--- a channel that is found is the smallest so far
-pub channel_on : (smallest : Option ℕ) (n : ℕ) → IfSome smallest (λ c. c < n) → (c : ℕ) → found_on smallest ≡ Full c
-    → c < n
-channel_on None n h c e = absurd cc
-channel_on (Some d) n h c e = let same : d ≡ c = cc in subst (λ z. z < n) same h
-
 module _ (t : Tables) (waits : List Wait) (cap : ℕ → ℕ) (p : ℕ) where
   pub walk-none : Walked t waits cap p 0 p None
   walk-none =
       record {
         before = [];
         count = refl;
-        ahead = λ others cycle. record { rest = others; is = refl; turn = cycle.turn };
+        ahead = λ others cycle. record { rest = others; is = refl; turn = cycle.in_turn };
         closes =
             λ rest turn absent. record { others = rest; is = refl; cycle = cycle_from t waits p rest turn absent };
         met = refl;

@@ -12,8 +12,8 @@ cap_in caps c = slice_index caps c
 
 -- the smallest full channel of the cycle through p is below the limit
 pub record IsBelowLimit (t : Tables) (waits : List Wait) (cap : ℕ → ℕ) (p c : ℕ) : Type 0 where
-  pub found : IsSmallestOfCycle t waits cap p c
-  pub below : cap c < t.limit
+  pub smallest : IsSmallestOfCycle t waits cap p c
+  pub below_limit : cap c < t.limit
 
 -- p is the first process with such a cycle
 pub record IsFirstBelowLimit (t : Tables) (waits : List Wait) (cap : ℕ → ℕ) (p c : ℕ) : Type 0 where

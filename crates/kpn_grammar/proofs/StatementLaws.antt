@@ -10,14 +10,24 @@ use Rattle.kpn_tokens.specs.declared.tokens.Mark.TheVariants as mark_
 use Rattle.kpn_tokens.specs.declared.tokens.Keyword.TheVariants as keyword_
 use Rattle.kpn_grammar.specs.declared.fault.GrammarFault.TheVariants as fault
 use Rattle.kpn_grammar.specs.declared.parser.Scope.{Scope}
-use Rattle.kpn_grammar.specs.Syntax.{Term, numeral, variable, minus, negation, binary, Statement, assign, receive, send, choice, loop, Statements, no_statements, statement, statements_of, list_of}
+use Rattle.kpn_grammar.specs.Syntax.{Term, numeral, variable, minus, negation, binary, Statement, assign, receive, send, choice, loop, Statements, no_statements, statement, statements_of}
 use Rattle.kpn_grammar.specs.Operators.{operator_mark}
-use Rattle.kpn_grammar.specs.Spelling.{kinds, spell_term, spell_statement, spell_statements, spell_block, StatementIsWithin, BlockIsWithin, spell_all}
+use Rattle.kpn_grammar.specs.Spelling.{kinds, spell_term, spell_statement, spell_statements, spell_block, inner_levels, deepest_term, BlockIsWithin, spell_all}
 use Rattle.kpn_tokens.specs.Results.{and_then}
 use Rattle.kpn_grammar.specs.Reading.{Read, next, mark, keyword, name, expression, many, assignment_behind, receive_behind, send_behind, choice_behind, loop_behind, statement_behind, one_statement, goes_on, statements_at, block_behind, block}
 use Rattle.kpn_grammar.proofs.Steps.{bind_ok, ok_is, no_value, kind_of, kinds_of, next_takes, next_again, mark_takes, mark_again, keyword_takes, keyword_again, name_takes, name_again}
 use Rattle.kpn_grammar.proofs.TermLaws.{expression_laws}
 use Rattle.kpn_grammar.proofs.ManyLaws.{TakesOne, Reads, Begins, begins, one_shortens, many_takes, many_again}
+
+-- a statement within the limits of depth: its blocks nest at most so deep, and its expressions at most 32 levels
+pub record StatementIsWithin (depth : ℕ) (s : Statement) : Type 0 where
+  pub blocks : inner_levels s ≤ depth
+  pub terms : deepest_term s ≤ MAX_LEVELS
+
+-- a block as a list of its statements
+abbrev list_of : Statements → List Statement
+list_of no_statements = []
+list_of (statement s ss) = s ∷ list_of ss
 
 -- what was read as a statement, or as a block
 pub record TakesStatement (d : ℕ) (tokens : List Token) (st : Statement) (rest : List Lexeme) : Type 0 where

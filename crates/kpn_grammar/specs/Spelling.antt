@@ -96,12 +96,7 @@ abbrev mutual
   deepest_term_of_all no_statements = 0
   deepest_term_of_all (statement s ss) = max (deepest_term s) (deepest_term_of_all ss)
 
--- a statement within the limits of depth: its blocks nest at most so deep, and its expressions at most 32 levels
-pub record StatementIsWithin (depth : ℕ) (s : Statement) : Type 0 where
-  pub blocks : inner_levels s ≤ depth
-  pub terms : deepest_term s ≤ MAX_LEVELS
-
--- the same of a block, which is a level itself
+-- a block within the limits of depth: it nests at most so deep, itself a level, and its expressions at most 32 levels
 pub record BlockIsWithin (depth : ℕ) (b : Statements) : Type 0 where
   pub blocks : block_level b ≤ depth
   pub terms : deepest_term_of_all b ≤ MAX_LEVELS

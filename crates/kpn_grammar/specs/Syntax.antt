@@ -34,11 +34,6 @@ abbrev pub statements_of : List Statement → Statements
 statements_of [] = no_statements
 statements_of (s ∷ ss) = statement s (statements_of ss)
 
--- a block as a list of its statements
-abbrev pub list_of : Statements → List Statement
-list_of no_statements = []
-list_of (statement s ss) = s ∷ list_of ss
-
 -- a process: its name, its in ports, out ports and parameters, and its body
 pub record Process : Type 0 where
   pub name : Name

@@ -21,10 +21,6 @@ use Rattle.kpn_grammar.specs.declared.parser.Scope.{Scope}
 use Rattle.kpn_grammar.specs.Reading.{Parts, Read, Gives}
 use Rattle.kpn_grammar.specs.Syntax.{Name, Term, numeral, variable, minus, negation, binary, Statement, assign, receive, send, choice, loop, Statements, statements_of, Process, Literal, plain, negated, Instance, Item, channel, source, sink, instance, Network, Description}
 
--- the tokens from a place on
-abbrev pub tokens_from : Source → ℕ → List Lexeme
-tokens_from s at = drop at s.tokens.now
-
 -- names as written
 abbrev pub names_seen : List Identifier → List Name
 names_seen xs = map (λ x. x.bytes.now) xs
@@ -110,7 +106,11 @@ network_seen n = record { limit = n.limit; items = items_seen n.items.items }
 abbrev pub document : DescriptionCode → Description
 document d = record { processes = processes_seen d.processes.items; network = network_seen d.network }
 
--- ---- what parsers give
+-- ---- scaffolding: what the parsers give, all of which but `description` are private
+
+-- the tokens from a place on
+abbrev pub tokens_from : Source → ℕ → List Lexeme
+tokens_from s at = drop at s.tokens.now
 
 -- What a parser gave at a place is what the rule gives for the tokens from there on: the same, seen by a view, and the
 -- tokens after it; or the same fault; or memory ran out.

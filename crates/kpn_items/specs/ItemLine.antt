@@ -2,7 +2,7 @@
 use Rattle.std.specs.Prelude.{◌≡◌, ℕ, ◌≤◌, List, length, drop, ℤ, pos, neg_ℤ, if◌then◌else◌, FitsSigned}
 use Rattle.std.specs.Int.{w64}
 use Rattle.std.specs.Str.Parse.{IsNumeral, digits_value, starts_with_minus}
-use Rattle.kpn_items.specs.declared.item_line.TheConstants.{MAX_DIGITS}
+use Rattle.kpn_limits.specs.declared.TheConstants.{MAX_DIGITS}
 
 -- 1 to 19 decimal digits (MAX_DIGITS), leading zeros allowed, and nothing else
 abbrev pub IsShortNumeral : List ℕ → Type 0

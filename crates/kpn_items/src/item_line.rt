@@ -5,8 +5,7 @@ ghost use Rattle.std.specs.Option.{SomeIff};
 ghost use Rattle.std.specs.Str.Parse.{digits_value};
 ghost use Rattle.kpn_items.specs.ItemLine.{IsShortNumeral, SpellsItem};
 
-/// The most digits of an item: 2^63 has nineteen, and a number of nineteen digits is below 2^64.
-const MAX_DIGITS: usize = 19;
+use kpn_limits::MAX_DIGITS;
 
 /// The item that a line without its line end spells, or `None` where it spells none.
 pub fn item_of_line(line: &[u8]) -> Option<i64>

@@ -12,4 +12,3 @@ pub use fault::{ItemFault, WriteFault};
 pub use input::{read_all, read_up_to};
 pub use item_file::{items_of, read_items, write_items};
 pub use item_line::item_of_line;
-pub use kpn_limits::MAX_INPUT_BYTES;

@@ -31,3 +31,10 @@ pub const MAX_TEXT_BYTES: usize = 1_048_576;
 
 /// The most bytes of a file or an input that the program reads.
 pub const MAX_INPUT_BYTES: usize = 268_435_456;
+
+/// The most digits that a number or an item is written with, leading zeros included: 2^63 has nineteen, and a number of
+/// nineteen digits is below 2^64.
+pub const MAX_DIGITS: usize = 19;
+
+/// The most threads that a run is given.
+pub const MAX_WORKERS: usize = 16;

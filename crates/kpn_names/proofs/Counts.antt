@@ -8,7 +8,7 @@ use Rattle.kpn_grammar.specs.Syntax.{Name, Process, Item, channel, source, sink,
 use Rattle.kpn_names.specs.Fault.{each}
 use Rattle.kpn_tokens.specs.Results.{and_then}
 use Rattle.kpn_names.specs.Names.{declared}
-use Rattle.kpn_names.specs.Network.{Wiring, within_32_bits, with_channel, with_instance, with_item, instance_of, all_channels, wiring}
+use Rattle.kpn_names.specs.Network.{limit_of, Wiring, within_32_bits, with_channel, with_instance, with_item, instance_of, all_channels, wiring}
 use Rattle.kpn_names.specs.Named.{NamedProgram, Programs, program_of, with_process, programs_of, Named, named_with, EachIsNamed, resolve}
 use Rattle.kpn_names.specs.NetworkNames.{AreNamed, names_in, paired, process_names_in}
 use Rattle.kpn_names.proofs.Chains.{ok_is, went}
@@ -116,12 +116,13 @@ each_named p n is scopes processes i c = record {
 
 pub resolved_each : (d : Description) (n : Named) → resolve d ≡ Ok n → EachIsNamed n
 resolved_each d n e =
+    let named : Programs → Wiring → Named = named_with (limit_of d.network.limit) in
     let p = went (programs_of d.processes)
-    (λ p. and_then (wiring p.names d.network.items) (λ w. Ok (named_with d p w))) n e in
-    let w = went (wiring p.value.names d.network.items) (λ w. Ok (named_with d p.value w)) n p.rest in
+    (λ p. and_then (wiring p.names d.network.items) (λ w. Ok (named p w))) n e in
+    let w = went (wiring p.value.names d.network.items) (λ w. Ok (named p.value w)) n p.rest in
     let match = wiring_matches p.value.names d.network.items w.value w.first in
-    subst EachIsNamed (ok_is (named_with d p.value w.value) n w.rest)
-    (each_named p.value.programs (named_with d p.value w.value) refl refl
+    subst EachIsNamed (ok_is (named p.value w.value) n w.rest)
+    (each_named p.value.programs (named p.value w.value) refl refl
     (programs_match d.processes p.value p.first) match.instances match.channels)
 
 -- ---- the names by number

@@ -1,5 +1,5 @@
 -- What a description names: the tables of a network, and the names of their parts by number.
-use Rattle.std.specs.Prelude.{◌≡◌, List, [], ◌∷◌, ◌++◌, length, map, Result, Ok}
+use Rattle.std.specs.Prelude.{◌≡◌, ℕ, List, [], ◌∷◌, ◌++◌, length, map, Result, Ok}
 use Rattle.kpn_lang.specs.Parts.{Parts}
 use Rattle.kpn_net.specs.Tables.{Tables}
 use Rattle.kpn_grammar.specs.Syntax.{Name, Process, Description}
@@ -8,7 +8,7 @@ use Rattle.kpn_names.specs.Fault.{NameError, each}
 use Rattle.kpn_tokens.specs.Results.{◌>>=◌, and_then}
 use Rattle.kpn_names.specs.Names.{declared}
 use Rattle.kpn_names.specs.Scope.{head}
-use Rattle.kpn_names.specs.Blocks.{body_of}
+use Rattle.kpn_names.specs.Blocks.{Written, body_of}
 use Rattle.kpn_names.specs.Network.{Wiring, limit_of, wiring}
 
 -- the parts of a program, and the names of its ports and variables
@@ -16,22 +16,27 @@ pub record NamedProgram : Type 0 where
   pub names : Scope
   pub parts : Parts
 
+-- the program of a head and a body
+abbrev pub program_with : Scope → Written → NamedProgram
+program_with s body =
+    record {
+      names = body.scope;
+      parts =
+          record {
+            ins = length body.scope.ins;
+            outs = length body.scope.outs;
+            pars = length s.vars;
+            vars = length body.scope.vars;
+            blocks = body.blocks;
+          };
+    }
+
 -- a process: its head, and its body with the locals that it makes
 abbrev pub program_of : Process → Result NamedProgram NameError
 program_of p = do
   s ← head p
   body ← body_of s p.body
-  Ok (record {
-    names = body.scope;
-    parts =
-        record {
-          ins = length body.scope.ins;
-          outs = length body.scope.outs;
-          pars = length s.vars;
-          vars = length body.scope.vars;
-          blocks = body.blocks;
-        };
-  })
+  Ok (program_with s body)
 
 -- the processes so far, with their names
 pub record Programs : Type 0 where
@@ -56,15 +61,15 @@ pub record Named : Type 0 where
   pub instances : List Name
   pub channels : List Name
 
--- what the tables of the processes and of the network come to
-abbrev pub named_with : Description → Programs → Wiring → Named
-named_with d p w = record {
+-- what the tables of the processes and of the network come to, under this limit
+abbrev pub named_with : (limit : ℕ) → Programs → Wiring → Named
+named_with limit p w = record {
   tables =
       record {
         programs = map (λ q. q.parts) p.programs;
         instances = w.instances;
         channels = w.channels;
-        limit = limit_of d.network.limit;
+        limit = limit;
       };
   processes = p.names;
   scopes = map (λ q. q.names) p.programs;
@@ -77,7 +82,7 @@ abbrev pub resolve : Description → Result Named NameError
 resolve d = do
   p ← programs_of d.processes
   w ← wiring p.names d.network.items
-  Ok (named_with d p w)
+  Ok (named_with (limit_of d.network.limit) p w)
 
 -- there are as many names as processes, instances and channels
 pub record EachIsNamed (n : Named) : Type 0 where

@@ -256,7 +256,7 @@ module _ (t : Tables) (waits : List Wait) where
   -- there is at most one cycle through a process
   pub cycle_unique : (p : ℕ) (others more : List ℕ) → IsCycle t waits p others → IsCycle t waits p more
       → others ≡ more
-  cycle_unique p others more a b = one_way p others more p a.turn b.turn a.distinct.0 b.distinct.0
+  cycle_unique p others more a b = one_way p others more p a.in_turn b.in_turn a.distinct.0 b.distinct.0
 
   -- on the way to the next p no process comes twice: it would go on from there the same way
   way_is_distinct : (r : ℕ) (xs : List ℕ) (p : ℕ) → WaitInTurn t waits r xs p → ¬ Contains xs p → AreDistinct xs
@@ -280,7 +280,7 @@ module _ (t : Tables) (waits : List Wait) where
   pub cycle_from : (p : ℕ) (others : List ℕ) → WaitInTurn t waits p others p → ¬ Contains others p
       → IsCycle t waits p others
   cycle_from p others turn absent =
-      record { distinct = (absent, way_is_distinct p others p turn absent); turn = turn }
+      record { distinct = (absent, way_is_distinct p others p turn absent); in_turn = turn }
 
   -- ---- a cycle from another of its members
 
@@ -303,7 +303,7 @@ module _ (t : Tables) (waits : List Wait) where
   rotated_at : (p : ℕ) (xs : List ℕ) (q : ℕ) (ys : List ℕ) → IsCycle t waits p (xs ++ q ∷ ys)
       → Rotated p (xs ++ q ∷ ys) q
   rotated_at p xs q ys cycle =
-      let turns = turn-apart p xs q ys p cycle.turn in
+      let turns = turn-apart p xs q ys p cycle.in_turn in
       let absent = distinct_apart (p ∷ xs) q ys cycle.distinct in
       let exchanged : IsPermutation ((p ∷ xs) ++ ys) (ys ++ p ∷ xs) = IsPermutation-append_comm (p ∷ xs) ys in
       record {
@@ -368,8 +368,8 @@ module _ (t : Tables) (waits : List Wait) where
       → q < length t.instances
   cycle_below p others cycle q h =
       elim (Contains-cases p others q h) [
-        | inl same ↦ subst (λ r. r < length t.instances) same (last_below p others p cycle.turn)
-        | inr later ↦ member_below p others p cycle.turn q later
+        | inl same ↦ subst (λ r. r < length t.instances) same (last_below p others p cycle.in_turn)
+        | inr later ↦ member_below p others p cycle.in_turn q later
       ]
 
   -- a cycle has no more members than there are processes

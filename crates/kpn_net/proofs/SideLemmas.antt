@@ -232,10 +232,6 @@ readers_of-more t i c x h e =
 
 -- ---- the outside
 
-pub IsKept-none : (sides : List Side) (ends : ℕ → List End) → ((c : ℕ) → ends c ≡ []) → Keeps sides (λ c. [])
-    → Keeps sides ends
-IsKept-none sides ends e k = Keeps-same sides (λ c. []) ends (λ c. sym (e c)) k
-
 -- the first channels with one more
 ltb-more_other : (c i : ℕ) → (c ≡ i → ⊥) → ltb c (i + 1) ≡ ltb c i
 ltb-more_other c i h = grind (arith, nat_tests)
@@ -318,6 +314,20 @@ pub kept_at : (t : Tables) (f : ℕ → End) (ends : List End) → ends ≡ map 
     → c < length t.channels → get_or ends c d ≡ f c
 kept_at t f ends e c d h =
     ap (λ xs. get_or xs c d) e ∙ get_or-map-range_with_len f 0 (length t.channels) c c d h (omega arith)
+
+-- A network keeps an end for each channel, so there is one with this number, and it is that of the tables that
+-- contracts see.
+pub end_is_there : (t now : Tables) → t ≡ now → (f : Tables → ℕ → End) (ends : List End)
+    → ends ≡ map (f t) (channel_numbers t) → (c : ℕ) → c < length now.channels → c < length ends
+end_is_there t now seen f ends e c h =
+    let below : c < length t.channels = subst (λ (u : Tables). c < length u.channels) (sym seen) h in
+    omega (arith, length-kept t (f t) ends e)
+
+pub end_is : (t now : Tables) → t ≡ now → (f : Tables → ℕ → End) (ends : List End)
+    → ends ≡ map (f t) (channel_numbers t) → (c : ℕ) (d : End) → c < length now.channels → get_or ends c d ≡ f now c
+end_is t now seen f ends e c d h =
+    let below : c < length t.channels = subst (λ (u : Tables). c < length u.channels) (sym seen) h in
+    kept_at t (f t) ends e c d below ∙ ap (λ u. f u c) seen
 
 -- sides that are fresh
 pub Keeps-nobody : (n m : ℕ) → n ≤ m → Keeps (take n (replicate m Nobody)) (λ c. [])

@@ -61,7 +61,7 @@ AreDistinct (p ∷ rest) = (¬ Contains rest p) × AreDistinct rest
 -- for p
 pub record IsCycle (t : Tables) (waits : List Wait) (p : ℕ) (others : List ℕ) : Type 0 where
   pub distinct : AreDistinct (p ∷ others)
-  pub turn : WaitInTurn t waits p others p
+  pub in_turn : WaitInTurn t waits p others p
 
 -- the full channels of a cycle: those on which its members wait as full
 abbrev pub full_channels : List Wait → List ℕ → List ℕ

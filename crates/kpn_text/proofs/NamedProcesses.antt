@@ -9,7 +9,7 @@ use Rattle.kpn_names.specs.Scope.{are_distinct}
 use Rattle.kpn_names.specs.Body.{tree_in}
 use Rattle.kpn_names.specs.Blocks.{blocks_of, Written}
 use Rattle.kpn_names.specs.Laws.{BlocksAreTheTree}
-use Rattle.kpn_names.specs.Named.{NamedProgram, program_of, Programs, with_process, programs_of}
+use Rattle.kpn_names.specs.Named.{NamedProgram, program_with, program_of, Programs, with_process, programs_of}
 use Rattle.kpn_names.specs.declared.network_names.ProcessNames.{ProcessNames}
 use Rattle.kpn_names.specs.NetworkNames.{paired, process_names_in}
 use Rattle.kpn_canonical.specs.Named.{statements_named, process_named}
@@ -22,21 +22,6 @@ use Rattle.kpn_text.proofs.NamedBodies.{block_back}
 abbrev scope_of_head : Process → Scope
 scope_of_head p = record { ins = p.ins; outs = p.outs; vars = p.pars }
 
--- a program of a head and a body
-abbrev made_of : Scope → Written → NamedProgram
-made_of s body =
-    record {
-      names = body.scope;
-      parts =
-          record {
-            ins = length body.scope.ins;
-            outs = length body.scope.outs;
-            pars = length s.vars;
-            vars = length body.scope.vars;
-            blocks = body.blocks;
-          };
-    }
-
 abbrev written_of : Scope × Tree → Written
 written_of t = record { scope = t.0; blocks = blocks_of t.1 }
 
@@ -44,7 +29,7 @@ abbrev ComesBack : Process → NamedProgram → Type 0
 ComesBack p made = process_named (process_names_in p.name made.names) made.parts ≡ p
 
 body_comes_back : BlocksAreTheTree → (p : Process) (t : Scope × Tree) → tree_in (scope_of_head p) p.body ≡ Ok t
-    → ComesBack p (made_of (scope_of_head p) (written_of t))
+    → ComesBack p (program_with (scope_of_head p) (written_of t))
 body_comes_back flat p t h =
     let b = block_back (scope_of_head p) p.body t h in
     let names : ProcessNames = process_names_in p.name t.0 in
@@ -63,12 +48,12 @@ process_back flat p made h =
     let known : scope_of_head p ≡ s.value =
     (if_so (are_distinct (p.ins ++ p.outs ++ p.pars)) (scope_of_head p) s.value s.first).1 in
     let read : tree_in (scope_of_head p) p.body ≡ Ok tree.value = ap (λ q. tree_in q p.body) known ∙ tree.first in
-    let back : ComesBack p (made_of (scope_of_head p) (written_of tree.value)) =
+    let back : ComesBack p (program_with (scope_of_head p) (written_of tree.value)) =
     body_comes_back flat p tree.value read in
     let written : written_of tree.value ≡ body.value = ok_is _ _ tree.rest in
-    let program : made_of s.value body.value ≡ made = ok_is _ _ body.rest in
-    let same : made_of (scope_of_head p) (written_of tree.value) ≡ made =
-    (λ i. made_of (known i) (written i)) ∙ program in
+    let program : program_with s.value body.value ≡ made = ok_is _ _ body.rest in
+    let same : program_with (scope_of_head p) (written_of tree.value) ≡ made =
+    (λ i. program_with (known i) (written i)) ∙ program in
     subst (λ q. ComesBack p q) same back
 
 -- ---- several

@@ -233,3 +233,7 @@ pub spelled_named : (d : Document) → IsSpelled d → AreNamed d.names d.tables
 spelled_named d (text, s) =
     subst (λ (x : Document). AreNamed x.names x.tables) s.is
     (are_named s.named (resolved_each s.tree s.named s.resolved))
+
+-- the same of what contracts see of a document
+pub seen_named : (d now : Document) → d ≡ now → IsSpelled d → AreNamed now.names now.tables
+seen_named d now e spelled = subst (λ (x : Document). AreNamed x.names x.tables) e (spelled_named d spelled)

@@ -1,5 +1,5 @@
 -- A document that a text spells is spelled by its canonical text, where that is short enough.
-use Rattle.std.proofs.Common.{◌≡◌, ℕ, ◌<◌, ◌≤◌, Bool, true, false, cond, List, length, map, Some, None, Result, Ok, Err, refl, sym, ap, subst, ◌∙◌, arith}
+use Rattle.std.proofs.Common.{◌≡◌, ℕ, ◌<◌, ◌≤◌, Bool, true, false, cond, List, length, Some, None, Result, Ok, Err, refl, sym, ap, subst, ◌∙◌, arith}
 use Rattle.std.specs.Prelude.{nat_lt, IfOk}
 use Rattle.std.specs.List.{AllByRecursion}
 use Rattle.std.proofs.lemmas.Bool.Decides.{nat_tests}
@@ -12,7 +12,7 @@ use Rattle.kpn_grammar.specs.Spelling.{spell_description, ProcessIsWithin, IsDes
 use Rattle.kpn_tokens.specs.Results.{and_then}
 use Rattle.kpn_names.specs.Laws.{BlocksAreTheTree}
 use Rattle.kpn_names.specs.Network.{limit_of, Wiring, wiring}
-use Rattle.kpn_names.specs.Named.{Programs, programs_of, Named, resolve}
+use Rattle.kpn_names.specs.Named.{Programs, programs_of, Named, named_with, resolve}
 use Rattle.kpn_names.specs.declared.network_names.NetworkNames.{NetworkNames}
 use Rattle.kpn_canonical.specs.Laws.{DescriptionIsRead, ReadDescriptionsAreProper}
 use Rattle.kpn_canonical.specs.Named.{limit_named, description_named}
@@ -48,27 +48,12 @@ limit_proper n h = limit_proper_by (nat_lt n MAX_CAPACITY) n h
 
 -- ---- what a description names, part by part
 
-abbrev with_limit : (limit : ℕ) → Programs → Wiring → Named
-with_limit limit p w = record {
-  tables =
-      record {
-        programs = map (λ q. q.parts) p.programs;
-        instances = w.instances;
-        channels = w.channels;
-        limit = limit;
-      };
-  processes = p.names;
-  scopes = map (λ q. q.names) p.programs;
-  instances = w.instance_names;
-  channels = w.channel_names;
-}
-
 record Resolved (d : Description) (n : Named) : Type 0 where
   p : Programs
   w : Wiring
   has_processes : programs_of d.processes ≡ Ok p
   has_items : wiring p.names d.network.items ≡ Ok w
-  is : with_limit (limit_of d.network.limit) p w ≡ n
+  is : named_with (limit_of d.network.limit) p w ≡ n
 
 resolved : (d : Description) (n : Named) → resolve d ≡ Ok n → Resolved d n
 resolved d n h =
@@ -77,11 +62,11 @@ resolved d n h =
     record { p = p.value; w = w.value; has_processes = p.first; has_items = w.first; is = ok_is _ n w.rest }
 
 resolves : (d : Description) (p : Programs) (w : Wiring) → programs_of d.processes ≡ Ok p
-    → wiring p.names d.network.items ≡ Ok w → resolve d ≡ Ok (with_limit (limit_of d.network.limit) p w)
+    → wiring p.names d.network.items ≡ Ok w → resolve d ≡ Ok (named_with (limit_of d.network.limit) p w)
 resolves d p w hp hw =
     then_ok (programs_of d.processes)
-    (λ q. and_then (wiring q.names d.network.items) (λ v. Ok (with_limit (limit_of d.network.limit) q v))) p hp
-    ∙ then_ok (wiring p.names d.network.items) (λ v. Ok (with_limit (limit_of d.network.limit) p v)) w hw
+    (λ q. and_then (wiring q.names d.network.items) (λ v. Ok (named_with (limit_of d.network.limit) q v))) p hp
+    ∙ then_ok (wiring p.names d.network.items) (λ v. Ok (named_with (limit_of d.network.limit) p v)) w hw
 
 -- ---- the description that a document is printed as
 
@@ -96,9 +81,9 @@ pub record Kept (d : Description) (n : Named) : Type 0 where
   pub again : resolve (printed n) ≡ Ok n
 
 kept_by : BlocksAreTheTree → (d : Description) (limit : ℕ) (p : Programs) (w : Wiring) → limit ≤ MAX_CAPACITY
-    → programs_of d.processes ≡ Ok p → wiring p.names d.network.items ≡ Ok w → Kept d (with_limit limit p w)
+    → programs_of d.processes ≡ Ok p → wiring p.names d.network.items ≡ Ok w → Kept d (named_with limit p w)
 kept_by flat d limit p w small hp hw =
-    let n : Named = with_limit limit p w in
+    let n : Named = named_with limit p w in
     let a = processes_back flat d.processes p hp in
     let b = items_back (names_in n) p.names d.network.items w a.names_back refl hw in
     let read : programs_of (printed n).processes ≡ Ok p = ap (λ ps. programs_of ps) a.back ∙ hp in
@@ -106,7 +91,7 @@ kept_by flat d limit p w small hp hw =
       processes = sym a.back;
       limit = limit_proper limit small;
       items = b.proper;
-      again = resolves (printed n) p w read b.again ∙ ap (λ l. Ok (with_limit l p w)) (limit_again limit small);
+      again = resolves (printed n) p w read b.again ∙ ap (λ l. Ok (named_with l p w)) (limit_again limit small);
     }
 
 pub kept : BlocksAreTheTree → LimitsAreInRange → (d : Description) (n : Named) → resolve d ≡ Ok n → IsNetwork n.tables

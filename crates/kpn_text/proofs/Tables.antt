@@ -4,7 +4,7 @@ use Rattle.std.specs.Prelude.{slice_get, option_copied, IsSome, IfSome, IfNone, 
 use Rattle.std.proofs.Math.Seq.{drop-cons}
 use Rattle.std.proofs.lemmas.List.{drop_all}
 use Rattle.std.proofs.lemmas.Option.{slice_get-get_or, get_or_from_slice_get, slice_get_within}
-use Rattle.kpn_text.specs.Phases.{Cause, in_program, in_network, network_cause, or_else, programs_cause, program_or, tables_cause}
+use Rattle.kpn_text.specs.Phases.{Cause, in_network, network_cause, or_else, programs_cause, program_or, tables_cause}
 use Rattle.kpn_lang.specs.declared.program.ProgramFault.{ProgramFault}
 use Rattle.kpn_lang.specs.declared.program.ProgramFault.TheVariants as rule
 use Rattle.kpn_lang.specs.Parts.{Parts, first_fault}
@@ -182,7 +182,8 @@ pub made_broken : (all made rest after : List Parts) (p : Parts) (number : ℕ) 
     → (told ≡ text.NoMemory) ⊎ TellsCause (programs_cause 0 all) told
 made_broken all made rest after p number told m e count (inl memory) = inl memory
 made_broken all made rest after p number told m e count (inr tells) =
-    let found : programs_cause 0 all ≡ program_or (length made) (first_fault p) (programs_cause (suc (length made)) after) =
+    let found
+    : programs_cause 0 all ≡ program_or (length made) (first_fault p) (programs_cause (suc (length made)) after) =
     m.cause ∙ ap (programs_cause (length made)) e in
     inr (subst (λ c. TellsCause c told) (sym found)
     (told_first (length made) (first_fault p) _ told
@@ -194,16 +195,6 @@ pub made_network : {N : Type 0} (t : Tables) (P : N → Type 0) (n : N) → prog
     → first_network_fault t ≡ None → P n → (tables_cause t ≡ None) × P n
 made_network t P n e f p =
     (ap (λ c. or_else c (network_cause (first_network_fault t))) e ∙ ap network_cause f, p)
-
-cause_first : (a b : Option Cause) (told : TextFault) → TellsCause a told → TellsCause (or_else a b) told
-cause_first (Some cause) b told t = t
-cause_first None b told t = absurd t
-
--- the fault of a program is that of the tables
-pub program_first : (t : Tables) (told : TextFault) → TellsCause (programs_cause 0 t.programs) told
-    → TellsCause (tables_cause t) told
-program_first t told h =
-    cause_first (programs_cause 0 t.programs) (network_cause (first_network_fault t)) told h
 
 -- the fault of the network is that of the tables where each program keeps the rules
 pub network_then : (t : Tables) (fault : NetFault) (told : TextFault) → programs_cause 0 t.programs ≡ None

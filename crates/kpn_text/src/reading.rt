@@ -34,7 +34,7 @@ fn read_text(alloc: Global, text: &[u8]) -> Result<Document, TextFault>
 /// # Errors
 ///
 /// The fault of the first phase that finds one. [`TextFault::TooLong`] where the text has more than
-/// 1,048,576 bytes; then the first in the text of [`TextFault::Token`] and, at a name,
+/// [`MAX_TEXT_BYTES`](kpn_limits::MAX_TEXT_BYTES); then the first in the text of [`TextFault::Token`] and, at a name,
 /// [`TextFault::TooLong`]; then [`TextFault::Grammar`] or a process that nests too deep, whichever comes
 /// first; then the first in the text of [`TextFault::UnknownName`] and [`TextFault::DoubleName`]; then
 /// [`TextFault::Program`] of the first process that is no program; then [`TextFault::Net`].

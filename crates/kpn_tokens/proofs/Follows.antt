@@ -8,8 +8,8 @@ use Rattle.std.specs.Str.Parse.{digits_value}
 use Rattle.std.proofs.lemmas.Bool.{and_cases, and_parts, cond_both, eqb-true, leb-false, leb-true, ltb-false, ltb-true, or_left}
 use Rattle.std.proofs.lemmas.Bool.Decides.{Decides-eqb}
 use Rattle.std.proofs.lemmas.Slice.Eq.{bytes_eq-Decides, starts_is}
-use Rattle.kpn_limits.specs.declared.TheConstants.{MAX_NAME_BYTES}
-use Rattle.kpn_tokens.specs.declared.tokens.TheConstants.{MAX_DIGITS, MAX_NUMBER}
+use Rattle.kpn_limits.specs.declared.TheConstants.{MAX_DIGITS, MAX_NAME_BYTES}
+use Rattle.kpn_tokens.specs.declared.tokens.TheConstants.{MAX_NUMBER}
 use Rattle.kpn_tokens.specs.declared.lexer.Class.TheVariants as class
 use Rattle.kpn_tokens.specs.declared.lexer.LexFault.{LexFault}
 use Rattle.kpn_tokens.specs.declared.lexer.LexFault.TheVariants as fault

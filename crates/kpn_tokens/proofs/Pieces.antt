@@ -1,5 +1,5 @@
 -- The piece at the front of a text takes a byte or more, and no more than the text has.
-use Rattle.std.proofs.Common.{◌≡◌, ℕ, suc, ◌<◌, ◌≤◌, Bool, true, ◌&&◌, List, [], ◌∷◌, length, get_or, take, Option, Some, None, refl, sym, ap, ◌∙◌, subst, eqb, nat_lt, nat_le, arith, lit≤, length-take}
+use Rattle.std.proofs.Common.{◌≡◌, ℕ, suc, ◌<◌, ◌≤◌, Bool, true, ◌&&◌, List, [], ◌∷◌, length, take, Option, Some, None, refl, sym, ap, ◌∙◌, subst, eqb, nat_lt, nat_le, arith, lit≤, length-take}
 use Rattle.std.specs.Char.{digit_value, is_ascii_digit}
 use Rattle.std.specs.Cmp.Lexicographic.{pointwise}
 use Rattle.std.specs.Int.{IsInRange}
@@ -10,8 +10,8 @@ use Rattle.std.proofs.lemmas.Bool.{and_parts, cond_both, cond-true, leb-true, or
 use Rattle.std.proofs.lemmas.Bool.Decides.{nat_tests}
 use Rattle.std.proofs.lemmas.List.Sums.{take_while-cons}
 use Rattle.std.proofs.lemmas.Str.{digit_value_digit}
-use Rattle.kpn_limits.specs.declared.TheConstants.{MAX_NAME_BYTES}
-use Rattle.kpn_tokens.specs.declared.tokens.TheConstants.{MAX_DIGITS, MAX_NUMBER}
+use Rattle.kpn_limits.specs.declared.TheConstants.{MAX_DIGITS, MAX_NAME_BYTES}
+use Rattle.kpn_tokens.specs.declared.tokens.TheConstants.{MAX_NUMBER}
 use Rattle.kpn_tokens.specs.declared.lexer.Class.{Class}
 use Rattle.kpn_tokens.specs.declared.lexer.Class.TheVariants as class
 use Rattle.kpn_tokens.specs.declared.lexer.Piece.{Piece}
@@ -140,8 +140,3 @@ run_of_digits (b ∷ bs) =
     let P : List ℕ → Type 0 = AllDigits 10 in
     subst P (sym (take_while-cons is_ascii_digit b bs)) (cond_both (is_ascii_digit b) (b ∷ run class.Digit bs) [] P
     (λ e. (digit_below_ten b e, run_of_digits bs)) (λ _. tt))
-
--- the same of a text that is not empty
-pub piece_takes : (text : List ℕ) → 0 < length text → TakesWithin (piece_of (get_or text 0 0) text) (length text)
-piece_takes [] some = absurd (omega arith)
-piece_takes (b ∷ bs) some = piece_fits b bs

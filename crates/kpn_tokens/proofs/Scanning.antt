@@ -14,10 +14,6 @@ abbrev pub with_front : List Lexeme → Result (List Lexeme) LexFault → Result
 with_front front (Ok ls) = Ok (front ++ ls)
 with_front front (Err fault) = Err fault
 
-pub with_front-nil : (r : Result (List Lexeme) LexFault) → with_front [] r ≡ r
-with_front-nil (Ok ls) = refl
-with_front-nil (Err fault) = refl
-
 pub with_front-cons : (front : List Lexeme) (l : Lexeme) (r : Result (List Lexeme) LexFault)
     → with_front front (cons_lexeme l r) ≡ with_front (front ++ l ∷ []) r
 with_front-cons front l (Ok ls) = ap (λ all. Ok all) (sym (append_assoc front (l ∷ []) ls))

@@ -4,8 +4,8 @@ use Rattle.std.specs.Prelude.{ℕ, zero, suc, ◌-◌, ◌≤◌, Bool, not, ◌
 use Rattle.std.specs.Char.{is_ascii_digit, is_ascii_alphabetic}
 use Rattle.std.specs.List.{take_while}
 use Rattle.std.specs.Str.Parse.{digits_value}
-use Rattle.kpn_limits.specs.declared.TheConstants.{MAX_NAME_BYTES, MAX_TEXT_BYTES}
-use Rattle.kpn_tokens.specs.declared.tokens.TheConstants.{MAX_DIGITS, MAX_NUMBER}
+use Rattle.kpn_limits.specs.declared.TheConstants.{MAX_DIGITS, MAX_NAME_BYTES, MAX_TEXT_BYTES}
+use Rattle.kpn_tokens.specs.declared.tokens.TheConstants.{MAX_NUMBER}
 use Rattle.kpn_tokens.specs.declared.lexer.Class.{Class}
 use Rattle.kpn_tokens.specs.declared.lexer.Class.TheVariants as class
 use Rattle.kpn_tokens.specs.declared.lexer.LexFault.{LexFault}
@@ -71,7 +71,7 @@ piece_of b text =
     else (if is_ascii_digit b then number_piece (run class.Digit text)
     else mark_piece text)))
 
--- a piece takes a byte or more, and no more than there are
+-- Scaffolding, of the one call that finds a piece: it takes a byte or more, and no more than there are.
 abbrev pub TakesWithin : Piece → ℕ → Type 0
 TakesWithin (piece.Gap n) available = (1 ≤ n) × (n ≤ available)
 TakesWithin (piece.Token token n) available = (1 ≤ n) × (n ≤ available)

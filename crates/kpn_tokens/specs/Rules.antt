@@ -4,8 +4,8 @@ use Rattle.std.specs.Prelude.{◌≡◌, ℕ, ◌+◌, ◌<◌, ◌≤◌, ◌�
 use Rattle.std.specs.Char.{is_ascii_digit}
 use Rattle.std.specs.List.{list_all, starts_with}
 use Rattle.std.specs.Str.Parse.{digits_value}
-use Rattle.kpn_limits.specs.declared.TheConstants.{MAX_NAME_BYTES}
-use Rattle.kpn_tokens.specs.declared.tokens.TheConstants.{MAX_DIGITS, MAX_NUMBER}
+use Rattle.kpn_limits.specs.declared.TheConstants.{MAX_DIGITS, MAX_NAME_BYTES}
+use Rattle.kpn_tokens.specs.declared.tokens.TheConstants.{MAX_NUMBER}
 use Rattle.kpn_tokens.specs.declared.lexer.Class.{Class}
 use Rattle.kpn_tokens.specs.declared.lexer.Class.TheVariants as class
 use Rattle.kpn_tokens.specs.declared.lexer.LexFault.{LexFault}

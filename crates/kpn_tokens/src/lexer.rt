@@ -5,8 +5,8 @@ ghost use Rattle.std.specs.Prelude.{◌≡◌, ◌<◌, ◌≤◌, length, slice
 ghost use Rattle.std.specs.Str.Parse.{AllDigits, digits_value};
 ghost use Rattle.kpn_tokens.specs.Lexing as spec;
 
-use crate::tokens::{Keyword, Lexeme, MAX_DIGITS, MAX_NUMBER, Mark, Name, Number, Token};
-use kpn_limits::{MAX_NAME_BYTES, MAX_TEXT_BYTES};
+use crate::tokens::{Keyword, Lexeme, MAX_NUMBER, Mark, Name, Number, Token};
+use kpn_limits::{MAX_DIGITS, MAX_NAME_BYTES, MAX_TEXT_BYTES};
 use std::alloc::{AllocFailed, Global};
 use thiserror::Error;
 

@@ -9,9 +9,6 @@ ghost use Rattle.kpn_tokens.specs.Spelling.{keyword_bytes, keyword_of, mark_at, 
 
 use std::marker::Model;
 
-/// The most digits that a number is written with, leading zeros included.
-pub const MAX_DIGITS: usize = 19;
-
 /// The greatest number, 9223372036854775807.
 pub const MAX_NUMBER: u64 = i64::MAX as u64;
 

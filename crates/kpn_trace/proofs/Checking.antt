@@ -15,7 +15,7 @@ way_round t B p = way t (waits_of t B) p (suc (length t.instances)) [] p
 pub way_round-allows : (t : Tables) (B : List Event) (p : ℕ) (others : List ℕ) → IsBlockedCycle t B p others
     → Allows (way_round t B p) others
 way_round-allows t B p others cycle =
-    way-allows t (waits_of t B) p (suc (length t.instances)) [] p others cycle.turn cycle.distinct.1 cycle.distinct.0
+    way-allows t (waits_of t B) p (suc (length t.instances)) [] p others cycle.in_turn cycle.distinct.1 cycle.distinct.0
     (record { each = λ x h k. absurd (omega (arith, k.1)) })
 
 -- a way that comes round is a blocked cycle

@@ -105,9 +105,9 @@ had_cycle t network B e legal p others none cycle =
       cycle =
           record {
             distinct = cycle.distinct;
-            turn = turn_kept t (waits_of t (B ++ e ∷ [])) (waits_of t B) p others p keeps cycle.turn;
+            in_turn = turn_kept t (waits_of t (B ++ e ∷ [])) (waits_of t B) p others p keeps cycle.in_turn;
           };
-      full = full_kept t (waits_of t (B ++ e ∷ [])) (waits_of t B) p others p keeps cycle.turn;
+      full = full_kept t (waits_of t (B ++ e ∷ [])) (waits_of t B) p others p keeps cycle.in_turn;
       waits = keeps;
     }
   where

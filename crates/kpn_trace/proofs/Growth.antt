@@ -230,7 +230,7 @@ no_cycle_then t network B p d legal waiters g =
     Contains-permutation (p ∷ round.rest) (g.process ∷ g.others) at_d.member
     (IsPermutation-sym (g.process ∷ g.others) (p ∷ round.rest) round.members) in_round in
     let below = cycle_below t (waits_of t H) g.process g.others g.cycle at_d.member member in
-    let waits = member_waits t (waits_of t H) g.process g.others g.process g.cycle.turn at_d.member member in
+    let waits = member_waits t (waits_of t H) g.process g.others g.process g.cycle.in_turn at_d.member member in
     let still : full_channel (wait_at (waits_of t H) at_d.member) ≡ Some d =
     subst (λ x. full_channel x ≡ Some d) (before.waits at_d.member waits.0 member waits.1) at_d.full in
     not_full_then t B p d (Legal-consistent t B (Legal-before t B (Grow p d) legal)) next.numbers.1

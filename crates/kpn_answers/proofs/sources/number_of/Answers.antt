@@ -2,7 +2,7 @@
 use Rattle.std.proofs.Common.{◌≡◌, ◌<◌, true, length, take, count_by, sym, ap, ◌∙◌, arith}
 use Rattle.kpn_net.specs.Tables.{channel_at, is_source}
 use Rattle.kpn_net.specs.Iteration.{sources}
-use Rattle.kpn_answers.proofs.SourceLemmas.{source_below}
+use Rattle.kpn_net.proofs.RoundLemmas.{source_below}
 use Rattle.kpn_answers.proofs.sources.number_of.Goals as goal
 
 pub returns-then-eq-clause-there : goal.returns-then-eq-clause-there

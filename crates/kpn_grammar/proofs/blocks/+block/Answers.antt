@@ -31,8 +31,8 @@ statements-statements-init t c =
     let s = c.args.source.scope in
     let inner = block s c.args.depth in
     rw (all_statements s inner (tokens_from c.args.source c.args.at))
-    (at_first statement_seen goes_on (one_statement s inner) c.new-found.result.items (tokens_from c.args.source c.args.at)
-    c.new-found.ensures.items)
+    (at_first statement_seen goes_on (one_statement s inner) c.new-found.result.items
+    (tokens_from c.args.source c.args.at) c.new-found.ensures.items)
 
 pub statements-returns-in_err-statement : goal.statements-returns-in_err-statement
 statements-returns-in_err-statement t c =
@@ -59,7 +59,8 @@ statements-statements-preserved t c =
     let s = c.args.source.scope in
     let inner = block s c.args.depth in
     one_more statement_seen goes_on (one_statement s inner) c.statements.found.items c.push.new.self.items
-    c.in_ok-statement.statement (tokens_from c.args.source c.statements.place) (tokens_from c.args.source c.in_ok-statement.after)
+    c.in_ok-statement.statement (tokens_from c.args.source c.statements.place)
+    (tokens_from c.args.source c.in_ok-statement.after)
     (statements_at s inner (tokens_from c.args.source c.args.at)) c.statements.invariant
     (sym c.goes_on.ensures ∙ c.statements-test.true) (any_number s inner _ _ ∙ c.in_ok-statement.ensures)
     (statement_shortens s c.args.depth 0 (tokens_from c.args.source c.statements.place)

@@ -15,8 +15,9 @@ expression-returns-in_err-first t c =
 pub expression-returns-then-depth-eq0 : goal.expression-returns-then-depth-eq0
 expression-returns-then-depth-eq0 t c =
     let none : c.args.depth ≡ 0 = omega arith in
-    fails_with c.level_fault.result _ (expression_deep c.args.source.scope c.args.depth (tokens_from c.args.source c.args.at)
-    c.in_ok-first.first.now (tokens_from c.args.source c.in_ok-first.after) none c.in_ok-first.ensures
+    fails_with c.level_fault.result _ (expression_deep c.args.source.scope c.args.depth
+    (tokens_from c.args.source c.args.at) c.in_ok-first.first.now
+    (tokens_from c.args.source c.in_ok-first.after) none c.in_ok-first.ensures
     ∙ ap Err (sym c.level_fault.ensures))
 
 pub expression-returns : goal.expression-returns

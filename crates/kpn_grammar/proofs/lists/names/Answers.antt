@@ -17,8 +17,8 @@ returns-in_err-name c =
     let found = c.names.found.items in
     let p = err_from_is_err_and c.from_residual-in_err-name.result c.from_residual-in_err-name.ensures.1 in
     rw (p.1, p.2) (fails_here (is_mark mark_.Comma) (further s (name s)) c.in_err-name.field-0.0 (names_seen found)
-    (length found) (tokens_from c.args.source c.names.place) (names s (tokens_from c.args.source c.args.at)) c.names.invariant
-    (sym c.at_mark.ensures ∙ c.names-test.true) (further_fails s (name s) (length found)
+    (length found) (tokens_from c.args.source c.names.place) (names s (tokens_from c.args.source c.args.at))
+    c.names.invariant (sym c.at_mark.ensures ∙ c.names-test.true) (further_fails s (name s) (length found)
     (tokens_from c.args.source c.names.place) c.in_err-name.field-0.0 c.in_err-name.ensures))
 
 pub names-smaller : goal.names-smaller

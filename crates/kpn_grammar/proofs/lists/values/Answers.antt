@@ -16,8 +16,8 @@ returns-in_err-value c =
     let found = c.values.found.items in
     let p = err_from_is_err_and c.from_residual-in_err-value.result c.from_residual-in_err-value.ensures.1 in
     rw (p.1, p.2) (fails_here (is_mark mark_.Comma) (further s (literal s)) c.in_err-value.field-0.0 (values_seen found)
-    (length found) (tokens_from c.args.source c.values.place) (values s (tokens_from c.args.source c.args.at)) c.values.invariant
-    (sym c.at_mark.ensures ∙ c.values-test.true) (further_fails s (literal s) (length found)
+    (length found) (tokens_from c.args.source c.values.place) (values s (tokens_from c.args.source c.args.at))
+    c.values.invariant (sym c.at_mark.ensures ∙ c.values-test.true) (further_fails s (literal s) (length found)
     (tokens_from c.args.source c.values.place) c.in_err-value.field-0.0 c.in_err-value.ensures))
 
 pub values-smaller : goal.values-smaller

@@ -7,8 +7,8 @@ use Rattle.kpn_grammar.proofs.networks.items.Given as goal
 
 abbrev pub invariant-items : goal.invariant-items
 invariant-items l =
-    StandsAt (goes_on) (item l.source.scope) (items_seen l.found.items) (length l.found.items) (tokens_from l.source l.place)
-    (items l.source.scope (tokens_from l.source l.at))
+    StandsAt (goes_on) (item l.source.scope) (items_seen l.found.items) (length l.found.items)
+    (tokens_from l.source l.place) (items l.source.scope (tokens_from l.source l.at))
 
 abbrev pub decreases-items : goal.decreases-items
 decreases-items l = length l.source.tokens.now - l.place

@@ -33,15 +33,17 @@ pub processes-smaller : goal.processes-smaller
 processes-smaller c =
     let s = c.args.source.scope in
     place_moves c.args.source.tokens.now c.processes.place c.in_ok-process.after
-    (process_shortens s c.len.result (tokens_from c.args.source c.processes.place) (process_seen c.in_ok-process.process)
-    (tokens_from c.args.source c.in_ok-process.after) c.in_ok-process.ensures)
+    (process_shortens s c.len.result (tokens_from c.args.source c.processes.place)
+    (process_seen c.in_ok-process.process) (tokens_from c.args.source c.in_ok-process.after)
+    c.in_ok-process.ensures)
 
 pub processes-preserved : goal.processes-preserved
 processes-preserved c =
     let s = c.args.source.scope in
     let found = c.processes.found.items in
     one_more process_seen (is_keyword keyword_.Process) (numbered_process s) found c.push.new.self.items
-    c.in_ok-process.process (tokens_from c.args.source c.processes.place) (tokens_from c.args.source c.in_ok-process.after)
+    c.in_ok-process.process (tokens_from c.args.source c.processes.place)
+    (tokens_from c.args.source c.in_ok-process.after)
     (processes s (tokens_from c.args.source c.args.at)) c.processes.invariant
     (sym c.at_keyword.ensures ∙ c.processes-test.true)
     (count_is s c.len.result (length found) (tokens_from c.args.source c.processes.place)
@@ -55,5 +57,5 @@ returns c =
     let s = c.args.source.scope in
     let found = c.processes.found.items in
     stops_here (is_keyword keyword_.Process) (numbered_process s) (processes_seen found) (length found)
-    (tokens_from c.args.source c.processes.place) (processes s (tokens_from c.args.source c.args.at)) c.processes.invariant
-    (sym c.at_keyword.ensures ∙ c.processes-test.false)
+    (tokens_from c.args.source c.processes.place) (processes s (tokens_from c.args.source c.args.at))
+    c.processes.invariant (sym c.at_keyword.ensures ∙ c.processes-test.false)

@@ -1,22 +1,22 @@
-use Rattle.std.proofs.Common.{◌<◌, length, sym, ap, ◌∙◌, subst, arith}
-use Rattle.kpn_net.specs.Tables.{Tables, writer_of}
+-- There is an end for each channel.
+use Rattle.std.proofs.Common.{◌∙◌, arith}
+use Rattle.kpn_net.specs.Tables.{writer_of}
 use Rattle.kpn_net.specs.View.{tables_of}
-use Rattle.kpn_net.proofs.SideLemmas.{length-kept, kept_at}
+use Rattle.kpn_net.proofs.SideLemmas.{end_is_there, end_is}
 use Rattle.kpn_net.proofs.network.Network.writer_of.Goals as goal
 
 pub index-requires : goal.index-requires
 index-requires c =
-    let t = tables_of c.self.inside.parts in
     let ends = c.self.inside.writers in
-    let below : c.args.c < length t.channels =
-    subst (λ (u : Tables). c.args.c < length u.channels) (sym c.self.view_is) c.requires in
-    omega (arith, ends.ok.0, length-kept t (writer_of t) ends.items c.self.invariant.writers)
+    omega (
+      arith,
+      ends.ok.0,
+      end_is_there (tables_of c.self.inside.parts) c.args.self.now c.self.view_is writer_of ends.items
+          c.self.invariant.writers c.args.c c.requires,
+    )
 
 pub returns : goal.returns
 returns c =
-    let t = tables_of c.self.inside.parts in
-    let below : c.args.c < length t.channels =
-    subst (λ (u : Tables). c.args.c < length u.channels) (sym c.self.view_is) c.requires in
     c.index.ensures
-    ∙ kept_at t (writer_of t) c.self.inside.writers.items c.self.invariant.writers c.args.c _ below
-    ∙ ap (λ u. writer_of u c.args.c) c.self.view_is
+    ∙ end_is (tables_of c.self.inside.parts) c.args.self.now c.self.view_is writer_of c.self.inside.writers.items
+    c.self.invariant.writers c.args.c _ c.requires
