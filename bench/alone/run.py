@@ -70,8 +70,8 @@ def main():
                 memory = max(r[1] for r in runs)
                 digests.update(r[2] for r in runs)
                 own = own or seconds
-                print(f'  {title:10} {count / seconds / 1e6:8.2f} million items a second, {memory / count:7.1f} bytes an item,'
-                      f' kpn is {seconds / own:5.2f} times as fast')
+                print(f'  {title:10} {count / seconds / 1e6:8.2f} million items a second,'
+                      f' {memory / count:7.1f} bytes an item, kpn is {seconds / own:5.2f} times as fast')
             if len(digests) != 1:
                 sys.exit('the outputs differ')
             print('  the outputs are equal')

@@ -108,7 +108,8 @@ fn deep(alloc: Global) -> Result<Vec<Vec<Stmt>>, AllocError> {
     Ok(blocks)
 }
 
-/// The body `total = 1; while (turn < wanted) { total = ((total * 16807) % 2147483647); turn = (turn + 1); } write 0 total;`
+/// The body `total = 1; while (turn < wanted) { total = ((total * 16807) % 2147483647); turn = (turn + 1); }` and then
+/// `write 0 total;`
 fn computing(alloc: Global) -> Result<Vec<Vec<Stmt>>, AllocError> {
     let test = binary(alloc, Op::Lt, Expr::Var(TURN), Expr::Var(WANTED))?;
     let body = vec![in alloc;

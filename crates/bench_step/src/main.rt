@@ -1,6 +1,6 @@
 //! Steps a loop of the process language alone, for `bench/step`, which measures it beside a plain interpreter.
-//! Words: the loop's name and how many turns it makes; it writes what the loop computed. Or `frames` and how many frames
-//! to copy and to compare; it writes how many were equal.
+//! Words: the loop's name and how many turns it makes; it writes what the loop computed. Or `frames` and how many
+//! frames to copy and to compare; it writes how many were equal.
 #![tactic(auto)]
 
 mod frames;

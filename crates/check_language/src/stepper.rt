@@ -123,6 +123,11 @@ fn written(rt: &impl Abort, writing: &Advance<'_>) -> Frame
     }
 }
 
+// Whether so many steps were made to this stop.
+fn came_to(advance: &Advance<'_>, steps: u32, stop: Stop) -> bool {
+    advance.steps() == steps && advance.stop() == stop
+}
+
 #[test]
 fn advances_from_stop_to_stop(rt: HostRuntime) -> Result<(), Fail> {
     let program = copy_program(rt.alloc())?;
@@ -131,14 +136,11 @@ fn advances_from_stop_to_stop(rt: HostRuntime) -> Result<(), Fail> {
     assert!(rt; start.fits(&program));
     let reading = advance(&program, start.copy(), 9);
     assert!(rt; *reading.from() == start);
-    assert_eq!(rt; reading.steps(), 1);
-    assert_eq!(rt; reading.stop(), Stop::WantRead(0));
+    assert!(rt; came_to(&reading, 1, Stop::WantRead(0)));
     let writing = advance(&program, given(&rt, &reading, 5), 9);
-    assert_eq!(rt; writing.steps(), 0);
-    assert_eq!(rt; writing.stop(), Stop::WantWrite(0, 5));
+    assert!(rt; came_to(&writing, 0, Stop::WantWrite(0, 5)));
     let paused = advance(&program, written(&rt, &writing), 1);
-    assert_eq!(rt; paused.steps(), 1);
-    assert_eq!(rt; paused.stop(), Stop::Paused);
+    assert!(rt; came_to(&paused, 1, Stop::Paused));
     Ok(())
 }
 

@@ -1,5 +1,5 @@
 -- `kpn alone NAME`, from the bytes that come in to the bytes that go out.
-use Rattle.std.specs.Prelude.{◌≡◌, ◌≢◌, ℕ, ◌-◌, ◌^◌, ℤ, List, [], ◌∷◌, Option, IfSome, ⊤}
+use Rattle.std.specs.Prelude.{◌≡◌, ◌≢◌, ℕ, ◌-◌, ◌^◌, ℤ, List, [], ◌∷◌, Option, IfSome}
 use Rattle.std.specs.Io.KnownBytes.{IsAtEnd}
 use Rattle.kpn_lang.specs.declared.talk.Said.{Said}
 use Rattle.kpn_step.specs.declared.stop.AloneStop.{AloneStop}
@@ -7,11 +7,12 @@ use Rattle.kpn_step.specs.Walk.{AloneGives}
 use Rattle.kpn_items.specs.Input.{LosesItsFront}
 use Rattle.kpn_items.specs.ItemFile.{Spells, TellsFirstBadLine}
 use Rattle.kpn_answers.specs.declared.refusal.Refusal.{Refusal}
-use Rattle.kpn_answers.specs.declared.refusal.Refusal.TheVariants.{UnknownProcess, Input, NoMemory}
+use Rattle.kpn_answers.specs.declared.refusal.Refusal.TheVariants.{UnknownProcess, Input}
 use Rattle.kpn_answers.specs.Answer.{Answers}
 use Rattle.kpn_alone.specs.declared.built_in.BuiltIn.{BuiltIn}
 use Rattle.kpn_alone.specs.BuiltIn.{name_of, program_of}
 use Rattle.kpn_alone.specs.AloneText.{alone_text}
+use Rattle.kpn_alone.specs.Refused.{WantsMemory}
 use Rattle.kpn_alone.specs.Plain.{plain_text}
 
 -- no process has this name
@@ -36,8 +37,7 @@ pub record IsAnswer (name : List ℕ) (came_in : Option (List ℕ)) (text : List
 abbrev pub IsRefusalOfAlone : (name : List ℕ) (came_in : Option (List ℕ)) → Refusal → Type 0
 IsRefusalOfAlone name came_in UnknownProcess = IsUnknown name
 IsRefusalOfAlone name came_in (Input fault) = IfSome came_in (λ bytes. TellsFirstBadLine bytes fault)
-IsRefusalOfAlone name came_in NoMemory = ⊤
-IsRefusalOfAlone name came_in other = ⊥
+IsRefusalOfAlone name came_in other = WantsMemory other
 
 -- what `kpn alone NAME` does with an input, an output and a place for faults, each given as it was and as it is after
 -- it, and the status that it answers

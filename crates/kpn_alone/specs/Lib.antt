@@ -2,4 +2,5 @@ pub mod BuiltIn
 pub mod AloneText
 pub mod Plain
 pub mod Laws
+pub mod Refused
 pub mod Alone

@@ -5,6 +5,7 @@ ghost use Rattle.kpn_items.specs.Input.{LosesItsFront};
 ghost use Rattle.kpn_step.specs.Walk.{AloneGives};
 ghost use Rattle.kpn_alone.specs.BuiltIn.{program_of};
 ghost use Rattle.kpn_alone.specs.Plain.{TalksPlainly};
+ghost use Rattle.kpn_alone.specs.Refused.{WantsMemory};
 ghost use Rattle.kpn_alone.specs.Alone.{IsAnswer, IsRefusalOfAlone, IsUnknown, RunsAlone};
 
 use crate::alone_text::text_of;
@@ -15,7 +16,7 @@ use kpn_items::read_items;
 use kpn_lang::Sequence;
 use kpn_limits::MAX_INPUT_BYTES;
 use kpn_step::{AloneRun, alone};
-use std::alloc::{AllocError, Global};
+use std::alloc::Global;
 use std::io::{Read, Write};
 
 /// The command `kpn alone NAME` over an input, an output and a place for faults. It answers the
@@ -52,13 +53,14 @@ fn answer<I: Read>(alloc: Global, name: &str, input: &mut I) -> Result<Vec<u8>, 
 }
 
 // The run of a process on these items, of which so few never pause it.
-fn run_on(alloc: Global, process: BuiltIn, items: Vec<i64>) -> Result<AloneRun, AllocError>
+fn run_on(alloc: Global, process: BuiltIn, items: Vec<i64>) -> Result<AloneRun, Refusal>
     requires { vec_len items ≤ MAX_INPUT_BYTES }
     ensures alone { IfOk result (λ run.
         AloneGives (program_of process) [] (items.items ∷ []) (2 ^ 64 - 1) run.talk run.stop) }
     ensures plain { IfOk result (λ run. TalksPlainly process items.items run.talk run.stop) }
+    ensures refused { IfErr result WantsMemory }
 {
     let program = process.program(alloc)?;
     let lists = [Sequence::from_vec(items)];
-    alone(alloc, &program, &[], &lists, u64::MAX)
+    Ok(alone(alloc, &program, &[], &lists, u64::MAX)?)
 }

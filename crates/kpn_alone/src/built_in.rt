@@ -1,8 +1,10 @@
 //! The processes that `kpn alone` knows.
-ghost use Rattle.std.specs.Prelude.{◌≡◌, ◌≢◌, IfOk, MatchOption, map};
+ghost use Rattle.std.specs.Prelude.{◌≡◌, ◌≢◌, IfOk, IfErr, MatchOption, map};
 ghost use Rattle.kpn_lang.specs.Syntax.{term_of, Bin, statement_of};
 
+use kpn_answers::refusal::Refusal;
 use kpn_lang::{Expr, Op, Program, Stmt};
+use kpn_text::TextFault;
 use std::alloc::{AllocError, Global};
 
 /// A process with one in port and one out port that goes on as long as items come.
@@ -25,6 +27,7 @@ const T: usize = 1;
 
 impl BuiltIn {
     ghost use Rattle.kpn_alone.specs.BuiltIn.{name_of, turn_of, variables_of, program_of};
+    ghost use Rattle.kpn_alone.specs.Refused.{WantsMemory};
 
     /// The process of this name.
     pub fn named(name: &str) -> Option<BuiltIn>
@@ -52,15 +55,19 @@ impl BuiltIn {
 
     /// Its program. A turn of its loop takes 2 steps, and 3 in `sum`: the test, what is assigned,
     /// and the leaving of the finished block.
-    pub fn program(self, alloc: Global) -> Result<Program, AllocError>
-        ensures { IfOk result (λ program. program ≡ program_of self) }
+    ///
+    /// Want of memory is 42 while its parts are made, and 28 in the program that is made of them, as in one of a
+    /// description.
+    pub fn program(self, alloc: Global) -> Result<Program, Refusal>
+        ensures program { IfOk result (λ program. program ≡ program_of self) }
+        ensures refused { IfErr result WantsMemory }
     {
         let body = vec![in alloc; Stmt::While(Expr::Num(1), 1)]?;
         let blocks = vec![in alloc; body, self.turn(alloc)?]?;
         match Program::new(alloc, 1, 1, 0, self.variables(), blocks) {
             Ok(program) => Ok(program),
             // These parts keep each rule of the language, so memory ran out.
-            Err(_) => Err(AllocError),
+            Err(_) => Err(Refusal::Description(TextFault::NoMemory)),
         }
     }
 

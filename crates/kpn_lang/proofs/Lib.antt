@@ -8,6 +8,7 @@ pub mod Pairs
 pub mod Prefixes
 pub mod Processes
 pub mod Programs
+pub mod Remainders
 pub mod Remaining
 pub mod Rules
 pub mod Sequential

@@ -1,5 +1,5 @@
 -- What a program is made of, the rules that it keeps, and the first rule that parts break.
-use Rattle.std.specs.Prelude.{ℕ, zero, suc, ◌+◌, max, Bool, true, false, not, ◌&&◌, ◌||◌, nat_lt, nat_le, nat_eq, ◌≡◌, ◌≤◌, if◌then◌else◌, List, [], ◌∷◌, length, Option, Some, None, Result, Ok, Err, sum_by}
+use Rattle.std.specs.Prelude.{ℕ, zero, suc, ◌+◌, max, Bool, true, false, not, ◌&&◌, ◌||◌, nat_lt, nat_le, nat_eq, ◌≡◌, ◌≤◌, if◌then◌else◌, List, [], ◌∷◌, length, Option, Some, None, sum_by}
 use Rattle.std.specs.List.{list_any, list_all, flat_map, range_with_len}
 use Rattle.std.specs.Cmp.Lexicographic.{pointwise}
 use Rattle.kpn_limits.specs.declared.TheConstants.{MAX_VARIABLES, MAX_PORTS, MAX_NODES, MAX_LEVELS}
@@ -133,8 +133,3 @@ first_fault p =
 pub record IsProgram (parts : Parts) : Type 0 where
   pub sound : first_fault parts ≡ None
   pub counted : parts.pars ≤ parts.vars
-
--- the parts where no rule is broken, else the first that is
-abbrev pub parts_unless : Parts → Option ProgramFault → Result Parts ProgramFault
-parts_unless p None = Ok p
-parts_unless p (Some fault) = Err fault

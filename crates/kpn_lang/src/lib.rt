@@ -4,18 +4,25 @@
 
 mod chain;
 pub mod laws;
+mod link;
 mod plain;
 mod program;
+mod remainder;
 mod sequence;
+mod spine;
+mod start;
 mod syntax;
 mod talk;
 mod turn;
 mod value;
 
-pub use chain::{Chain, Links, Start};
+pub use chain::Chain;
+pub use link::Link;
 pub use plain::{Run, run_alone};
 pub use program::{Program, ProgramFault, same};
 pub use sequence::{Sequence, item_at};
+pub use spine::{Links, Spine};
+pub use start::Start;
 pub use syntax::{BlockId, Expr, Op, Stmt};
 pub use talk::{Ending, Said};
 pub use turn::Turn;

@@ -32,7 +32,8 @@ impl Model for Run {
 
     ghost Value = { Ran };
 
-    ghost view = { λ r. record { ending = r.ending; variables = r.variables; rest = r.rest; talk = r.talk } };
+    ghost view = { λ r.
+        record { ending = r.ending; variables = r.variables; rest = r.rest; talk = r.talk } };
 }
 
 impl Run {

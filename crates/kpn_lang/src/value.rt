@@ -1,5 +1,6 @@
 //! The value of an expression.
 ghost use Rattle.std.specs.Prelude.{◌≡◌, length, IsTrue};
+ghost use Rattle.kpn_lang.specs.declared.syntax.Op.TheVariants.{Add, Sub, Mul, Div, Rem};
 ghost use Rattle.kpn_lang.specs.Syntax.{term_of, names_below};
 ghost use Rattle.kpn_lang.specs.Value.{value, result_of, truth_of};
 
@@ -22,17 +23,56 @@ pub(crate) fn truth(holds: bool) -> i64
 }
 
 #[inline(always)]
+pub(crate) fn sum(left: i64, right: i64) -> Result<i64, Fault>
+    ensures { result ≡ result_of Add left right }
+{
+    left.checked_add(right).ok_or(Fault::Overflow)
+}
+
+#[inline(always)]
+pub(crate) fn difference(left: i64, right: i64) -> Result<i64, Fault>
+    ensures { result ≡ result_of Sub left right }
+{
+    left.checked_sub(right).ok_or(Fault::Overflow)
+}
+
+#[inline(always)]
+pub(crate) fn product(left: i64, right: i64) -> Result<i64, Fault>
+    ensures { result ≡ result_of Mul left right }
+{
+    left.checked_mul(right).ok_or(Fault::Overflow)
+}
+
+#[inline(always)]
+pub(crate) fn quotient(left: i64, right: i64) -> Result<i64, Fault>
+    ensures { result ≡ result_of Div left right }
+{
+    if right == 0 {
+        return Err(Fault::ZeroDivisor);
+    }
+    left.checked_div(right).ok_or(Fault::Overflow)
+}
+
+#[inline(always)]
+pub(crate) fn remainder(left: i64, right: i64) -> Result<i64, Fault>
+    ensures { result ≡ result_of Rem left right }
+{
+    if right == 0 {
+        return Err(Fault::ZeroDivisor);
+    }
+    left.checked_rem(right).ok_or(Fault::Overflow)
+}
+
+#[inline(always)]
 pub(crate) fn apply(op: Op, left: i64, right: i64) -> Result<i64, Fault>
     ensures { result ≡ result_of op left right }
 {
     match op {
-        Op::Add => left.checked_add(right).ok_or(Fault::Overflow),
-        Op::Sub => left.checked_sub(right).ok_or(Fault::Overflow),
-        Op::Mul => left.checked_mul(right).ok_or(Fault::Overflow),
-        Op::Div if right == 0 => Err(Fault::ZeroDivisor),
-        Op::Div => left.checked_div(right).ok_or(Fault::Overflow),
-        Op::Rem if right == 0 => Err(Fault::ZeroDivisor),
-        Op::Rem => left.checked_rem(right).ok_or(Fault::Overflow),
+        Op::Add => sum(left, right),
+        Op::Sub => difference(left, right),
+        Op::Mul => product(left, right),
+        Op::Div => quotient(left, right),
+        Op::Rem => remainder(left, right),
         Op::Lt => Ok(truth(left < right)),
         Op::Le => Ok(truth(left <= right)),
         Op::Gt => Ok(truth(left > right)),

@@ -13,15 +13,25 @@ fn ran(rt: &impl Abort, alloc: Global, blocks: Vec<Vec<Stmt>>, items: &[i64]) ->
     Ok(run_alone(alloc, &program, &[], &lists, 3)?)
 }
 
+// Whether the run ended so after this talk.
+fn came_to(run: &Run, ending: Ending, talk: &[Said]) -> bool {
+    run.ending() == ending && run.talk() == talk
+}
+
 #[test]
 fn copies_until_it_starves(rt: HostRuntime) -> Result<(), Fail> {
     let alloc = rt.alloc();
     let body = vec![in alloc; Stmt::While(Expr::Num(1), 1)]?;
     let copy = vec![in alloc; Stmt::Read(0, 0), Stmt::Write(0, Expr::Var(0))]?;
     let run = ran(&rt, alloc, vec![in alloc; body, copy]?, &[5])?;
-    assert_eq!(rt; run.ending(), Ending::Starved(0));
-    assert_eq!(rt; run.talk(), [Said::Got(0, 5), Said::Put(0, 5)].as_slice());
-    assert_eq!(rt; run.variables(), [5].as_slice());
+    assert!(rt;
+        came_to(
+            &run,
+            Ending::Starved(0),
+            &[Said::Got(0, 5), Said::Put(0, 5)]
+        )
+    );
+    assert!(rt; run.variables() == [5].as_slice());
     Ok(())
 }
 
@@ -35,9 +45,13 @@ fn a_fault_ends_the_run_after_its_talk(rt: HostRuntime) -> Result<(), Fail> {
     );
     let body = vec![in alloc; Stmt::Write(0, Expr::Num(7)), Stmt::Write(0, quotient)]?;
     let run = ran(&rt, alloc, vec![in alloc; body]?, &[5, 6])?;
-    assert_eq!(rt; run.ending(), Ending::Faulted(Fault::ZeroDivisor));
-    assert_eq!(rt; run.talk(), [Said::Put(0, 7)].as_slice());
-    assert_eq!(rt; run.rest().len(), 1);
-    assert_eq!(rt; run.rest()[0].as_slice(), [5, 6].as_slice());
+    assert!(rt;
+        came_to(
+            &run,
+            Ending::Faulted(Fault::ZeroDivisor),
+            &[Said::Put(0, 7)]
+        )
+    );
+    assert!(rt; matches!(run.rest(), [items] if items.as_slice() == [5, 6].as_slice()));
     Ok(())
 }
