@@ -13,3 +13,5 @@ pub mod Split
 pub mod Seen
 pub mod Starting
 pub mod Agreeing
+pub mod Journals
+pub mod Moved

@@ -1,13 +1,14 @@
 -- What a call answers, said case by case.
-use Rattle.std.proofs.Common.{◌≡◌, ℕ, ℤ, Option, Result, Ok, Err, IfOk, IfErr, OnErr}
+use Rattle.std.proofs.Common.{◌≡◌, ℕ, ℤ, ◌≢◌, Option, Some, None, Result, Ok, Err, IfOk, IfErr, OnErr, IfSome, IfNone}
 use Rattle.kpn_step.specs.Stops.{Advanced}
 use Rattle.kpn_book.specs.declared.answers.Done.{Done}
 use Rattle.kpn_book.specs.declared.answers.Refused.{Refused}
+use Rattle.kpn_book.specs.declared.answers.Refused.TheVariants.{NoMemory}
 use Rattle.kpn_book.specs.Book.{Book, IsHeld, put_back}
 use Rattle.kpn_book.specs.Commits.{Commits}
-use Rattle.kpn_book.specs.Refusals.{RefusesCommit, RefusesPutBack, RefusesFeed, RefusesClose, RefusesTake, RefusesLeave, Feeds, Closes, Takes, Leaves}
+use Rattle.kpn_book.specs.Refusals.{RefusesCommit, RefusesPutBack, MayFeed, RefusesFeed, RefusesClose, RefusesTake, RefusesLeave, Feeds, Closes, Takes, Leaves}
 use Rattle.kpn_book.specs.Stepping.{IsStep, StepsInVain}
-use Rattle.kpn_book.specs.Open.{commits_by, puts_back_by, steps_by, feeds_by, closes_source_by, takes_by, leaves_sink_by}
+use Rattle.kpn_book.specs.Open.{commits_by, puts_back_by, steps_by, has_feed_fault, feeds_by, closes_source_by, takes_by, leaves_sink_by}
 
 pub commit-done : (p : ℕ) (x : Advanced) (b a : Book) (r : Result Done Refused) → commits_by p x r b a
     → IfOk r (λ v. Commits p x v b a)
@@ -22,6 +23,21 @@ commit-refused p x b a (Err e) is = is.0
 pub commit-same : (p : ℕ) (x : Advanced) (b a : Book) (r : Result Done Refused) → commits_by p x r b a → OnErr r (a ≡ b)
 commit-same p x b a (Ok v) is = tt
 commit-same p x b a (Err e) is = is.1
+
+pub feed_fault-cause : (c : ℕ) (item : ℤ) (bound : ℕ) (b : Book) (r : Option Refused)
+    → has_feed_fault c item bound r b → IfSome r (λ cause. RefusesFeed c item bound b cause)
+feed_fault-cause c item bound b (Some cause) is = is.0
+feed_fault-cause c item bound b None is = tt
+
+pub feed_fault-lasts : (c : ℕ) (item : ℤ) (bound : ℕ) (b : Book) (r : Option Refused)
+    → has_feed_fault c item bound r b → IfSome r (λ cause. cause ≢ NoMemory)
+feed_fault-lasts c item bound b (Some cause) is = is.1
+feed_fault-lasts c item bound b None is = tt
+
+pub feed_fault-none : (c : ℕ) (item : ℤ) (bound : ℕ) (b : Book) (r : Option Refused)
+    → has_feed_fault c item bound r b → IfNone r (MayFeed c bound b)
+feed_fault-none c item bound b (Some cause) is = tt
+feed_fault-none c item bound b None is = is
 
 pub feed-done : {T : Type 0} (c : ℕ) (item : ℤ) (bound : ℕ) (b a : Book) (r : Result T Refused)
     → feeds_by c item bound r b a → IfOk r (λ _. Feeds c item bound b a)

@@ -19,9 +19,10 @@ use Rattle.kpn_book.specs.declared.answers.Done.TheVariants as done
 use Rattle.kpn_book.specs.Book.{Book, IsHeld, IsClaimed, held_count, put_back}
 use Rattle.kpn_book.specs.Appending.{Appends, AppendsAll, all_made_ready, schedule_after}
 use Rattle.kpn_book.specs.Commits.{IsWriteTo, IsAnswer, ready_if_paused, Commits}
-use Rattle.kpn_book.specs.Refusals.{RefusesCommit, RefusesPutBack, RefusesFeed, RefusesClose, RefusesTake, RefusesLeave, Feeds, Closes, Takes, Leaves}
+use Rattle.kpn_book.specs.Refusals.{RefusesCommit, RefusesPutBack, MayFeed, RefusesFeed, RefusesClose, RefusesTake, RefusesLeave, Feeds, Closes, Takes, Leaves}
 use Rattle.kpn_book.specs.Stepping.{ClaimsNobody, IsStep, StepsInVain}
 use Rattle.kpn_book.specs.declared.answers.Refused.{Refused}
+use Rattle.kpn_book.specs.declared.answers.Refused.TheVariants.{NoMemory}
 use Rattle.kpn_step.specs.Stops.{Advanced}
 use Rattle.kpn_book.specs.Kept.{IsInStep, IsKept}
 
@@ -150,6 +151,10 @@ puts_back_by p (Err cause) before after = RefusesPutBack p before cause × (afte
 abbrev pub steps_by : {E : Type 0} → (quota : ℕ) → Result (Option Done) E → (before after : Book) → Type 0
 steps_by quota (Ok answer) before after = IsStep quota answer before after
 steps_by quota (Err _) before after = StepsInVain quota before after
+
+abbrev pub has_feed_fault : (c : ℕ) → (item : ℤ) → (bound : ℕ) → Option Refused → Book → Type 0
+has_feed_fault c item bound (Some cause) b = RefusesFeed c item bound b cause × (cause ≢ NoMemory)
+has_feed_fault c item bound None b = MayFeed c bound b
 
 abbrev pub feeds_by : {T : Type 0} → (c : ℕ) → (item : ℤ) → (bound : ℕ) → Result T Refused → (before after : Book)
     → Type 0

@@ -1,5 +1,6 @@
 //! The book as its owner sees it: each call keeps all that holds of a book.
-ghost use Rattle.std.specs.Prelude.{◌≡◌, ◌<◌, [], length, is_some, IfOk};
+ghost use Rattle.std.specs.Prelude.{◌≡◌, ◌↔◌, ◌<◌, [], length, is_some, IfOk, IsTrue};
+ghost use Rattle.kpn_lang.specs.Prefix.{IsPrefix};
 ghost use Rattle.kpn_chan.specs.Channel.{next_item};
 ghost use Rattle.kpn_trace.specs.Channels.{read_on};
 ghost use Rattle.kpn_trace.specs.Views.{AreCounts, Agrees};
@@ -123,6 +124,14 @@ impl<'n, A: Allocator> Book<'n, A> {
         self.pages.read_count(c)
     }
 
+    /// Whether the journal of a channel, all that was ever put on it, begins with these items.
+    pub fn journal_begins(&self, c: usize, items: &[i64]) -> bool
+        requires { c < length self.now.tables.channels }
+        ensures { IsTrue result ↔ IsPrefix items.now (channel_in self.now.configuration c).journal }
+    {
+        self.pages.journal_begins(c, items)
+    }
+
     /// How the run has come to a stop, if it has: each process has ended or waits, each source is closed and each sink
     /// is empty or left.
     pub fn verdict(&self) -> Option<Verdict>
@@ -137,5 +146,18 @@ impl<'n, A: Allocator> Book<'n, A> {
         ensures states { IfOk result (λ view. view.states ≡ self.now.schedule.states) }
     {
         self.pages.snapshot(alloc)
+    }
+}
+
+impl<'n> Book<'n> {
+    /// The run as it is seen at its end, and its history, both moved out of the book where they can be: no journal is
+    /// copied. The error is that memory ran out.
+    pub fn into_view(self, alloc: Global) -> Result<(View, History), AllocError>
+        ensures agrees { IfOk result (λ told. Agrees self.entry.tables self.entry.history told.0) }
+        ensures states { IfOk result (λ told. told.0.states ≡ self.entry.schedule.states) }
+        ensures history { IfOk result (λ told. told.1.events ≡ self.entry.history) }
+    {
+        let Book { pages } = self;
+        pages.into_view(alloc)
     }
 }

@@ -5,6 +5,7 @@
 mod answers;
 mod book;
 mod claim;
+mod journal;
 pub mod laws;
 mod open_book;
 mod view;

@@ -108,14 +108,16 @@ module _ (t : Tables) (s : Configuration) where
       by_kind : (b : Bool) → is_source (channel_at t c) ≡ b → ⊥
       by_kind true is =
           let unshut : not (closed_in s c) ≡ true =
-          sym (ap (λ b. cond b (not (closed_in s c)) (is_outside (reader_of t c) && is_some (next_item (channel_in s c)))) is)
+          sym (ap
+          (λ b. cond b (not (closed_in s c)) (is_outside (reader_of t c) && is_some (next_item (channel_in s c)))) is)
           ∙ h in
           let shut : not (closed_in s c) ≡ false = ap not (done.sources c below is) in
           both_ways _ shut unshut
       by_kind false is =
           let two =
           both_true (is_outside (reader_of t c)) (is_some (next_item (channel_in s c)))
-          (sym (ap (λ b. cond b (not (closed_in s c)) (is_outside (reader_of t c) && is_some (next_item (channel_in s c)))) is)
+          (sym (ap
+          (λ b. cond b (not (closed_in s c)) (is_outside (reader_of t c) && is_some (next_item (channel_in s c)))) is)
           ∙ h) in
           item_there (channel_in s c).is_retired (unread (channel_in s c)) two.1
           (done.sinks c below (sink-reader_of t c (outside_is_sink (reader_of t c) two.0)))
@@ -158,7 +160,8 @@ module _ (t : Tables) (s : Configuration) where
   full_cycle_no none =
       fails
       (λ h.
-      let least = smallest_among (cap_in (capacities s)) (full_channels s.waits (h.process ∷ h.others)) h.channel h.full in
+      let least =
+      smallest_among (cap_in (capacities s)) (full_channels s.waits (h.process ∷ h.others)) h.channel h.full in
       none h.process least.channel
       (cycle_below t s.waits h.process h.others h.cycle h.process (Contains-first h.process h.others))
       (record { others = h.others; cycle = h.cycle; smallest = least.is }))

@@ -1,16 +1,14 @@
 -- Which growth is owed once a process has come to wait, said of the configuration.
-use Rattle.std.specs.Prelude.{ℕ, ◌<◌, nat_lt, if◌then◌else◌, Option, Some, None}
+use Rattle.std.specs.Prelude.{ℕ, nat_lt, if◌then◌else◌, Option, Some, None}
 use Rattle.kpn_net.specs.declared.found.Found.{Found}
 use Rattle.kpn_net.specs.declared.found.Found.TheVariants.{NoCycle, AllEmpty, Full}
 use Rattle.kpn_net.specs.Tables.{Tables}
-use Rattle.kpn_net.specs.Finding.{IsSmallestOfCycle}
-use Rattle.kpn_cycle.specs.Scan.{cap_in}
+use Rattle.kpn_cycle.specs.Scan.{IsBelowLimit, cap_in}
 use Rattle.kpn_configuration.specs.Configuration.{Configuration, capacities}
 
 -- the smallest full channel of the cycle of waiting processes through p is d, and its capacity is below the limit
-pub record IsOwed (t : Tables) (s : Configuration) (p d : ℕ) : Type 0 where
-  pub smallest : IsSmallestOfCycle t s.waits (cap_in (capacities s)) p d
-  pub below_limit : cap_in (capacities s) d < t.limit
+abbrev pub IsOwed : Tables → Configuration → (p d : ℕ) → Type 0
+IsOwed t s p d = IsBelowLimit t s.waits (cap_in (capacities s)) p d
 
 -- the channel that a search found, if it may grow
 abbrev pub channel_to_grow : (cap : ℕ → ℕ) → (limit : ℕ) → Found → Option ℕ

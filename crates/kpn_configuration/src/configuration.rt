@@ -81,6 +81,14 @@ impl<A: Allocator> Configuration<A> {
         self.reserve(c)
     }
 
+    /// The channels, in order of number, moved out of the configuration.
+    pub fn into_channels(self) -> Vec<Channel<A>, A>
+        ensures { result.items ≡ self.channels }
+    {
+        let Configuration { channels, .. } = self;
+        channels
+    }
+
     /// A list of all items that were ever put on a channel, oldest first. The error is that memory ran out.
     pub fn copy_journal<B: Allocator>(&self, alloc: B, c: usize) -> Result<Vec<i64, B>, AllocError>
         requires { c < length self.now.channels }

@@ -5,7 +5,7 @@ use Rattle.std.proofs.lemmas.List.FromFn.{length-map-range_with_len, get_or-map-
 use Rattle.kpn_lang.proofs.Prefixes.{IsPrefix-same, length_of_prefix}
 use Rattle.kpn_lang.specs.Prefix.{IsPrefix}
 use Rattle.kpn_net.specs.Tables.{Tables, channel_at, is_source}
-use Rattle.kpn_net.specs.Iteration.{given_by}
+use Rattle.kpn_net.specs.Iteration.{given_by, IsPrefixOnSources, AgreeOnSources}
 use Rattle.kpn_net.proofs.RoundLemmas.{list_of}
 use Rattle.kpn_net.specs.Faults.{IsNetwork}
 use Rattle.kpn_trace.specs.Channels.{written_on, read_on}
@@ -14,15 +14,16 @@ use Rattle.kpn_trace.specs.Stops.{OwesNothing}
 use Rattle.kpn_trace.specs.Talks.{process_events}
 use Rattle.kpn_trace.specs.Views.{Agrees, is_held}
 use Rattle.kpn_trace.specs.declared.event.Event.{Event}
+use Rattle.kpn_trace.specs.declared.state.Verdict.{Verdict}
 use Rattle.kpn_trace.specs.declared.state.View.{View}
 use Rattle.kpn_trace.proofs.Journals.{reads_begin_writes}
 use Rattle.kpn_trace.proofs.Kahn.{take-prefix}
-use Rattle.kpn_book.specs.Book.{Book}
+use Rattle.kpn_book.specs.Book.{Book, held_count}
 use Rattle.kpn_book.specs.Kept.{IsBook}
 use Rattle.kpn_report.specs.declared.outcome.Limits.{Limits}
 use Rattle.kpn_report.specs.declared.outcome.Outcome.{Outcome}
 use Rattle.kpn_report.specs.declared.report.Report.{Report}
-use Rattle.kpn_report.specs.Outcomes.{IsOutcome}
+use Rattle.kpn_report.specs.Outcomes.{IsOutcome, verdict_of}
 use Rattle.kpn_report.specs.Reports.{events_of, read_of_sinks, IsReport, sink_numbers}
 use Rattle.kpn_report.specs.Running.{IsFedBelow, ComesToOutcome, Tells, first_read, ReadsWithin}
 use Rattle.kpn_report.proofs.Ends.{source_there, closed_stays}
@@ -81,49 +82,67 @@ module _ (t : Tables) (H : List Event) (legal : Legal t H) (view : View) (agrees
 
 -- ---- all of it
 
+-- what is told of a book in which nobody is held, and which has come to an outcome, is what a report promises, where
+-- the sources were fed as it is promised
+module _ (t : Tables) (b : Book) (tables : b.tables ≡ t) (book : IsBook b) (outcome : Outcome) (report : Report)
+    (tells : Tells b outcome report) where
+  same : b.history ≡ events_of report
+  same = sym tells.history
+
+  pub told_legal : Legal t (events_of report)
+  told_legal = subst (Legal t) same (subst (λ t. Legal t b.history) tables book.kept.in_step.run.legal)
+
+  pub told_view : Agrees t (events_of report) report.view
+  told_view = subst (λ H. Agrees t H report.view) same (subst (λ t. Agrees t b.history report.view) tables tells.view)
+
+  pub IsReport-of : (lists : List (List ℤ)) (limits : Limits) → held_count b ≡ 0
+      → IsOutcome b.tables b.history b.commits limits (Some outcome)
+      → IsPrefixOnSources t (written_on (events_of report)) (given_by t lists)
+      → ((verdict : Verdict) → verdict_of report.outcome ≡ Some verdict
+      → AgreeOnSources t (written_on (events_of report)) (given_by t lists))
+      → IsReport t lists limits report
+  IsReport-of lists limits none_held comes_to fed all_fed = record {
+    legal = told_legal;
+    nothing_owed =
+        subst (OwesNothing t) same (subst (λ t. OwesNothing t b.history) tables book.kept.nothing_owed);
+    view = told_view;
+    nobody_held = tells.view.counts.held ∙ ap (count_by is_held) tells.states ∙ none_held;
+    fed = fed;
+    all_fed = all_fed;
+    taken = tells.taken ∙ ap (λ t. read_of_sinks t b.history) tables ∙ ap (read_of_sinks t) same;
+    committed =
+        subst (λ H. process_events H ≤ report.commits) same
+        (subst (λ n. process_events b.history ≤ n) (sym tells.commits) book.kept.committed);
+    outcome =
+        subst (λ H. IsOutcome t H report.commits limits (Some report.outcome)) same
+        (subst (λ n. IsOutcome t b.history n limits (Some report.outcome)) (sym tells.commits)
+        (subst (λ o. IsOutcome t b.history b.commits limits (Some o)) (sym tells.is)
+        (subst (λ t. IsOutcome t b.history b.commits limits (Some outcome)) tables comes_to)));
+  }
+
+-- the same of a run that was left to itself: its sources were fed their whole lists
 module _ (t : Tables) (network : IsNetwork t) (lists : List (List ℤ)) (limits : Limits) (outcome : Outcome)
     (fed after : Book) (sources : IsFedBelow t (given_by t lists) (length t.channels) fed)
     (comes : ComesToOutcome limits outcome fed after) (book : IsBook after) where
   same_tables : after.tables ≡ t
   same_tables = comes.later.tables ∙ sources.tables
 
-  is_legal : Legal t after.history
-  is_legal = subst (λ t. Legal t after.history) same_tables book.kept.in_step.run.legal
-
   whole_list : (c : ℕ) → is_source (channel_at t c) ≡ true → written_on after.history c ≡ given_by t lists c
   whole_list c source =
       let there = source_there t c source in
-      closed_stays t network fed.history after.history comes.later.history is_legal c source
+      closed_stays t network fed.history after.history comes.later.history
+      (subst (λ t. Legal t after.history) same_tables book.kept.in_step.run.legal) c source
       (sources.closed c there source)
       ∙ sources.fed c there source
 
   pub IsReport-told : (report : Report) → Tells after outcome report → IsReport t lists limits report
   IsReport-told report tells =
-      let same : after.history ≡ events_of report = sym tells.history in
-      record {
-        legal = subst (Legal t) same is_legal;
-        nothing_owed =
-            subst (OwesNothing t) same (subst (λ t. OwesNothing t after.history) same_tables book.kept.nothing_owed);
-        view =
-            subst (λ H. Agrees t H report.view) same
-            (subst (λ t. Agrees t after.history report.view) same_tables tells.view);
-        nobody_held = tells.view.counts.held ∙ ap (count_by is_held) tells.states ∙ comes.nobody_held;
-        fed = record {
-          each = λ c source.
-              subst (λ H. IsPrefix (written_on H c) (given_by t lists c)) same
-              (IsPrefix-same (written_on after.history c) (given_by t lists c) (whole_list c source));
-        };
-        all_fed = λ verdict is. record {
-          each = λ c source. ap (λ H. written_on H c) tells.history ∙ whole_list c source;
-        };
-        taken =
-            tells.taken ∙ ap (λ t. read_of_sinks t after.history) same_tables ∙ ap (read_of_sinks t) same;
-        committed =
-            subst (λ H. process_events H ≤ report.commits) same
-            (subst (λ n. process_events after.history ≤ n) (sym tells.commits) book.kept.committed);
-        outcome =
-            subst (λ H. IsOutcome t H report.commits limits (Some report.outcome)) same
-            (subst (λ n. IsOutcome t after.history n limits (Some report.outcome)) (sym tells.commits)
-            (subst (λ o. IsOutcome t after.history after.commits limits (Some o)) (sym tells.is)
-            (subst (λ t. IsOutcome t after.history after.commits limits (Some outcome)) same_tables comes.comes_to)));
-      }
+      let whole : (c : ℕ) → is_source (channel_at t c) ≡ true
+      → written_on (events_of report) c ≡ given_by t lists c =
+      λ c source. ap (λ H. written_on H c) tells.history ∙ whole_list c source in
+      IsReport-of t after same_tables book outcome report tells lists limits comes.nobody_held comes.comes_to
+      (record {
+        each = λ c source.
+            IsPrefix-same (written_on (events_of report) c) (given_by t lists c) (whole c source);
+      })
+      (λ verdict is. record { each = whole })

@@ -21,10 +21,10 @@ pub fn report_of(alloc: Global, book: Book<'_>, outcome: Outcome) -> Result<Repo
     ensures { IfOk result (λ report. Tells book.entry outcome report) }
 {
     book.known();
-    let view = book.snapshot(alloc)?;
-    let taken = read_of_sinks(alloc, book.network(), &view)?;
+    let network = book.network();
     let commits = book.commits();
-    let history = book.into_history();
+    let (view, history) = book.into_view(alloc)?;
+    let taken = read_of_sinks(alloc, network, &view)?;
     Ok(Report {
         outcome,
         view,

@@ -1,13 +1,23 @@
 //! The calls of the outside: it feeds sources and closes them, takes from sinks and leaves them. Sources and sinks
 //! go by their channel numbers.
-ghost use Rattle.std.specs.Prelude.{◌≡◌, IfOk, IfErr, OnErr};
-ghost use Rattle.kpn_book.specs.Refusals.{RefusesFeed, RefusesClose, RefusesTake, RefusesLeave, Feeds, Closes, Takes, Leaves};
+ghost use Rattle.std.specs.Prelude.{◌≡◌, ◌≢◌, IfOk, IfErr, OnErr, IfSome, IfNone};
+ghost use Rattle.kpn_book.specs.Refusals.{MayFeed, RefusesFeed, RefusesClose, RefusesTake, RefusesLeave, Feeds, Closes, Takes, Leaves};
 
 use super::Book;
 use crate::answers::Refused;
 use std::alloc::Allocator;
 
 impl<'n, A: Allocator> Book<'n, A> {
+    /// Why a feed would be refused, whatever memory there is. `None` where it would be refused for want of memory
+    /// alone: who wants memory for the feed besides can so look before asking for it.
+    pub fn feed_fault(&self, source: usize, item: i64, bound: usize) -> Option<Refused>
+        ensures cause { IfSome result (λ cause. RefusesFeed source item bound self.now cause) }
+        ensures lasts { IfSome result (λ cause. cause ≢ Refused.NoMemory) }
+        ensures none { IfNone result (MayFeed source bound self.now) }
+    {
+        self.pages.feed_fault(source, item, bound)
+    }
+
     /// Puts an item on a source that is not closed and on which fewer items than the bound are unread, or whose reader
     /// has ended.
     pub fn feed(&mut self, source: usize, item: i64, bound: usize) -> Result<(), Refused>

@@ -1,6 +1,8 @@
 //! The calls for whoever steps the processes: claim, commit, put back, and all in one for a single owner.
-ghost use Rattle.std.specs.Prelude.{◌≡◌, IfOk, IfErr, OnErr, IfSome, IfNone};
+ghost use Rattle.std.specs.Prelude.{◌≡◌, IfOk, IfErr, OnErr, IsTrue, IfSome, IfNone};
 ghost use Rattle.kpn_net.specs.Tables.{program_of};
+ghost use Rattle.kpn_step.specs.Frame.{fits};
+ghost use Rattle.kpn_step.specs.Stops.{IsWithinQuota};
 ghost use Rattle.kpn_configuration.specs.Configuration.{frame_in};
 ghost use Rattle.kpn_book.specs.Book.{IsHeld, IsClaimed, put_back};
 ghost use Rattle.kpn_book.specs.Commits.{Commits};
@@ -23,10 +25,24 @@ impl<'n, A: Allocator> Book<'n, A> {
             claim.program.now ≡ program_of self.old.tables claim.process) }
         ensures frame { IfSome result (λ claim.
             claim.frame ≡ frame_in self.old.configuration claim.process) }
+        ensures fits { IfSome result (λ claim. IsTrue (fits claim.program.now claim.frame)) }
         ensures nobody { IfNone result (ClaimsNobody self.old) }
         ensures as_before { IfNone result (self.new ≡ self.old) }
     {
         self.pages.claim()
+    }
+
+    /// Claims the first process of the queue as `claim` does, and begins the advance at its frame, by no step and in
+    /// the memory that the advance has. Returns the process. `None` where nobody can be claimed.
+    pub fn claim_into(&mut self, steps: &mut Advance<'n>) -> Option<usize>
+        ensures claimed { IfSome result (λ p. IsClaimed p self.old self.new) }
+        ensures program { IfSome result (λ p. steps.new.program ≡ program_of self.old.tables p) }
+        ensures from { IfSome result (λ p. steps.new.from ≡ frame_in self.old.configuration p) }
+        ensures quota { IfSome result (λ _. IsWithinQuota 0 steps.new) }
+        ensures nobody { IfNone result (ClaimsNobody self.old) }
+        ensures as_before { IfNone result ((self.new ≡ self.old) × (steps.new ≡ steps.old)) }
+    {
+        self.pages.claim_into(steps)
     }
 
     /// Commits the steps of process `p`, which is held: they are steps of its program from its frame. It gets or puts
@@ -38,6 +54,17 @@ impl<'n, A: Allocator> Book<'n, A> {
         ensures as_before { OnErr result (self.new ≡ self.old) }
     {
         self.pages.commit(p, advance)
+    }
+
+    /// Commits the steps of process `p` as `commit` does, for who knows that they are steps of its program, as those of
+    /// its claim are: so the programs, which may be long, are not compared.
+    pub fn commit_own(&mut self, p: usize, advance: &Advance) -> Result<Done, Refused>
+        requires { advance.now.program ≡ program_of self.old.tables p }
+        ensures done { IfOk result (λ answer. Commits p advance.now answer self.old self.new) }
+        ensures refused { IfErr result (λ cause. RefusesCommit p advance.now self.old cause) }
+        ensures as_before { OnErr result (self.new ≡ self.old) }
+    {
+        self.pages.commit_own(p, advance)
     }
 
     /// Puts process `p`, which is held, to the tail of the queue. It stands where it stood.

@@ -36,7 +36,8 @@ impl<'n, A: Allocator> OpenBook<'n, A> {
         ensures woken { let b = self.old.book in
             result.woken ≡ waiting_writer b.tables b.configuration.waits c }
         ensures changes { let b = self.old.book in
-            Changes b.tables (event.Get p c result.item) b.configuration self.new.book.configuration }
+            Changes b.tables (event.Get p c result.item)
+            b.configuration self.new.book.configuration }
         ensures shape { IsConfiguration self.old.book.tables self.new.book.configuration }
         ensures same { self.new
             ≡ on_book (with_configuration self.new.book.configuration) self.old }
@@ -104,7 +105,8 @@ impl<'n, A: Allocator> OpenBook<'n, A> {
         requires stands { Stands self.old.book.tables self.old.book.configuration p (stop_of how) }
         ensures woken { let b = self.old.book in
             result.items
-            ≡ filter_map (waiting_writer b.tables b.configuration.waits) (instance_at b.tables p).ins }
+            ≡ filter_map (waiting_writer b.tables b.configuration.waits)
+            (instance_at b.tables p).ins }
         ensures changes { let b = self.old.book in
             Changes b.tables (event.Ended p how) b.configuration self.new.book.configuration }
         ensures shape { IsConfiguration self.old.book.tables self.new.book.configuration }
@@ -159,7 +161,8 @@ impl<'n, A: Allocator> OpenBook<'n, A> {
         ensures woken { let b = self.old.book in
             result.woken ≡ waiting_writer b.tables b.configuration.waits c }
         ensures changes { let b = self.old.book in
-            Changes b.tables (event.Take c result.item) b.configuration self.new.book.configuration }
+            Changes b.tables (event.Take c result.item)
+            b.configuration self.new.book.configuration }
         ensures shape { IsConfiguration self.old.book.tables self.new.book.configuration }
         ensures same { self.new
             ≡ on_book (with_configuration self.new.book.configuration) self.old }
@@ -217,7 +220,8 @@ impl<'n, A: Allocator> OpenBook<'n, A> {
     /// Makes room for one more item on a channel.
     pub(super) fn reserve_item(&mut self, c: usize) -> Result<(), AllocError>
         requires { c < length self.old.book.configuration.channels }
-        ensures after { self.new ≡ (if is_ok result then on_book (reserved_on c) self.old else self.old) }
+        ensures after { self.new
+            ≡ (if is_ok result then on_book (reserved_on c) self.old else self.old) }
         ensures shape { IsConfiguration self.old.book.tables self.old.book.configuration
             → IsConfiguration self.new.book.tables self.new.book.configuration }
     {
@@ -229,10 +233,12 @@ impl<'n, A: Allocator> OpenBook<'n, A> {
         requires shape { IsConfiguration self.old.book.tables self.old.book.configuration }
         requires process { p < length self.old.book.tables.instances }
         ensures advance { let b = self.old.book in
-            let from = frame_in b.configuration p in let to = frame_in self.new.book.configuration p in
+            let from = frame_in b.configuration p in
+            let to = frame_in self.new.book.configuration p in
             IsAdvance (advanced_of (program_of b.tables p) from to result stop.new) }
         ensures quota { let b = self.old.book in
-            let from = frame_in b.configuration p in let to = frame_in self.new.book.configuration p in
+            let from = frame_in b.configuration p in
+            let to = frame_in self.new.book.configuration p in
             IsWithinQuota quota (advanced_of (program_of b.tables p) from to result stop.new) }
         ensures port { let b = self.old.book in
             IsAtPort (program_of b.tables p) (frame_in self.new.book.configuration p) stop.new }

@@ -5,7 +5,7 @@ ghost use Rattle.kpn_net.specs.declared.tables.End.TheVariants.{Sink};
 ghost use Rattle.kpn_configuration.specs.Configuration.{channel_in, closed_in};
 ghost use Rattle.kpn_book.specs.Kept.{IsKept};
 ghost use Rattle.kpn_book.specs.Refusals.{IsAtBound};
-ghost use Rattle.kpn_book.specs.Open.{feeds_by, closes_source_by, takes_by, leaves_sink_by};
+ghost use Rattle.kpn_book.specs.Open.{has_feed_fault, feeds_by, closes_source_by, takes_by, leaves_sink_by};
 
 use super::OpenBook;
 use crate::answers::Refused;
@@ -20,20 +20,32 @@ impl<'n, A: Allocator> OpenBook<'n, A> {
         ensures kept { IsKept self.new.book }
     {
         self.known();
-        if !self.is_source(c) {
-            return Err(Refused::NoSuchEnd);
-        }
-        if self.is_closed(c) {
-            return Err(Refused::SourceClosed);
-        }
-        if self.is_at_bound(c, bound) {
-            return Err(Refused::Full(item));
+        if let Some(cause) = self.fault_of_feed(c, item, bound) {
+            return Err(cause);
         }
         let Ok(()) = self.reserve_write(c) else {
             return Err(Refused::NoMemory);
         };
         self.feed_source(c, item);
         Ok(())
+    }
+
+    /// Why a feed would be refused but for want of memory, if it would.
+    pub(super) fn fault_of_feed(&self, c: usize, item: i64, bound: usize) -> Option<Refused>
+        requires { IsKept self.now.book }
+        ensures { has_feed_fault c item bound result self.now.book }
+    {
+        self.known();
+        if !self.is_source(c) {
+            return Some(Refused::NoSuchEnd);
+        }
+        if self.is_closed(c) {
+            return Some(Refused::SourceClosed);
+        }
+        if self.is_at_bound(c, bound) {
+            return Some(Refused::Full(item));
+        }
+        None
     }
 
     /// Closes a source.

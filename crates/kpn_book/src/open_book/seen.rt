@@ -1,6 +1,7 @@
 //! What is seen of a book.
-ghost use Rattle.std.specs.Prelude.{◌≡◌, ◌↔◌, ◌<◌, true, length, map, Option, IfOk};
+ghost use Rattle.std.specs.Prelude.{◌≡◌, ◌↔◌, ◌<◌, true, length, map, Option, IfOk, IsTrue};
 ghost use Rattle.std.specs.List.{range_with_len};
+ghost use Rattle.kpn_lang.specs.Prefix.{IsPrefix};
 ghost use Rattle.kpn_trace.specs.declared.state.Verdict.{Verdict as Told};
 ghost use Rattle.kpn_trace.specs.Channels.{read_on};
 ghost use Rattle.kpn_trace.specs.Ends.{IsVerdict};
@@ -11,8 +12,9 @@ ghost use Rattle.kpn_schedule.specs.Schedule.{HaveStopped};
 ghost use Rattle.kpn_book.specs.Kept.{IsKept};
 
 use super::OpenBook;
-use crate::view::view_of;
-use kpn_trace::{Verdict, View};
+use crate::journal::begins;
+use crate::view::{last_view, view_of};
+use kpn_trace::{History, Verdict, View};
 use std::alloc::{AllocError, Allocator, Global};
 
 impl<'n, A: Allocator> OpenBook<'n, A> {
@@ -30,6 +32,24 @@ impl<'n, A: Allocator> OpenBook<'n, A> {
         ensures { result ≡ (channel_in self.now.book.configuration c).read }
     {
         self.configuration.channel(c).read_count()
+    }
+
+    /// Whether the journal of a channel begins with these items.
+    pub(crate) fn journal_begins(&self, c: usize, items: &[i64]) -> bool
+        requires kept { IsKept self.now.book }
+        requires channel { c < length self.now.book.tables.channels }
+        ensures { IsTrue result
+            ↔ IsPrefix items.now (channel_in self.now.book.configuration c).journal }
+    {
+        self.begins(c, items)
+    }
+
+    fn begins(&self, c: usize, items: &[i64]) -> bool
+        requires { c < length self.now.book.configuration.channels }
+        ensures { IsTrue result
+            ↔ IsPrefix items.now (channel_in self.now.book.configuration c).journal }
+    {
+        begins(self.configuration.channel(c), items)
     }
 
     /// How the run has come to a stop, if it has.
@@ -83,5 +103,26 @@ impl<'n, A: Allocator> OpenBook<'n, A> {
         ensures counts { IfOk result (λ view. AreCounts view.states view.counts) }
     {
         view_of(alloc, channels, &self.configuration, &self.schedule)
+    }
+}
+
+impl<'n> OpenBook<'n, Global> {
+    /// The run as it is seen at its end, and its history. The error is that memory ran out.
+    pub(crate) fn into_view(self, alloc: Global) -> Result<(View, History), AllocError>
+        requires { IsKept self.book }
+        ensures agrees { IfOk result (λ told.
+            Agrees self.entry.book.tables self.entry.book.history told.0) }
+        ensures states { IfOk result (λ told. told.0.states ≡ self.entry.book.schedule.states) }
+        ensures history { IfOk result (λ told. told.1.events ≡ self.entry.book.history) }
+    {
+        let OpenBook {
+            network,
+            configuration,
+            history,
+            schedule,
+            ..
+        } = self;
+        let view = last_view(alloc, network.channels(), configuration, &schedule)?;
+        Ok((view, history))
     }
 }

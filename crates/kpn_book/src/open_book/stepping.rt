@@ -3,10 +3,9 @@ ghost use Rattle.std.specs.Prelude.{◌≡◌, ◌≢◌, ◌↔◌, ◌+◌, �
 ghost use Rattle.kpn_net.specs.Tables.{program_of};
 ghost use Rattle.kpn_step.specs.declared.stop.Stop.{Stop as Where};
 ghost use Rattle.kpn_step.specs.Frame.{Frame as Place};
-ghost use Rattle.kpn_step.specs.Stops.{IsAtPort};
-ghost use Rattle.kpn_configuration.specs.Configuration.{frame_in};
+ghost use Rattle.kpn_step.specs.Stops.{IsAtPort, IsWithinQuota};
+ghost use Rattle.kpn_configuration.specs.Configuration.{frame_in, IsConfiguration};
 ghost use Rattle.kpn_book.specs.Book.{IsHeld, held_count};
-ghost use Rattle.kpn_book.specs.Commits.{IsOwnAdvance};
 ghost use Rattle.kpn_book.specs.Kept.{IsInStep, IsKept};
 ghost use Rattle.kpn_book.specs.Open.{claims_by, commits_by, puts_back_by, steps_by, reserves_by, reserves_item_by};
 
@@ -47,9 +46,38 @@ impl<'n, A: Allocator> OpenBook<'n, A> {
         }
     }
 
+    /// The advance begins at the frame of process `p`, by no step.
+    pub(super) fn load(&self, p: usize, steps: &mut Advance<'n>)
+        requires process { p < length self.now.book.tables.instances }
+        requires shape { IsConfiguration self.now.book.tables self.now.book.configuration }
+        ensures program { steps.new.program ≡ program_of self.now.book.tables p }
+        ensures from { steps.new.from ≡ frame_in self.now.book.configuration p }
+        ensures quota { IsWithinQuota 0 steps.new }
+    {
+        let network = self.network;
+        steps.load(network.program(p), self.configuration.frame(p));
+    }
+
     /// Commits the steps of process `p`.
     pub(super) fn commit_steps(&mut self, p: usize, advance: &Advance) -> Result<Done, Refused>
         requires { IsKept self.old.book }
+        ensures commits { commits_by p advance.now result self.old.book self.new.book }
+        ensures kept { IsKept self.new.book }
+    {
+        self.known();
+        if !self.is_held(p) {
+            return Err(Refused::NotHeld);
+        }
+        if !self.is_program(p, advance) {
+            return Err(Refused::Stranger);
+        }
+        self.commit_own_steps(p, advance)
+    }
+
+    /// Commits the steps of process `p`, which are of its program.
+    pub(super) fn commit_own_steps(&mut self, p: usize, advance: &Advance) -> Result<Done, Refused>
+        requires kept { IsKept self.old.book }
+        requires program { advance.now.program ≡ program_of self.old.book.tables p }
         ensures commits { commits_by p advance.now result self.old.book self.new.book }
         ensures kept { IsKept self.new.book }
     {
@@ -58,7 +86,7 @@ impl<'n, A: Allocator> OpenBook<'n, A> {
         if !self.is_held(p) {
             return Err(Refused::NotHeld);
         }
-        if !self.is_own(p, advance) {
+        if !self.is_frame(p, advance) {
             return Err(Refused::Stranger);
         }
         let stop = advance.stop();
@@ -112,15 +140,7 @@ impl<'n, A: Allocator> OpenBook<'n, A> {
         self.commits + held == u64::MAX
     }
 
-    /// Whether the steps are steps of the program of process `p` from its frame.
-    fn is_own(&self, p: usize, advance: &Advance) -> bool
-        requires process { p < length self.now.book.tables.instances }
-        requires frame { p < length self.now.book.configuration.frames }
-        ensures { IsTrue result ↔ IsOwnAdvance self.now.book p advance.now }
-    {
-        self.is_program(p, advance) && self.is_frame(p, advance)
-    }
-
+    /// Whether the steps are of the program of process `p`.
     fn is_program(&self, p: usize, advance: &Advance) -> bool
         requires { p < length self.now.book.tables.instances }
         ensures { IsTrue result ↔ (advance.now.program ≡ program_of self.now.book.tables p) }
@@ -128,6 +148,7 @@ impl<'n, A: Allocator> OpenBook<'n, A> {
         same(advance.program(), self.network.program(p))
     }
 
+    /// Whether the steps began at the frame of process `p`.
     fn is_frame(&self, p: usize, advance: &Advance) -> bool
         requires { p < length self.now.book.configuration.frames }
         ensures { IsTrue result ↔ (advance.now.from ≡ frame_in self.now.book.configuration p) }

@@ -120,7 +120,8 @@ impl<A: Allocator> Configuration<A> {
         requires frame { p < length self.old.frames }
         requires fits { IsTrue (fits (program_of network.now p) (frame_in self.old p)) }
         ensures advance { let program = program_of network.now p in
-            IsAdvance (advanced_of program (frame_in self.old p) (frame_in self.new p) result stop.new) }
+            IsAdvance (advanced_of program
+            (frame_in self.old p) (frame_in self.new p) result stop.new) }
         ensures quota { let program = program_of network.now p in IsWithinQuota quota
             (advanced_of program (frame_in self.old p) (frame_in self.new p) result stop.new) }
         ensures port { IsAtPort (program_of network.now p) (frame_in self.new p) stop.new }

@@ -19,9 +19,11 @@ impl<A: Allocator> Configuration<A> {
         requires shape { IsConfiguration network.now self.old }
         requires process { p < length network.now.instances }
         ensures advance { let t = network.now in
-            IsAdvance (advanced_of (program_of t p) (frame_in self.old p) (frame_in self.new p) result stop.new) }
+            IsAdvance (advanced_of (program_of t p)
+            (frame_in self.old p) (frame_in self.new p) result stop.new) }
         ensures quota { let t = network.now in IsWithinQuota quota
-            (advanced_of (program_of t p) (frame_in self.old p) (frame_in self.new p) result stop.new) }
+            (advanced_of (program_of t p)
+            (frame_in self.old p) (frame_in self.new p) result stop.new) }
         ensures port { IsAtPort (program_of network.now p) (frame_in self.new p) stop.new }
         ensures after { self.new ≡ with_frame p (frame_in self.new p) self.old }
         ensures shape { IsConfiguration network.now self.new }
