@@ -1,10 +1,10 @@
 #!/usr/bin/env python3
-"""Seconds and memory of `kpn audit` beside the `kpn run --trace` that made the trace, and what it takes to write a
-trace beside a plain Rust program that makes and writes the same.
+"""Seconds and memory of `kpn audit` beside the `kpn run --trace` that made the trace. What it takes to write a trace is
+measured by bench/trace.
 
-Prints ratios, and checks that the audit says `legal` and that both traces are the same. It is no part of the gate.
-Counts of events may be given as words; the default is 1,000,000 and 10,000,000. The best of three runs is told, by the
-time that it took on its processor.
+Prints ratios, and checks that the audit says `legal` and that a plain Rust program of the same meaning as `kpn run`
+makes the same trace. It is no part of the gate. Counts of events may be given as words; the default is 1,000,000 and
+10,000,000. The best of three runs is told, by the time that it took on its processor.
 """
 import filecmp
 import pathlib
@@ -39,18 +39,15 @@ def tell(folder, kpn, plain, title, text, wanted):
     words.write_text(networks.as_words(text))
     run = [kpn, 'run', description, '--max-commits', '1000000000', *(['--take', str(wanted)] if wanted else [])]
     silent, traced = best(run), best([*run, '--trace', own])
-    plain_silent, plain_traced = best([plain, words, str(wanted)]), best([plain, words, str(wanted), other])
+    events = int(measure.Run([plain, words, str(wanted), other]).told.split()[1])
     audit = best([kpn, 'audit', description, own, '--steps', '1000000000'])
     if not audit.wrote.startswith('legal\n') or not filecmp.cmp(own, other, shallow=False):
         sys.exit('the audit does not say legal, or the traces differ')
-    events = int(plain_silent.told.split()[1])
-    writing, plain_writing = traced.seconds - silent.seconds, plain_traced.seconds - plain_silent.seconds
     print(f'{title}, {events} events, {own.stat().st_size / 1e6:.0f} MB of text')
     ratios = [audit.seconds / run.seconds for run in (silent, traced)]
     print(f'  run {silent.seconds:6.2f} s, with its trace {traced.seconds:6.2f}, audit {audit.seconds:6.2f}:'
           f' {ratios[0]:.2f} of the run, {ratios[1]:.2f} of it with its trace')
-    print(f'  memory of the audit: {audit.memory / (16 * events):.2f} of 16 bytes an event')
-    print(f'  writing the trace {writing:6.2f} s, {writing / plain_writing:.2f} of plain Rust', flush=True)
+    print(f'  memory of the audit: {audit.memory / (16 * events):.2f} of 16 bytes an event', flush=True)
 
 
 def main():

@@ -1,13 +1,10 @@
-//! Tests of configurations, by public calls alone.
+//! Tests of configurations and audits, by public calls alone: memory that is refused. What the calls for events do
+//! stands in the stored run of check_replays.
 #![tactic(auto)]
 
 #[cfg(test)]
-mod events;
+mod audits;
 #[cfg(test)]
 mod feeding;
 #[cfg(test)]
-mod networks;
-#[cfg(test)]
 mod refusals;
-#[cfg(test)]
-mod replaying;

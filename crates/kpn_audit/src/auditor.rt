@@ -11,15 +11,19 @@ use crate::summary::summary;
 use kpn_configuration::Configuration;
 use kpn_net::Network;
 use kpn_trace::Event;
-use std::alloc::Global;
+use std::alloc::{Allocator, Global};
 
 /// Audits a list of events: whether they are a legal history of the network, and what stands after them.
 ///
 /// The events are replayed, one after another. Of each it is judged first whether a growth that is owed is this one,
 /// whether the network has its numbers, and whether its process has ended or is blocked. Then the process makes steps,
 /// `quota` of them at most, and where it stops the event has to be due.
-pub fn audit(
+///
+/// The configuration on which it replays takes its memory from `own`, and what it finds from `alloc`. Where either is
+/// refused the answer is [`AuditFault::NoMemory`], and nothing is kept.
+pub fn audit<A: Allocator + Copy>(
     alloc: Global,
+    own: A,
     network: &Network,
     events: &[Event],
     quota: u64,
@@ -32,22 +36,22 @@ pub fn audit(
         (fault ≡ AuditFault.NoMemory) ⊎ ((k : ℕ) × (fault ≡ AuditFault.Budget k))) }
 {
     network.known();
-    let configuration = replay(alloc, network, events, quota)?;
+    let configuration = replay(own, network, events, quota)?;
     Ok(summary(alloc, network, &configuration)?)
 }
 
 /// Replays the events on a configuration of its own, from the start.
-fn replay(
-    alloc: Global,
+fn replay<A: Allocator + Copy>(
+    own: A,
     network: &Network,
     events: &[Event],
     quota: u64,
-) -> Result<Configuration, AuditFault>
+) -> Result<Configuration<A>, AuditFault>
     ensures run { IfOk result (λ made. IsRun network.now events.now made) }
     ensures refused { IfErr result (λ fault. IsFault network.now events.now quota fault) }
 {
     network.known();
-    let mut configuration = Configuration::new(alloc, network)?;
+    let mut configuration = Configuration::new(own, network)?;
     let mut owed = None;
     'events: for k in 0..events.len() {
         let event = events[k];

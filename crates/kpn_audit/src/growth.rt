@@ -11,9 +11,14 @@ use crate::judged::{Growth, Judged};
 use kpn_configuration::Configuration;
 use kpn_net::Network;
 use kpn_trace::Event;
+use std::alloc::Allocator;
 
 /// The wait of process `p`, which was just made, may follow, and this is what is owed then.
-pub(crate) fn after_wait(configuration: &Configuration, network: &Network, p: usize) -> Judged
+pub(crate) fn after_wait<A: Allocator>(
+    configuration: &Configuration<A>,
+    network: &Network,
+    p: usize,
+) -> Judged
     requires shape { IsConfiguration network.now configuration.now }
     requires process { p < length network.now.instances }
     ensures { (H : List Event) (event : Event) (before : Seen) → waiter event ≡ Some p
@@ -32,8 +37,8 @@ pub(crate) fn after_wait(configuration: &Configuration, network: &Network, p: us
 }
 
 /// Judges an event where this growth is owed: it has to be that growth.
-pub(crate) fn judge_owed(
-    configuration: &mut Configuration,
+pub(crate) fn judge_owed<A: Allocator>(
+    configuration: &mut Configuration<A>,
     network: &Network,
     owed: Growth,
     event: Event,

@@ -18,7 +18,7 @@ use kpn_configuration::Configuration;
 use kpn_net::Network;
 use kpn_step::Stop;
 use kpn_trace::{Event, How};
-use std::alloc::AllocError;
+use std::alloc::{AllocError, Allocator};
 
 /// Whether these are the numbers of a process and a channel.
 fn are_numbers(network: &Network, p: u16, c: u16) -> bool
@@ -58,8 +58,8 @@ fn process_of(event: Event) -> Option<usize>
 }
 
 /// Judges an event of a process, which stands at this stop.
-fn judge_at_stop(
-    configuration: &mut Configuration,
+fn judge_at_stop<A: Allocator>(
+    configuration: &mut Configuration<A>,
     network: &Network,
     event: Event,
     stop: Stop,
@@ -93,8 +93,8 @@ fn judge_at_stop(
 }
 
 /// Judges an event of process `p`: whether it may go on, where it comes to a stop, and what is due there.
-fn judge_process(
-    configuration: &mut Configuration,
+fn judge_process<A: Allocator>(
+    configuration: &mut Configuration<A>,
     network: &Network,
     p: usize,
     event: Event,
@@ -116,8 +116,8 @@ fn judge_process(
 }
 
 /// Judges an event of the outside. A growth, which nothing owes, may not follow.
-fn judge_outside(
-    configuration: &mut Configuration,
+fn judge_outside<A: Allocator>(
+    configuration: &mut Configuration<A>,
     network: &Network,
     event: Event,
 ) -> Result<Judged, AllocError>
@@ -141,8 +141,8 @@ fn judge_outside(
 }
 
 /// Judges an event where nothing is owed.
-fn judge_next(
-    configuration: &mut Configuration,
+fn judge_next<A: Allocator>(
+    configuration: &mut Configuration<A>,
     network: &Network,
     event: Event,
     quota: u64,
@@ -165,8 +165,8 @@ fn judge_next(
 
 /// Judges the event that comes next, where this is owed, and makes it where it may follow. The error is that memory ran
 /// out.
-pub(crate) fn judge(
-    configuration: &mut Configuration,
+pub(crate) fn judge<A: Allocator>(
+    configuration: &mut Configuration<A>,
     network: &Network,
     owed: Option<Growth>,
     event: Event,

@@ -12,7 +12,7 @@ use crate::judged::Judged;
 use kpn_configuration::Configuration;
 use kpn_net::laws::one_writer_and_one_reader;
 use kpn_net::{End, Network};
-use std::alloc::AllocError;
+use std::alloc::{AllocError, Allocator};
 
 /// Whether the outside reads channel `c`.
 fn is_sink(network: &Network, c: usize) -> bool
@@ -24,8 +24,8 @@ fn is_sink(network: &Network, c: usize) -> bool
 }
 
 /// The outside feeds this item to channel `c`. The error is that memory ran out.
-pub(crate) fn feed(
-    configuration: &mut Configuration,
+pub(crate) fn feed<A: Allocator>(
+    configuration: &mut Configuration<A>,
     network: &Network,
     c: usize,
     item: i64,
@@ -48,7 +48,11 @@ pub(crate) fn feed(
 }
 
 /// The outside closes channel `c`.
-pub(crate) fn close(configuration: &mut Configuration, network: &Network, c: usize) -> Judged
+pub(crate) fn close<A: Allocator>(
+    configuration: &mut Configuration<A>,
+    network: &Network,
+    c: usize,
+) -> Judged
     requires shape { IsConfiguration network.now configuration.old }
     requires channel { c < length network.now.channels }
     ensures shape { IsConfiguration network.now configuration.new }
@@ -65,8 +69,8 @@ pub(crate) fn close(configuration: &mut Configuration, network: &Network, c: usi
 }
 
 /// The outside takes this item from channel `c`.
-pub(crate) fn take(
-    configuration: &mut Configuration,
+pub(crate) fn take<A: Allocator>(
+    configuration: &mut Configuration<A>,
     network: &Network,
     c: usize,
     item: i64,
@@ -91,7 +95,11 @@ pub(crate) fn take(
 }
 
 /// The outside leaves channel `c`.
-pub(crate) fn leave(configuration: &mut Configuration, network: &Network, c: usize) -> Judged
+pub(crate) fn leave<A: Allocator>(
+    configuration: &mut Configuration<A>,
+    network: &Network,
+    c: usize,
+) -> Judged
     requires shape { IsConfiguration network.now configuration.old }
     requires channel { c < length network.now.channels }
     ensures shape { IsConfiguration network.now configuration.new }

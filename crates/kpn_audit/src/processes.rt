@@ -14,11 +14,11 @@ use kpn_configuration::Configuration;
 use kpn_net::Network;
 use kpn_step::Stop;
 use kpn_trace::How;
-use std::alloc::AllocError;
+use std::alloc::{AllocError, Allocator};
 
 /// Process `p`, which stands at this stop, gets this item from channel `c`.
-pub(crate) fn get(
-    configuration: &mut Configuration,
+pub(crate) fn get<A: Allocator>(
+    configuration: &mut Configuration<A>,
     network: &Network,
     p: usize,
     c: usize,
@@ -46,8 +46,8 @@ pub(crate) fn get(
 }
 
 /// Process `p`, which stands at this stop, puts this item on channel `c`. The error is that memory ran out.
-pub(crate) fn put(
-    configuration: &mut Configuration,
+pub(crate) fn put<A: Allocator>(
+    configuration: &mut Configuration<A>,
     network: &Network,
     p: usize,
     c: usize,
@@ -73,8 +73,8 @@ pub(crate) fn put(
 }
 
 /// Process `p`, which stands at this stop, waits on channel `c` as empty.
-pub(crate) fn wait_on_empty(
-    configuration: &mut Configuration,
+pub(crate) fn wait_on_empty<A: Allocator>(
+    configuration: &mut Configuration<A>,
     network: &Network,
     p: usize,
     c: usize,
@@ -97,8 +97,8 @@ pub(crate) fn wait_on_empty(
 }
 
 /// Process `p`, which stands at this stop, waits on channel `c` as full.
-pub(crate) fn wait_on_full(
-    configuration: &mut Configuration,
+pub(crate) fn wait_on_full<A: Allocator>(
+    configuration: &mut Configuration<A>,
     network: &Network,
     p: usize,
     c: usize,
@@ -121,8 +121,8 @@ pub(crate) fn wait_on_full(
 }
 
 /// Process `p`, which stands at this stop, ends in this way.
-pub(crate) fn end(
-    configuration: &mut Configuration,
+pub(crate) fn end<A: Allocator>(
+    configuration: &mut Configuration<A>,
     network: &Network,
     p: usize,
     how: How,

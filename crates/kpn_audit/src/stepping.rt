@@ -16,9 +16,10 @@ use crate::judged::Judged;
 use kpn_configuration::Configuration;
 use kpn_net::{Network, Wait};
 use kpn_step::Stop;
+use std::alloc::Allocator;
 
 /// Whether process `p` may go on: it has not ended and waits for nobody.
-fn is_free(configuration: &Configuration, network: &Network, p: usize) -> bool
+fn is_free<A: Allocator>(configuration: &Configuration<A>, network: &Network, p: usize) -> bool
     requires shape { IsConfiguration network.now configuration.now }
     requires process { p < length network.now.instances }
     ensures { IsTrue result ↔ IsFree configuration.now p }
@@ -36,7 +37,12 @@ fn part_of(left: u64) -> u32
 
 /// Steps process `p` on from its frame until it stops, or until `quota` steps were made, which is a pause. Paused it
 /// has made them all.
-fn step_on(configuration: &mut Configuration, network: &Network, p: usize, quota: u64) -> Stop
+fn step_on<A: Allocator>(
+    configuration: &mut Configuration<A>,
+    network: &Network,
+    p: usize,
+    quota: u64,
+) -> Stop
     requires shape { IsConfiguration network.now configuration.old }
     requires process { p < length network.now.instances }
     ensures shape { IsConfiguration network.now configuration.new }
@@ -61,8 +67,8 @@ fn step_on(configuration: &mut Configuration, network: &Network, p: usize, quota
 
 /// Steps process `p` to its next stop. Where it has ended or waits, or uses up its steps before it stops, that is what
 /// is found of any event of it.
-pub(crate) fn come_to_stop(
-    configuration: &mut Configuration,
+pub(crate) fn come_to_stop<A: Allocator>(
+    configuration: &mut Configuration<A>,
     network: &Network,
     p: usize,
     quota: u64,

@@ -11,13 +11,13 @@ use crate::findings::Audit;
 use kpn_configuration::Configuration;
 use kpn_lang::Sequence;
 use kpn_net::Network;
-use std::alloc::{AllocError, Global};
+use std::alloc::{AllocError, Allocator, Global};
 
 /// What a configuration shows of the history that led to it. The error is that memory ran out.
-pub(crate) fn summary(
+pub(crate) fn summary<A: Allocator>(
     alloc: Global,
     network: &Network,
-    configuration: &Configuration,
+    configuration: &Configuration<A>,
 ) -> Result<Audit, AllocError>
     requires { IsConfiguration network.now configuration.now }
     ensures { (H : List Event) → IsRun network.now H configuration.now
@@ -34,10 +34,10 @@ pub(crate) fn summary(
 }
 
 /// The journal of each channel.
-fn journals(
+fn journals<A: Allocator>(
     alloc: Global,
     network: &Network,
-    configuration: &Configuration,
+    configuration: &Configuration<A>,
 ) -> Result<Sequence<Sequence<i64>>, AllocError>
     requires { IsConfiguration network.now configuration.now }
     ensures { IfOk result (λ journals.
@@ -52,10 +52,10 @@ fn journals(
 }
 
 /// The capacity of each channel.
-fn capacities(
+fn capacities<A: Allocator>(
     alloc: Global,
     network: &Network,
-    configuration: &Configuration,
+    configuration: &Configuration<A>,
 ) -> Result<Sequence<Option<u32>>, AllocError>
     requires { IsConfiguration network.now configuration.now }
     ensures { IfOk result (λ caps. caps

@@ -118,7 +118,8 @@ pub item_lacks : (s : ℕ) (item : ℤ) → s < 45 → FitsSigned w64 item → L
 item_lacks s (pos n) low fits = decimal_lacks s n low (omega (arith, ints))
 item_lacks s (negsuc n) low fits =
     let minus : eqb 45 s ≡ false = ne_eqb 45 s (λ e. omega arith) in
-    both (eqb 45 s) (list_any (λ b. eqb b s) (decimal (suc n))) minus (decimal_lacks s (suc n) low (omega (arith, ints)))
+    both (eqb 45 s) (list_any (λ b. eqb b s) (decimal (suc n))) minus
+    (decimal_lacks s (suc n) low (omega (arith, ints)))
 
 -- one number and what follows behind a space
 pub front : (m n : ℕ) (a b : List ℕ) → m < 2 ^ 16 → n < 2 ^ 16 → decimal m ++ 32 ∷ a ≡ decimal n ++ 32 ∷ b

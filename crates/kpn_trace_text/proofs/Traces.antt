@@ -68,7 +68,8 @@ first_text bytes line rest event split spells =
 -- ---- lines one after another
 
 -- the text of events with one more
-pub one_more : (events : List Event) (event : Event) → trace_text (events ++ event ∷ []) ≡ trace_text events ++ event_text event
+pub one_more : (events : List Event) (event : Event)
+    → trace_text (events ++ event ∷ []) ≡ trace_text events ++ event_text event
 one_more events event =
     ap (λ t. head_text ++ t)
     (flat_map-append event_text events (event ∷ []) ∙ ap (λ t. events_text events ++ t) (append-nil (event_text event)))

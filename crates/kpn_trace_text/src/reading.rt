@@ -70,7 +70,8 @@ fn event_of_kind(kind: Kind, parts: &[u8]) -> Option<Event>
     ensures { MatchOption result
         ((event : Event) → IsInRange event → kind_of event ≡ kind
         → parts.now ≢ spaced (parts_of event))
-        (λ event. IsInRange event × (kind_of event ≡ kind) × (parts.now ≡ spaced (parts_of event))) }
+        (λ event. IsInRange event × (kind_of event ≡ kind)
+        × (parts.now ≡ spaced (parts_of event))) }
 {
     match kind {
         Kind::Get => {

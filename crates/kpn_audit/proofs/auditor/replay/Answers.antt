@@ -6,7 +6,7 @@ use Rattle.kpn_audit.proofs.Replaying.{followed_by, illegal_at, budget_at}
 use Rattle.kpn_audit.proofs.auditor.replay.Goals as goal
 
 pub returns-in-Illegal-clause-refused : goal.returns-in-Illegal-clause-refused
-returns-in-Illegal-clause-refused c =
+returns-in-Illegal-clause-refused g c =
     let t = c.args.network.now in
     let H = c.args.events.now in
     let k = c.events.k in
@@ -19,7 +19,7 @@ returns-in-Illegal-clause-refused c =
     c.in-Illegal.is found)
 
 pub returns-in-Budget-clause-refused : goal.returns-in-Budget-clause-refused
-returns-in-Budget-clause-refused c =
+returns-in-Budget-clause-refused g c =
     let t = c.args.network.now in
     let H = c.args.events.now in
     let k = c.events.k in
@@ -33,7 +33,7 @@ returns-in-Budget-clause-refused c =
     c.in-Budget.is found)
 
 pub events-preserved : goal.events-preserved
-events-preserved c =
+events-preserved g c =
     let t = c.args.network.now in
     let H = c.args.events.now in
     let k = c.events.k in

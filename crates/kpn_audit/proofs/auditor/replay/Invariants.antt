@@ -7,7 +7,7 @@ use Rattle.kpn_audit.proofs.Replaying.{ArePlaces}
 use Rattle.kpn_audit.proofs.auditor.replay.Given as goal
 
 abbrev pub invariant-events : goal.invariant-events
-invariant-events l =
+invariant-events g l =
     record {
       run : IsRun l.network (take l.k l.events) l.configuration;
       owes : Owes l.network (take l.k l.events) l.configuration l.owed;

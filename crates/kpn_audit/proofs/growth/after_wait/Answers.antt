@@ -1,7 +1,7 @@
 use Rattle.kpn_audit.proofs.growth.after_wait.Goals as goal
 
 pub returns-in-Some : goal.returns-in-Some
-returns-in-Some c H event before waits run goes =
+returns-in-Some g c H event before waits run goes =
     record {
       run = run;
       goes = goes;
@@ -13,5 +13,5 @@ returns-in-Some c H event before waits run goes =
     }
 
 pub returns-in-None : goal.returns-in-None
-returns-in-None c H event before waits run goes =
+returns-in-None g c H event before waits run goes =
     record { run = run; goes = goes; owes = c.owed.ensures.nothing H event waits run c.in-None.is }

@@ -8,7 +8,7 @@ use Rattle.kpn_audit.proofs.growth.judge_owed.Goals as goal
 use Rattle.kpn_audit.proofs.growth.judge_owed.Goals.{then-from-owed-via-then-from-owed, then-from-owed-via-else-from-owed+then-from-owed-2}
 
 pub returns-in_default : goal.returns-in_default
-returns-in_default c =
+returns-in_default g c =
     record {
       shape = c.requires.shape;
       judged = λ H run owing legal. c.in_default.not-Grow c.args.owed.process c.args.owed.channel
@@ -16,7 +16,7 @@ returns-in_default c =
     }
 
 pub returns-then-from-owed-clause-judged : goal.returns-then-from-owed-clause-judged
-returns-then-from-owed-clause-judged c H run owing legal =
+returns-then-from-owed-clause-judged g c H run owing legal =
     let same =
     only_growth c.args.network.now H c.args.event c.args.owed.process c.args.owed.channel owing.owed legal in
     elim c.then-from-owed.branch [
@@ -27,7 +27,7 @@ returns-then-from-owed-clause-judged c H run owing legal =
     ]
 
 pub returns-clause-judged : goal.returns-clause-judged
-returns-clause-judged c H run owing =
+returns-clause-judged g c H run owing =
     let t = c.args.network.now in
     let same : Grow c.args.owed.process c.args.owed.channel ≡ c.args.event = cc in
     let s = c.args.configuration.now in

@@ -7,42 +7,42 @@ use Rattle.kpn_audit.specs.Judged.{IsMade}
 use Rattle.kpn_audit.proofs.judging.judge_at_stop.Goals as goal
 
 pub get-requires-clause-stopped : goal.get-requires-clause-stopped
-get-requires-clause-stopped c =
+get-requires-clause-stopped g c =
     c.requires.stopped c.into.result
     (ap (is_of c.into.result) c.in-Get.is ∙ eq-eqb c.in-Get.p c.into.result (sym c.into.ensures))
 
 pub put-requires-clause-stopped : goal.put-requires-clause-stopped
-put-requires-clause-stopped c =
+put-requires-clause-stopped g c =
     c.requires.stopped c.into-in-Put.result
     (ap (is_of c.into-in-Put.result) c.in-Put.is ∙ eq-eqb c.in-Put.p c.into-in-Put.result (sym c.into-in-Put.ensures))
 
 pub wait_on_empty-requires-clause-stopped : goal.wait_on_empty-requires-clause-stopped
-wait_on_empty-requires-clause-stopped c =
+wait_on_empty-requires-clause-stopped g c =
     c.requires.stopped c.into-in-WaitEmpty.result
     (ap (is_of c.into-in-WaitEmpty.result) c.in-WaitEmpty.is ∙ eq-eqb c.in-WaitEmpty.p c.into-in-WaitEmpty.result
     (sym c.into-in-WaitEmpty.ensures))
 
 pub wait_on_full-requires-clause-stopped : goal.wait_on_full-requires-clause-stopped
-wait_on_full-requires-clause-stopped c =
+wait_on_full-requires-clause-stopped g c =
     c.requires.stopped c.into-in-WaitFull.result
     (ap (is_of c.into-in-WaitFull.result) c.in-WaitFull.is ∙ eq-eqb c.in-WaitFull.p c.into-in-WaitFull.result
     (sym c.into-in-WaitFull.ensures))
 
 pub end-requires-clause-stopped : goal.end-requires-clause-stopped
-end-requires-clause-stopped c =
+end-requires-clause-stopped g c =
     c.requires.stopped c.into-in-Ended.result
     (ap (is_of c.into-in-Ended.result) c.in-Ended.is ∙ eq-eqb c.in-Ended.p c.into-in-Ended.result
     (sym c.into-in-Ended.ensures))
 
 pub returns-in-Get-clause-judged : goal.returns-in-Get-clause-judged
-returns-in-Get-clause-judged c H run owes own =
+returns-in-Get-clause-judged g c H run owes own =
     let item : to_z w64 (of_z w64 c.in-Get.item) ≡ c.in-Get.item = search rules in
     let same : Get c.into.result c.into-in-Get.result (to_z w64 (of_z w64 c.in-Get.item)) ≡ c.args.event = cc in
     subst (λ e. IsMade c.args.network.now H e c.args.configuration.now c.get.new.configuration c.get.result) same
     (c.get.ensures.judged H run owes)
 
 pub returns-in-Put-clause-judged : goal.returns-in-Put-clause-judged
-returns-in-Put-clause-judged c H run owes own =
+returns-in-Put-clause-judged g c H run owes own =
     let item : to_z w64 (of_z w64 c.in-Put.item) ≡ c.in-Put.item = search rules in
     let same : Put c.into-in-Put.result c.into-in-Put-2.result (to_z w64 (of_z w64 c.in-Put.item)) ≡ c.args.event =
     cc in
@@ -50,21 +50,21 @@ returns-in-Put-clause-judged c H run owes own =
     (c.put.ensures.judged H run owes)
 
 pub returns-in-WaitEmpty-clause-judged : goal.returns-in-WaitEmpty-clause-judged
-returns-in-WaitEmpty-clause-judged c H run owes own =
+returns-in-WaitEmpty-clause-judged g c H run owes own =
     let same : WaitEmpty c.into-in-WaitEmpty.result c.into-in-WaitEmpty-2.result ≡ c.args.event = cc in
     subst (λ e. IsMade c.args.network.now H e c.args.configuration.now c.wait_on_empty.new.configuration
     c.wait_on_empty.result) same
     (c.wait_on_empty.ensures.judged H run owes)
 
 pub returns-in-WaitFull-clause-judged : goal.returns-in-WaitFull-clause-judged
-returns-in-WaitFull-clause-judged c H run owes own =
+returns-in-WaitFull-clause-judged g c H run owes own =
     let same : WaitFull c.into-in-WaitFull.result c.into-in-WaitFull-2.result ≡ c.args.event = cc in
     subst (λ e. IsMade c.args.network.now H e c.args.configuration.now c.wait_on_full.new.configuration
     c.wait_on_full.result) same
     (c.wait_on_full.ensures.judged H run owes)
 
 pub returns-in-Ended-clause-judged : goal.returns-in-Ended-clause-judged
-returns-in-Ended-clause-judged c H run owes own =
+returns-in-Ended-clause-judged g c H run owes own =
     let same : Ended c.into-in-Ended.result c.in-Ended.how ≡ c.args.event = cc in
     subst (λ e. IsMade c.args.network.now H e c.args.configuration.now c.end.new.configuration c.end.result) same
     (c.end.ensures.judged H run owes)

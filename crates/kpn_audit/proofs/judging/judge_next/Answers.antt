@@ -6,12 +6,12 @@ use Rattle.kpn_audit.proofs.Refused.{has_its_numbers}
 use Rattle.kpn_audit.proofs.judging.judge_next.Goals as goal
 
 pub returns-then-not-has_numbers-clause-judged : goal.returns-then-not-has_numbers-clause-judged
-returns-then-not-has_numbers-clause-judged c H run owes legal =
+returns-then-not-has_numbers-clause-judged g c H run owes legal =
     both_ways _ c.if-not-has_numbers.true
     (c.has_numbers.ensures.1 (has_its_numbers c.args.network.now H c.args.event legal))
 
 pub returns-in-None-clause-judged : goal.returns-in-None-clause-judged
-returns-in-None-clause-judged c H run owes =
+returns-in-None-clause-judged g c H run owes =
     IfOk-weaker c.judge_outside.result _ _
     (λ found made. judged_if_made c.args.network.now H c.args.event c.args.quota c.args.configuration.now
     c.judge_outside.new.configuration found made)

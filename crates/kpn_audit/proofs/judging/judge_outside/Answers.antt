@@ -6,7 +6,7 @@ use Rattle.kpn_audit.proofs.Refused.{growth_of_nothing}
 use Rattle.kpn_audit.proofs.judging.judge_outside.Goals as goal
 
 pub returns-in-Feed-clause-judged : goal.returns-in-Feed-clause-judged
-returns-in-Feed-clause-judged c H run owes =
+returns-in-Feed-clause-judged g c H run owes =
     let item : to_z w64 (of_z w64 c.in-Feed.item) ≡ c.in-Feed.item = search rules in
     let same : Feed c.into.result (to_z w64 (of_z w64 c.in-Feed.item)) ≡ c.args.event = cc in
     subst (λ e. IfOk c.feed.result
@@ -14,26 +14,26 @@ returns-in-Feed-clause-judged c H run owes =
     (c.feed.ensures.judged H run owes)
 
 pub returns-in-Close-clause-judged : goal.returns-in-Close-clause-judged
-returns-in-Close-clause-judged c H run owes =
+returns-in-Close-clause-judged g c H run owes =
     let same : Close c.into-in-Close.result ≡ c.args.event = cc in
     subst (λ e. IsMade c.args.network.now H e c.args.configuration.now c.close.new.configuration c.close.result) same
     (c.close.ensures.judged H run owes)
 
 pub returns-in-Take-clause-judged : goal.returns-in-Take-clause-judged
-returns-in-Take-clause-judged c H run owes =
+returns-in-Take-clause-judged g c H run owes =
     let item : to_z w64 (of_z w64 c.in-Take.item) ≡ c.in-Take.item = search rules in
     let same : Take c.into-in-Take.result (to_z w64 (of_z w64 c.in-Take.item)) ≡ c.args.event = cc in
     subst (λ e. IsMade c.args.network.now H e c.args.configuration.now c.take.new.configuration c.take.result) same
     (c.take.ensures.judged H run owes)
 
 pub returns-in-Leave-clause-judged : goal.returns-in-Leave-clause-judged
-returns-in-Leave-clause-judged c H run owes =
+returns-in-Leave-clause-judged g c H run owes =
     let same : Leave c.into-in-Leave.result ≡ c.args.event = cc in
     subst (λ e. IsMade c.args.network.now H e c.args.configuration.now c.leave.new.configuration c.leave.result) same
     (c.leave.ensures.judged H run owes)
 
 pub returns-in_default : goal.returns-in_default
-returns-in_default c =
+returns-in_default g c =
     record {
       shape = c.requires.shape;
       judged = λ H run owes. growth_of_nothing c.args.network.now c.known.ensures H c.args.configuration.now run

@@ -5,7 +5,7 @@ use Rattle.kpn_audit.proofs.Followed.{judged_if_made, made_after_steps}
 use Rattle.kpn_audit.proofs.judging.judge_process.Goals as goal
 
 pub returns-in-Ok-clause-judged : goal.returns-in-Ok-clause-judged
-returns-in-Ok-clause-judged c H run owes =
+returns-in-Ok-clause-judged g c H run owes =
     let t = c.args.network.now in
     let e = c.args.event in
     let s = c.args.configuration.now in
@@ -19,5 +19,5 @@ returns-in-Ok-clause-judged c H run owes =
     ((of_process e).1 (c.args.p, c.requires.own)))
 
 pub returns-in-Err-clause-judged : goal.returns-in-Err-clause-judged
-returns-in-Err-clause-judged c H run owes =
+returns-in-Err-clause-judged g c H run owes =
     c.in-Err.ensures.judged H run owes c.args.event c.requires.own c.requires.numbers

@@ -11,7 +11,7 @@ use Rattle.kpn_audit.proofs.outside.feed.Goals as goal
 use Rattle.kpn_audit.proofs.outside.feed.Goals.{then-not-is_source-via-then-not-is_source, then-not-is_source-via-else-not-is_source+then-is_closed}
 
 pub returns-then-not-is_source-clause-judged : goal.returns-then-not-is_source-clause-judged
-returns-then-not-is_source-clause-judged c H run owes legal =
+returns-then-not-is_source-clause-judged g c H run owes legal =
     elim c.then-not-is_source.branch [
       | then-not-is_source-via-then-not-is_source w ↦ feed_of_no_source c.args.network.now c.known.ensures H
           c.args.configuration.now run owes c.args.c c.args.item (sym c.is_source.ensures ∙ w.if-not-is_source.true)
@@ -21,7 +21,7 @@ returns-then-not-is_source-clause-judged c H run owes legal =
     ]
 
 pub returns-clause-judged : goal.returns-clause-judged
-returns-clause-judged c H run owes =
+returns-clause-judged g c H run owes =
     let t = c.args.network.now in
     let kept =
     frames_kept (is_ok c.reserve_one.result) c.args.configuration.now c.reserve_one.new.self c.args.c

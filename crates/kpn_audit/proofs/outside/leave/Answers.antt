@@ -7,7 +7,7 @@ use Rattle.kpn_audit.proofs.outside.leave.Goals as goal
 use Rattle.kpn_audit.proofs.outside.leave.Goals.{then-not-is_sink-via-then-not-is_sink, then-not-is_sink-via-else-not-is_sink+then-is_retired}
 
 pub returns-then-not-is_sink-clause-judged : goal.returns-then-not-is_sink-clause-judged
-returns-then-not-is_sink-clause-judged c H run owes legal =
+returns-then-not-is_sink-clause-judged g c H run owes legal =
     elim c.then-not-is_sink.branch [
       | then-not-is_sink-via-then-not-is_sink w ↦ leave_of_no_sink c.args.network.now c.known.ensures H
           c.args.configuration.now run owes c.args.c (sym c.is_sink.ensures ∙ w.if-not-is_sink.true) legal
@@ -17,7 +17,7 @@ returns-then-not-is_sink-clause-judged c H run owes legal =
     ]
 
 pub returns-clause-judged : goal.returns-clause-judged
-returns-clause-judged c H run owes =
+returns-clause-judged g c H run owes =
     let t = c.args.network.now in
     followed t H (Leave c.args.c) c.args.configuration.now c.leave.new.self refl (c.leave.ensures.run H run owes)
     (goes_outside t c.args.configuration.now c.leave.new.self (Leave c.args.c) refl c.leave.ensures.changes.frames)

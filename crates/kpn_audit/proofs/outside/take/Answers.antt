@@ -8,7 +8,7 @@ use Rattle.kpn_audit.proofs.outside.take.Goals as goal
 use Rattle.kpn_audit.proofs.outside.take.Goals.{then-not-is_sink-via-then-not-is_sink, then-not-is_sink-via-else-not-is_sink+then-not-has_item}
 
 pub returns-then-not-is_sink-clause-judged : goal.returns-then-not-is_sink-clause-judged
-returns-then-not-is_sink-clause-judged c H run owes legal =
+returns-then-not-is_sink-clause-judged g c H run owes legal =
     elim c.then-not-is_sink.branch [
       | then-not-is_sink-via-then-not-is_sink w ↦ take_of_no_sink c.args.network.now c.known.ensures H
           c.args.configuration.now run owes c.args.c c.args.item (sym c.is_sink.ensures ∙ w.if-not-is_sink.true) legal
@@ -18,7 +18,7 @@ returns-then-not-is_sink-clause-judged c H run owes legal =
     ]
 
 pub returns-then-got-item-clause-judged : goal.returns-then-got-item-clause-judged
-returns-then-got-item-clause-judged c H run owes =
+returns-then-got-item-clause-judged g c H run owes =
     let t = c.args.network.now in
     let fits : SFits w64 c.take-got.result.item = search rules in
     let s = c.args.configuration.now in
@@ -29,6 +29,6 @@ returns-then-got-item-clause-judged c H run owes =
     (goes_outside t s c.take-got.new.self e refl c.take-got.ensures.changes.frames))
 
 pub returns-else-got-item-clause-judged : goal.returns-else-got-item-clause-judged
-returns-else-got-item-clause-judged c H run owes legal =
+returns-else-got-item-clause-judged g c H run owes legal =
     take_of_another c.args.network.now c.known.ensures H c.args.configuration.now run owes c.args.c c.args.item
     c.take-got.result.item c.take-got.ensures.item (λ e. c.if-got-item.false (ap (of_z w64) e)) legal

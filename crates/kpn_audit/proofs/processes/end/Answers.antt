@@ -7,12 +7,12 @@ use Rattle.kpn_audit.proofs.Followed.{followed, goes_made}
 use Rattle.kpn_audit.proofs.processes.end.Goals as goal
 
 pub returns-then-not-is_end-clause-judged : goal.returns-then-not-is_end-clause-judged
-returns-then-not-is_end-clause-judged c H run owes legal =
+returns-then-not-is_end-clause-judged g c H run owes legal =
     no_such_end c.args.network.now c.known.ensures H c.args.configuration.now run c.args.p c.args.stop
     c.requires.stopped c.args.how (λ same. both_ways _ c.if-not-is_end.true (c.is_end.ensures.1 same)) legal
 
 pub returns-clause-judged : goal.returns-clause-judged
-returns-clause-judged c H run owes =
+returns-clause-judged g c H run owes =
     let t = c.args.network.now in
     let e = Ended c.args.p c.args.how in
     let s = c.args.configuration.now in

@@ -9,7 +9,7 @@ use Rattle.kpn_audit.proofs.processes.get.Goals as goal
 use Rattle.kpn_audit.proofs.processes.get.Goals.{then-not-is_read_from-via-then-not-is_read_from, then-not-is_read_from-via-else-not-is_read_from+then-not-has_item}
 
 pub returns-then-not-is_read_from-clause-judged : goal.returns-then-not-is_read_from-clause-judged
-returns-then-not-is_read_from-clause-judged c H run owes legal =
+returns-then-not-is_read_from-clause-judged g c H run owes legal =
     elim c.then-not-is_read_from.branch [
       | then-not-is_read_from-via-then-not-is_read_from w ↦ get_elsewhere c.args.network.now c.known.ensures H
           c.args.configuration.now run c.args.p c.args.stop c.requires.stopped c.args.c c.args.item
@@ -20,7 +20,7 @@ returns-then-not-is_read_from-clause-judged c H run owes legal =
     ]
 
 pub returns-then-got-item-clause-judged : goal.returns-then-got-item-clause-judged
-returns-then-got-item-clause-judged c H run owes =
+returns-then-got-item-clause-judged g c H run owes =
     let t = c.args.network.now in
     let fits : SFits w64 c.get-got.result.item = search rules in
     let s = c.args.configuration.now in
@@ -32,7 +32,7 @@ returns-then-got-item-clause-judged c H run owes =
     c.get-got.ensures.changes.frames))
 
 pub returns-else-got-item-clause-judged : goal.returns-else-got-item-clause-judged
-returns-else-got-item-clause-judged c H run owes legal =
+returns-else-got-item-clause-judged g c H run owes legal =
     get_of_another c.args.network.now c.known.ensures H c.args.configuration.now run c.args.p c.args.stop
     c.requires.stopped c.args.c c.args.item c.get-got.result.item c.get-got.ensures.item
     (λ e. c.if-got-item.false (ap (of_z w64) e)) legal

@@ -15,7 +15,7 @@ use Rattle.kpn_audit.proofs.processes.put.Goals as goal
 use Rattle.kpn_audit.proofs.processes.put.Goals.{then-not-is_write_of-via-then-not-is_write_of, then-not-is_write_of-via-else-not-is_write_of+then-is_full}
 
 pub returns-then-not-is_write_of-clause-judged : goal.returns-then-not-is_write_of-clause-judged
-returns-then-not-is_write_of-clause-judged c H run owes legal =
+returns-then-not-is_write_of-clause-judged g c H run owes legal =
     elim c.then-not-is_write_of.branch [
       | then-not-is_write_of-via-then-not-is_write_of w ↦ put_elsewhere c.args.network.now c.known.ensures H
           c.args.configuration.now run c.args.p c.args.stop c.requires.stopped c.args.c c.args.item
@@ -28,7 +28,7 @@ returns-then-not-is_write_of-clause-judged c H run owes legal =
     ]
 
 pub returns-clause-judged : goal.returns-clause-judged
-returns-clause-judged c H run owes =
+returns-clause-judged g c H run owes =
     let t = c.args.network.now in
     let kept =
     frames_kept (is_ok c.reserve_one.result) c.args.configuration.now c.reserve_one.new.self c.args.c

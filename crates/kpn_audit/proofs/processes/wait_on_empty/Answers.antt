@@ -10,7 +10,7 @@ use Rattle.kpn_audit.proofs.processes.wait_on_empty.Goals as goal
 use Rattle.kpn_audit.proofs.processes.wait_on_empty.Goals.{then-not-is_read_from-via-then-not-is_read_from, then-not-is_read_from-via-else-not-is_read_from+then-not-is_empty}
 
 pub returns-then-not-is_read_from-clause-judged : goal.returns-then-not-is_read_from-clause-judged
-returns-then-not-is_read_from-clause-judged c H run owes legal =
+returns-then-not-is_read_from-clause-judged g c H run owes legal =
     elim c.then-not-is_read_from.branch [
       | then-not-is_read_from-via-then-not-is_read_from w ↦ empty_elsewhere c.args.network.now c.known.ensures H
           c.args.configuration.now run c.args.p c.args.stop c.requires.stopped c.args.c
@@ -21,7 +21,7 @@ returns-then-not-is_read_from-clause-judged c H run owes legal =
     ]
 
 pub returns-clause-judged : goal.returns-clause-judged
-returns-clause-judged c H run owes =
+returns-clause-judged g c H run owes =
     let e = WaitEmpty c.args.p c.args.c in
     let s = c.args.configuration.now in
     c.after_wait.ensures H e s refl (c.wait_on_empty.ensures.run H run owes)

@@ -9,7 +9,7 @@ use Rattle.kpn_audit.proofs.processes.wait_on_full.Goals as goal
 use Rattle.kpn_audit.proofs.processes.wait_on_full.Goals.{then-not-is_write_to-via-then-not-is_write_to, then-not-is_write_to-via-else-not-is_write_to+then-not-is_full}
 
 pub returns-then-not-is_write_to-clause-judged : goal.returns-then-not-is_write_to-clause-judged
-returns-then-not-is_write_to-clause-judged c H run owes legal =
+returns-then-not-is_write_to-clause-judged g c H run owes legal =
     elim c.then-not-is_write_to.branch [
       | then-not-is_write_to-via-then-not-is_write_to w ↦ full_elsewhere c.args.network.now c.known.ensures H
           c.args.configuration.now run c.args.p c.args.stop c.requires.stopped c.args.c
@@ -20,7 +20,7 @@ returns-then-not-is_write_to-clause-judged c H run owes legal =
     ]
 
 pub returns-clause-judged : goal.returns-clause-judged
-returns-clause-judged c H run owes =
+returns-clause-judged g c H run owes =
     let e = WaitFull c.args.p c.args.c in
     let s = c.args.configuration.now in
     c.after_wait.ensures H e s refl (c.wait_on_full.ensures.run H run owes)

@@ -11,7 +11,7 @@ use Rattle.kpn_audit.proofs.stepping.step_on.Goals as goal
 use Rattle.kpn_audit.proofs.stepping.step_on.Goals.{then-left-eq0-via-then-left-eq0, then-left-eq0-via-else-left-eq0+then-not-matches, in-Paused, in_default}
 
 pub returns-then-left-eq0-clause-paused : goal.returns-then-left-eq0-clause-paused
-returns-then-left-eq0-clause-paused c paused =
+returns-then-left-eq0-clause-paused g c paused =
     let p = c.args.p in
     let blocks = (program_of c.args.network.now p).blocks in
     let before = frame_in c.args.configuration.now p in
@@ -38,7 +38,7 @@ others_kept s mid after p f e kept q differs =
     ap (λ x. frame_in x q) e ∙ frame_in-other mid p q f differs ∙ kept q differs
 
 pub returns-then-left-eq0-clause-moved : goal.returns-then-left-eq0-clause-moved
-returns-then-left-eq0-clause-moved c =
+returns-then-left-eq0-clause-moved g c =
     let p = c.args.p in
     let after = frame_in c.step-steps.new.self p in
     record {
@@ -53,7 +53,7 @@ returns-then-left-eq0-clause-moved c =
     }
 
 pub steps-preserved : goal.steps-preserved
-steps-preserved c =
+steps-preserved g c =
     let p = c.args.p in
     let blocks = (program_of c.args.network.now p).blocks in
     let before = frame_in c.args.configuration.now p in

@@ -8,7 +8,7 @@ use Rattle.kpn_configuration.specs.Run.{IsRun}
 use Rattle.kpn_audit.proofs.stepping.step_on.Given as goal
 
 abbrev pub invariant-steps : goal.invariant-steps
-invariant-steps l =
+invariant-steps g l =
     let t = l.network in
     record {
       shape : IsConfiguration t l.configuration;
@@ -21,4 +21,4 @@ invariant-steps l =
     }
 
 abbrev pub decreases-steps : goal.decreases-steps
-decreases-steps l = l.left
+decreases-steps g l = l.left

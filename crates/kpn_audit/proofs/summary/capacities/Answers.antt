@@ -4,7 +4,7 @@ use Rattle.kpn_audit.proofs.Summed.{one_more}
 use Rattle.kpn_audit.proofs.summary.capacities.Goals as goal
 
 pub loop-c-preserved : goal.loop-c-preserved
-loop-c-preserved c =
+loop-c-preserved g c =
     one_more (λ d. (channel_in c.args.configuration.now d).capacity) c.loop-c.caps.items c.push.new.self.items
     c.loop-c.c
     c.cap.result c.loop-c.invariant c.in_ok-push.ensures.items

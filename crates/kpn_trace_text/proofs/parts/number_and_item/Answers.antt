@@ -8,5 +8,5 @@ returns-in_err-item c =
     rw c.from_residual-in_err-item.ensures
     (λ n item small fits e.
     c.in_err-item.ensures item fits
-    (same_rest c.args.parts.now c.in_ok-first.first n c.in_ok-first.rest.now (signed_decimal item) c.in_ok-first.ensures.0 small
-    c.in_ok-first.ensures.1 e))
+    (same_rest c.args.parts.now c.in_ok-first.first n c.in_ok-first.rest.now (signed_decimal item)
+    c.in_ok-first.ensures.0 small c.in_ok-first.ensures.1 e))

@@ -30,5 +30,6 @@ loop-rest-preserved g c =
           one_more_read c.args.bytes.now before c.loop-rest.rest.now c.in-Some-first_event.after.now event
           c.loop-rest.invariant.whole first.0
           ∙ ap (λ es. trace_text es ++ c.in-Some-first_event.after.now) (sym pushed);
-      in_range = subst (All IsInRange) (sym pushed) (All-push IsInRange before event c.loop-rest.invariant.in_range first.1);
+      in_range = subst (All IsInRange) (sym pushed)
+          (All-push IsInRange before event c.loop-rest.invariant.in_range first.1);
     }

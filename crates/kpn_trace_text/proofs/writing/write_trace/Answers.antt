@@ -15,10 +15,12 @@ loop-place-preserved g c =
     let contents = g.W.Write.contents in
     elim c.match-at.branch [
       | in-Some+in_ok-event_line w ↦
-          subst (λ wr. Appends (contents c.args.writer.now) (contents wr) (trace_text (take (c.loop-place.place + 1) events)))
+          subst
+          (λ wr. Appends (contents c.args.writer.now) (contents wr) (trace_text (take (c.loop-place.place + 1) events)))
           (sym w.writer-is)
-          (one_more_written (contents c.args.writer.now) (contents c.loop-place.writer) (contents w.event_line.new.writer)
-          events c.loop-place.place w.in-Some.event (sym c.at.ensures ∙ w.in-Some.is) c.loop-place.invariant w.in_ok-event_line.ensures)
+          (one_more_written (contents c.args.writer.now) (contents c.loop-place.writer)
+          (contents w.event_line.new.writer) events c.loop-place.place w.in-Some.event
+          (sym c.at.ensures ∙ w.in-Some.is) c.loop-place.invariant w.in_ok-event_line.ensures)
       | in_default w ↦
           let found = slice_get-get_or events c.loop-place.place (Close 0) (omega arith) in
           absurd (cc (found, c.at.ensures, w.in_default.is))

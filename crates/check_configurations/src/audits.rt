@@ -1,0 +1,44 @@
+//! Audits that replay in a heap: one that is too small for a configuration, or for the items that come, refuses.
+use crate::feeding::copying;
+use kpn_audit::{AuditFault, audit};
+use kpn_net::Network;
+use kpn_trace::Event;
+use linked_list_allocator::LocalHeap;
+use std::alloc::{AllocError, Global};
+use std::test::Fail;
+
+const ONE: [Event; 1] = [Event::Feed(0, 5)];
+
+/// Whether an audit of these events in a heap of this size is refused memory.
+fn is_refused(
+    alloc: Global,
+    network: &Network,
+    events: &[Event],
+    size: usize,
+) -> Result<bool, AllocError> {
+    let heap = LocalHeap::new(alloc, size)?;
+    let found = audit(alloc, &heap, network, events, 1_000);
+    Ok(matches!(found, Err(AuditFault::NoMemory)))
+}
+
+/// Whether an audit of these events in a heap of this size finds a legal history.
+fn is_legal(
+    alloc: Global,
+    network: &Network,
+    events: &[Event],
+    size: usize,
+) -> Result<bool, AllocError> {
+    let heap = LocalHeap::new(alloc, size)?;
+    Ok(audit(alloc, &heap, network, events, 1_000).is_ok())
+}
+
+#[test]
+fn an_audit_is_refused_at_its_start_and_in_its_course(rt: HostRuntime) -> Result<(), Fail> {
+    let network = copying(rt.alloc())?;
+    let many = vec![in rt.alloc(); Event::Feed(0, 5); 1_000]?;
+    assert!(rt; is_refused(rt.alloc(), &network, &ONE, 64)?);
+    assert!(rt; is_legal(rt.alloc(), &network, &ONE, 4_096)?);
+    assert!(rt; is_refused(rt.alloc(), &network, &many, 4_096)?);
+    assert!(rt; is_legal(rt.alloc(), &network, &many, 65_536)?);
+    Ok(())
+}

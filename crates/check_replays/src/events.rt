@@ -1,0 +1,229 @@
+//! Events made by their calls, each after a look whether it may follow.
+ghost use Rattle.std.specs.Prelude.{◌≡◌, ◌<◌, true, length, IsTrue, IfOk, OnOk};
+ghost use Rattle.kpn_net.specs.Tables.{channel_at, is_sink};
+ghost use Rattle.kpn_configuration.specs.Configuration.{IsConfiguration, IsFree};
+ghost use Rattle.kpn_configuration.specs.Due.{Stands, ReadsFrom, WritesTo, stop_of};
+
+use anyhow::{Result, bail, ensure};
+use arrayvec::ArrayVec;
+use kpn_configuration::Configuration;
+use kpn_lang::Fault;
+use kpn_limits::MAX_PORTS;
+use kpn_net::laws::one_writer_and_one_reader;
+use kpn_net::{End, Network, Wait};
+use kpn_step::Stop;
+use kpn_trace::{Event, How};
+
+/// The processes that an event woke, in the order in which the call tells them.
+pub(crate) type Woken = Result<ArrayVec<usize, MAX_PORTS>>;
+
+/// At most one process was woken.
+fn woken(process: Option<usize>) -> Woken {
+    let mut processes = ArrayVec::new();
+    if let Some(q) = process {
+        processes.push(q);
+    }
+    Ok(processes)
+}
+
+/// Steps process `p`, which has to be free, to its next stop.
+fn come_to_stop(state: &mut Configuration, network: &Network, p: usize) -> Result<Stop>
+    requires { IsConfiguration network.now state.old }
+    ensures shape { IsConfiguration network.now state.new }
+    ensures process { OnOk result (p < length network.now.instances) }
+    ensures free { OnOk result (IsFree state.new p) }
+    ensures stands { IfOk result (Stands network.now state.new p) }
+{
+    ensure!(p < network.instances(), "there is no such process");
+    let mut stop = Stop::Paused;
+    state.step(network, p, 1_000, &mut stop);
+    ensure!(state.end_of(p).is_none(), "the process has ended");
+    ensure!(state.wait(p) == Wait::Nobody, "the process waits");
+    Ok(stop)
+}
+
+/// Steps process `p` to its next stop, which has to be a read from channel `c`.
+fn to_read(state: &mut Configuration, network: &Network, p: usize, c: usize) -> Result<()>
+    requires { IsConfiguration network.now state.old }
+    ensures shape { IsConfiguration network.now state.new }
+    ensures process { OnOk result (p < length network.now.instances) }
+    ensures channel { OnOk result (c < length network.now.channels) }
+    ensures free { OnOk result (IsFree state.new p) }
+    ensures reads { OnOk result (ReadsFrom network.now state.new p c) }
+{
+    let stop = come_to_stop(state, network, p)?;
+    let Stop::WantRead(port) = stop else {
+        bail!("the process does not read");
+    };
+    let ins = network.ins(p);
+    ensure!(port < ins.len(), "there is no such port");
+    ensure!(ins[port] == c, "the process reads another channel");
+    ensure!(c < network.channels(), "there is no such channel");
+    Ok(())
+}
+
+/// Steps process `p` to its next stop, which has to be a write to channel `c`, and gives the item.
+fn to_write(state: &mut Configuration, network: &Network, p: usize, c: usize) -> Result<i64>
+    requires { IsConfiguration network.now state.old }
+    ensures shape { IsConfiguration network.now state.new }
+    ensures process { OnOk result (p < length network.now.instances) }
+    ensures channel { OnOk result (c < length network.now.channels) }
+    ensures free { OnOk result (IsFree state.new p) }
+    ensures writes { IfOk result (WritesTo network.now state.new p c) }
+{
+    let stop = come_to_stop(state, network, p)?;
+    let Stop::WantWrite(port, item) = stop else {
+        bail!("the process does not write");
+    };
+    let outs = network.outs(p);
+    ensure!(port < outs.len(), "there is no such port");
+    ensure!(outs[port] == c, "the process writes to another channel");
+    ensure!(c < network.channels(), "there is no such channel");
+    Ok(item)
+}
+
+/// The stop that an end is.
+fn stop_of(how: How) -> Stop
+    ensures { result ≡ stop_of how }
+{
+    match how {
+        How::Done => Stop::Done,
+        How::Overflow => Stop::Faulted(Fault::Overflow),
+        How::ZeroDivisor => Stop::Faulted(Fault::ZeroDivisor),
+    }
+}
+
+/// Whether the outside reads a channel.
+fn is_sink(network: &Network, c: usize) -> bool
+    requires { c < length network.now.channels }
+    ensures { IsTrue result → is_sink (channel_at network.now c) ≡ true }
+{
+    one_writer_and_one_reader();
+    network.reader_of(c) == End::Sink
+}
+
+fn get(state: &mut Configuration, network: &Network, p: usize, c: usize, item: i64) -> Woken
+    requires { IsConfiguration network.now state.old }
+    ensures { IsConfiguration network.now state.new }
+{
+    to_read(state, network, p, c)?;
+    ensure!(state.has_item(c), "there is no item");
+    let got = state.get(network, p, c);
+    ensure!(got.item == item, "another item was got");
+    woken(got.woken)
+}
+
+fn put(state: &mut Configuration, network: &Network, p: usize, c: usize, item: i64) -> Woken
+    requires { IsConfiguration network.now state.old }
+    ensures { IsConfiguration network.now state.new }
+{
+    ensure!(c < network.channels(), "there is no such channel");
+    state.reserve_one(c)?;
+    let written = to_write(state, network, p, c)?;
+    ensure!(written == item, "the process writes another item");
+    ensure!(state.channel(c).room(), "there is no room");
+    ensure!(!state.channel(c).is_full(), "the channel is full");
+    woken(state.put(network, p, c, written))
+}
+
+fn wait_on_empty(state: &mut Configuration, network: &Network, p: usize, c: usize) -> Woken
+    requires { IsConfiguration network.now state.old }
+    ensures { IsConfiguration network.now state.new }
+{
+    to_read(state, network, p, c)?;
+    ensure!(state.channel(c).is_empty(), "the channel is not empty");
+    state.wait_on_empty(network, p, c);
+    woken(None)
+}
+
+fn wait_on_full(state: &mut Configuration, network: &Network, p: usize, c: usize) -> Woken
+    requires { IsConfiguration network.now state.old }
+    ensures { IsConfiguration network.now state.new }
+{
+    to_write(state, network, p, c)?;
+    ensure!(state.channel(c).is_full(), "the channel is not full");
+    state.wait_on_full(network, p, c);
+    woken(None)
+}
+
+fn end(state: &mut Configuration, network: &Network, p: usize, how: How) -> Woken
+    requires { IsConfiguration network.now state.old }
+    ensures { IsConfiguration network.now state.new }
+{
+    let stop = come_to_stop(state, network, p)?;
+    ensure!(stop == stop_of(how), "the process does not end so");
+    Ok(state.end(network, p, how))
+}
+
+fn feed(state: &mut Configuration, network: &Network, c: usize, item: i64) -> Woken
+    requires { IsConfiguration network.now state.old }
+    ensures { IsConfiguration network.now state.new }
+{
+    ensure!(c < network.channels(), "there is no such channel");
+    ensure!(network.is_source(c), "the channel is no source");
+    state.reserve_one(c)?;
+    ensure!(state.channel(c).room(), "there is no room");
+    ensure!(!state.is_closed(c), "the source is closed");
+    woken(state.feed(network, c, item))
+}
+
+fn close(state: &mut Configuration, network: &Network, c: usize) -> Woken
+    requires { IsConfiguration network.now state.old }
+    ensures { IsConfiguration network.now state.new }
+{
+    ensure!(c < network.channels(), "there is no such channel");
+    ensure!(network.is_source(c), "the channel is no source");
+    ensure!(!state.is_closed(c), "the source is closed");
+    state.close(network, c);
+    woken(None)
+}
+
+fn take(state: &mut Configuration, network: &Network, c: usize, item: i64) -> Woken
+    requires { IsConfiguration network.now state.old }
+    ensures { IsConfiguration network.now state.new }
+{
+    ensure!(c < network.channels(), "there is no such channel");
+    ensure!(is_sink(network, c), "the channel is no sink");
+    ensure!(state.has_item(c), "there is no item");
+    let got = state.take(network, c);
+    ensure!(got.item == item, "another item was taken");
+    woken(got.woken)
+}
+
+fn leave(state: &mut Configuration, network: &Network, c: usize) -> Woken
+    requires { IsConfiguration network.now state.old }
+    ensures { IsConfiguration network.now state.new }
+{
+    ensure!(c < network.channels(), "there is no such channel");
+    ensure!(is_sink(network, c), "the channel is no sink");
+    ensure!(!state.channel(c).is_retired(), "the sink was left");
+    woken(state.leave(network, c))
+}
+
+fn grow(state: &mut Configuration, network: &Network, p: usize, c: usize) -> Woken
+    requires { IsConfiguration network.now state.old }
+    ensures { IsConfiguration network.now state.new }
+{
+    ensure!(p < network.instances(), "there is no such process");
+    ensure!(state.owed(network, p) == Some(c), "this growth is not owed");
+    woken(state.grow(network, p, c))
+}
+
+/// Makes the call for an event, and gives whom it woke.
+pub(crate) fn happen(state: &mut Configuration, network: &Network, event: Event) -> Woken
+    requires { IsConfiguration network.now state.old }
+    ensures { IsConfiguration network.now state.new }
+{
+    match event {
+        Event::Get(p, c, item) => get(state, network, p.into(), c.into(), item),
+        Event::Put(p, c, item) => put(state, network, p.into(), c.into(), item),
+        Event::WaitEmpty(p, c) => wait_on_empty(state, network, p.into(), c.into()),
+        Event::WaitFull(p, c) => wait_on_full(state, network, p.into(), c.into()),
+        Event::Ended(p, how) => end(state, network, p.into(), how),
+        Event::Take(c, item) => take(state, network, c.into(), item),
+        Event::Grow(p, c) => grow(state, network, p.into(), c.into()),
+        Event::Feed(c, item) => feed(state, network, c.into(), item),
+        Event::Close(c) => close(state, network, c.into()),
+        Event::Leave(c) => leave(state, network, c.into()),
+    }
+}
