@@ -22,8 +22,9 @@ use Rattle.kpn_trace.specs.Views.{Agrees, IsStateOf}
 use Rattle.kpn_trace.proofs.Below.{fed-source}
 use Rattle.kpn_trace.proofs.EndsOnce.{ended_by}
 use Rattle.kpn_trace.proofs.Kahn.{below_least, least_if_quiet_given}
+use Rattle.kpn_configuration.specs.Configuration.{channel_in}
 use Rattle.kpn_book.specs.Book.{Book}
-use Rattle.kpn_pool.specs.Glimpse.{ShowsARun, shown_on, shown_fed, IsBelowKahn, IsAtRest, IsKahnAtRest}
+use Rattle.kpn_pool.specs.Glimpse.{ShowsARun, ShowsJournals, shown_on, shown_fed, IsBelowKahn, IsAtRest, IsKahnAtRest}
 
 -- a source is a channel of the network
 source_there : (t : Tables) (c : ℕ) → is_source (channel_at t c) ≡ true → c < length t.channels
@@ -70,7 +71,8 @@ quiet t H view agrees rest =
           (All-get_or IsAtRest view.states p Ready (let n = agrees.processes in omega arith) rest);
     }
 
-module _ (t : Tables) (network : IsNetwork t) (H : List Event) (legal : Legal t H) (view : View) (agrees : Agrees t H view) where
+module _ (t : Tables) (network : IsNetwork t) (H : List Event) (legal : Legal t H) (view : View)
+    (agrees : Agrees t H view) where
   pub shows : ShowsARun t view
   shows = record { history = H; legal = legal; agrees = agrees }
 
@@ -85,6 +87,13 @@ module _ (t : Tables) (network : IsNetwork t) (H : List Event) (legal : Legal t 
       subst (IsLeast t (shown_fed t view) c) (sym (shown-written t H view agrees c there))
       (least_if_quiet_given t network H legal (quiet t H view agrees rest) (shown_fed t view)
       (fed-shown t H view agrees) c)
+
+-- the journals that are shown are those of a book in which they are what was written
+pub shows_journals : (b : Book)
+    → ((c : ℕ) → c < length b.tables.channels → (channel_in b.configuration c).journal ≡ written_on b.history c)
+    → (view : View) → Agrees b.tables b.history view → ShowsJournals b view
+shows_journals b written view agrees c there =
+    shown-written b.tables b.history view agrees c there ∙ sym (written c there)
 
 -- the same where the tables are those of a book
 pub below_of : (t : Tables) (b : Book) → b.tables ≡ t → IsNetwork b.tables → Legal b.tables b.history → (view : View)

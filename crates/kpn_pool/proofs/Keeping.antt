@@ -1,13 +1,14 @@
--- The calls of the outside keep the network and the number of commits.
-use Rattle.std.proofs.Common.{◌≡◌, ℕ, Bool, true, false, ℤ, List, [], ◌∷◌, length, take, Option, Some, None, ap}
-use Rattle.std.specs.List.{starts_with}
-use Rattle.std.specs.Ordering.{int_eq}
-use Rattle.std.specs.Cmp.Lexicographic.{pointwise}
-use Rattle.std.proofs.lemmas.Bool.{and_parts, false≢true}
-use Rattle.std.proofs.lemmas.Bool.Decides.{Decides-int_eq}
+-- The calls of the outside keep the network and the number of commits, and what they tell of the network.
+use Rattle.std.proofs.Common.{◌≡◌, ℕ, Bool, true, false, ℤ, List, [], ◌∷◌, ◌++◌, Option, Some, None, ap, sym, subst}
 use Rattle.kpn_lang.specs.Prefix.{IsPrefix}
+use Rattle.kpn_lang.proofs.Prefixes.{IsPrefix-refl, IsPrefix-trans, IsPrefix-append, IsPrefix-from_rest}
+use Rattle.kpn_net.specs.declared.tables.ChannelSpec.{ChannelSpec}
+use Rattle.kpn_net.specs.Tables.{Tables, channel_at, is_source, is_sink}
 use Rattle.kpn_book.specs.Book.{Book}
-use Rattle.kpn_book.specs.Refusals.{Feeds, Closes, Takes, Leaves, closes_by, takes_item, leaves_by}
+use Rattle.kpn_book.specs.declared.answers.Refused.{Refused}
+use Rattle.kpn_book.specs.declared.answers.Refused.TheVariants.{NotHeld, Stranger, NoMemory, NoSuchEnd, SourceClosed, Full, SinkLeft}
+use Rattle.kpn_book.specs.Refusals.{MayFeed, RefusesFeed, RefusesClose, RefusesTake, RefusesLeave, Feeds, Closes, Takes, Leaves, closes_by, takes_item, leaves_by}
+use Rattle.kpn_pool.specs.Ends.{EndSeat, with_taken, MayRefuseFeed, MayRefuseEnd, MayRefuseTake}
 
 -- the network and the number of commits are the same
 pub record KeepsCount (before after : Book) : Type 0 where
@@ -40,10 +41,83 @@ leaves_cases false c before after h = record { tables = h.tables; commits = h.co
 pub leaves : (c : ℕ) (before after : Book) → Leaves c before after → KeepsCount before after
 leaves c before after h = leaves_cases _ c before after h.leaves
 
--- items that are found equal, one by one, begin the list
-pub starts_prefix : (xs ys : List ℤ) → starts_with int_eq ys xs ≡ true → IsPrefix xs ys
-starts_prefix [] ys h = tt
-starts_prefix (x ∷ xs) [] h = absurd (false≢true h)
-starts_prefix (x ∷ xs) (y ∷ ys) h =
-    let both = and_parts (int_eq x y) (pointwise int_eq xs (take (length xs) ys)) h in
-    ((Decides-int_eq x y).0 both.0, starts_prefix xs ys both.1)
+-- ---- what a call tells of the network, whatever has happened
+
+module _ (t : Tables) (b : Book) (same : b.tables ≡ t) (c : ℕ) where
+  there : (is_end : ChannelSpec → Bool) (is : Bool) → is_end (channel_at b.tables c) ≡ is → is_end (channel_at t c) ≡ is
+  there is_end is h = subst (λ u. is_end (channel_at u c) ≡ is) same h
+
+  pub fed_source : (item : ℤ) (bound : ℕ) (after : Book) → Feeds c item bound b after
+      → is_source (channel_at t c) ≡ true
+  fed_source item bound after h = there is_source true h.source.source
+
+  pub may_feed_source : (bound : ℕ) → MayFeed c bound b → is_source (channel_at t c) ≡ true
+  may_feed_source bound h = there is_source true h.0.source
+
+  pub closed_source : (after : Book) → Closes c b after → is_source (channel_at t c) ≡ true
+  closed_source after h = there is_source true h.source
+
+  pub taken_sink : (item : Option ℤ) (after : Book) → Takes c item b after → is_sink (channel_at t c) ≡ true
+  taken_sink item after h = there is_sink true h.sink.sink
+
+  pub left_sink : (after : Book) → Leaves c b after → is_sink (channel_at t c) ≡ true
+  left_sink after h = there is_sink true h.sink
+
+  pub feed_refused : (item : ℤ) (bound : ℕ) (cause : Refused) → RefusesFeed c item bound b cause
+      → MayRefuseFeed (is_source (channel_at t c)) item cause
+  feed_refused item bound NoSuchEnd h = there is_source false h
+  feed_refused item bound SourceClosed h = there is_source true h.0
+  feed_refused item bound (Full v) h = (there is_source true h.0.source, h.2)
+  feed_refused item bound NoMemory h = there is_source true h.0.source
+  feed_refused item bound NotHeld h = absurd h
+  feed_refused item bound Stranger h = absurd h
+  feed_refused item bound SinkLeft h = absurd h
+
+  pub close_refused : (cause : Refused) → RefusesClose c b cause → MayRefuseEnd (is_source (channel_at t c)) cause
+  close_refused NoSuchEnd h = there is_source false h
+  close_refused NoMemory h = there is_source true h.source
+  close_refused (Full v) h = absurd h
+  close_refused SourceClosed h = absurd h
+  close_refused NotHeld h = absurd h
+  close_refused Stranger h = absurd h
+  close_refused SinkLeft h = absurd h
+
+  pub take_refused : (cause : Refused) → RefusesTake c b cause → MayRefuseTake (is_sink (channel_at t c)) cause
+  take_refused NoSuchEnd h = there is_sink false h
+  take_refused SinkLeft h = there is_sink true h.0
+  take_refused NoMemory h = there is_sink true h.0.sink
+  take_refused (Full v) h = absurd h
+  take_refused SourceClosed h = absurd h
+  take_refused NotHeld h = absurd h
+  take_refused Stranger h = absurd h
+
+  pub leave_refused : (cause : Refused) → RefusesLeave c b cause → MayRefuseEnd (is_sink (channel_at t c)) cause
+  leave_refused NoSuchEnd h = there is_sink false h
+  leave_refused NoMemory h = there is_sink true h.sink
+  leave_refused (Full v) h = absurd h
+  leave_refused SourceClosed h = absurd h
+  leave_refused NotHeld h = absurd h
+  leave_refused Stranger h = absurd h
+  leave_refused SinkLeft h = absurd h
+
+-- ---- the lists of the seats
+
+pub begins_itself : (xs : List ℤ) → IsPrefix xs xs
+begins_itself xs = IsPrefix-refl xs
+
+pub begins_further : (xs ys zs : List ℤ) → IsPrefix xs ys → IsPrefix ys zs → IsPrefix xs zs
+begins_further xs ys zs p q = IsPrefix-trans xs ys zs p q
+
+-- a list and more begins with it
+pub fed_behind : (xs more ys : List ℤ) → ys ≡ xs ++ more → IsPrefix xs ys
+fed_behind xs more ys is = IsPrefix-from_rest xs more ys (sym is)
+
+taken_cases : (item : Option ℤ) (s : EndSeat) → IsPrefix s.items (with_taken item s).items
+taken_cases None s = IsPrefix-refl s.items
+taken_cases (Some v) s = IsPrefix-append s.items (v ∷ [])
+
+pub taken_behind : (item : Option ℤ) (s now : EndSeat) → now ≡ with_taken item s → IsPrefix s.items now.items
+taken_behind item s now is = rw is (taken_cases item s)
+
+pub kept_behind : (s now : EndSeat) → now ≡ s → IsPrefix s.items now.items
+kept_behind s now is = rw is (IsPrefix-refl s.items)

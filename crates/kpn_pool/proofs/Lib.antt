@@ -1,3 +1,4 @@
 pub mod Glimpses
 pub mod Keeping
 pub mod Seating
+pub mod Sharing

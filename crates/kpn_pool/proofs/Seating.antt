@@ -1,8 +1,10 @@
--- The seats of the outside, channel by channel.
-use Rattle.std.proofs.Common.{◌≡◌, ℕ, ◌+◌, Bool, cond, List, [], ◌∷◌, ◌++◌, map, sym, ap, ◌∙◌, arith}
+-- The seats of the outside, channel by channel, and item by item.
+use Rattle.std.proofs.Common.{◌≡◌, ℕ, ◌+◌, ◌<◌, ℤ, pos, Bool, cond, List, [], ◌∷◌, ◌++◌, length, map, take, get_or, sym, ap, ◌∙◌, arith}
+use Rattle.std.proofs.lemmas.List.{take_more, append_assoc}
 use Rattle.std.specs.List.{filter, range_with_len}
 use Rattle.std.proofs.lemmas.List.FromFn.{filter_of_map_range_with_len_more}
-use Rattle.kpn_pool.specs.Ends.{EndSeat, new_end}
+use Rattle.kpn_pool.specs.Desk.{Desk, with_book}
+use Rattle.kpn_pool.specs.Ends.{EndSeat, new_end, with_item}
 
 -- one channel more is looked at
 pub one_more : (p : EndSeat → Bool) (c : ℕ) (seats now : List EndSeat)
@@ -12,3 +14,20 @@ pub one_more : (p : EndSeat → Bool) (c : ℕ) (seats now : List EndSeat)
 one_more p c seats now before more =
     more ∙ ap (λ xs. xs ++ cond (p (new_end c)) (new_end c ∷ []) []) before
     ∙ sym (filter_of_map_range_with_len_more p new_end 0 c c (omega arith))
+
+-- ---- one item more is fed
+
+pub fed_more : (before s now : EndSeat) (items : List ℤ) (k : ℕ) (v : ℤ) → s.channel ≡ before.channel
+    → s.items ≡ before.items ++ take k items → k < length items → v ≡ get_or items k (pos 0) → now ≡ with_item v s
+    → (now.channel ≡ before.channel) × (now.items ≡ before.items ++ take (k + 1) items)
+fed_more before s now items k v channel so_far there is fed = (
+  ap (λ (e : EndSeat). e.channel) fed ∙ channel,
+  ap (λ (e : EndSeat). e.items) fed ∙ ap (λ xs. xs ++ v ∷ []) so_far
+      ∙ append_assoc before.items (take k items) (v ∷ [])
+      ∙ ap (λ xs. before.items ++ xs)
+      (ap (λ x. take k items ++ x ∷ []) is ∙ sym (take_more items k (pos 0) there)),
+)
+
+-- a desk whose book changes again
+pub still_with_book : (a b d : Desk) → b ≡ with_book b.book a → d ≡ with_book d.book b → d ≡ with_book d.book a
+still_with_book a b d first then = then ∙ ap (with_book d.book) first

@@ -1,5 +1,5 @@
 -- What a view of a run shows of the journals, read by itself.
-use Rattle.std.specs.Prelude.{ℕ, ◌<◌, if◌then◌else◌, List, [], length, slice_index_or, All}
+use Rattle.std.specs.Prelude.{◌≡◌, ℕ, ◌<◌, if◌then◌else◌, List, [], length, slice_index_or, All}
 use Rattle.kpn_net.specs.Tables.{Tables, channel_at, is_source}
 use Rattle.kpn_net.specs.Process.{Family}
 use Rattle.kpn_net.specs.Iteration.{IsBelowLeast, IsLeast}
@@ -9,6 +9,8 @@ use Rattle.kpn_trace.specs.declared.state.State.TheVariants.{WaitsEmpty, Ended}
 use Rattle.kpn_trace.specs.declared.state.View.{View}
 use Rattle.kpn_trace.specs.Legal.{Legal}
 use Rattle.kpn_trace.specs.Views.{Agrees}
+use Rattle.kpn_configuration.specs.Configuration.{channel_in}
+use Rattle.kpn_book.specs.Book.{Book}
 
 -- the view shows a moment of some run of the network: it agrees with a legal history
 pub record ShowsARun (t : Tables) (view : View) : Type 0 where
@@ -19,6 +21,10 @@ pub record ShowsARun (t : Tables) (view : View) : Type 0 where
 -- the journal of a channel in a view
 abbrev pub shown_on : View → Family
 shown_on view c = slice_index_or view.journals c []
+
+-- it shows the journals that a book holds
+abbrev pub ShowsJournals : Book → View → Type 0
+ShowsJournals b view = (c : ℕ) → c < length b.tables.channels → shown_on view c ≡ (channel_in b.configuration c).journal
 
 -- what was fed: the journals of the sources
 abbrev pub shown_fed : Tables → View → Family

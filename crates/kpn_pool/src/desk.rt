@@ -2,6 +2,7 @@
 ghost use Rattle.std.specs.Prelude.{◌≡◌, false, IfNone, IfSome, IfOk, IfErr, OnErr, IsTrue};
 ghost use Rattle.kpn_net.specs.Tables.{program_of};
 ghost use Rattle.kpn_step.specs.Frame.{fits};
+ghost use Rattle.kpn_step.specs.Stops.{IsWithinQuota};
 ghost use Rattle.kpn_trace.specs.Views.{Agrees, AreCounts};
 ghost use Rattle.kpn_configuration.specs.Configuration.{frame_in};
 ghost use Rattle.kpn_book.specs.Book.{IsHeld, IsClaimed, put_back};
@@ -9,25 +10,23 @@ ghost use Rattle.kpn_book.specs.Kept.{IsBook};
 ghost use Rattle.kpn_book.specs.Refusals.{RefusesPutBack};
 ghost use Rattle.kpn_book.specs.Stepping.{ClaimsNobody};
 ghost use Rattle.kpn_pool.specs.Desk.{with_book, halted, IsReason};
-ghost use Rattle.kpn_pool.specs.Glimpse.{ShowsARun, IsBelowKahn, IsKahnAtRest};
+ghost use Rattle.kpn_pool.specs.Glimpse.{ShowsARun, ShowsJournals, IsBelowKahn, IsKahnAtRest};
 ghost use Rattle.kpn_pool.specs.Headline.{AreBelowLeast, AreReadThenQueued, AreWithinCapacity, AreBlockedCounts, AreOwedGrowths, AreLeastWhenQuiet, HasNoneLeftToGrow};
 
+use crate::crew::Crew;
 use crate::job::Job;
 use crate::seat::Why;
 use kpn_book::laws::{a_quiet_book, growths, journals, the_history};
 use kpn_book::{Book, Claim, Counts, Refused, View};
 use kpn_net::Network;
+use kpn_step::Advance;
 use std::alloc::{AllocError, Allocator, Global};
 use std::marker::Model;
 use std::sync::ledger;
 use std::sync::ledger::Share;
 
+mod crew;
 mod outside;
-
-// for how many milliseconds a worker sleeps while others step, and while nobody does
-const SHORT_NAP: u64 = 2;
-
-const LONG_NAP: u64 = 50;
 
 /// The book of a run, the mark that the workers shall end, and the total of the ledger in which commits are counted.
 #[derive(Drop)]
@@ -35,8 +34,8 @@ pub struct Desk<'n, J: Job, A: Allocator = Global> {
     pub(crate) book: Book<'n, A>,
     pub(crate) total: ledger::Book<J>,
     halts: bool,
-    // how many workers wait: who leaves work behind tells one of them
-    idle: usize,
+    // who of the workers steps and who rests: no contract sees it
+    crew: Crew,
 }
 
 impl<'n, J: Job, A: Allocator> Model for Desk<'n, J, A> {
@@ -70,7 +69,7 @@ impl<'n, J: Job, A: Allocator + Copy> Desk<'n, J, A> {
             book,
             total,
             halts: false,
-            idle: 0,
+            crew: Crew::new(),
         })
     }
 }
@@ -115,10 +114,12 @@ impl<'n, J: Job, A: Allocator> Desk<'n, J, A> {
             Agrees self.now.book.tables self.now.book.history view) }
         ensures states { IfOk result (λ view. view.states ≡ self.now.book.schedule.states) }
         ensures run { IfOk result (λ view. ShowsARun J.network view) }
+        ensures journals { IfOk result (λ view. ShowsJournals self.now.book view) }
         ensures below { IfOk result (λ view. IsBelowKahn J.network view) }
         ensures quiet { IfOk result (λ view. IsKahnAtRest J.network view) }
     {
         the_history();
+        journals();
         self.book.known();
         self.book.snapshot(alloc)
     }
@@ -161,6 +162,26 @@ impl<'n, J: Job, A: Allocator> Desk<'n, J, A> {
         Some(claim)
     }
 
+    /// The same, for who keeps the memory of an advance: it becomes one by no step, from the frame where the process
+    /// stands. The answer is the number of the process.
+    pub fn claim_into(&mut self, steps: &mut Advance<'n>) -> Option<usize>
+        ensures claimed { IfSome result (λ p. IsClaimed p self.old.book self.new.book) }
+        ensures program { IfSome result (λ p. steps.new.program ≡ program_of J.network p) }
+        ensures from { IfSome result (λ p.
+            steps.new.from ≡ frame_in self.old.book.configuration p) }
+        ensures quota { IfSome result (λ _. IsWithinQuota 0 steps.new) }
+        ensures nobody { IfNone result (ClaimsNobody self.old.book) }
+        ensures same { self.new ≡ with_book self.new.book self.old }
+        ensures as_before { IfNone result ((self.new ≡ self.old) × (steps.new ≡ steps.old)) }
+    {
+        self.book.known();
+        let Some(process) = self.book.claim_into(steps) else {
+            return None;
+        };
+        self.book.known();
+        Some(process)
+    }
+
     /// Puts a process, which is held, to the tail of the queue. It stands where it stood.
     pub fn put_back(&mut self, p: usize) -> Result<(), Refused>
         ensures held { IfOk result (λ _. IsHeld self.old.book p) }
@@ -192,40 +213,10 @@ impl<'n, J: Job, A: Allocator> Desk<'n, J, A> {
             book,
             mut total,
             halts: _,
-            idle: _,
+            crew: _,
         } = self;
         let mut all = all;
         total.audit(&mut all);
         book
-    }
-
-    /// Whether a process is ready while a worker waits for one.
-    pub(crate) fn has_spare(&self) -> bool {
-        self.idle > 0 && self.book.counts().ready > 0
-    }
-
-    /// Whether the run is settled while a worker waits.
-    pub(crate) fn is_over(&self) -> bool {
-        self.idle > 0 && self.book.verdict().is_some()
-    }
-
-    /// One worker more waits: for how many milliseconds it sleeps where nobody tells it of a change. It is short while
-    /// somebody steps a process.
-    pub(crate) fn nap(&mut self) -> u64
-        ensures { self.new ≡ self.old }
-    {
-        self.idle = self.idle.saturating_add(1);
-        if self.book.counts().held > 0 {
-            SHORT_NAP
-        } else {
-            LONG_NAP
-        }
-    }
-
-    /// One worker fewer waits.
-    pub(crate) fn wake(&mut self)
-        ensures { self.new ≡ self.old }
-    {
-        self.idle = self.idle.saturating_sub(1);
     }
 }

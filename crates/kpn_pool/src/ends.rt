@@ -1,8 +1,10 @@
 //! The seats of the outside: who feeds a source, and who takes from a sink.
-ghost use Rattle.std.specs.Prelude.{◌≡◌, ◌⊎◌, [], ◌∷◌, ◌++◌, IfOk, IfErr, OnErr, OnOk};
+ghost use Rattle.std.specs.Prelude.{◌≡◌, true, [], ◌∷◌, ◌++◌, IfOk, IfErr, OnErr, OnOk};
+ghost use Rattle.kpn_lang.specs.Prefix.{IsPrefix};
+ghost use Rattle.kpn_net.specs.Tables.{channel_at, is_source, is_sink};
 ghost use Rattle.kpn_book.specs.Refusals.{RefusesFeed, RefusesClose, RefusesTake, RefusesLeave, Feeds, Closes, Takes, Leaves};
 ghost use Rattle.kpn_pool.specs.Desk.{with_book};
-ghost use Rattle.kpn_pool.specs.Ends.{with_item, with_taken, new_end};
+ghost use Rattle.kpn_pool.specs.Ends.{with_item, with_taken, new_end, MayRefuseFeed, MayRefuseEnd, MayRefuseTake};
 
 use crate::desk::Desk;
 use crate::job::Job;
@@ -51,8 +53,7 @@ impl<A: Allocator> SourceSeat<A> {
         self.fed.as_slice()
     }
 
-    /// Feeds an item to the source. It is refused as the book refuses it, and where there is no memory for the seat's
-    /// own list.
+    /// Feeds an item to the source. It is refused as the book refuses it; memory is wanted for the seat's own list too.
     pub fn feed<J: Job, B: Allocator>(
         &mut self,
         desk: &mut Desk<'_, J, B>,
@@ -61,16 +62,57 @@ impl<A: Allocator> SourceSeat<A> {
     ) -> Result<(), Refused>
         ensures done { IfOk result (λ _.
             Feeds self.old.channel item bound desk.old.book desk.new.book) }
+        ensures source { OnOk result (is_source (channel_at J.network self.old.channel) ≡ true) }
         ensures fed { OnOk result (self.new ≡ with_item item self.old) }
         ensures desk { desk.new ≡ with_book desk.new.book desk.old }
-        ensures refused { IfErr result (λ cause. (cause ≡ Refused.NoMemory)
-            ⊎ RefusesFeed self.old.channel item bound desk.old.book cause) }
+        ensures refused { IfErr result (λ cause.
+            RefusesFeed self.old.channel item bound desk.old.book cause) }
+        ensures may_refuse { IfErr result (λ cause.
+            MayRefuseFeed (is_source (channel_at J.network self.old.channel)) item cause) }
         ensures as_before { OnErr result ((self.new ≡ self.old) × (desk.new ≡ desk.old)) }
     {
-        self.fed.reserve(1)?;
+        if let Some(fault) = desk.feed_fault(self.channel, item, bound) {
+            return Err(fault);
+        }
+        let Ok(()) = self.fed.reserve(1) else {
+            return Err(Refused::NoMemory);
+        };
         desk.feed(self.channel, item, bound)?;
         self.fed.push_reserved(item);
         Ok(())
+    }
+
+    /// Feeds these items to the source, one after the other. Where it is refused those before the refused one were fed.
+    #[tactic(auto, using(crate::proofs::Keeping::fed_behind))]
+    pub fn feed_all<J: Job, B: Allocator>(
+        &mut self,
+        desk: &mut Desk<'_, J, B>,
+        items: &[i64],
+        bound: usize,
+    ) -> Result<(), Refused>
+        ensures channel { self.new.channel ≡ self.old.channel }
+        ensures fed { OnOk result (self.new.items ≡ self.old.items ++ items.now) }
+        ensures before { IsPrefix self.old.items self.new.items }
+        ensures desk { desk.new ≡ with_book desk.new.book desk.old }
+    {
+        'items: for item in items {
+            self.feed(desk, *item, bound)?;
+        }
+        Ok(())
+    }
+
+    /// Closes the source. A second time it changes nothing.
+    pub fn close<J: Job, B: Allocator>(&self, desk: &mut Desk<'_, J, B>) -> Result<(), Refused>
+        ensures done { IfOk result (λ _. Closes self.now.channel desk.old.book desk.new.book) }
+        ensures source { OnOk result (is_source (channel_at J.network self.now.channel) ≡ true) }
+        ensures desk { desk.new ≡ with_book desk.new.book desk.old }
+        ensures refused { IfErr result (λ cause.
+            RefusesClose self.now.channel desk.old.book cause) }
+        ensures may_refuse { IfErr result (λ cause.
+            MayRefuseEnd (is_source (channel_at J.network self.now.channel)) cause) }
+        ensures as_before { OnErr result (desk.new ≡ desk.old) }
+    {
+        desk.close_source(self.channel)
     }
 }
 
@@ -121,20 +163,71 @@ impl<A: Allocator> SinkSeat<A> {
     ) -> Result<Option<i64>, Refused>
         ensures done { IfOk result (λ item.
             Takes self.old.channel item desk.old.book desk.new.book) }
+        ensures sink { OnOk result (is_sink (channel_at J.network self.old.channel) ≡ true) }
         ensures taken { IfOk result (λ item. self.new ≡ with_taken item self.old) }
         ensures desk { desk.new ≡ with_book desk.new.book desk.old }
         ensures refused { IfErr result (λ cause.
             RefusesTake self.old.channel desk.old.book cause) }
+        ensures may_refuse { IfErr result (λ cause.
+            MayRefuseTake (is_sink (channel_at J.network self.old.channel)) cause) }
         ensures as_before { OnErr result ((self.new ≡ self.old) × (desk.new ≡ desk.old)) }
     {
         if !desk.has_item_at_sink(self.channel) {
             return desk.take(self.channel);
         }
-        self.taken.reserve(1)?;
+        let Ok(()) = self.taken.reserve(1) else {
+            return Err(Refused::NoMemory);
+        };
         let item = desk.take(self.channel)?;
         if let Some(item) = item {
             self.taken.push_reserved(item);
         }
         Ok(item)
+    }
+
+    /// Takes all that is unread at the sink.
+    #[tactic(auto, using(crate::proofs::Keeping::begins_itself, crate::proofs::Keeping::begins_further))]
+    pub fn take_all<J: Job, B: Allocator>(
+        &mut self,
+        desk: &mut Desk<'_, J, B>,
+    ) -> Result<(), Refused>
+        ensures channel { self.new.channel ≡ self.old.channel }
+        ensures taken { IsPrefix self.old.items self.new.items }
+        ensures desk { desk.new ≡ with_book desk.new.book desk.old }
+    {
+        'items: for _ in 0..u64::MAX {
+            if !self.take_next(desk)? {
+                return Ok(());
+            }
+        }
+        Ok(())
+    }
+
+    /// Takes the next item, if one is unread: whether one was.
+    #[tactic(auto, using(crate::proofs::Keeping::taken_behind, crate::proofs::Keeping::kept_behind))]
+    fn take_next<J: Job, B: Allocator>(
+        &mut self,
+        desk: &mut Desk<'_, J, B>,
+    ) -> Result<bool, Refused>
+        ensures channel { self.new.channel ≡ self.old.channel }
+        ensures taken { IsPrefix self.old.items self.new.items }
+        ensures desk { desk.new ≡ with_book desk.new.book desk.old }
+    {
+        let item = self.take(desk)?;
+        Ok(item.is_some())
+    }
+
+    /// Leaves the sink: nothing is taken from it any more, and it is never full. A second time it changes nothing.
+    pub fn leave<J: Job, B: Allocator>(&self, desk: &mut Desk<'_, J, B>) -> Result<(), Refused>
+        ensures done { IfOk result (λ _. Leaves self.now.channel desk.old.book desk.new.book) }
+        ensures sink { OnOk result (is_sink (channel_at J.network self.now.channel) ≡ true) }
+        ensures desk { desk.new ≡ with_book desk.new.book desk.old }
+        ensures refused { IfErr result (λ cause.
+            RefusesLeave self.now.channel desk.old.book cause) }
+        ensures may_refuse { IfErr result (λ cause.
+            MayRefuseEnd (is_sink (channel_at J.network self.now.channel)) cause) }
+        ensures as_before { OnErr result (desk.new ≡ desk.old) }
+    {
+        desk.leave_sink(self.channel)
     }
 }

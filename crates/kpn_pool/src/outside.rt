@@ -1,8 +1,8 @@
 //! The calls of the outside on a shared desk. Each waits for the lock alone.
-ghost use Rattle.std.specs.Prelude.{◌≡◌, IfOk, OnErr, OnOk, IsTrue};
+ghost use Rattle.std.specs.Prelude.{◌≡◌, ◌++◌, IfOk, IfErr, OnErr, OnOk, IsTrue, true};
 ghost use Rattle.kpn_lang.specs.Prefix.{IsPrefix};
-ghost use Rattle.kpn_net.specs.Tables.{channel_at, is_source};
-ghost use Rattle.kpn_pool.specs.Ends.{with_item, with_taken};
+ghost use Rattle.kpn_net.specs.Tables.{channel_at, is_source, is_sink};
+ghost use Rattle.kpn_pool.specs.Ends.{with_item, with_taken, MayRefuseFeed, MayRefuseEnd, MayRefuseTake};
 ghost use Rattle.kpn_pool.specs.Glimpse.{ShowsARun, shown_on, IsBelowKahn, IsKahnAtRest};
 
 use crate::ends::{SinkSeat, SourceSeat};
@@ -38,9 +38,31 @@ pub fn feed<J: Job, A: Allocator, B: Allocator, R: Wait>(
 ) -> Result<(), Refused>
     ensures fed { OnOk result (seat.new ≡ with_item item seat.old) }
     ensures as_before { OnErr result (seat.new ≡ seat.old) }
+    ensures source { OnOk result (is_source (channel_at J.network seat.old.channel) ≡ true) }
+    ensures refused { IfErr result (λ cause.
+        MayRefuseFeed (is_source (channel_at J.network seat.old.channel)) item cause) }
 {
     let mut desk = shared.lock(rt);
     let fed = seat.feed(&mut desk, item, bound);
+    shared.tell(desk);
+    fed
+}
+
+/// Feeds these items to the source of the seat, one after the other, under one hold of the lock. Where it is refused
+/// those before the refused one were fed.
+pub fn feed_all<J: Job, A: Allocator, B: Allocator, R: Wait>(
+    rt: &R,
+    shared: &Shared<'_, J, A>,
+    seat: &mut SourceSeat<B>,
+    items: &[i64],
+    bound: usize,
+) -> Result<(), Refused>
+    ensures channel { seat.new.channel ≡ seat.old.channel }
+    ensures fed { OnOk result (seat.new.items ≡ seat.old.items ++ items.now) }
+    ensures before { IsPrefix seat.old.items seat.new.items }
+{
+    let mut desk = shared.lock(rt);
+    let fed = seat.feed_all(&mut desk, items, bound);
     shared.tell(desk);
     fed
 }
@@ -50,9 +72,13 @@ pub fn close<J: Job, A: Allocator, B: Allocator, R: Wait>(
     rt: &R,
     shared: &Shared<'_, J, A>,
     seat: &SourceSeat<B>,
-) -> Result<(), Refused> {
+) -> Result<(), Refused>
+    ensures source { OnOk result (is_source (channel_at J.network seat.now.channel) ≡ true) }
+    ensures refused { IfErr result (λ cause.
+        MayRefuseEnd (is_source (channel_at J.network seat.now.channel)) cause) }
+{
     let mut desk = shared.lock(rt);
-    let closed = desk.close_source(seat.channel());
+    let closed = seat.close(&mut desk);
     shared.tell(desk);
     closed
 }
@@ -65,11 +91,29 @@ pub fn take<J: Job, A: Allocator, B: Allocator, R: Wait>(
 ) -> Result<Option<i64>, Refused>
     ensures taken { IfOk result (λ item. seat.new ≡ with_taken item seat.old) }
     ensures as_before { OnErr result (seat.new ≡ seat.old) }
+    ensures sink { OnOk result (is_sink (channel_at J.network seat.old.channel) ≡ true) }
+    ensures refused { IfErr result (λ cause.
+        MayRefuseTake (is_sink (channel_at J.network seat.old.channel)) cause) }
 {
     let mut desk = shared.lock(rt);
     let item = seat.take(&mut desk);
     shared.tell(desk);
     item
+}
+
+/// Takes all that is unread at the sink of the seat, under one hold of the lock.
+pub fn take_all<J: Job, A: Allocator, B: Allocator, R: Wait>(
+    rt: &R,
+    shared: &Shared<'_, J, A>,
+    seat: &mut SinkSeat<B>,
+) -> Result<(), Refused>
+    ensures channel { seat.new.channel ≡ seat.old.channel }
+    ensures taken { IsPrefix seat.old.items seat.new.items }
+{
+    let mut desk = shared.lock(rt);
+    let taken = seat.take_all(&mut desk);
+    shared.tell(desk);
+    taken
 }
 
 /// Leaves the sink of the seat: nothing is taken from it any more, and it is never full. A second time it changes
@@ -78,9 +122,13 @@ pub fn leave<J: Job, A: Allocator, B: Allocator, R: Wait>(
     rt: &R,
     shared: &Shared<'_, J, A>,
     seat: &SinkSeat<B>,
-) -> Result<(), Refused> {
+) -> Result<(), Refused>
+    ensures sink { OnOk result (is_sink (channel_at J.network seat.now.channel) ≡ true) }
+    ensures refused { IfErr result (λ cause.
+        MayRefuseEnd (is_sink (channel_at J.network seat.now.channel)) cause) }
+{
     let mut desk = shared.lock(rt);
-    let left = desk.leave_sink(seat.channel());
+    let left = seat.leave(&mut desk);
     shared.tell(desk);
     left
 }
@@ -101,22 +149,5 @@ pub fn snapshot<J: Job, A: Allocator, B: Allocator, R: Wait>(
     ensures fresh { IfOk result (λ view. IsPrefix seat.now.items (shown_on view seat.now.channel)) }
 {
     let desk = shared.lock(rt);
-    if !desk.has_source(seat.channel()) {
-        return Err(SnapFault::Foreign);
-    }
-    let view = desk.snapshot(alloc)?;
-    drop(desk);
-    if !begins(seat.fed(), &view, seat.channel()) {
-        return Err(SnapFault::Foreign);
-    }
-    Ok(view)
-}
-
-/// Whether these items begin the journal of a channel.
-#[tactic(auto, using(crate::proofs::Keeping::starts_prefix))]
-fn begins(items: &[i64], view: &View, c: usize) -> bool
-    ensures { IsTrue result → IsPrefix items.now (shown_on view.now c) }
-{
-    let journals = view.journals.as_slice();
-    c < journals.len() && journals[c].as_slice().starts_with(items)
+    desk.snapshot_of_feeder(alloc, seat.channel(), seat.fed())
 }

@@ -1,5 +1,6 @@
 //! The seat of a worker: what it knows of its own work.
 ghost use Rattle.std.specs.Prelude.{◌≡◌, ◌+◌, IfOk, IfErr, OnErr, OnOk, Some, None};
+ghost use Rattle.kpn_net.specs.Tables.{program_of};
 ghost use Rattle.kpn_book.specs.Book.{IsHeld, put_back};
 ghost use Rattle.kpn_book.specs.Commits.{Commits};
 ghost use Rattle.kpn_book.specs.Refusals.{RefusesCommit};
@@ -87,14 +88,15 @@ impl<J: Job> WorkerSeat<J> {
         self.commits
     }
 
-    /// Commits the steps of a process that is held. The book's commits, the ledger's total and this seat's share rise
-    /// together.
+    /// Commits the steps of a process that is held, which are steps of its program. The book's commits, the ledger's
+    /// total and this seat's share rise together.
     pub fn commit<A: Allocator>(
         &mut self,
         desk: &mut Desk<'_, J, A>,
         p: usize,
         steps: &Advance<'_>,
     ) -> Result<Done, Refused>
+        requires { steps.now.program ≡ program_of J.network p }
         ensures done { IfOk result (λ done.
             Commits p steps.now done desk.old.book desk.new.book) }
         ensures total { OnOk result (desk.new ≡ with_commit desk.new.book desk.old) }
@@ -104,7 +106,7 @@ impl<J: Job> WorkerSeat<J> {
         ensures as_before { OnErr result ((self.new ≡ self.old) × (desk.new ≡ desk.old)) }
     {
         what_a_commit_does();
-        let done = desk.book.commit(p, steps)?;
+        let done = desk.book.commit_own(p, steps)?;
         desk.book.known();
         desk.total.audit(&mut self.share);
         desk.total.add(&mut self.share, 1);

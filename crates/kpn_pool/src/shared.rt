@@ -10,23 +10,24 @@ use crate::desk::Desk;
 use crate::ends::{SinkSeat, SourceSeat};
 use crate::job::Job;
 use crate::opening::{sink_seats, source_seats};
-use crate::seat::{Why, WorkerSeat};
-use kpn_book::{Claim, Refused, View};
+use crate::seat::WorkerSeat;
+use crate::signals::Signals;
+use kpn_book::View;
+use kpn_limits::MAX_WORKERS;
 use kpn_net::Network;
-use kpn_step::Advance;
 use std::alloc::{AllocError, Allocator, Global};
 use std::sync::ledger::Blank;
 use std::sync::{Condvar, Mutex, MutexGuard, Wait};
-use std::time::{Clock, Duration};
 
-/// The most workers that a pool may have.
-pub const MAX_WORKERS: usize = 16;
+mod turns;
 
-/// A desk under its lock, and the place where workers wait until it changes.
+/// A desk under its lock, the place where workers rest until it changes, and what is told across the lock.
 #[derive(Drop)]
 pub struct Shared<'n, J: Job, A: Allocator = Global> {
     desk: Mutex<Desk<'n, J, A>>,
     changed: Condvar,
+    signals: Signals,
+    workers: usize,
     max_commits: u64,
 }
 
@@ -72,6 +73,8 @@ impl<'n, J: Job, A: Allocator + Copy> Shared<'n, J, A> {
             shared: Shared {
                 desk: Mutex::new(desk),
                 changed: Condvar::new(),
+                signals: Signals::new(),
+                workers,
                 max_commits,
             },
             workers: seats,
@@ -86,6 +89,23 @@ impl<'n, J: Job, A: Allocator> Shared<'n, J, A> {
     pub fn halt<R: Wait>(&self, rt: &R) {
         self.desk.lock(rt).halt();
         self.changed.notify_all();
+    }
+
+    /// How often whoever serves the sinks was called: for a writer that waits for a full sink, by workers that find
+    /// nothing to step, and by each worker that ends. It is read before the sinks are looked at.
+    pub fn rings(&self) -> u64 {
+        self.signals.calls()
+    }
+
+    /// Waits for a call more than the `seen` ones: it listens for some microseconds, and then sleeps, for at most
+    /// 5 milliseconds.
+    pub fn await_ring<R: Wait>(&self, rt: &R, seen: u64) {
+        self.signals.await_call(rt, seen);
+    }
+
+    /// Whether as many calls of `work` have ended as there are workers.
+    pub fn has_ended(&self) -> bool {
+        self.signals.ended() >= self.workers as u64
     }
 
     /// The run as it is seen at one moment, or `None` where the lock is taken: a legal history of the network that was
@@ -110,82 +130,11 @@ impl<'n, J: Job, A: Allocator> Shared<'n, J, A> {
         let Shared {
             desk,
             changed: _,
+            signals: _,
+            workers: _,
             max_commits: _,
         } = self;
         desk.into_inner()
-    }
-
-    /// The first process that a worker steps, or `None` where the worker ends.
-    pub(crate) fn begin<R: Wait + Clock>(
-        &self,
-        rt: &R,
-        seat: &mut WorkerSeat<J>,
-    ) -> Option<Claim<'n>>
-        ensures seat { (seat.new.number ≡ seat.old.number) × (seat.new.commits ≡ seat.old.commits) }
-        ensures ended { IfNone result (IsSome seat.new.why) }
-        ensures fits { IfSome result (λ claim. IsTrue (fits claim.program.now claim.frame)) }
-    {
-        self.next(rt, seat, self.desk.lock(rt))
-    }
-
-    /// Commits the steps of a worker, and gives the next process that it steps, or `None` where it ends.
-    pub(crate) fn go_on<R: Wait + Clock>(
-        &self,
-        rt: &R,
-        seat: &mut WorkerSeat<J>,
-        process: usize,
-        steps: &Advance<'n>,
-    ) -> Option<Claim<'n>>
-        ensures number { seat.new.number ≡ seat.old.number }
-        ensures commits { seat.old.commits ≤ seat.new.commits }
-        ensures ended { IfNone result (IsSome seat.new.why) }
-        ensures fits { IfSome result (λ claim. IsTrue (fits claim.program.now claim.frame)) }
-    {
-        let mut desk = self.desk.lock(rt);
-        if let Err(Refused::NoMemory) = seat.commit(&mut desk, process, steps) {
-            seat.give_up(&mut desk, process);
-            drop(desk);
-            self.changed.notify_all();
-            return None;
-        }
-        self.next(rt, seat, desk)
-    }
-
-    /// Waits until there is a process to step or a reason to end. Who leaves another process behind tells one of those
-    /// that wait, and who ends tells all.
-    fn next<'l, R: Wait + Clock>(
-        &'l self,
-        rt: &R,
-        seat: &mut WorkerSeat<J>,
-        desk: MutexGuard<'l, Desk<'n, J, A>>,
-    ) -> Option<Claim<'n>>
-        ensures seat { (seat.new.number ≡ seat.old.number) × (seat.new.commits ≡ seat.old.commits) }
-        ensures ended { IfNone result (IsSome seat.new.why) }
-        ensures fits { IfSome result (λ claim. IsTrue (fits claim.program.now claim.frame)) }
-    {
-        let mut desk = desk;
-        for _ in rt.forever() {
-            if let Some(why) = desk.reason_to_end(self.max_commits) {
-                drop(desk);
-                self.changed.notify_all();
-                seat.end(why);
-                return None;
-            }
-            if let Some(claim) = desk.claim() {
-                self.tell(desk);
-                return Some(claim);
-            }
-            desk = self.nap(rt, desk);
-        }
-        unreachable!()
-    }
-
-    /// Puts the process of a worker back, which ends without a commit.
-    pub(crate) fn abandon<R: Wait>(&self, rt: &R, seat: &mut WorkerSeat<J>, process: usize)
-        ensures { seat.new ≡ ended Why.Abandoned seat.old }
-    {
-        seat.abandon(&mut self.desk.lock(rt), process);
-        self.changed.notify_one();
     }
 
     /// The desk, once nobody else has it.
@@ -193,31 +142,18 @@ impl<'n, J: Job, A: Allocator> Shared<'n, J, A> {
         self.desk.lock(rt)
     }
 
-    /// Lets the desk go, and tells those that wait what there is for them: one of them where a process is ready, all
-    /// where the run is settled.
+    /// Lets the desk go after a call of the outside, and tells the workers what there is for them: one that rests where
+    /// a process is ready and nobody is active, all where the run is settled, and who listens in any case.
     pub(crate) fn tell<'l>(&'l self, desk: MutexGuard<'l, Desk<'n, J, A>>) {
-        let has_spare = desk.has_spare();
+        let mut desk = desk;
+        let calls = desk.calls_from_outside();
         let is_over = desk.is_over();
         drop(desk);
+        self.signals.move_made();
         if is_over {
             self.changed.notify_all();
-        } else if has_spare {
+        } else if calls {
             self.changed.notify_one();
         }
-    }
-
-    /// Waits until the desk may have changed, and no longer than a nap.
-    fn nap<'l, R: Wait + Clock>(
-        &self,
-        rt: &R,
-        desk: MutexGuard<'l, Desk<'n, J, A>>,
-    ) -> MutexGuard<'l, Desk<'n, J, A>> {
-        let mut desk = desk;
-        let milliseconds = desk.nap();
-        let (mut desk, _) = self
-            .changed
-            .wait_timeout(rt, desk, Duration::from_millis(milliseconds));
-        desk.wake();
-        desk
     }
 }

@@ -3,6 +3,7 @@ ghost use Rattle.std.specs.Prelude.{◌≡◌, ◌<◌, ◌≤◌, IsSome};
 
 use crate::gate::{Gate, Go};
 use crate::job::Job;
+use crate::pace::Pace;
 use crate::seat::WorkerSeat;
 use crate::shared::Shared;
 use kpn_book::Claim;
@@ -13,7 +14,8 @@ use std::time::Clock;
 
 /// Steps processes and commits their steps until there is a reason to end, which the seat then tells.
 ///
-/// A process is claimed, makes at most `quota` steps with the lock free, the gate is asked, and the steps are committed.
+/// A process is claimed, makes at most `quota` steps with the lock free, the gate is asked, and the steps are
+/// committed.
 pub fn work<'n, J: Job, A: Allocator, G: Gate, R: Wait + Clock>(
     rt: &R,
     shared: &Shared<'n, J, A>,
@@ -27,7 +29,8 @@ pub fn work<'n, J: Job, A: Allocator, G: Gate, R: Wait + Clock>(
     ensures commits { seat.commits ≤ result.commits }
 {
     let mut seat = seat;
-    let Some(claim) = shared.begin(rt, &mut seat) else {
+    let mut pace = Pace::new(0);
+    let Some(claim) = shared.begin(rt, &mut seat, &mut pace) else {
         return seat;
     };
     let Claim {
@@ -37,16 +40,17 @@ pub fn work<'n, J: Job, A: Allocator, G: Gate, R: Wait + Clock>(
     } = claim;
     let mut steps = advance(program, frame, 0);
     for _ in rt.forever() {
+        let begun = pace.begin(rt);
         steps.run(quota);
         if gate.between(seat.number(), process) == Go::Abandon {
             shared.abandon(rt, &mut seat, process);
             return seat;
         }
-        let Some(claim) = shared.go_on(rt, &mut seat, process, &steps) else {
+        pace.end(rt, begun);
+        let Some(next) = shared.go_on(rt, &mut seat, &mut pace, process, &mut steps) else {
             return seat;
         };
-        process = claim.process;
-        steps.load(claim.program, &claim.frame);
+        process = next;
     }
     unreachable!()
 }

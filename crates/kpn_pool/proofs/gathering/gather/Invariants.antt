@@ -6,7 +6,8 @@ use Rattle.kpn_pool.proofs.gathering.gather.Given as goal
 abbrev pub invariant-loop-seat : goal.invariant-loop-seat
 invariant-loop-seat g l =
     (l.all.parts + vec_len l.workers ≡ g.J.Ledger.parts)
-    × (l.all.amount + sum_by (λ (s : Seat). s.commits) l.workers.items ≡ sum_by (λ (s : Seat). s.commits) l.fn.workers.items)
+    × (l.all.amount + sum_by (λ (s : Seat). s.commits) l.workers.items
+    ≡ sum_by (λ (s : Seat). s.commits) l.fn.workers.items)
 
 abbrev pub decreases-loop-seat : goal.decreases-loop-seat
 decreases-loop-seat g l = vec_len l.workers

@@ -6,4 +6,5 @@ use Rattle.kpn_pool.proofs.opening.sink_seats.Given as goal
 
 abbrev pub invariant-loop-c : goal.invariant-loop-c
 invariant-loop-c g l =
-    l.seats.items ≡ filter (λ (s : EndSeat). is_sink (channel_at l.network s.channel)) (map new_end (range_with_len 0 l.c))
+    l.seats.items
+    ≡ filter (λ (s : EndSeat). is_sink (channel_at l.network s.channel)) (map new_end (range_with_len 0 l.c))

@@ -5,4 +5,5 @@ use Rattle.kpn_pool.proofs.opening.source_seats.Goals as goal
 
 pub loop-c-preserved : goal.loop-c-preserved
 loop-c-preserved g c =
-    one_more (λ (s : EndSeat). is_source (channel_at c.args.network.now s.channel)) c.loop-c.c _ _ c.loop-c.invariant c.in_ok-add_source.ensures
+    one_more (λ (s : EndSeat). is_source (channel_at c.args.network.now s.channel)) c.loop-c.c _ _ c.loop-c.invariant
+    c.in_ok-add_source.ensures

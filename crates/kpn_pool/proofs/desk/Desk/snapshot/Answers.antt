@@ -1,5 +1,9 @@
+use Rattle.std.proofs.Common.{subst}
+use Rattle.std.specs.Prelude.{IfOk}
 use Rattle.std.proofs.lemmas.Result.{IfOk-weaker}
-use Rattle.kpn_pool.proofs.Glimpses.{below_of, at_rest_of}
+use Rattle.kpn_pool.specs.Desk.{Desk}
+use Rattle.kpn_pool.specs.Glimpse.{ShowsJournals}
+use Rattle.kpn_pool.proofs.Glimpses.{below_of, at_rest_of, shows_journals}
 use Rattle.kpn_pool.proofs.desk.Desk.snapshot.Goals as goal
 
 pub returns-clause-below : goal.returns-clause-below
@@ -15,3 +19,11 @@ returns-clause-quiet g c =
     IfOk-weaker c.snapshot.result _ _
     (λ view agrees. at_rest_of g.J.Job.network inner c.self.invariant.network c.known.ensures.network
     (c.the_history.ensures.legal inner c.known.ensures) view agrees) c.snapshot.ensures.agrees
+
+pub returns-clause-journals : goal.returns-clause-journals
+returns-clause-journals g c =
+    let inner = c.self.inside.book in
+    subst (λ (d : Desk). IfOk c.snapshot.result (λ view. ShowsJournals d.book view)) c.self.view_is
+    (IfOk-weaker c.snapshot.result _ _
+    (λ view agrees. shows_journals inner (c.journals.ensures.written inner c.known.ensures) view agrees)
+    c.snapshot.ensures.agrees)

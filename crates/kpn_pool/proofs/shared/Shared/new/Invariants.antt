@@ -5,5 +5,6 @@ use Rattle.kpn_pool.proofs.shared.Shared.new.Given as goal
 
 abbrev pub invariant-loop-number : goal.invariant-loop-number
 invariant-loop-number g l =
-    (l.shares.parts + l.number ≡ l.workers) × (l.shares.amount ≡ 0) × (l.total.total ≡ 0) × (length l.seats.items ≡ l.number)
+    (l.shares.parts + l.number ≡ l.workers) × (l.shares.amount ≡ 0) × (l.total.total ≡ 0)
+    × (length l.seats.items ≡ l.number)
     × ((i : ℕ) → i < l.number → slice_get l.seats.items i ≡ Some (new_seat i))

@@ -1,0 +1,111 @@
+//! Why a worker ends, and what is seen then.
+ghost use Rattle.std.specs.Prelude.{◌≡◌};
+
+use crate::gates::Always;
+use crate::networks::{spinning, two_readers};
+use crate::working::both_work;
+use kpn_net::Network;
+use kpn_pool::{Gate, Go, Job, Opened, Shared, View, Why, work};
+use std::alloc::{AllocError, Global};
+use std::marker::Brand;
+use std::sync::Wait;
+use std::sync::ledger::Blank;
+use std::test::Fail;
+use std::thread::Threads;
+use std::time::Clock;
+
+/// Why one worker of a network ends, which is told to before it begins or never, and what is seen then.
+fn ends_alone<J: Job, G: Gate, R: Wait + Clock>(
+    rt: &R,
+    alloc: Global,
+    blank: Blank,
+    network: &Network,
+    most: u64,
+    is_told: bool,
+    gate: &G,
+) -> Result<(Option<Why>, Option<View>), AllocError>
+    requires ledger { (blank.name ≡ J.name) × (blank.parts ≡ J.parts) }
+    requires network { network.now ≡ J.network }
+    requires one { J.parts ≡ 1 }
+{
+    let opened: Opened<'_, J> = Shared::new(alloc, blank, network, 1, most)?;
+    let Opened {
+        shared,
+        mut workers,
+        sources: _,
+        sinks: _,
+    } = opened;
+    if is_told {
+        shared.halt(rt);
+    }
+    let why = match workers.pop() {
+        Some(seat) => work(rt, &shared, gate, seat, 1_000).why(),
+        None => None,
+    };
+    Ok((why, shared.try_snapshot(alloc)?))
+}
+
+/// Whether the one process of a run is ready.
+pub fn is_ready(view: &Option<View>) -> bool {
+    match view {
+        Some(view) => view.counts.ready == 1 && view.counts.held == 0,
+        None => false,
+    }
+}
+
+#[test]
+fn a_worker_tells_why_it_ends(rt: HostRuntime) -> Result<(), Fail> {
+    let network = spinning(rt.alloc())?;
+    for (most, is_told, answer, wanted) in [
+        (u64::MAX, true, Go::On, Why::Halted),
+        (u64::MAX, false, Go::Abandon, Why::Abandoned),
+        (100, false, Go::On, Why::Limit),
+    ] {
+        let gate = Always(answer);
+        let blank = Blank::new(1);
+        let (why, view) = ends_alone::<Brand, Always, HostRuntime>(
+            &rt,
+            rt.alloc(),
+            blank,
+            &network,
+            most,
+            is_told,
+            &gate,
+        )?;
+        assert!(rt; why == Some(wanted) && is_ready(&view), "{wanted:?}");
+    }
+    Ok(())
+}
+
+/// Why two workers of a network end, which work at once.
+fn both_end<J: Job + Send + Sync, R: Threads + Wait + Clock + Sync>(
+    rt: &R,
+    alloc: Global,
+    blank: Blank,
+    network: &Network,
+) -> Result<(Option<Why>, Option<Why>), AllocError>
+    requires ledger { (blank.name ≡ J.name) × (blank.parts ≡ J.parts) }
+    requires network { network.now ≡ J.network }
+    requires two { J.parts ≡ 2 }
+{
+    let opened: Opened<'_, J> = Shared::new(alloc, blank, network, 2, u64::MAX)?;
+    let Opened {
+        shared,
+        mut workers,
+        sources: _,
+        sinks: _,
+    } = opened;
+    let (Some(second), Some(first)) = (workers.pop(), workers.pop()) else {
+        return Ok((None, None));
+    };
+    let (first, second) = both_work(rt, &shared, &Always(Go::On), first, second);
+    Ok((first.why(), second.why()))
+}
+
+#[test]
+fn two_workers_settle(rt: HostRuntime) -> Result<(), Fail> {
+    let network = two_readers(rt.alloc())?;
+    let whys = both_end::<Brand, HostRuntime>(&rt, rt.alloc(), Blank::new(2), &network)?;
+    assert_eq!(rt; whys, (Some(Why::Settled), Some(Why::Settled)));
+    Ok(())
+}

@@ -1,0 +1,20 @@
+//! Tests of the pool, by public calls alone: what workers, gates and seats do that no clause can say. Each ends on any
+//! schedule, since whoever waits for somebody else waits for a bounded number of turns.
+#![tactic(auto)]
+
+#[cfg(test)]
+mod endings;
+#[cfg(test)]
+mod gates;
+#[cfg(test)]
+mod meeting;
+#[cfg(test)]
+mod networks;
+#[cfg(test)]
+mod outside;
+#[cfg(test)]
+mod refusals;
+#[cfg(test)]
+mod stepping;
+#[cfg(test)]
+mod working;

@@ -1,0 +1,84 @@
+//! The networks of the tests: in each, all processes have one program.
+use kpn_lang::{Expr, Program, Sequence, Stmt};
+use kpn_net::ChannelSpec::{Inner, Sink, Source};
+use kpn_net::{ChannelSpec, Instance, Network};
+use std::alloc::Global;
+use std::test::Fail;
+
+/// No capacity is greater.
+const LIMIT: u32 = 1_000;
+
+/// The channels that a process reads, and those that it writes.
+type Ports<'a> = (&'a [usize], &'a [usize]);
+
+/// A process for each of these ports.
+fn processes(
+    alloc: Global,
+    program: Program,
+    ports: &[Ports],
+    channels: &[ChannelSpec],
+) -> Result<Network, Fail> {
+    let mut instances = Vec::new(alloc);
+    for (ins, outs) in ports {
+        instances.push(Instance {
+            program: 0,
+            ins: Sequence::from_vec(ins.to_vec(alloc)?),
+            outs: Sequence::from_vec(outs.to_vec(alloc)?),
+            pars: Sequence::from_vec(Vec::new(alloc)),
+        })?;
+    }
+    let programs = vec![in alloc; program]?;
+    Ok(Network::new(alloc, programs, instances, channels.to_vec(alloc)?, LIMIT)?)
+}
+
+/// `while 1 { .. }`
+fn forever(
+    alloc: Global,
+    ins: usize,
+    outs: usize,
+    locals: usize,
+    body: Vec<Stmt>,
+) -> Result<Program, Fail> {
+    let first = vec![in alloc; Stmt::While(Expr::Num(1), 1)]?;
+    let blocks = vec![in alloc; first, body]?;
+    Ok(Program::new(alloc, ins, outs, 0, locals, blocks)?)
+}
+
+/// Processes 0 and 1 write 7 once, each to the sink with its number.
+pub fn two_sevens(alloc: Global) -> Result<Network, Fail> {
+    let body = vec![in alloc; Stmt::Write(0, Expr::Num(7))]?;
+    let seven = Program::new(alloc, 0, 1, 0, 0, vec![in alloc; body]?)?;
+    let ports: [Ports; 2] = [(&[], &[0]), (&[], &[1])];
+    processes(alloc, seven, &ports, &[Sink(1), Sink(1)])
+}
+
+/// Two processes, each of which first reads what the other writes.
+pub fn two_readers(alloc: Global) -> Result<Network, Fail> {
+    let body = vec![in alloc; Stmt::Read(0, 0), Stmt::Write(0, Expr::Var(0))]?;
+    let reader = Program::new(alloc, 1, 1, 0, 1, vec![in alloc; body]?)?;
+    let ports: [Ports; 2] = [(&[0], &[1]), (&[1], &[0])];
+    processes(alloc, reader, &ports, &[Inner(1), Inner(1)])
+}
+
+/// A process that steps for ever.
+pub fn spinning(alloc: Global) -> Result<Network, Fail> {
+    let spin = forever(alloc, 0, 0, 0, Vec::new(alloc))?;
+    let ports: [Ports; 1] = [(&[], &[])];
+    processes(alloc, spin, &ports, &[])
+}
+
+/// A process that copies the source 0 to the sink 1.
+pub fn copying(alloc: Global) -> Result<Network, Fail> {
+    let body = vec![in alloc; Stmt::Read(0, 0), Stmt::Write(0, Expr::Var(0))]?;
+    let copy = forever(alloc, 1, 1, 1, body)?;
+    let ports: [Ports; 1] = [(&[0], &[1])];
+    processes(alloc, copy, &ports, &[Source, Sink(1)])
+}
+
+/// A process that writes 7 for ever, to the sink 0.
+pub fn pouring(alloc: Global) -> Result<Network, Fail> {
+    let body = vec![in alloc; Stmt::Write(0, Expr::Num(7))]?;
+    let pour = forever(alloc, 0, 1, 0, body)?;
+    let ports: [Ports; 1] = [(&[], &[0])];
+    processes(alloc, pour, &ports, &[Sink(LIMIT)])
+}

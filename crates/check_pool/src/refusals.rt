@@ -1,0 +1,184 @@
+//! Calls that want memory are refused it, by a heap that is full for a while: all is as before, and the repeated call
+//! succeeds.
+ghost use Rattle.std.specs.Prelude.{◌≡◌, IfSome, vec_len};
+
+use crate::endings::is_ready;
+use crate::gates::Always;
+use crate::networks::{copying, pouring};
+use crate::outside::shows;
+use kpn_net::Network;
+use kpn_pool::{
+    Go, Job, Opened, Refused, Shared, SinkSeat, SourceSeat, Why, close, feed, leave, snapshot,
+    take, work,
+};
+use linked_list_allocator::LocalHeap;
+use std::alloc::{AllocError, Global};
+use std::marker::Brand;
+use std::sync::Wait;
+use std::sync::ledger::Blank;
+use std::test::Fail;
+use std::time::Clock;
+
+/// How many bytes the heap of a test has.
+const HEAP: usize = 16_384;
+
+/// Takes the greatest block of memory that is left.
+fn fill<'a>(heap: &'a LocalHeap) -> Option<Vec<u8, &'a LocalHeap>>
+    ensures { IfSome result (λ filling. vec_len filling ≡ 0) }
+{
+    for n in (1..1_024usize).rev() {
+        if let Ok(filling) = Vec::with_capacity(heap, 16 * n) {
+            return Some(filling);
+        }
+    }
+    None
+}
+
+/// Whether a run is opened.
+fn opens<'a, J: Job>(heap: &'a LocalHeap, blank: Blank, network: &Network) -> bool
+    requires ledger { (blank.name ≡ J.name) × (blank.parts ≡ J.parts) }
+    requires network { network.now ≡ J.network }
+    requires one { J.parts ≡ 1 }
+{
+    let opened: Result<Opened<'_, J, &'a LocalHeap>, AllocError> = Shared::new(
+        heap, blank, network, 1, 9,
+    );
+    opened.is_ok()
+}
+
+/// Whether each call is refused memory while nothing has happened, and nothing has happened then.
+fn all_refused<'a, J: Job, R: Wait>(
+    rt: &R,
+    alloc: Global,
+    shared: &Shared<'_, J, &'a LocalHeap>,
+    source: &mut SourceSeat<&'a LocalHeap>,
+    sink: &SinkSeat<&'a LocalHeap>,
+) -> bool {
+    feed(rt, shared, source, 5, 9) == Err(Refused::NoMemory)
+        && close(rt, shared, source) == Err(Refused::NoMemory)
+        && leave(rt, shared, sink) == Err(Refused::NoMemory)
+        && source.fed().is_empty()
+        && shows(&snapshot(rt, alloc, shared, source), &[], &[])
+}
+
+/// Feeds until memory is refused. Tells whether the seat and the run then have what was fed before.
+fn feeds_until_refused<'a, J: Job, R: Wait>(
+    rt: &R,
+    alloc: Global,
+    shared: &Shared<'_, J, &'a LocalHeap>,
+    source: &mut SourceSeat<&'a LocalHeap>,
+) -> bool {
+    for item in 0..1_000i64 {
+        let before = source.fed().len();
+        if let Err(refused) = feed(rt, shared, source, item, 1_000) {
+            return refused == Refused::NoMemory
+                && source.fed().len() == before
+                && shows(&snapshot(rt, alloc, shared, source), source.fed(), &[]);
+        }
+    }
+    false
+}
+
+/// A run that is fed. Tells whether all is answered as it has to be, while the heap is full and then.
+fn is_fed<'a, J: Job, R: Wait>(
+    rt: &R,
+    alloc: Global,
+    heap: &'a LocalHeap,
+    blank: Blank,
+    network: &Network,
+) -> Result<bool, AllocError>
+    requires ledger { (blank.name ≡ J.name) × (blank.parts ≡ J.parts) }
+    requires network { network.now ≡ J.network }
+    requires one { J.parts ≡ 1 }
+{
+    let opened: Opened<'_, J, &'a LocalHeap> = Shared::new(heap, blank, network, 1, 9)?;
+    let Opened {
+        shared,
+        workers: _,
+        mut sources,
+        mut sinks,
+    } = opened;
+    let (Some(mut source), Some(sink)) = (sources.pop(), sinks.pop()) else {
+        return Ok(false);
+    };
+    let Some(filling) = fill(heap) else {
+        return Ok(false);
+    };
+    let are_refused = all_refused(rt, alloc, &shared, &mut source, &sink);
+    filling.destroy_empty();
+    let are_fed = feeds_until_refused(rt, alloc, &shared, &mut source);
+    Ok(are_refused && are_fed)
+}
+
+/// Takes until memory is refused. Tells whether the seat then has what was taken before.
+fn takes_until_refused<'a, J: Job, R: Wait>(
+    rt: &R,
+    shared: &Shared<'_, J, &'a LocalHeap>,
+    sink: &mut SinkSeat<&'a LocalHeap>,
+) -> bool {
+    for _ in 0..1_000 {
+        let before = sink.taken().len();
+        match take(rt, shared, sink) {
+            Ok(Some(_)) => {}
+            Ok(None) => return false,
+            Err(refused) => {
+                return refused == Refused::NoMemory && sink.taken().len() == before;
+            }
+        }
+    }
+    false
+}
+
+/// A run whose worker writes until the heap is full. Tells whether all is answered as it has to be.
+fn is_poured<'a, J: Job, R: Wait + Clock>(
+    rt: &R,
+    alloc: Global,
+    heap: &'a LocalHeap,
+    blank: Blank,
+    network: &Network,
+) -> Result<bool, AllocError>
+    requires ledger { (blank.name ≡ J.name) × (blank.parts ≡ J.parts) }
+    requires network { network.now ≡ J.network }
+    requires one { J.parts ≡ 1 }
+{
+    let opened: Opened<'_, J, &'a LocalHeap> = Shared::new(heap, blank, network, 1, 10_000)?;
+    let Opened {
+        shared,
+        mut workers,
+        sources: _,
+        mut sinks,
+    } = opened;
+    let (Some(seat), Some(mut sink)) = (workers.pop(), sinks.pop()) else {
+        return Ok(false);
+    };
+    let filling = Vec::<u8, &'a LocalHeap>::with_capacity(heap, HEAP / 2)?;
+    let gate = Always(Go::On);
+    let seat = work(rt, &shared, &gate, seat, 1_000);
+    let has_ended = seat.why() == Some(Why::NoMemory);
+    let is_put_back = is_ready(&shared.try_snapshot(alloc)?);
+    let seat = work(rt, &shared, &gate, seat, 1_000);
+    let is_halted = seat.why() == Some(Why::Halted);
+    let are_refused = takes_until_refused(rt, &shared, &mut sink);
+    filling.destroy_empty();
+    let is_taken = take(rt, &shared, &mut sink) == Ok(Some(7));
+    Ok(has_ended && is_put_back && is_halted && are_refused && is_taken)
+}
+
+#[test]
+fn refused_calls_change_nothing(rt: HostRuntime) -> Result<(), Fail> {
+    let alloc = rt.alloc();
+    let copying = copying(alloc)?;
+    let pouring = pouring(alloc)?;
+    let heap = LocalHeap::new(alloc, HEAP)?;
+    let used = heap.used();
+    let filling = fill(&heap).expect(&rt, "a block is left");
+    assert!(rt; !opens::<Brand>(&heap, Blank::new(1), &copying));
+    filling.destroy_empty();
+    assert_eq!(rt; heap.used(), used);
+    assert!(rt; opens::<Brand>(&heap, Blank::new(1), &copying));
+    let fed = is_fed::<Brand, HostRuntime>(&rt, alloc, &heap, Blank::new(1), &copying)?;
+    assert!(rt; fed);
+    let poured = is_poured::<Brand, HostRuntime>(&rt, alloc, &heap, Blank::new(1), &pouring)?;
+    assert!(rt; poured);
+    Ok(())
+}

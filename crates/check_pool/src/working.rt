@@ -1,0 +1,21 @@
+//! Two workers at once.
+use kpn_pool::{Gate, Job, Shared, WorkerSeat, work};
+use std::sync::Wait;
+use std::thread;
+use std::thread::Threads;
+use std::time::Clock;
+
+/// Two workers are at work at once, on two threads, until both have ended. Gives their seats.
+pub fn both_work<J: Job + Send + Sync, G: Gate, R: Threads + Wait + Clock + Sync>(
+    rt: &R,
+    shared: &Shared<'_, J>,
+    gate: &G,
+    first: WorkerSeat<J>,
+    second: WorkerSeat<J>,
+) -> (WorkerSeat<J>, WorkerSeat<J>) {
+    thread::join(
+        rt,
+        move || work(rt, shared, gate, first, 1_000),
+        move || work(rt, shared, gate, second, 1_000),
+    )
+}
