@@ -4,17 +4,21 @@ import pathlib
 import subprocess
 import sys
 import tempfile
+import time
 
 TOP = pathlib.Path(__file__).resolve().parent.parent
 
 
 class Run:
-    """One run of a program: its seconds on the processor, its peak memory in bytes, and what it wrote."""
+    """One run of a program: its seconds on the processors and on the clock, its peak memory in bytes, and what it
+    wrote."""
 
     def __init__(self, words, environment=None):
         with tempfile.TemporaryFile() as out, tempfile.TemporaryFile() as told:
+            started = time.monotonic()
             child = subprocess.Popen(words, stdin=subprocess.DEVNULL, stdout=out, stderr=told, env=environment)
             _, status, usage = os.wait4(child.pid, 0)
+            self.elapsed = time.monotonic() - started
             child.returncode = os.waitstatus_to_exitcode(status)
             out.seek(0)
             told.seek(0)

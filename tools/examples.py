@@ -1,8 +1,12 @@
 #!/usr/bin/env python3
 """Writes what crates/check_examples must write for the lines of its standard input below the heading `# The examples`,
 if there is one: each line, and what comes of it, computed by other programs than the proved one (rounds.py,
-histories.py). What stands above that heading stays as it is. Below the heading `# Changed histories` the lines too are
-written anew, by history_tables.py.
+histories.py). What stands above that heading stays as it is. Two parts have lines that are written anew too: below the
+heading `# The examples run by workers` each run above it once more by 1, 2 and 16 workers, with an audit of its trace;
+below `# Changed histories` those of history_tables.py.
+
+What a run by workers writes is computed by a run on one thread: it is the same for any number of workers. Of the audit
+of its trace only those lines are compared that are the same.
 
 It knows the commands `check`, `print`, `rounds`, `run` and `audit`, and of the refusals those that the lines meet.
 """
@@ -16,6 +20,7 @@ import history_tables
 import rounds
 
 EXAMPLES, CHANGED = '# The examples\n', '# Changed histories\n'
+RUN_BY_WORKERS, WORKERS = '# The examples run by workers\n', (1, 2, 16)
 FOLDER = pathlib.Path(__file__).resolve().parent.parent / 'crates/check_examples'
 
 
@@ -144,8 +149,42 @@ def written_for(line):
         return f'$ {line}\n'
     if word == 'cat':
         return f'$ {line}\n{load(rest)}'
-    text, status = answer(rest.split())
-    return f'$ {line}\n{text}' + (f'status {status}\n' if status else '')
+    count, command = 0, rest
+    if word == 'first':
+        count, _, command = rest.partition(' ')
+        command = command.removeprefix('kpn ')
+    text, status = answer(command.split())
+    lines = (text + (f'status {status}\n' if status else '')).splitlines(keepends=True)
+    return f'$ {line}\n' + ''.join(lines[:int(count)] if count else lines)
+
+
+def without_trace(words):
+    """The words of a run, but for the trace."""
+    if '--trace' not in words:
+        return words
+    place = words.index('--trace')
+    return words[:place] + words[place + 2:]
+
+
+def audited_lines(report):
+    """How many lines of the audit of a run by workers are the same whatever their turns were: under `enough` and
+    `stopped` some of the workers may have gone on for a while, so whether all was over is left out."""
+    return 1 if report.endswith(('enough\n', 'stopped\n')) else 2
+
+
+def lines_by_workers(lines):
+    """Each run among the lines once more, by workers."""
+    runs = []
+    for line in lines.splitlines():
+        words = without_trace(line.split())
+        if words[:2] == ['kpn', 'run'] and words not in runs:
+            runs.append(words)
+    for words in runs:
+        report, status = answer(words[1:])
+        for count in WORKERS:
+            yield f'{" ".join(words)} --workers {count} --trace by_workers.trace\n'
+            if status != 1:
+                yield f'first {audited_lines(report)} kpn audit {words[2]} by_workers.trace\n'
 
 
 def main():
@@ -153,11 +192,13 @@ def main():
     by_hand, mark, lines = given.read_text().rpartition(EXAMPLES)
     answered_by_hand = wanted.read_text().rpartition(EXAMPLES)[0]
     lines, changed, _ = lines.partition(CHANGED)
+    lines = lines.partition(RUN_BY_WORKERS)[0]
     if changed:
-        lines += changed + ''.join(f'{line}\n' for line in history_tables.lines())
+        changed += ''.join(f'{line}\n' for line in history_tables.lines())
     with tempfile.TemporaryDirectory() as name:
         shutil.copytree(FOLDER / 'data', name, dirs_exist_ok=True)
         with contextlib.chdir(name):
+            lines += RUN_BY_WORKERS + ''.join(lines_by_workers(lines)) + changed
             written = ''.join(map(written_for, lines.removesuffix('\n').split('\n')))
     given.write_text(by_hand + mark + lines)
     wanted.write_text(answered_by_hand + mark + written)

@@ -1,6 +1,6 @@
 #!/usr/bin/env python3
 """Runs of networks on one thread, their histories as text, and whether a history is legal, computed by another program
-than the proved one. Words: those of `kpn run` without workers, and those of `kpn audit`.
+than the proved one. Words: those of `kpn run`, whose workers it knows but does not start, and those of `kpn audit`.
 
 What a run does is kept step by step; what a history must meet is judged from the lists that it leaves, so the two check
 each other. It trusts descriptions and item files: it is no checker of those.
@@ -472,6 +472,7 @@ def read_words(words):
     run = commands.add_parser('run')
     run.add_argument('file')
     run.add_argument('--source', action='append', default=[], metavar='NAME=FILE')
+    run.add_argument('--workers', type=int)
     run.add_argument('--take', type=int)
     run.add_argument('--max-commits', type=int, default=MOST_COMMITS)
     run.add_argument('--trace')

@@ -1,11 +1,13 @@
 //! Command lines, run over shelves and devices in memory.
 
-use crate::devices::{Broken, Failing};
+use failing_devices::{Broken, Failing};
 use kpn_answers::shelf::{MemoryShelf, Shelf};
 use kpn_cli::command::command;
 use std::alloc::{AllocError, Global};
-use std::io::{Read, Write};
+use std::sync::Wait;
 use std::test::Fail;
+use std::thread::Threads;
+use std::time::Clock;
 use worked_texts::COPY;
 
 /// What a command line answered and wrote.
@@ -25,36 +27,85 @@ fn words_of(alloc: Global, line: &str) -> Result<Vec<String>, AllocError> {
     Ok(words)
 }
 
-/// The answer to a command line over an input, and a shelf that holds nothing.
-pub fn run<R: Read>(alloc: Global, line: &str, input: &mut R) -> Result<Answer, AllocError> {
+/// The answer to a command line over an input that fails, and a shelf that holds nothing.
+pub fn run<R: Threads + Wait + Clock + Sync>(
+    rt: &R,
+    alloc: Global,
+    line: &str,
+) -> Result<Answer, AllocError> {
     let words = words_of(alloc, line)?;
     let mut out = Vec::new(alloc);
     let mut err = Vec::new(alloc);
     let mut shelf = MemoryShelf::new(alloc);
-    let status = command(alloc, &words, &mut shelf, input, &mut out, &mut err);
+    let status = command(
+        rt,
+        alloc,
+        &words,
+        &mut shelf,
+        &mut Broken,
+        &mut out,
+        &mut err,
+    );
     Ok(Answer { status, out, err })
 }
 
-/// The status of a command line over a shelf that holds copy as `n`, and this output, and what is told.
-fn write_to<O: Write>(alloc: Global, line: &str, out: &mut O) -> Result<(u8, Vec<u8>), Fail> {
+/// Whether a command line over an input that fails has this status, writes nothing and tells this.
+fn is_refused<R: Threads + Wait + Clock + Sync>(
+    rt: &R,
+    alloc: Global,
+    line: &str,
+    status: u8,
+    told: &str,
+) -> Result<bool, AllocError> {
+    let answer = run(rt, alloc, line)?;
+    Ok(answer.status == status && answer.out.is_empty() && answer.err.as_slice() == told.as_bytes())
+}
+
+/// Whether a command line over a shelf that holds copy as `n`, and an output that takes so many calls, has this status
+/// and tells this.
+fn writes_to<R: Threads + Wait + Clock + Sync>(
+    rt: &R,
+    alloc: Global,
+    line: &str,
+    calls: u8,
+    wanted: u8,
+    told: &str,
+) -> Result<bool, Fail> {
     let mut shelf = MemoryShelf::new(alloc);
     shelf.store("n", COPY.as_bytes())?;
     let words = words_of(alloc, line)?;
+    let mut out = Failing { calls };
     let mut err = Vec::new(alloc);
     let mut input = b"1\n".as_slice();
-    let status = command(alloc, &words, &mut shelf, &mut input, out, &mut err);
-    Ok((status, err))
+    let status = command(
+        rt, alloc, &words, &mut shelf, &mut input, &mut out, &mut err,
+    );
+    Ok(status == wanted && err.as_slice() == told.as_bytes())
 }
 
+/// Whether a command line tells an output that fails at once or at the flush, and succeeds over one that takes all.
+fn tells_an_output<R: Threads + Wait + Clock + Sync>(
+    rt: &R,
+    alloc: Global,
+    line: &str,
+) -> Result<bool, Fail> {
+    Ok(
+        writes_to(rt, alloc, line, 0, 1, "kpn: 27 Write\n")?
+            && writes_to(rt, alloc, line, 1, 1, "kpn: 27 Write\n")?
+            && writes_to(rt, alloc, line, 9, 0, "")?,
+    )
+}
+
+// The name is looked at before the input is read.
 #[test]
 fn tells_an_input_that_fails(rt: HostRuntime) -> Result<(), Fail> {
-    // The name is looked at before the input is read.
-    let unread = run(rt.alloc(), "kpn alone product", &mut Broken)?;
-    assert_eq!(rt; unread.status, 2);
-    let answer = run(rt.alloc(), "kpn alone sum", &mut Broken)?;
-    assert_eq!(rt; answer.status, 1);
-    assert!(rt; answer.out.is_empty());
-    assert_eq!(rt; answer.err.as_slice(), b"kpn: 26 Read\n".as_slice());
+    for (line, status, told) in [
+        ("kpn alone product", 2, "kpn: usage: copy, double or sum\n"),
+        ("kpn alone sum", 1, "kpn: 26 Read\n"),
+    ] {
+        let refused = is_refused(&rt, rt.alloc(), line, status, told)?;
+        assert!(rt; refused, "{line}");
+    }
     Ok(())
 }
 
@@ -68,15 +119,8 @@ fn tells_an_output_that_fails_at_any_call(rt: HostRuntime) -> Result<(), Fail> {
         "kpn --help",
         "kpn check --help",
     ] {
-        for (calls, wanted, told) in [
-            (0, 1, "kpn: 27 Write\n"),
-            (1, 1, "kpn: 27 Write\n"),
-            (9, 0, ""),
-        ] {
-            let (status, err) = write_to(rt.alloc(), line, &mut Failing { calls })?;
-            assert_eq!(rt; status, wanted, "{line}");
-            assert_eq!(rt; err.as_slice(), told.as_bytes(), "{line}");
-        }
+        let told = tells_an_output(&rt, rt.alloc(), line)?;
+        assert!(rt; told, "{line}");
     }
     Ok(())
 }

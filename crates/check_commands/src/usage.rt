@@ -1,41 +1,61 @@
 //! Which words are understood, and help.
 
-use crate::devices::Broken;
 use crate::lines::run;
+use std::alloc::{AllocError, Global};
+use std::sync::Wait;
 use std::test::Fail;
+use std::thread::Threads;
+use std::time::Clock;
+
+/// Words, and the status: 2 where they are not understood, 0 where they ask for help.
+const ROWS: [(&str, u8); 23] = [
+    ("kpn", 2),
+    ("kpn alone", 2),
+    ("kpn run two.kpn --take 0", 2),
+    ("kpn run two.kpn --workers 0", 2),
+    ("kpn run two.kpn --workers 17", 2),
+    ("kpn run two.kpn --workers two", 2),
+    ("kpn run two.kpn --workers", 2),
+    ("kpn audit two.kpn", 2),
+    ("kpn check", 2),
+    ("kpn print one.kpn two.kpn", 2),
+    ("kpn rounds two.kpn", 2),
+    ("kpn rounds two.kpn 1001", 2),
+    ("kpn rounds two.kpn -1", 2),
+    ("kpn rounds two.kpn three", 2),
+    ("kpn rounds two.kpn 3 --source", 2),
+    ("kpn alone sum 3", 2),
+    ("kpn --flag", 2),
+    ("kpn --help", 0),
+    ("kpn help", 0),
+    ("kpn alone --help", 0),
+    ("kpn check --help", 0),
+    ("kpn print --help", 0),
+    ("kpn rounds --help", 0),
+];
+
+/// Whether a command line has this status, and its answer stands where it belongs: help on the output, all else where
+/// faults go.
+fn is_answered<R: Threads + Wait + Clock + Sync>(
+    rt: &R,
+    alloc: Global,
+    line: &str,
+    status: u8,
+) -> Result<bool, AllocError> {
+    let answer = run(rt, alloc, line)?;
+    let is_help = status == 0;
+    Ok(
+        answer.status == status
+            && answer.err.is_empty() == is_help
+            && answer.out.is_empty() != is_help,
+    )
+}
 
 #[test]
 fn tells_usage_and_help(rt: HostRuntime) -> Result<(), Fail> {
-    for line in [
-        "kpn",
-        "kpn alone",
-        "kpn run two.kpn --take 0",
-        "kpn audit two.kpn",
-        "kpn check",
-        "kpn print one.kpn two.kpn",
-        "kpn rounds two.kpn",
-        "kpn rounds two.kpn 1001",
-        "kpn rounds two.kpn -1",
-        "kpn rounds two.kpn three",
-        "kpn rounds two.kpn 3 --source",
-        "kpn alone sum 3",
-        "kpn --flag",
-    ] {
-        let answer = run(rt.alloc(), line, &mut Broken)?;
-        assert_eq!(rt; answer.status, 2, "{line}");
-        assert!(rt; answer.out.is_empty() && !answer.err.is_empty(), "{line}");
-    }
-    for line in [
-        "kpn --help",
-        "kpn help",
-        "kpn alone --help",
-        "kpn check --help",
-        "kpn print --help",
-        "kpn rounds --help",
-    ] {
-        let answer = run(rt.alloc(), line, &mut Broken)?;
-        assert_eq!(rt; answer.status, 0, "{line}");
-        assert!(rt; answer.err.is_empty() && !answer.out.is_empty(), "{line}");
+    for (line, status) in &ROWS {
+        let answered = is_answered(&rt, rt.alloc(), line, *status)?;
+        assert!(rt; answered, "{line}");
     }
     Ok(())
 }

@@ -2,7 +2,10 @@
 //!
 //! - `kpn WORDS`, a command line, which is run over the files that lie here. What it wrote follows; where it failed,
 //!   also what it told and its status. Its standard input is the file `input`, where a line has made one.
+//! - `first COUNT kpn WORDS`, a command line too, but only so many lines of what it wrote follow: what else an audit
+//!   writes of a run by workers depends on how their turns fell.
 //! - `file NAME TEXT` makes a file. In the text `\n`, `\r` and `\0` stand for bytes that no line can have.
+//! - `many NAME COUNT TEXT` puts such a text so often behind what the file holds.
 //! - `cat NAME`: what the file holds follows.
 //! - `# TEXT`, a heading, which is repeated as it is.
 //!
@@ -15,6 +18,9 @@ use kpn_answers::shelf::{FileShelf, Shelf};
 use kpn_cli::command::command;
 use std::alloc::Global;
 use std::io::Write;
+use std::sync::Wait;
+use std::thread::Threads;
+use std::time::Clock;
 
 /// The words of a command line.
 fn words_of(alloc: Global, line: &str) -> Result<Vec<String>> {
@@ -25,15 +31,39 @@ fn words_of(alloc: Global, line: &str) -> Result<Vec<String>> {
     Ok(words)
 }
 
+/// The bytes that a text of a line stands for.
+fn unescaped(alloc: Global, text: &str) -> Result<String> {
+    let text = text.replace(alloc, "\\n", "\n")?;
+    let text = text.replace(alloc, "\\r", "\r")?;
+    Ok(text.replace(alloc, "\\0", "\0")?)
+}
+
 /// Makes the file that `NAME TEXT` says.
 fn make_file<S: Shelf>(alloc: Global, shelf: &mut S, line: &str) -> Result<()> {
     let Some((name, text)) = line.split_once(' ') else {
         return Ok(());
     };
-    let text = text.replace(alloc, "\\n", "\n")?;
-    let text = text.replace(alloc, "\\r", "\r")?;
-    let text = text.replace(alloc, "\\0", "\0")?;
+    let text = unescaped(alloc, text)?;
     shelf.store(name, text.as_bytes())?;
+    Ok(())
+}
+
+/// Makes the file longer that `NAME COUNT TEXT` says.
+fn extend_file<S: Shelf>(alloc: Global, shelf: &mut S, line: &str) -> Result<()> {
+    let Some((name, rest)) = line.split_once(' ') else {
+        return Ok(());
+    };
+    let Some((count, text)) = rest.split_once(' ') else {
+        return Ok(());
+    };
+    let count = count.parse::<u32>()?;
+    let text = unescaped(alloc, text)?;
+    let mut bytes = bytes_of(alloc, shelf, name);
+    bytes.reserve(text.len().saturating_mul(count as usize))?;
+    for _time in 0..count {
+        bytes.extend_from_slice(text.as_bytes())?;
+    }
+    shelf.store(name, &bytes)?;
     Ok(())
 }
 
@@ -46,14 +76,41 @@ fn bytes_of<S: Shelf>(alloc: Global, shelf: &S, name: &str) -> Vec<u8> {
 }
 
 /// Runs a command line.
-fn run<S: Shelf, O: Write>(alloc: Global, shelf: &mut S, out: &mut O, line: &str) -> Result<()> {
+fn run<R: Threads + Wait + Clock + Sync, S: Shelf, O: Write>(
+    rt: &R,
+    alloc: Global,
+    shelf: &mut S,
+    out: &mut O,
+    line: &str,
+) -> Result<()> {
     let words = words_of(alloc, line)?;
     let input = bytes_of(alloc, shelf, "input");
     let mut told = Vec::new(alloc);
-    let status = command(alloc, &words, shelf, &mut input.as_slice(), out, &mut told);
+    let mut input = input.as_slice();
+    let status = command(rt, alloc, &words, shelf, &mut input, out, &mut told);
     if status != 0 {
         out.write_all(&told)?;
         writeln!(out, "status {status}")?;
+    }
+    Ok(())
+}
+
+/// Runs the command line of `COUNT kpn WORDS`, and writes the first lines of what came of it.
+fn run_first<R: Threads + Wait + Clock + Sync, S: Shelf, O: Write>(
+    rt: &R,
+    alloc: Global,
+    shelf: &mut S,
+    out: &mut O,
+    rest: &str,
+) -> Result<()> {
+    let Some((count, line)) = rest.split_once(' ') else {
+        return Ok(());
+    };
+    let mut text = Vec::new(alloc);
+    run(rt, alloc, shelf, &mut text, line)?;
+    let text = str::from_utf8(&text)?;
+    for line in text.lines().take(count.parse()?) {
+        writeln!(out, "{line}")?;
     }
     Ok(())
 }
@@ -70,8 +127,10 @@ fn main(rt: HostRuntime) -> Result<()> {
         writeln!(out, "$ {line}")?;
         match line.split_once(' ') {
             Some(("file", rest)) => make_file(rt.alloc(), &mut shelf, rest)?,
+            Some(("many", rest)) => extend_file(rt.alloc(), &mut shelf, rest)?,
             Some(("cat", name)) => out.write_all(&bytes_of(rt.alloc(), &shelf, name))?,
-            _ => run(rt.alloc(), &mut shelf, &mut out, line.as_str())?,
+            Some(("first", rest)) => run_first(&rt, rt.alloc(), &mut shelf, &mut out, rest)?,
+            _ => run(&rt, rt.alloc(), &mut shelf, &mut out, line.as_str())?,
         }
     }
     Ok(())

@@ -13,6 +13,7 @@ fn main(rt: HostRuntime) -> ExitCode {
     let mut err = rt.stderr();
     let status = match words(&rt) {
         Ok(words) => command(
+            &rt,
             rt.alloc(),
             &words,
             &mut FileShelf::new(&rt),

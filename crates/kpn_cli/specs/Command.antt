@@ -1,7 +1,6 @@
 -- What the program does on a command line: it runs one of its commands, or tells what `clap` has to say.
 use Rattle.std.specs.Prelude.{◌≡◌, ℕ, List, Option, ⊤}
 use Rattle.kpn_report.specs.declared.outcome.Limits.{Limits}
-use Rattle.kpn_answers.specs.declared.refusal.Refusal.{Refusal}
 use Rattle.kpn_answers.specs.declared.refusal.Refusal.TheVariants.{NoMemory}
 use Rattle.kpn_answers.specs.Answer.{Answers, Concludes}
 use Rattle.kpn_answers.specs.Description.{IsRefusalOfCommand}
@@ -10,7 +9,7 @@ use Rattle.kpn_alone.specs.Alone.{RunsAlone}
 use Rattle.kpn_check.specs.Check.{IsCheck}
 use Rattle.kpn_check.specs.Print.{IsPrint}
 use Rattle.kpn_rounds.specs.Rounds.{IsRounds}
-use Rattle.kpn_run.specs.Run.{IsRun, IsRefusalOfRun, ChangesTraceAlone}
+use Rattle.kpn_run.specs.Run.{AnswersRun}
 use Rattle.kpn_audit_command.specs.Answers.{IsAudited, IsRefusalOfAudit}
 
 -- what `clap` has to say of the words
@@ -23,8 +22,8 @@ pub data IsTold {O E : Type 0} (contents : O → Option (List ℕ)) (out written
     usage : written ≡ out → status ≡ 2 → IsTold contents out written err told status
 
 -- One command runs. Given are the shelf, the input, the output and the place for faults, each as it was and as it is
--- afterwards, and the status. No command changes the shelf but a run with a trace, which changes the file of that alone;
--- none but `alone` reads the input.
+-- afterwards, and the status. No command changes the shelf but a run with a trace, which changes the file of that
+-- alone; none but `alone` reads the input.
 pub data Runs {S I O E : Type 0} (may_give : S → List ℕ → List ℕ → Type 0) (remaining : I → Option (List ℕ))
     (contents : O → Option (List ℕ))
     (shelf kept : S) (input read : I) (out written : O) (err told : E) (status : ℕ) : Type 0 where
@@ -42,10 +41,9 @@ pub data Runs {S I O E : Type 0} (may_give : S → List ℕ → List ℕ → Typ
       Answers contents (IsRounds (may_give shelf) file n words) (IsRefusalOfInputs (may_give shelf) file words) out
       written err told status →
       Runs may_give remaining contents shelf kept input read out written err told status
-  run : (file : List ℕ) (words : List (List ℕ)) (limits : Limits) (trace : Option (List ℕ)) →
-      ChangesTraceAlone may_give trace shelf kept → read ≡ input →
-      Concludes contents (IsRun (may_give shelf) (may_give kept) file words limits trace)
-      (IsRefusalOfRun (may_give shelf) file words trace) out written err told status →
+  run : (file : List ℕ) (words : List (List ℕ)) (limits : Limits) (trace : Option (List ℕ)) (workers : Option ℕ) →
+      read ≡ input →
+      AnswersRun may_give contents file words limits trace workers shelf kept out written err told status →
       Runs may_give remaining contents shelf kept input read out written err told status
   audit : (file trace : List ℕ) (steps : ℕ) → kept ≡ shelf → read ≡ input →
       Concludes contents (IsAudited (may_give shelf) file trace steps)

@@ -2,7 +2,6 @@
 ghost use Rattle.std.specs.Prelude.{◌≡◌, IfErr};
 ghost use Rattle.kpn_cli.specs.Command.{Runs, IsTold};
 
-use crate::words::{Request, read_words};
 use clap::Error;
 use clap::error::ErrorKind;
 use kpn_alone::alone_command;
@@ -11,18 +10,27 @@ use kpn_answers::refusal::Refusal;
 use kpn_answers::shelf::Shelf;
 use kpn_audit_command::audit_command;
 use kpn_check::{check_command, print_command};
+use kpn_report::Limits;
 use kpn_rounds::rounds_command;
-use kpn_run::{RunRequest, run_command};
+use kpn_run::{RunRequest, run_command, run_command_by_workers};
+use kpn_words::{Request, RunWords, read_words};
 use std::alloc::Global;
 use std::io;
 use std::io::{Read, Write};
+use std::sync::Wait;
+use std::thread::Threads;
+use std::time::Clock;
+
+// How many steps a process of a run makes at most before it is the turn of the next.
+const QUOTA: u32 = 1_000;
 
 /// The program over a shelf of files, an input, an output and a place for faults. The first of the
 /// words is the name that the program was called by. It answers the status that the program ends
 /// with: 0 for success and for help, 1 for a refused input, a device's fault or an illegal trace, 2 for
 /// words that are not understood, 3 for a run that has clogged, 4 for one that has jammed, 5 for one
-/// that was stopped or an audit without steps left, 6 for want of memory.
-pub fn command<S: Shelf, I: Read, O: Write, E: Write>(
+/// that was stopped or an audit without steps left, 6 for want of memory, 7 for what befell workers.
+pub fn command<R: Threads + Wait + Clock + Sync, S: Shelf, I: Read, O: Write, E: Write>(
+    rt: &R,
     alloc: Global,
     words: &[String],
     shelf: &mut S,
@@ -41,26 +49,30 @@ pub fn command<S: Shelf, I: Read, O: Write, E: Write>(
         Ok(Request::Rounds { file, n, words }) => {
             rounds_command(alloc, file, n, &words, shelf, out, err)
         }
-        Ok(
-            Request::Run {
-                file,
-                words,
-                limits,
-                trace,
-            },
-        ) => {
-            let request = RunRequest {
-                file,
-                words: &words,
-                limits,
-                trace,
-            };
-            run_command(alloc, &request, shelf, out, err)
-        }
+        Ok(Request::Run(words, workers)) => match workers {
+            None => run_command(alloc, &asked(words), shelf, out, err),
+            Some(workers) => {
+                run_command_by_workers(rt, alloc, &asked(words), workers as usize, shelf, out, err)
+            }
+        },
         Ok(Request::Audit { file, trace, steps }) => {
             audit_command(alloc, file, trace, steps, shelf, out, err)
         }
         Err(error) => show(alloc, &error, out, err),
+    }
+}
+
+// What the words of `kpn run` ask for.
+fn asked<'a>(words: RunWords<'a>) -> RunRequest<'a> {
+    RunRequest {
+        file: words.file,
+        words: words.words,
+        limits: Limits {
+            commits: words.commits,
+            take: words.take,
+            quota: QUOTA,
+        },
+        trace: words.trace,
     }
 }
 

@@ -1,3 +1,3 @@
--- Lemmas: lines one after another, and states of reports.
-pub mod Lines
+-- Lemmas: answers of the command, and states of reports.
+pub mod Commands
 pub mod Reported

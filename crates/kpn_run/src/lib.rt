@@ -2,7 +2,10 @@
 #![tactic(auto)]
 
 mod report_text;
+mod reporting;
+mod request;
 mod run;
 mod trace;
 
-pub use run::{RunRequest, run_command};
+pub use request::RunRequest;
+pub use run::{run_command, run_command_by_workers};

@@ -83,7 +83,8 @@ fn push_taken(
     taken: &[Sequence<i64>],
 ) -> Result<(), AllocError>
     ensures { OnOk result (text.new.items ≡ text.old.items
-        ++ sink_lines document.now.names.channels wanted taken.now 0 0 document.now.tables.channels) }
+        ++ sink_lines document.now.names.channels wanted taken.now 0 0
+        document.now.tables.channels) }
 {
     let network = document.network();
     let mut sink = 0;

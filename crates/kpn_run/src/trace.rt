@@ -19,10 +19,11 @@ pub fn store_trace<S: Shelf>(
     trace: Option<&str>,
     history: &History,
 ) -> Result<(), Refusal>
-    ensures stored { OnOk result
-        (IsStored (S.may_give shelf.new) (option_map (λ name. name.now) trace.entry) history.now.events) }
+    ensures stored { OnOk result (IsStored (S.may_give shelf.new)
+        (option_map (λ name. name.now) trace.entry) history.now.events) }
     ensures refused { IfErr result (IsRefusalOfTrace (option_map (λ name. name.now) trace.entry)) }
-    ensures shelf { ChangesTraceAlone S.may_give (option_map (λ name. name.now) trace.entry) shelf.old shelf.new }
+    ensures shelf { ChangesTraceAlone S.may_give (option_map (λ name. name.now) trace.entry)
+        shelf.old shelf.new }
 {
     let Some(name) = trace else {
         return Ok(());

@@ -15,8 +15,11 @@ returns-in-Ok-Print g c = print _ refl refl c.print_command.ensures
 pub returns-in-Ok-Rounds : goal.returns-in-Ok-Rounds
 returns-in-Ok-Rounds g c = rounds _ _ _ refl refl c.rounds_command.ensures
 
-pub returns-in-Ok-Run : goal.returns-in-Ok-Run
-returns-in-Ok-Run g c = run _ _ _ _ c.run_command.ensures.shelf refl c.run_command.ensures.answer
+pub returns-in-None : goal.returns-in-None
+returns-in-None g c = run _ _ _ _ _ refl c.run_command.ensures
+
+pub returns-in-Some : goal.returns-in-Some
+returns-in-Some g c = run _ _ _ _ _ refl c.run_command_by_workers.ensures
 
 pub returns-in-Ok-Audit : goal.returns-in-Ok-Audit
 returns-in-Ok-Audit g c = audit _ _ _ refl refl c.audit_command.ensures

@@ -5,11 +5,11 @@ use crate::help::{
 };
 use clap::error::ErrorKind;
 use clap::{Arg, ArgAction, ArgMatches, Command, Error, value_parser};
-use kpn_report::Limits;
+use kpn_limits::MAX_WORKERS;
 use std::alloc::{AllocError, Global};
 
 /// The version that `--version` tells.
-pub(crate) const VERSION: &str = "0.1.0";
+const VERSION: &str = "0.1.0";
 
 // The most rounds that may be asked for.
 const MAX_ROUNDS: i64 = 1000;
@@ -17,11 +17,11 @@ const MAX_ROUNDS: i64 = 1000;
 // The most items, commits or steps that may be asked for.
 const MAX_COUNT: i64 = 1_000_000_000;
 
+// The most workers that may be asked for.
+const MOST_WORKERS: i64 = MAX_WORKERS as i64;
+
 // How many commits, or steps, there are at most where the words do not say.
 const USUAL_COUNT: u64 = 10_000_000;
-
-// How many steps a process of a run makes at most before it is the turn of the next.
-const QUOTA: u32 = 1_000;
 
 // The names of what words stand for.
 const NAME: &str = "NAME";
@@ -32,6 +32,8 @@ const ROUNDS: &str = "N";
 
 const SOURCE: &str = "SOURCE";
 
+const WORKERS: &str = "WORKERS";
+
 const TAKE: &str = "K";
 
 const MAX_COMMITS: &str = "MAX_COMMITS";
@@ -40,9 +42,24 @@ const TRACE: &str = "TRACE";
 
 const STEPS: &str = "STEPS";
 
+/// What a run is asked for.
+#[derive(Drop)]
+pub struct RunWords<'a> {
+    /// The file of the description.
+    pub file: &'a str,
+    /// The words behind the `--source` options.
+    pub words: Vec<&'a str>,
+    /// The most commits.
+    pub commits: u64,
+    /// How many items are wanted of each sink.
+    pub take: Option<u64>,
+    /// The file for the trace.
+    pub trace: Option<&'a str>,
+}
+
 /// What a command line asks for.
 #[derive(Drop)]
-pub(crate) enum Request<'a> {
+pub enum Request<'a> {
     /// `alone NAME`, with the name of the process.
     Alone(&'a str),
     /// `check FILE`, with the name of the file.
@@ -55,14 +72,8 @@ pub(crate) enum Request<'a> {
         n: u32,
         words: Vec<&'a str>,
     },
-    /// `run FILE`, with the words behind its `--source` options, its limits, and the file for the
-    /// trace.
-    Run {
-        file: &'a str,
-        words: Vec<&'a str>,
-        limits: Limits,
-        trace: Option<&'a str>,
-    },
+    /// `run FILE`, with what the run is asked for, and how many workers it has, where it has any.
+    Run(RunWords<'a>, Option<u32>),
     /// `audit FILE TRACE`, with the most steps before an event.
     Audit {
         file: &'a str,
@@ -72,29 +83,16 @@ pub(crate) enum Request<'a> {
 }
 
 /// What the words ask for, or the text that answers them: help, the version or how they are used.
-pub(crate) fn read_words<'a>(alloc: Global, words: &'a [String]) -> Result<Request<'a>, Error> {
+pub fn read_words<'a>(alloc: Global, words: &'a [String]) -> Result<Request<'a>, Error> {
     let mut program = program(alloc)?;
     let matches = program.try_get_matches_from_mut(words)?;
     match matches.subcommand() {
         Some(("alone", alone)) => Ok(Request::Alone(alone.get_str(NAME).unwrap_or(""))),
         Some(("check", check)) => Ok(Request::Check(file_of(check))),
         Some(("print", print)) => Ok(Request::Print(file_of(print))),
-        Some(("rounds", rounds)) => Ok(Request::Rounds {
-            file: file_of(rounds),
-            n: rounds.get_one::<u32>(ROUNDS).unwrap_or(0),
-            words: Vec::from_slice(alloc, rounds.get_strs(SOURCE).unwrap_or(&[]))?,
-        }),
-        Some(("run", run)) => Ok(Request::Run {
-            file: file_of(run),
-            words: Vec::from_slice(alloc, run.get_strs(SOURCE).unwrap_or(&[]))?,
-            limits: limits_of(run),
-            trace: run.get_str(TRACE),
-        }),
-        Some(("audit", audit)) => Ok(Request::Audit {
-            file: file_of(audit),
-            trace: audit.get_str(TRACE).unwrap_or(""),
-            steps: audit.get_one::<u64>(STEPS).unwrap_or(USUAL_COUNT),
-        }),
+        Some(("rounds", rounds)) => Ok(rounds_request(alloc, rounds)?),
+        Some(("run", run)) => Ok(run_request(alloc, run)?),
+        Some(("audit", audit)) => Ok(audit_request(audit)),
         _ => Err(program.error(ErrorKind::MissingSubcommand, "a command is needed")?),
     }
 }
@@ -104,13 +102,39 @@ fn file_of<'a>(matches: &ArgMatches<'a>) -> &'a str {
     matches.get_str(FILE).unwrap_or("")
 }
 
-// The limits of a run.
-fn limits_of(run: &ArgMatches<'_>) -> Limits {
-    Limits {
+// What `kpn rounds` is asked for.
+fn rounds_request<'a>(alloc: Global, rounds: &ArgMatches<'a>) -> Result<Request<'a>, AllocError> {
+    Ok(Request::Rounds {
+        file: file_of(rounds),
+        n: rounds.get_one::<u32>(ROUNDS).unwrap_or(0),
+        words: sources_of(alloc, rounds)?,
+    })
+}
+
+// What `kpn run` is asked for.
+fn run_request<'a>(alloc: Global, run: &ArgMatches<'a>) -> Result<Request<'a>, AllocError> {
+    let words = RunWords {
+        file: file_of(run),
+        words: sources_of(alloc, run)?,
         commits: run.get_one::<u64>(MAX_COMMITS).unwrap_or(USUAL_COUNT),
         take: run.get_one::<u64>(TAKE),
-        quota: QUOTA,
+        trace: run.get_str(TRACE),
+    };
+    Ok(Request::Run(words, run.get_one::<u32>(WORKERS)))
+}
+
+// What `kpn audit` is asked for.
+fn audit_request<'a>(audit: &ArgMatches<'a>) -> Request<'a> {
+    Request::Audit {
+        file: file_of(audit),
+        trace: audit.get_str(TRACE).unwrap_or(""),
+        steps: audit.get_one::<u64>(STEPS).unwrap_or(USUAL_COUNT),
     }
+}
+
+// The words behind the `--source` options.
+fn sources_of<'a>(alloc: Global, matches: &ArgMatches<'a>) -> Result<Vec<&'a str>, AllocError> {
+    Vec::from_slice(alloc, matches.get_strs(SOURCE).unwrap_or(&[]))
 }
 
 // The commands and their words.
@@ -159,68 +183,103 @@ fn print_words<'a>(alloc: Global) -> Result<Command<'a>, AllocError> {
 
 // The words of `kpn rounds`.
 fn rounds_words<'a>(alloc: Global) -> Result<Command<'a>, AllocError> {
-    let n = Arg::new(alloc, ROUNDS)
-        .help("How many rounds, and how many turns each loop has: 0 to 1000")
-        .required(true)
-        .action(ArgAction::Set)
-        .value_parser(value_parser!(u32).range(0..=MAX_ROUNDS));
     Command::new(alloc, "rounds")
         .about("Computes the lists of all channels by Kahn's iteration")
         .after_help(ROUNDS_HELP)
         .arg(file_word(alloc))?
-        .arg(n)?
+        .arg(rounds_word(alloc))?
         .arg(source_word(alloc))
 }
 
 // The words of `kpn run`.
 fn run_words<'a>(alloc: Global) -> Result<Command<'a>, AllocError> {
-    let take = Arg::new(alloc, TAKE)
-        .long("take")
-        .value_name("K")
-        .help("Stops once K items were read of each sink, and writes K at most: 1 to 1000000000")
-        .action(ArgAction::Set)
-        .value_parser(value_parser!(u64).range(1..=MAX_COUNT));
-    let commits = Arg::new(alloc, MAX_COMMITS)
-        .long("max-commits")
-        .value_name("N")
-        .help("Stops after N commits: 1 to 1000000000, and 10000000 without it")
-        .action(ArgAction::Set)
-        .value_parser(value_parser!(u64).range(1..=MAX_COUNT));
-    let trace = Arg::new(alloc, TRACE)
-        .long("trace")
-        .value_name("OUT")
-        .help("Stores all events of the run in the file OUT, before the report is written")
-        .action(ArgAction::Set);
     Command::new(alloc, "run")
         .about("Runs a network, and writes what it has come to")
         .after_help(RUN_HELP)
         .arg(file_word(alloc))?
         .arg(source_word(alloc))?
-        .arg(take)?
-        .arg(commits)?
-        .arg(trace)
+        .arg(workers_word(alloc))?
+        .arg(take_word(alloc))?
+        .arg(commits_word(alloc))?
+        .arg(stored_trace_word(alloc))
 }
 
 // The words of `kpn audit`.
 fn audit_words<'a>(alloc: Global) -> Result<Command<'a>, AllocError> {
-    let trace = Arg::new(alloc, TRACE)
+    Command::new(alloc, "audit")
+        .about("Checks a trace against the network of a description")
+        .after_help(AUDIT_HELP)
+        .arg(file_word(alloc))?
+        .arg(trace_word(alloc))?
+        .arg(steps_word(alloc))
+}
+
+// The word for the number of rounds.
+fn rounds_word<'a>(alloc: Global) -> Arg<'a> {
+    Arg::new(alloc, ROUNDS)
+        .help("How many rounds, and how many turns each loop has: 0 to 1000")
+        .required(true)
+        .action(ArgAction::Set)
+        .value_parser(value_parser!(u32).range(0..=MAX_ROUNDS))
+}
+
+// The `--workers` option.
+fn workers_word<'a>(alloc: Global) -> Arg<'a> {
+    Arg::new(alloc, WORKERS)
+        .long("workers")
+        .value_name("N")
+        .help("Runs the processes on N threads side by side: 1 to 16; on one thread without it")
+        .action(ArgAction::Set)
+        .value_parser(value_parser!(u32).range(1..=MOST_WORKERS))
+}
+
+// The `--take` option.
+fn take_word<'a>(alloc: Global) -> Arg<'a> {
+    Arg::new(alloc, TAKE)
+        .long("take")
+        .value_name("K")
+        .help("Stops once K items were read of each sink, and writes K at most: 1 to 1000000000")
+        .action(ArgAction::Set)
+        .value_parser(value_parser!(u64).range(1..=MAX_COUNT))
+}
+
+// The `--max-commits` option.
+fn commits_word<'a>(alloc: Global) -> Arg<'a> {
+    Arg::new(alloc, MAX_COMMITS)
+        .long("max-commits")
+        .value_name("N")
+        .help("Stops after N commits: 1 to 1000000000, and 10000000 without it")
+        .action(ArgAction::Set)
+        .value_parser(value_parser!(u64).range(1..=MAX_COUNT))
+}
+
+// The `--trace` option.
+fn stored_trace_word<'a>(alloc: Global) -> Arg<'a> {
+    Arg::new(alloc, TRACE)
+        .long("trace")
+        .value_name("OUT")
+        .help("Stores all events of the run in the file OUT, before the report is written")
+        .action(ArgAction::Set)
+}
+
+// The word for the file of a trace.
+fn trace_word<'a>(alloc: Global) -> Arg<'a> {
+    Arg::new(alloc, TRACE)
         .help("The file of the trace")
         .required(true)
-        .action(ArgAction::Set);
-    let steps = Arg::new(alloc, STEPS)
+        .action(ArgAction::Set)
+}
+
+// The `--steps` option.
+fn steps_word<'a>(alloc: Global) -> Arg<'a> {
+    Arg::new(alloc, STEPS)
         .long("steps")
         .value_name("N")
         .help(
             "The most steps of a process before an event: 1 to 1000000000, and 10000000 without it",
         )
         .action(ArgAction::Set)
-        .value_parser(value_parser!(u64).range(1..=MAX_COUNT));
-    Command::new(alloc, "audit")
-        .about("Checks a trace against the network of a description")
-        .after_help(AUDIT_HELP)
-        .arg(file_word(alloc))?
-        .arg(trace)?
-        .arg(steps)
+        .value_parser(value_parser!(u64).range(1..=MAX_COUNT))
 }
 
 // The `--source` options of a command.

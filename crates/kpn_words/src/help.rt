@@ -45,10 +45,14 @@ cycle, its smallest full channel grows by 1. Writes the items that were taken fr
 processes have faulted, which wait, and what the run has come to: `ended`, `enough` under --take,
 `clogged` or `jammed` where some process waits on a full channel, `stopped` at the most commits.
 
+With --workers the processes are stepped side by side. What is then written of `ended` and `enough`
+is the same for any number of them.
+
 The file of a source has an item on each line: an optional `-` and 1 to 19 digits.
 
 Statuses: 0 for ended and enough, 3 for clogged, 4 for jammed, 5 for stopped, 1 for a refused file or
-name or a device that fails, 2 for words that are not understood, 6 for want of memory.";
+name or a device that fails, 2 for words that are not understood, 6 for want of memory, 7 for threads
+that can't be started.";
 
 pub(crate) const AUDIT_HELP: &str = "\
 Replays a trace that `kpn run --trace` has stored. Writes `legal`, whether the journals are exact,

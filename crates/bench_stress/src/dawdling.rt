@@ -1,0 +1,46 @@
+//! A gate that lets its workers dawdle at random.
+use kpn_parallel::{Gate, Go};
+use std::sync::atomic::{AtomicU64, Ordering};
+use std::{hint, thread};
+
+/// Random numbers that all workers draw from.
+#[derive(Drop)]
+pub struct Dawdling {
+    drawn: AtomicU64,
+}
+
+impl Dawdling {
+    pub fn new(seed: u64) -> Dawdling {
+        Dawdling {
+            drawn: AtomicU64::new(seed),
+        }
+    }
+
+    /// The next number of the sequence splitmix64.
+    fn draw(&self) -> u64 {
+        let step = 0x9e37_79b9_7f4a_7c15u64;
+        let number = self
+            .drawn
+            .fetch_add(step, Ordering::SeqCst)
+            .wrapping_add(step);
+        let number = (number ^ (number >> 30)).wrapping_mul(0xbf58_476d_1ce4_e5b9);
+        let number = (number ^ (number >> 27)).wrapping_mul(0x94d0_49bb_1331_11eb);
+        number ^ (number >> 31)
+    }
+}
+
+/// One call in eight spins for up to 4,096 turns, and one in 64 lets another thread run.
+impl Gate for Dawdling {
+    fn between(&self, _worker: usize, _process: usize) -> Go {
+        let number = self.draw();
+        if number % 8 == 0 {
+            for _ in 0..(number >> 32) % 4_096 {
+                hint::spin_loop();
+            }
+        }
+        if number % 64 == 1 {
+            thread::yield_now();
+        }
+        Go::On
+    }
+}

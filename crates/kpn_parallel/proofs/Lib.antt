@@ -1,0 +1,4 @@
+mod Feeding
+mod Release
+mod Emptying
+mod Concluding

@@ -1,0 +1,27 @@
+use Rattle.std.proofs.Common.{◌≡◌, length, is_some, sym, ◌∙◌, subst}
+use Rattle.kpn_net.specs.Tables.{Tables}
+use Rattle.kpn_report.specs.Outcomes.{verdict_of}
+use Rattle.kpn_parallel.specs.Fed.{AreFedBelow}
+use Rattle.kpn_parallel.proofs.Concluding.{journals_shown, IsReport-concluded}
+use Rattle.kpn_parallel.proofs.ending.conclude.Goals as goal
+
+pub were_fed-are_fed-requires-clause-journals : goal.were_fed-are_fed-requires-clause-journals
+were_fed-are_fed-requires-clause-journals c =
+    journals_shown c.network-network.result.now c.empty_sinks-emptied.new.book (sym c.network-network.ensures)
+    c.known.ensures c.in-Some.outcome c.in_ok-report.report c.in_ok-report.ensures
+
+pub returns : goal.returns
+returns c =
+    let t = c.args.book.tables in
+    let same : c.empty_sinks-emptied.new.book.tables ≡ t =
+    c.empty_sinks-emptied.ensures.tables ∙ c.put_back_held.ensures.tables in
+    let network : c.network-network.result.now ≡ t = c.network-network.ensures ∙ same in
+    let report = c.in_ok-report.report in
+    IsReport-concluded t c.empty_sinks-emptied.new.book same c.known.ensures c.in-Some.outcome report
+    c.in_ok-report.ensures c.args.lists.now c.args.limits.now
+    (c.empty_sinks-emptied.ensures.held ∙ c.put_back_held.ensures.none) c.in-Some.ensures
+    (subst (λ (u : Tables). AreFedBelow u c.args.lists.now report.view
+    (is_some (verdict_of c.in-Some.outcome)) (length u.channels)) network
+    (subst (λ b. AreFedBelow c.network-network.result.now c.args.lists.now report.view b
+    (length c.network-network.result.now.channels)) c.is_verdict.ensures
+    (c.were_fed-are_fed.ensures c.if-not-are_fed.false)))

@@ -1,0 +1,86 @@
+//! A run by several workers.
+ghost use Rattle.std.specs.Prelude.{◌≡◌, ◌<◌, ◌≤◌, length, IfOk};
+ghost use Rattle.kpn_net.specs.Iteration.{sources};
+ghost use Rattle.kpn_report.specs.Reports.{IsReport};
+
+use crate::ending::conclude;
+use crate::fault::RunFault;
+use crate::serving::Outside;
+use crate::threads::{have_abandoned, lack_memory, work_side_by_side};
+use kpn_lang::Sequence;
+use kpn_limits::MAX_WORKERS;
+use kpn_net::Network;
+use kpn_pool::{Gate, Job, Opened, Shared, gather};
+use kpn_report::{Limits, Report};
+use std::alloc::Global;
+use std::marker::Brand;
+use std::sync::Wait;
+use std::sync::ledger::Blank;
+use std::thread::Threads;
+use std::time::Clock;
+
+/// Runs a network on these lists, one for each source in order of channel number, until there is an outcome under the
+/// limits. The processes are stepped by 1 to `MAX_WORKERS` workers, each on a thread of its own.
+///
+/// The calling thread feeds each source its whole list, closes it, and takes from the sinks what is put on them, while
+/// the workers run. The gate is asked before each commit. What is promised of the report is what
+/// `kpn_report::run_here` promises of its own: which capacities and which prefixes of the journals it shows depends on
+/// who was first. A quota of 0 counts as 1.
+pub fn run<R: Threads + Wait + Clock + Sync, G: Gate>(
+    rt: &R,
+    alloc: Global,
+    network: &Network,
+    lists: &[Sequence<i64>],
+    workers: usize,
+    gate: &G,
+    limits: &Limits,
+) -> Result<Report, RunFault>
+    requires lists { length lists.now ≡ sources network.now }
+    requires workers { (0 < workers) × (workers ≤ MAX_WORKERS) }
+    ensures { IfOk result (λ report. IsReport network.now lists.now limits.now report) }
+{
+    let blank = Blank::new(workers as u64);
+    run_job::<Brand, R, G>(rt, alloc, blank, network, lists, workers, gate, limits)
+}
+
+/// Runs the network, whose commits are counted in the ledger that the blank makes.
+fn run_job<J: Job + Send + Sync, R: Threads + Wait + Clock + Sync, G: Gate>(
+    rt: &R,
+    alloc: Global,
+    blank: Blank,
+    network: &Network,
+    lists: &[Sequence<i64>],
+    workers: usize,
+    gate: &G,
+    limits: &Limits,
+) -> Result<Report, RunFault>
+    requires ledger { (blank.name ≡ J.name) × (blank.parts ≡ J.parts) }
+    requires network { network.now ≡ J.network }
+    requires lists { length lists.now ≡ sources network.now }
+    requires workers { (workers ≡ J.parts) × (0 < workers) × (workers ≤ MAX_WORKERS) }
+    ensures { IfOk result (λ report. IsReport network.now lists.now limits.now report) }
+{
+    let Opened {
+        shared,
+        workers: seats,
+        sources,
+        sinks,
+    } = Shared::<J>::new(alloc, blank, network, workers, limits.commits)?;
+    let outside = Outside {
+        sources,
+        sinks,
+        lists,
+        wanted: limits.take,
+    };
+    let quota = limits.quota.max(1);
+    let ended = work_side_by_side(rt, alloc, &shared, seats, gate, quota, outside)?;
+    if !ended.had_threads {
+        return Err(RunFault::Threads);
+    }
+    if lack_memory(&ended) || ended.seats.len() != workers {
+        return Err(RunFault::NoMemory);
+    }
+    let abandoned = have_abandoned(ended.seats.as_slice());
+    let book = gather(shared, ended.seats);
+    conclude(alloc, book, lists, limits, abandoned, ended.served)
+}

@@ -1,0 +1,109 @@
+//! The end of a run, once its workers are gone: what they held is put back, the sinks are emptied, and the report is
+//! written.
+ghost use Rattle.std.specs.Prelude.{◌≡◌, ◌<◌, length, IfOk, IsTrue};
+ghost use Rattle.kpn_net.specs.Iteration.{sources};
+ghost use Rattle.kpn_trace.specs.Channels.{unread_on};
+ghost use Rattle.kpn_book.specs.Book.{held_count};
+ghost use Rattle.kpn_report.specs.Reports.{IsReport};
+ghost use Rattle.kpn_parallel.specs.Ending.{KeepsHeld, Releases};
+
+use crate::fault::RunFault;
+use crate::fed::{is_verdict, were_fed};
+use kpn_book::Book;
+use kpn_lang::Sequence;
+use kpn_net::End;
+use kpn_pool::Refused;
+use kpn_report::{Limits, Report, outcome_of, report_of};
+use std::alloc::Global;
+
+/// The report of a run whose workers have ended, by the rule of a run on one thread. `abandoned` says whether the gate
+/// ended all of them, and `served` what became of the calls of the outside.
+pub(crate) fn conclude(
+    alloc: Global,
+    book: Book<'_>,
+    lists: &[Sequence<i64>],
+    limits: &Limits,
+    abandoned: bool,
+    served: Result<(), Refused>,
+) -> Result<Report, RunFault>
+    requires { length lists.now ≡ sources book.tables }
+    ensures { IfOk result (λ report. IsReport book.entry.tables lists.now limits.now report) }
+{
+    let mut book = book;
+    put_back_held(&mut book);
+    let emptied = empty_sinks(&mut book);
+    if matches!(emptied, Err(Refused::NoMemory)) {
+        return Err(RunFault::NoMemory);
+    }
+    let Some(outcome) = outcome_of(&book, limits) else {
+        return Err(without_outcome(abandoned));
+    };
+    book.known();
+    let network = book.network();
+    let report = report_of(alloc, book, outcome)?;
+    let are_fed = were_fed(network, lists, &report.view, is_verdict(outcome));
+    if !are_fed || served.is_err() || emptied.is_err() {
+        return Err(RunFault::Foreign);
+    }
+    Ok(report)
+}
+
+/// Why a run has no outcome: the gate ended all its workers, or the outside was refused something.
+fn without_outcome(abandoned: bool) -> RunFault {
+    if abandoned {
+        RunFault::Abandoned
+    } else {
+        RunFault::Foreign
+    }
+}
+
+/// Puts back each process that is held.
+fn put_back_held(book: &mut Book<'_>)
+    ensures tables { book.new.tables ≡ book.old.tables }
+    ensures none { held_count book.new ≡ 0 }
+{
+    'processes: for p in 0..book.network().instances() {
+        release(book, p);
+    }
+    book.known();
+}
+
+/// Puts back process `p`, if it is held.
+#[tactic(auto, using(crate::proofs::Release::released, crate::proofs::Release::not_held))]
+fn release(book: &mut Book<'_>, p: usize)
+    ensures { Releases p book.old book.new }
+{
+    let _ = book.put_back(p);
+}
+
+/// Takes all that is unread from the sinks.
+fn empty_sinks(book: &mut Book<'_>) -> Result<(), Refused>
+    ensures { KeepsHeld book.old book.new }
+{
+    'channels: for c in 0..book.network().channels() {
+        if book.network().reader_of(c) == End::Sink {
+            empty_sink(book, c)?;
+        }
+    }
+    Ok(())
+}
+
+/// Takes all that is unread from a sink.
+fn empty_sink(book: &mut Book<'_>, sink: usize) -> Result<(), Refused>
+    ensures { KeepsHeld book.old book.new }
+{
+    'items: while take(book, sink)? {}
+    Ok(())
+}
+
+/// Takes an item from a sink, and tells whether there was one.
+fn take(book: &mut Book<'_>, sink: usize) -> Result<bool, Refused>
+    ensures kept { KeepsHeld book.old book.new }
+    ensures less { IfOk result (λ more. IsTrue more
+        → length (unread_on book.new.history sink) < length (unread_on book.old.history sink)) }
+{
+    book.known();
+    let item = book.take(sink)?;
+    book.known();
+    Ok(item.is_some())
+}

@@ -1,0 +1,7 @@
+//! The words of a command line, read by `clap`: which command they ask for, and what help says.
+#![tactic(auto)]
+
+mod help;
+mod words;
+
+pub use words::{Request, RunWords, read_words};
