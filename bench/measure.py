@@ -34,6 +34,15 @@ def best(runs):
     return min(runs, key=lambda run: run.seconds)
 
 
+def fastest(commands, runs):
+    """The run of each command line that took the least time on the clock, by name. They take turns."""
+    found = {name: [] for name in commands}
+    for _ in range(runs):
+        for name, words in commands.items():
+            found[name].append(Run(words))
+    return {name: min(tried, key=lambda run: run.elapsed) for name, tried in found.items()}
+
+
 def kpn():
     """The program that is measured, built where it is not current."""
     subprocess.run([TOP / 'kpn', '--version'], check=True, stdout=subprocess.DEVNULL)

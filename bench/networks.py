@@ -30,6 +30,13 @@ def pipeline(copies, capacity, items):
     return network(PROCESSES, channels, ends + row)
 
 
+def fed_pipeline(copies, capacity):
+    """The items of the source `a` through a row of copies to a sink."""
+    channels = ['source a', *(f'channel c{k} cap {capacity}' for k in range(1, copies)), f'sink z cap {capacity}']
+    names = ['a', *(f'c{k}' for k in range(1, copies)), 'z']
+    return network(PROCESSES, channels, [f'copy{k} = copy({names[k]}; {names[k + 1]})' for k in range(copies)])
+
+
 def split_and_join(capacity, items):
     """Numbers dealt out to two copies and merged again, and their sum."""
     processes = PROCESSES + '''

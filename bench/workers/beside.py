@@ -23,15 +23,6 @@ RUNS = 5
 WORKERS = (1, 4)
 
 
-def fastest(commands):
-    """The run of each command line that took the least time on the clock, by name."""
-    found = {name: [] for name in commands}
-    for _ in range(RUNS):
-        for name, words in commands.items():
-            found[name].append(measure.Run(words))
-    return {name: min(runs, key=lambda run: run.elapsed) for name, runs in found.items()}
-
-
 def by_workers(folder, kpn, text, wanted=0):
     """The command lines that run this network, by the number of workers."""
     description = pathlib.Path(folder) / 'network.kpn'
@@ -45,7 +36,7 @@ def fine(folder, kpn, title, text, wanted):
     plain = measure.plain(HERE.parent / 'run/plain.rs', folder)
     spelled = pathlib.Path(folder) / 'network.words'
     spelled.write_text(networks.as_words(text))
-    best = fastest(by_workers(folder, kpn, text, wanted) | {'plain': [plain, spelled, str(wanted)]})
+    best = measure.fastest(by_workers(folder, kpn, text, wanted) | {'plain': [plain, spelled, str(wanted)]}, RUNS)
     if any(run.wrote != best['plain'].wrote for run in best.values()):
         sys.exit(f'{title}: the outputs differ')
     parts = (f'{best["plain"].elapsed / best[count].elapsed:5.2f} with {count}' for count in WORKERS)
@@ -56,7 +47,7 @@ def coarse(folder, kpn, turns):
     """How much faster four workers are than one, beside four compiled loops that share the work of one."""
     loops = measure.plain(HERE / 'loops.rs', folder)
     compiled = {f'{count} loops': [loops, str(count), str(64 * turns // count)] for count in WORKERS}
-    best = fastest(by_workers(folder, kpn, networks.computing(16, turns)) | compiled)
+    best = measure.fastest(by_workers(folder, kpn, networks.computing(16, turns)) | compiled, RUNS)
     gained = best[1].elapsed / best[4].elapsed
     reached = best['1 loops'].elapsed / best['4 loops'].elapsed
     print(f'16 computing processes: 4 workers {gained:.2f} times as fast as 1, 4 compiled loops {reached:.2f} times, '
