@@ -173,12 +173,15 @@ def heights(crates):
 
 def start_ready(waiting, running, most, height):
     """Starts what may run now, longest chain first. A crate can use several processors, but not all the time, so half
-    as many jobs more than processors are handed out."""
+    as many jobs more than processors are handed out, and more where a crate would have to go on with fewer than two, or
+    the one with the longest chain of all with fewer than there are processors."""
     ready = [it for it in waiting if all(below.is_done for below in it.direct)]
     ready = sorted(ready, key=height.get, reverse=True)[: most - len(running)]
     free = most * 3 // 2 - sum(it.jobs for it in running)
+    longest = max(map(height.get, waiting + running), default=0)
     for place, crate in enumerate(ready):
-        jobs = max(1, min(4, -(-free // (len(ready) - place))))
+        least = most if height[crate] == longest else min(2, most)
+        jobs = min(4, max(least, -(-free // (len(ready) - place))))
         free -= jobs
         start(crate, jobs)
         waiting.remove(crate)
