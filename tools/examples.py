@@ -5,14 +5,20 @@ histories.py). What stands above that heading stays as it is. Two parts have lin
 heading `# The examples run by workers` each run above it once more by 1, 2 and 16 workers, with an audit of its trace;
 below `# Changed histories` those of history_tables.py.
 
+Before that it looks whether the comments at the head of each of the examples, and README.md, say what really comes of
+the commands that they name, and whether each of these commands has a row. It is run by hand, after each change of an
+example.
+
 What a run by workers writes is computed by a run on one thread: it is the same for any number of workers. Of the audit
 of its trace only those lines are compared that are the same.
 
 It knows the commands `check`, `print`, `rounds`, `run` and `audit`, and of the refusals those that the lines meet.
 """
 import contextlib
+import itertools
 import pathlib
 import shutil
+import sys
 import tempfile
 
 import histories
@@ -21,7 +27,8 @@ import rounds
 
 EXAMPLES, CHANGED = '# The examples\n', '# Changed histories\n'
 RUN_BY_WORKERS, WORKERS = '# The examples run by workers\n', (1, 2, 16)
-FOLDER = pathlib.Path(__file__).resolve().parent.parent / 'crates/check_examples'
+TOP = pathlib.Path(__file__).resolve().parent.parent
+FOLDER = TOP / 'crates/check_examples'
 
 
 class Refused(Exception):
@@ -158,11 +165,11 @@ def written_for(line):
     return f'$ {line}\n' + ''.join(lines[:int(count)] if count else lines)
 
 
-def without_trace(words):
-    """The words of a run, but for the trace."""
-    if '--trace' not in words:
+def without(option, words):
+    """The words of a run, but for an option and its value."""
+    if option not in words:
         return words
-    place = words.index('--trace')
+    place = words.index(option)
     return words[:place] + words[place + 2:]
 
 
@@ -176,7 +183,7 @@ def lines_by_workers(lines):
     """Each run among the lines once more, by workers."""
     runs = []
     for line in lines.splitlines():
-        words = without_trace(line.split())
+        words = without('--trace', line.split())
         if words[:2] == ['kpn', 'run'] and words not in runs:
             runs.append(words)
     for words in runs:
@@ -185,6 +192,67 @@ def lines_by_workers(lines):
             yield f'{" ".join(words)} --workers {count} --trace by_workers.trace\n'
             if status != 1:
                 yield f'first {audited_lines(report)} kpn audit {words[2]} by_workers.trace\n'
+
+
+# ---- what comments and README say
+
+COMMAND = './kpn '
+# The sentence between a command and a part of what it writes, in place of all.
+A_PART = 'writes a line for each channel, and '
+
+
+def claims_of_example(text):
+    """Each command that the comments at the head of an example name, with the sentence behind it and the lines that it
+    is said to write: command and lines are indented by three spaces, and all else is not."""
+    comments = itertools.takewhile(lambda line: line.startswith('#'), text.splitlines())
+    parts = [list(part) for _, part in itertools.groupby(comments, lambda line: line.startswith('#   '))]
+    for command, sentence, lines in zip(parts, parts[1:], parts[2:]):
+        if command[0].startswith(f'#   {COMMAND}'):
+            said = ' '.join(line.removeprefix('#').strip() for line in sentence)
+            yield command[0].removeprefix(f'#   {COMMAND}'), said.strip(), [line[4:] for line in lines]
+
+
+def claims_of_readme(text):
+    """Each command behind a `$` in README.md, with the lines below it up to the next command or an empty line."""
+    lines = iter(text.splitlines())
+    block = []
+    for line in itertools.chain(lines, ['']):
+        if block and (line == '' or line.startswith('    $ ')):
+            yield block[0].removeprefix(f'    $ {COMMAND}'), 'writes', [written[4:] for written in block[1:]]
+            block = []
+        if block or line.startswith(f'    $ {COMMAND}'):
+            block.append(line)
+
+
+def is_part(lines, written):
+    """Whether these lines stand among those that were written, in this order."""
+    left = iter(written)
+    return all(line in left for line in lines)
+
+
+def what_is_wrong(command, said, lines, rows):
+    """What is wrong with what is said of a command, if anything. It is run in the current folder."""
+    words = command.replace('examples/', '').split()
+    if without('--workers', without('--trace', words)) not in [without('--trace', row) for row in rows]:
+        return 'no row has this command'
+    text, status = answer(words)
+    written = text.splitlines()
+    if (f'with status {status}' in said) != (status != 0):
+        return f'its status is {status}'
+    if not (is_part(lines, written) if A_PART in said else lines == written):
+        return 'it writes\n' + text
+    return None
+
+
+def wrong_claims(rows):
+    """What the examples and README.md say of commands, where something else is true."""
+    claims = [(file.name, *claim) for file in sorted(pathlib.Path().glob('*.kpn'))
+              for claim in claims_of_example(file.read_text())]
+    claims += [('README.md', *claim) for claim in claims_of_readme((TOP / 'README.md').read_text())]
+    for name, command, said, lines in claims:
+        wrong = what_is_wrong(command, said, lines, rows)
+        if wrong:
+            yield f'{name}: {COMMAND}{command}: {wrong}'
 
 
 def main():
@@ -198,6 +266,9 @@ def main():
     with tempfile.TemporaryDirectory() as name:
         shutil.copytree(FOLDER / 'data', name, dirs_exist_ok=True)
         with contextlib.chdir(name):
+            wrong = list(wrong_claims([line.split()[1:] for line in given.read_text().splitlines()]))
+            if wrong:
+                sys.exit('\n'.join(wrong))
             lines += RUN_BY_WORKERS + ''.join(lines_by_workers(lines)) + changed
             written = ''.join(map(written_for, lines.removesuffix('\n').split('\n')))
     given.write_text(by_hand + mark + lines)
