@@ -1,6 +1,6 @@
 """Lines for crates/check_examples that audit changed histories: worked histories, each with 30 changes of one event,
 some changes that have a name, cuts, and texts that are no histories. Each is made as a file `changed` and audited.
-tools/examples.py puts them into the stored run and computes what must come.
+tools/examples.py puts them into the compared run and computes what must come.
 """
 import pathlib
 
