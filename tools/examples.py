@@ -246,7 +246,8 @@ def what_is_wrong(command, said, lines, rows):
 
 def wrong_claims(rows):
     """What the examples and README.md say of commands, where something else is true."""
-    claims = [(file.name, *claim) for file in sorted(pathlib.Path().glob('*.kpn'))
+    files = sorted([*pathlib.Path().glob('*.kpn'), *pathlib.Path('worked').glob('*.kpn')])
+    claims = [(file.name, *claim) for file in files
               for claim in claims_of_example(file.read_text())]
     claims += [('README.md', *claim) for claim in claims_of_readme((TOP / 'README.md').read_text())]
     for name, command, said, lines in claims:

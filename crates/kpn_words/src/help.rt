@@ -40,10 +40,19 @@ want of memory.";
 
 pub(crate) const RUN_HELP: &str = "\
 Feeds each source its items and closes it, and then steps the processes in turn. A process waits
-where it reads an empty channel or writes a full one; where processes wait for one another in a
-cycle, its smallest full channel grows by 1. Writes the items that were taken from each sink, which
-processes have faulted, which wait, and what the run has come to: `ended`, `enough` under --take,
-`clogged` or `jammed` where some process waits on a full channel, `stopped` at the most commits.
+where it reads an empty channel or writes a full one. Where processes wait for one another in a cycle
+that has full channels, the one of least capacity grows by 1, unless it is at the limit. Writes the
+items that were taken from each sink, which processes have faulted, which wait, and what the run has
+come to:
+
+  ended    each process has ended, or waits for an item that never comes
+  enough   each sink has given the K items of --take
+  clogged  a process waits on a full channel, and no cycle of waiting processes has a full channel
+  jammed   a cycle of waiting processes has full channels, and they are at the limit
+  stopped  as many commits were made as --max-commits allows
+
+The items of the sinks are written under `ended` and `enough` alone. What any run has put on its
+channels is in its trace: see --trace and `kpn audit`.
 
 With --workers the processes are stepped side by side. What is then written of `ended` and `enough`
 is the same for any number of them.
@@ -51,8 +60,8 @@ is the same for any number of them.
 The file of a source has an item on each line: an optional `-` and 1 to 19 digits.
 
 Statuses: 0 for ended and enough, 3 for clogged, 4 for jammed, 5 for stopped, 1 for a refused file or
-name or a device that fails, 2 for words that are not understood, 6 for want of memory, 7 for threads
-that can't be started.";
+name or a device that fails, 2 for words that are not understood, 6 for want of memory, 7 for a run
+by workers that came to nothing (the faults 47, 48 and 49).";
 
 pub(crate) const AUDIT_HELP: &str = "\
 Replays a trace that `kpn run --trace` has stored. Writes `legal`, whether the journals are exact,
