@@ -1,4 +1,4 @@
--- What an operand of the table is.
+-- Scaffolding: what an operand of the table is.
 use Rattle.kpn_lang.specs.Syntax.{Term, Num, Var, Neg, Not, Bin}
 
 -- a number, and no name

@@ -1,5 +1,5 @@
--- The canonical text of a description, as bytes: two spaces for each level, one statement or item on each line, a
--- line feed after each line, numbers without leading zeros. Each text stands in front of the text that follows it.
+-- The canonical text of a description, as bytes: two spaces for each level, one statement or item on each line, a line
+-- feed after each line, numbers without leading zeros. Each text stands in front of the text that follows it.
 use Rattle.std.specs.Prelude.{ℕ, zero, suc, List, [], ◌∷◌, ◌++◌, codes, Option, Some, None}
 use Rattle.std.specs.Fmt.{decimal}
 use Rattle.kpn_tokens.specs.declared.tokens.Keyword.{Keyword}

@@ -1,4 +1,4 @@
--- What a call that prints has done.
+-- Scaffolding: what a call that prints has done.
 use Rattle.std.specs.Prelude.{◌≡◌, ℕ, List, ◌++◌}
 
 -- It put a text behind the bytes before it, whatever follows.

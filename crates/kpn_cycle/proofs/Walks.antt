@@ -12,8 +12,7 @@ use Rattle.kpn_net.specs.Finding.{Finds}
 use Rattle.kpn_cycle.specs.WalkSoFar.{IsSmallestSoFar, found_on}
 use Rattle.kpn_net.proofs.Cycles.{Contains-none, Contains-cases, cycle_from, cycle_short, waits_for_one}
 
--- the way of a cycle, where a walk from p is at a process: the cycle is what was walked, this process, and a rest
--- from
+-- the way of a cycle, where a walk from p is at a process: the cycle is what was walked, this process, and a rest from
 -- which it comes to p
 pub record IsAhead (t : Tables) (waits : List Wait) (p : ℕ) (others before : List ℕ) (at : ℕ) : Type 0 where
   pub rest : List ℕ

@@ -251,8 +251,8 @@ parts_takes s ls p rest h =
 
 -- ---- again
 
--- what stands behind a head
-abbrev close : List Token → List Token
+-- what stands behind the parts of a head, and of a call
+abbrev pub close : List Token → List Token
 close more = token.Mark mark_.RightParen ∷ more
 
 pars_end : (pars : List Name) (more : List Token) → begins is_comma (spell_later_part keyword_.Par pars (close more)) ≡

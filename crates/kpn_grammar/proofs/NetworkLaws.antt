@@ -15,7 +15,7 @@ use Rattle.kpn_grammar.specs.TokenTests.{is_keyword, is_name}
 use Rattle.kpn_grammar.specs.Reading.{Read, first_is, mark, keyword, name, number, many, further, optional_names, goes_on, capacity, channel_behind, source_behind, sink_behind, literal_behind, literal, values, optional_values, call, instance_behind, item_behind, item, items, limit, network}
 use Rattle.kpn_grammar.proofs.Steps.{bind_ok, by_test, moved, no_value, front, next_takes, next_again, mark_takes, mark_again, keyword_takes, keyword_again, name_takes, name_again, number_takes, number_again}
 use Rattle.kpn_grammar.proofs.ManyLaws.{TakesOne, Reads, TakesSome, Begins, begins, first_begins, is_comma, one_shortens, many_takes, many_again, further_shortens, separated_takes, separated_again}
-use Rattle.kpn_grammar.proofs.HeadLaws.{semicolon, names_no_less, optional_names_takes, optional_names_again}
+use Rattle.kpn_grammar.proofs.HeadLaws.{close, semicolon, names_no_less, optional_names_takes, optional_names_again}
 
 -- ---- values
 
@@ -168,10 +168,6 @@ call_takes s x ls i rest h =
           (mark_takes s mark_.Semicolon n.0.1 b.0 b.1) (optional_names_takes s b.0 o.0.0 o.0.1 o.1)
           (optional_values_takes s o.0.1 v.0.0 v.0.1 v.1) (mark_takes s mark_.RightParen v.0.1 c.0 c.1),
     )
-
--- what stands behind a call
-abbrev close : List Token → List Token
-close more = token.Mark mark_.RightParen ∷ more
 
 values_no_name : (vs : List Literal) (more : List Token) → begins is_name (spell_values vs (close more)) ≡ false
 values_no_name [] more = refl

@@ -52,8 +52,8 @@ abbrev pub literal_value : Literal → ℤ
 literal_value (plain n) = pos n
 literal_value (negated n) = neg_ℤ (pos n)
 
--- an instance: its name and that of its program, the channels at its in ports and at its out ports, and the values
--- of its parameters
+-- an instance: its name and that of its program, the channels at its in ports and at its out ports, and the values of
+-- its parameters
 pub record Instance : Type 0 where
   pub name : Name
   pub program : Name

@@ -5,6 +5,7 @@ use Rattle.std.specs.Str.Parse.{AllDigits, digits_value}
 use Rattle.std.proofs.Math.Nat.{pow-le-pow_right}
 use Rattle.std.proofs.lemmas.Bool.Decides.{nat_tests}
 use Rattle.std.proofs.lemmas.Int.Digits.{digits_more, digits_value_more, digits_value-lt}
+use Rattle.kpn_limits.specs.declared.TheConstants.{MAX_DIGITS}
 
 -- a byte that passes the test is a digit
 pub digit-passes : (b : ℕ) → is_ascii_digit b ≡ true → (digit_value b < 10) × (digit_value b ≡ b - 48)
@@ -21,7 +22,7 @@ AllDigits-at (d ∷ ds) zero all inside = all.0
 AllDigits-at (d ∷ ds) (suc i) all inside = AllDigits-at ds i all.1 (omega arith)
 
 -- the number that at most 18 digits write
-pub digits_value-small : (ds : List ℕ) (i : ℕ) → i < length ds → length ds ≤ 19 → AllDigits 10 (take i ds)
+pub digits_value-small : (ds : List ℕ) (i : ℕ) → i < length ds → length ds ≤ MAX_DIGITS → AllDigits 10 (take i ds)
     → digits_value 10 (take i ds) < 10 ^ 18
 digits_value-small ds i inside short all =
     let few : length (take i ds) ≤ 18 = omega (arith, length-take i ds) in

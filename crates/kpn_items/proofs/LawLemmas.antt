@@ -11,6 +11,7 @@ use Rattle.std.proofs.lemmas.Bool.Decides.{nat_tests}
 use Rattle.std.proofs.lemmas.Fmt.{decimal_is_IsNumeral, length-decimal-le}
 use Rattle.std.proofs.lemmas.Int.{ints}
 use Rattle.std.proofs.lemmas.List.Elements.{All-nil, All-cons}
+use Rattle.kpn_limits.specs.declared.TheConstants.{MAX_DIGITS}
 use Rattle.kpn_items.specs.ItemLine.{SpellsItem, without_minus}
 use Rattle.kpn_items.specs.ItemFile.{item_text}
 use Rattle.kpn_items.specs.Laws.{ReadsBack, IsUnambiguous, ExcludesSpelling}
@@ -91,19 +92,19 @@ no_return (b ∷ bs) high =
     cond-false _ _ _ (ne_eqb (get_or (b ∷ bs) (length (b ∷ bs) - 1) 0) 13 (λ e. omega arith))
 
 -- digits alone spell their number
-spells_digits : (ds : List ℕ) (n : ℕ) → IsNumeral 10 ds → length ds ≤ 19 → digits_value 10 ds ≡ n
+spells_digits : (ds : List ℕ) (n : ℕ) → IsNumeral 10 ds → length ds ≤ MAX_DIGITS → digits_value 10 ds ≡ n
     → FitsSigned w64 (pos n) → SpellsItem ds (pos n)
 spells_digits ds n numeral short value fits =
     let plain = digits_no_minus ds numeral.1 in
     let bare : without_minus ds ≡ ds = cond-false _ _ _ plain in
     record {
-      numeral = subst (λ l. IsNumeral 10 l × (length l ≤ 19)) (sym bare) (numeral, short);
+      numeral = subst (λ l. IsNumeral 10 l × (length l ≤ MAX_DIGITS)) (sym bare) (numeral, short);
       value = ap pos (sym value ∙ ap (digits_value 10) (sym bare)) ∙ sym (cond-false _ _ _ plain);
       in_range = fits;
     }
 
 -- and behind a minus its negative
-spells_minus : (ds : List ℕ) (n : ℕ) → IsNumeral 10 ds → length ds ≤ 19 → digits_value 10 ds ≡ suc n
+spells_minus : (ds : List ℕ) (n : ℕ) → IsNumeral 10 ds → length ds ≤ MAX_DIGITS → digits_value 10 ds ≡ suc n
     → FitsSigned w64 (negsuc n) → SpellsItem (45 ∷ ds) (negsuc n)
 spells_minus ds n numeral short value fits = record {
   numeral = (numeral, short);

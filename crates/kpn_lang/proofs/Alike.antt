@@ -1,5 +1,5 @@
--- What a run says is got from its lists, and depends on nothing else: each law is kept by whatever puts runs
--- together, so it is kept by the run of a tree.
+-- What a run says is got from its lists, and depends on nothing else: each law is kept by whatever puts runs together,
+-- so it is kept by the run of a tree.
 use Rattle.std.proofs.Common.{◌≡◌, ℕ, zero, suc, ℤ, cond, Bool, true, false, Result, Ok, Err, List, [], ◌∷◌, ◌++◌, set, refl, sym, ap, ◌∙◌, inl, inr, eq-eqb}
 use Rattle.std.proofs.lemmas.Bool.{cases_eq, ne_eqb}
 use Rattle.kpn_lang.specs.declared.value.Fault.{Fault}

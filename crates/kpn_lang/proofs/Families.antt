@@ -1,19 +1,11 @@
 -- Families of lists that grow: what items stand behind them, and what a read leaves of them.
-use Rattle.std.proofs.Common.{◌≡◌, ℕ, ◌<◌, ℤ, List, [], ◌∷◌, ◌++◌, length, set, refl, sym, ap, ◌∙◌, inl, inr, get_or-set_same, get_or-set_other, append_assoc}
+use Rattle.std.proofs.Common.{◌≡◌, ℕ, ◌<◌, ℤ, List, [], ◌∷◌, ◌++◌, length, set, sym, ap, ◌∙◌, inl, inr, get_or-set_same, get_or-set_other}
 use Rattle.std.proofs.lemmas.List.{get_or_past, append-nil, append_cancel_left}
 use Rattle.std.proofs.lemmas.Bool.{cases_lt, cases_eq}
 use Rattle.kpn_lang.specs.Run.{Lists, list_at}
 use Rattle.kpn_lang.specs.Prefix.{ArePrefixes}
 use Rattle.kpn_lang.specs.Laws.{Grows}
-use Rattle.kpn_lang.proofs.Prefixes.{IsPrefix-refl, IsPrefix-trans, IsPrefix-from_rest, rest_of_prefix}
-
-pub ArePrefixes-refl : (lists : Lists) → ArePrefixes lists lists
-ArePrefixes-refl lists = λ port. IsPrefix-refl (list_at lists port)
-
-pub ArePrefixes-trans : (lists longer longest : Lists) → ArePrefixes lists longer → ArePrefixes longer longest →
-    ArePrefixes lists longest
-ArePrefixes-trans lists longer longest p q =
-    λ port. IsPrefix-trans (list_at lists port) (list_at longer port) (list_at longest port) (p port) (q port)
+use Rattle.kpn_lang.proofs.Prefixes.{IsPrefix-from_rest, rest_of_prefix}
 
 -- no items behind any list
 abbrev pub nothing : ℕ → List ℤ
@@ -21,28 +13,6 @@ nothing port = []
 
 pub Grows-refl : (lists : Lists) → Grows nothing lists lists
 Grows-refl lists = record { each = λ port. sym (append-nil (list_at lists port)) }
-
--- first the one and then the other behind each list
-abbrev pub both : (more extra : ℕ → List ℤ) → ℕ → List ℤ
-both more extra port = more port ++ extra port
-
-pub Grows-trans : (more extra : ℕ → List ℤ) (lists longer longest : Lists) → Grows more lists longer →
-    Grows extra longer longest → Grows (both more extra) lists longest
-Grows-trans more extra lists longer longest g h =
-    record {
-      each = λ port. h.each port ∙ ap (λ xs. xs ++ extra port) (g.each port)
-          ∙ append_assoc (list_at lists port) (more port) (extra port);
-    }
-
-pub Grows-then : (more : ℕ → List ℤ) (lists longer longest : Lists) → Grows more lists longer →
-    Grows nothing longer longest → Grows more lists longest
-Grows-then more lists longer longest g h =
-    record { each = λ port. h.each port ∙ append-nil (list_at longer port) ∙ g.each port }
-
--- two lists that are nothing together are nothing
-pub nil_from_append : (xs ys : List ℤ) → xs ++ ys ≡ [] → (xs ≡ []) × (ys ≡ [])
-nil_from_append [] ys e = (refl, e)
-nil_from_append (x ∷ xs) ys e = absurd cc
 
 pub ArePrefixes-from_grows : (more : ℕ → List ℤ) (lists longer : Lists) → Grows more lists longer →
     ArePrefixes lists longer

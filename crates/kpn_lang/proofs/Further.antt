@@ -1,18 +1,17 @@
--- With longer lists and more turns a run goes further, and with more turns alone one that was not cut stays the
--- same: each law is kept by whatever puts runs together, so it is kept by the run of a tree.
-use Rattle.std.proofs.Common.{◌≡◌, ◌≢◌, ℕ, zero, suc, ◌≤◌, ℤ, cond, Bool, true, false, Result, Ok, Err, List, [], ◌∷◌, ◌++◌, set, refl, ap, ◌∙◌, arith}
+-- With longer lists and more turns a run goes further, and with more turns alone one that was not cut stays the same:
+-- each law is kept by whatever puts runs together, so it is kept by the run of a tree.
+use Rattle.std.proofs.Common.{◌≡◌, ◌≢◌, ℕ, zero, suc, ◌≤◌, ℤ, cond, Bool, true, false, Result, Ok, Err, List, [], ◌∷◌, ◌++◌, set, refl, ap, arith}
 use Rattle.kpn_lang.specs.declared.value.Fault.{Fault}
 use Rattle.kpn_lang.specs.declared.talk.Said.{Said}
 use Rattle.kpn_lang.specs.declared.talk.Said.TheVariants.{Got, Put}
 use Rattle.kpn_lang.specs.declared.talk.Ending.{Ending}
-use Rattle.kpn_lang.specs.declared.talk.Ending.TheVariants.{Done, Faulted, Starved, Cut}
+use Rattle.kpn_lang.specs.declared.talk.Ending.TheVariants.{Faulted, Cut}
 use Rattle.kpn_lang.specs.Syntax.{Term}
 use Rattle.kpn_lang.specs.Value.{value, is_zero}
 use Rattle.kpn_lang.specs.Tree.{Tree, End, Assign, Read, Write, If, While}
 use Rattle.kpn_lang.specs.Run.{Ran, Next, Lists, list_at, ends, says, with_value, with_item, choose, turns, run}
-use Rattle.kpn_lang.specs.Laws.{Grows, IsFinal, EndsAlike, GoesOn}
-use Rattle.kpn_lang.proofs.Prefixes.{IsPrefix-refl, IsPrefix-trans}
-use Rattle.kpn_lang.proofs.Families.{nothing, both, nil_from_append, Grows-refl, Grows-trans, Grows-then, Grows-read}
+use Rattle.kpn_lang.specs.Laws.{Grows, GoesOn}
+use Rattle.kpn_lang.proofs.Families.{Grows-read}
 
 -- ---- further
 
@@ -143,66 +142,6 @@ module _ (more : ℕ → List ℤ) where
       (run rest n next) (run rest m further) (Follows-run rest n m le next further h)
 
 -- ---- one after the other
-
--- an end that no items behind the lists change
-pub IsFinal-nothing : (more : ℕ → List ℤ) (ending : Ending) → IsFinal more ending → IsFinal nothing ending
-IsFinal-nothing more Done h = tt
-IsFinal-nothing more (Faulted fault) h = tt
-IsFinal-nothing more (Starved port) h = refl
-IsFinal-nothing more Cut h = absurd h
-
--- an end that stays with both stays with each
-pub IsFinal-both : (more extra : ℕ → List ℤ) (ending : Ending) → IsFinal (both more extra) ending →
-    IsFinal more ending × IsFinal extra ending
-IsFinal-both more extra Done h = (tt, tt)
-IsFinal-both more extra (Faulted fault) h = (tt, tt)
-IsFinal-both more extra (Starved port) h = nil_from_append (more port) (extra port) h
-IsFinal-both more extra Cut h = absurd h
-
-pub EndsAlike-trans : (more extra : ℕ → List ℤ) (ran further furthest : Ran) → EndsAlike more ran further →
-    EndsAlike extra further furthest → EndsAlike (both more extra) ran furthest
-EndsAlike-trans more extra ran further furthest h k =
-    record {
-      ending = k.ending ∙ h.ending;
-      variables = k.variables ∙ h.variables;
-      talk = k.talk ∙ h.talk;
-      rest = Grows-trans more extra ran.rest further.rest furthest.rest h.rest k.rest;
-    }
-
-pub GoesOn-trans : (more extra : ℕ → List ℤ) (ran further furthest : Ran) → GoesOn more ran further →
-    GoesOn extra further furthest → GoesOn (both more extra) ran furthest
-GoesOn-trans more extra ran further furthest h k =
-    record {
-      talk = IsPrefix-trans ran.talk further.talk furthest.talk h.talk k.talk;
-      final = λ f.
-          let parts = IsFinal-both more extra ran.ending f in
-          let alike = h.final parts.0 in
-          EndsAlike-trans more extra ran further furthest alike (k.final (rw alike.ending parts.1));
-    }
-
--- further on the same lists, before or after
-pub GoesOn-then : (more : ℕ → List ℤ) (ran further furthest : Ran) → GoesOn more ran further →
-    GoesOn nothing further furthest → GoesOn more ran furthest
-GoesOn-then more ran further furthest h k =
-    record {
-      talk = IsPrefix-trans ran.talk further.talk furthest.talk h.talk k.talk;
-      final = λ f.
-          let alike = h.final f in
-          let then = k.final (rw alike.ending (IsFinal-nothing more ran.ending f)) in
-          record {
-            ending = then.ending ∙ alike.ending;
-            variables = then.variables ∙ alike.variables;
-            talk = then.talk ∙ alike.talk;
-            rest = Grows-then more ran.rest further.rest furthest.rest alike.rest then.rest;
-          };
-    }
-
-pub GoesOn-refl : (ran : Ran) → GoesOn nothing ran ran
-GoesOn-refl ran =
-    record {
-      talk = IsPrefix-refl ran.talk;
-      final = λ f. record { ending = refl; variables = refl; talk = refl; rest = Grows-refl ran.rest };
-    }
 
 -- ---- the same
 

@@ -66,14 +66,6 @@ prefixes_of_one (x ∷ xs) (y ∷ ys) (z ∷ zs) p q =
       | inr h ↦ inr (q.0 ∙ sym p.0, h)
     ]
 
--- the shorter of two beginnings of one list
-pub IsPrefix-shorter : {A : Type 0} (xs ys zs : List A) → IsPrefix xs zs → IsPrefix ys zs → length xs ≤ length ys →
-    IsPrefix xs ys
-IsPrefix-shorter [] ys zs p q h = tt
-IsPrefix-shorter (x ∷ xs) [] zs p q h = absurd (omega arith)
-IsPrefix-shorter (x ∷ xs) (y ∷ ys) [] p q h = absurd p
-IsPrefix-shorter (x ∷ xs) (y ∷ ys) (z ∷ zs) p q h = (p.0 ∙ sym q.0, IsPrefix-shorter xs ys zs p.1 q.1 (omega arith))
-
 -- a beginning that has all the items is the whole
 pub same_from_prefix : {A : Type 0} (xs ys : List A) → IsPrefix xs ys → length ys ≤ length xs → xs ≡ ys
 same_from_prefix [] [] p h = refl

@@ -8,7 +8,7 @@ use Rattle.kpn_lang.specs.Run.{Lists, list_at}
 use Rattle.kpn_lang.specs.Prefix.{IsPrefix, ArePrefixes}
 use Rattle.kpn_lang.specs.Alone.{Process, CanSay, ComesTo, got_at}
 use Rattle.kpn_lang.specs.Laws.{Grows, IsFinal, EndsAlike, BeginsWithGot, IsSequential}
-use Rattle.kpn_lang.proofs.Prefixes.{IsPrefix-refl, IsPrefix-trans, IsPrefix-same, IsPrefix-append, prefixes_of_one}
+use Rattle.kpn_lang.proofs.Prefixes.{IsPrefix-trans, IsPrefix-same, IsPrefix-append, prefixes_of_one}
 use Rattle.kpn_lang.proofs.Talks.{got_at-prefix}
 use Rattle.kpn_lang.proofs.Families.{nothing, Grows-refl, added, Grows-from_prefixes, nil_from_grows}
 
@@ -35,9 +35,6 @@ module _ (process : Process) (sequential : IsSequential process) where
   ends_alike n m le more lists longer g f = (sequential.grows n m le more lists longer g).final f
 
   -- ---- can say
-
-  pub CanSay-run : (n : ℕ) (lists : Lists) → CanSay process lists (process n lists).talk
-  CanSay-run n lists = record { turns = n; said = IsPrefix-refl (process n lists).talk }
 
   pub CanSay-prefix : (lists : Lists) (talk longer : List Said) → IsPrefix talk longer → CanSay process lists longer →
       CanSay process lists talk

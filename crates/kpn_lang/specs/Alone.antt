@@ -1,5 +1,5 @@
--- A process that runs alone, what it can say and what it comes to (Kahn 1974: a process is a function from what
--- comes in to what goes out).
+-- A process that runs alone, what it can say and what it comes to (Kahn 1974: a process is a function from what comes
+-- in to what goes out).
 use Rattle.std.specs.Prelude.{◌≡◌, ◌≢◌, ℕ, ◌-◌, ℤ, pos, nat_eq, if◌then◌else◌, List, [], ◌∷◌, ◌++◌, length, replicate}
 use Rattle.kpn_lang.specs.declared.talk.Said.{Said}
 use Rattle.kpn_lang.specs.declared.talk.Said.TheVariants.{Got, Put}

@@ -1,5 +1,5 @@
--- What holds of each process, whatever its program: it is a monotone function of what comes in, it says no more
--- than it is asked to, and what it says depends on the items that it got alone (Kahn 1974).
+-- What holds of each process, whatever its program: it is a monotone function of what comes in, it says no more than it
+-- is asked to, and what it says depends on the items that it got alone (Kahn 1974).
 use Rattle.std.specs.Prelude.{◌≡◌, ◌≢◌, ℕ, ◌≤◌, ℤ, List, [], ◌++◌}
 use Rattle.kpn_lang.specs.declared.talk.Said.{Said}
 use Rattle.kpn_lang.specs.declared.talk.Ending.{Ending}

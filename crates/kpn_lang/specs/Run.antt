@@ -1,6 +1,6 @@
--- The run of a process on whole lists of items, by the structure of its tree, in the style of a denotational
--- semantics with continuations (Strachey and Wadsworth 1974). A loop that is entered has a number of turns, so
--- that each run ends; what a run does with ever more turns is what the process does (Kahn 1974).
+-- The run of a process on whole lists of items, by the structure of its tree, in the style of a denotational semantics
+-- with continuations (Strachey and Wadsworth 1974). A loop that is entered has a number of turns, so that each run
+-- ends; what a run does with ever more turns is what the process does (Kahn 1974).
 use Rattle.std.specs.Prelude.{ℕ, zero, suc, ℤ, Result, Ok, Err, List, [], ◌∷◌, slice_index_or, slice_set, if◌then◌else◌}
 use Rattle.kpn_lang.specs.declared.value.Fault.{Fault}
 use Rattle.kpn_lang.specs.declared.talk.Said.{Said}

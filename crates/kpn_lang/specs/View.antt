@@ -1,4 +1,4 @@
--- The parts of a program that its code holds.
+-- Scaffolding, but for `parts_with`: the parts of a program that its code holds.
 use Rattle.std.specs.Prelude.{ℕ, List, map}
 use Rattle.std.specs.Global.{Vec}
 use Rattle.kpn_lang.specs.declared.syntax.Stmt.{Stmt}

@@ -3,6 +3,7 @@
 #![tactic(auto)]
 
 mod chain;
+mod instruction;
 pub mod laws;
 mod link;
 mod plain;
@@ -13,10 +14,10 @@ mod spine;
 mod start;
 mod syntax;
 mod talk;
-mod turn;
 mod value;
 
 pub use chain::Chain;
+pub use instruction::Instruction;
 pub use link::Link;
 pub use plain::{Run, run_alone};
 pub use program::{Program, ProgramFault, same};
@@ -25,5 +26,4 @@ pub use spine::{Links, Spine};
 pub use start::Start;
 pub use syntax::{BlockId, Expr, Op, Stmt};
 pub use talk::{Ending, Said};
-pub use turn::Turn;
 pub use value::{Fault, eval};

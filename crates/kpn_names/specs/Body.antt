@@ -1,5 +1,5 @@
--- The body of a process with numbers in place of names: variables and ports by their numbers, read in the order of
--- the text. Each statement stands in front of the tree of what follows it.
+-- The body of a process with numbers in place of names: variables and ports by their numbers, read in the order of the
+-- text. Each statement stands in front of the tree of what follows it.
 use Rattle.std.specs.Prelude.{pos, List, Result, Ok}
 use Rattle.kpn_lang.specs.Syntax as lang
 use Rattle.kpn_lang.specs.Tree.{Tree, End, Assign, Read, Write, If, While}

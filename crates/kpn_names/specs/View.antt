@@ -1,4 +1,4 @@
--- What the code's values stand for.
+-- Scaffolding: what the code's values stand for.
 use Rattle.std.specs.Prelude.{◌+◌, length, map}
 use Rattle.kpn_lang.specs.View.{blocks_of, parts_with}
 use Rattle.kpn_net.specs.View.{tables_with}

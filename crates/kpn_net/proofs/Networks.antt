@@ -1,13 +1,13 @@
--- What holds of tables that keep the rules: each channel has one writer and one reader, and these agree with the
--- ports
+-- What holds of tables that keep the rules: each channel has one writer and one reader, and these agree with the ports
 -- of the instances.
 use Rattle.std.proofs.Common.{◌≡◌, ℕ, zero, suc, ◌+◌, ◌<◌, ◌≤◌, cond, Bool, true, false, ◌&&◌, ◌||◌, ◌⊎◌, eqb, eq-eqb, add-zero, zero-add, leb, ltb, List, [], ◌∷◌, ◌++◌, length, get_or, map, Option, Some, None, refl, sym, ap, ◌∙◌, subst, inl, inr, arith}
 use Rattle.std.specs.List.{position, position_or_len, list_any, range_with_len, slice_get}
 use Rattle.std.specs.Option.{option_map_or}
+use Rattle.std.proofs.lemmas.List.{get_or_past}
 use Rattle.std.proofs.lemmas.List.Sums.{fails_before_first}
 use Rattle.std.proofs.lemmas.List.Folds.{list_any_at}
 use Rattle.std.proofs.lemmas.List.FromFn.{get_or-map-range_with_len, length-map-range_with_len}
-use Rattle.std.proofs.lemmas.Bool.{false_from_ne_true, ltb-false, leb-false, eqb-true, eqb-false, or_parts, and_parts, not-false, both_ways}
+use Rattle.std.proofs.lemmas.Bool.{cases_lt, false≢true, false_from_ne_true, ltb-false, leb-false, eqb-true, eqb-false, or_parts, and_parts, not-false, both_ways}
 use Rattle.kpn_limits.specs.declared.TheConstants.{MAX_PROCESSES, MAX_CHANNELS, MAX_CAPACITY}
 use Rattle.kpn_lang.specs.Parts.{Parts, IsProgram}
 use Rattle.kpn_net.specs.declared.fault.NetFault.{NetFault}
@@ -445,6 +445,21 @@ sink-reader_of t c e =
         → is_sink (channel_at t c) ≡ true
     which true e h = e
     which false e h = absurd (no_process Sink (λ p f. absurd cc) (λ i. i.ins) c 0 t.instances h)
+
+-- a source, and a sink, is a channel that is there
+pub source_there : (t : Tables) (c : ℕ) → is_source (channel_at t c) ≡ true → c < length t.channels
+source_there t c source =
+    elim (cases_lt c (length t.channels)) [
+      | inl below ↦ below
+      | inr past ↦ absurd (false≢true (sym (ap is_source (get_or_past t.channels c (channel.Inner 0) past)) ∙ source))
+    ]
+
+pub sink_there : (t : Tables) (c : ℕ) → is_sink (channel_at t c) ≡ true → c < length t.channels
+sink_there t c sink =
+    elim (cases_lt c (length t.channels)) [
+      | inl below ↦ below
+      | inr past ↦ absurd (false≢true (sym (ap is_sink (get_or_past t.channels c (channel.Inner 0) past)) ∙ sink))
+    ]
 
 -- the sink writes no channel that is there
 pub writer_is_no_sink : (t : Tables) → IsNetwork t → (c : ℕ) → c < length t.channels → writer_of t c ≡ Sink → ⊥

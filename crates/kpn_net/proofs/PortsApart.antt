@@ -1,6 +1,5 @@
--- The channels at the ports of a process: each stands at one port, and the ports tell which channels the process
--- reads and
--- writes.
+-- The channels at the ports of a process: each stands at one port, and the ports tell which channels the process reads
+-- and writes.
 use Rattle.std.proofs.Common.{◌≡◌, ◌↔◌, ℕ, zero, suc, ◌+◌, ◌<◌, ◌≤◌, cond, Bool, true, false, eqb, eq-eqb, add-zero, List, [], ◌∷◌, length, get_or, refl, sym, ap, ◌∙◌, subst, inl, inr, arith, length-append}
 use Rattle.std.specs.Prelude.{Contains}
 use Rattle.std.proofs.lemmas.List.{get_or_default, get_or_past}

@@ -1,4 +1,4 @@
--- The tables that the code holds, and what it keeps beside them.
+-- Scaffolding, but for `tables_with`: the tables that the code holds, and what it keeps beside them.
 use Rattle.std.specs.Prelude.{◌≡◌, ℕ, List, map}
 use Rattle.kpn_lang.specs.Parts.{Parts}
 use Rattle.kpn_net.specs.declared.tables.ChannelSpec.{ChannelSpec}

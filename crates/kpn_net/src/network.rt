@@ -1,6 +1,6 @@
 //! Networks: tables that keep the rules, made once and read many times.
 ghost use Rattle.std.specs.Prelude.{◌≡◌, ◌<◌, ◌↔◌, IsTrue, length, IfSome, IfNone, MatchResult};
-ghost use Rattle.kpn_net.specs.Tables.{instance_at, program_at, program_of, channel_at, is_source, writer_of, reader_of, capacity};
+ghost use Rattle.kpn_net.specs.Tables.{instance_at, program_at, program_of, channel_at, is_source, is_sink, writer_of, reader_of, capacity};
 ghost use Rattle.kpn_net.specs.Faults.{first_fault, IsNetwork};
 ghost use Rattle.kpn_net.specs.Iteration.{sources};
 ghost use Rattle.kpn_net.specs.View.{tables_with};
@@ -176,12 +176,18 @@ impl Network {
         self.readers[c]
     }
 
-    /// Whether channel `c` is a source, which the outside writes.
+    /// Whether channel `c` is a source, which the outside writes. A channel that is not there is none.
     pub fn is_source(&self, c: usize) -> bool
-        requires { c < length self.now.channels }
         ensures { result ≡ is_source (channel_at self.now c) }
     {
-        matches!(self.parts.channels[c], ChannelSpec::Source)
+        matches!(self.parts.channels.get(c), Some(ChannelSpec::Source))
+    }
+
+    /// Whether channel `c` is a sink, which the outside reads. A channel that is not there is none.
+    pub fn is_sink(&self, c: usize) -> bool
+        ensures { result ≡ is_sink (channel_at self.now c) }
+    {
+        matches!(self.parts.channels.get(c), Some(ChannelSpec::Sink(_)))
     }
 
     /// How many sources there are. It looks at each channel.

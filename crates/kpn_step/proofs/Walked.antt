@@ -1,6 +1,6 @@
--- Walks: steps, and between them the items got and put. After a walk the process can say and come to whatever the
--- last frame can, after what the walk said; so what stands at the last frame tells how the process ends.
-use Rattle.std.proofs.Common.{◌≡◌, ◌≢◌, ℕ, ◌+◌, ◌≤◌, ℤ, IsTrue, Some, List, [], ◌∷◌, ◌++◌, length, set, refl, sym, ap, ◌∙◌, arith, append_assoc, append-nil}
+-- Walks: steps, and between them the items got and put. After a walk the process can say and come to whatever the last
+-- frame can, after what the walk said; so what stands at the last frame tells how the process ends.
+use Rattle.std.proofs.Common.{◌≡◌, ◌≢◌, ℕ, ◌+◌, ◌≤◌, ℤ, IsTrue, List, [], ◌∷◌, ◌++◌, length, set, refl, sym, ap, ◌∙◌, arith, append_assoc, append-nil}
 use Rattle.kpn_lang.specs.declared.value.Fault.{Fault}
 use Rattle.kpn_lang.specs.declared.talk.Said.{Said}
 use Rattle.kpn_lang.specs.declared.talk.Said.TheVariants.{Got, Put}
@@ -12,8 +12,8 @@ use Rattle.kpn_lang.specs.Run.{Lists, list_at, ends, says}
 use Rattle.kpn_lang.specs.Alone.{Process, CanSay, ComesTo, alone}
 use Rattle.kpn_step.specs.declared.stop.Stop.TheVariants as stop
 use Rattle.kpn_step.specs.declared.stop.AloneStop.TheVariants.{Done, Faulted, Starved, Paused}
-use Rattle.kpn_step.specs.Frame.{Frame, start_frame, passed, passed_with, fits}
-use Rattle.kpn_step.specs.Step.{Stops, step_of, statement_at, Steps}
+use Rattle.kpn_step.specs.Frame.{Frame, start_frame, fits}
+use Rattle.kpn_step.specs.Step.{Steps}
 use Rattle.kpn_step.specs.Residual.{residual, SaysTheSame}
 use Rattle.kpn_step.specs.Stops.{StandsAt}
 use Rattle.kpn_step.specs.After.{GoesOnAs}
@@ -70,15 +70,6 @@ GoesOnAs-trans p q r lists rest last talk further h k =
 
 -- ---- one thing said
 
-pub Speaks-got : (blocks : List (List Statement)) (f : Frame) (lists : Lists) (port variable : ℕ) (v : ℤ)
-    (items : List ℤ) → statement_at blocks f ≡ Some (Read port variable) → list_at lists port ≡ v ∷ items →
-    Speaks blocks f lists (Got port v) (passed_with f variable v) (set lists port items)
-Speaks-got blocks f lists port variable v items at e = (variable, items, at, e, refl, refl)
-
-pub Speaks-put : (blocks : List (List Statement)) (f : Frame) (lists : Lists) (port : ℕ) (v : ℤ) →
-    step_of blocks f ≡ Stops (stop.WantWrite port v) → Speaks blocks f lists (Put port v) (passed f) lists
-Speaks-put blocks f lists port v step = (step, refl, refl)
-
 residual_speaks : (blocks : List (List Statement)) (f g : Frame) (lists rest : Lists) (said : Said) →
     Speaks blocks f lists said g rest → (n : ℕ) → residual blocks f n lists ≡ says said (residual blocks g n rest)
 residual_speaks blocks f g lists rest (Got port v) s n =
@@ -96,9 +87,6 @@ GoesOnAs-speaks blocks f g lists rest said s =
     GoesOnAs-said (residual blocks f) (residual blocks g) lists rest said (residual_speaks blocks f g lists rest said s)
 
 -- ---- walks
-
-pub Walks-start : (blocks : List (List Statement)) (f : Frame) (lists : Lists) → Walks blocks 0 f lists [] f lists
-Walks-start blocks f lists = (refl, refl)
 
 pub Walks-steps : (blocks : List (List Statement)) (k j : ℕ) (f g h : Frame) (lists rest : Lists) (talk : List Said) →
     Walks blocks k f lists talk g rest → Steps blocks j g h → Walks blocks (k + j) f lists talk h rest

@@ -1,4 +1,4 @@
--- Codes of stops and of what an advance holds.
+-- Scaffolding: codes of stops and of what an advance holds.
 use Rattle.std.specs.Prelude.{◌≡◌, ℕ, zero, suc, ℤ, pos, refl}
 use Rattle.std.specs.Coded.{Coded, code_by, coded_ℕ, coded_ℤ, coded×}
 use Rattle.kpn_lang.specs.declared.value.Fault.TheVariants.{Overflow, ZeroDivisor}

@@ -30,8 +30,8 @@ Walks blocks k f lists (said ∷ talk) g rest =
     (i j : ℕ) × (h after : Frame) × (remaining : Lists) × (k ≡ i + j) × Steps blocks i f h
     × Speaks blocks h lists said after remaining × Walks blocks j after remaining talk g rest
 
--- what a process alone comes to after its talk; where it was paused it can say the talk, it would go on to
--- make a step, and the quota is used up
+-- what a process alone comes to after its talk; where it was paused it can say the talk, it would go on to make a step,
+-- and the quota is used up
 abbrev pub IsOutcome : Parts → List ℤ → Lists → (used_up : Type 0) → Frame → List Said → AloneStop → Type 0
 IsOutcome parts pars lists used_up to talk Done = ComesTo (alone parts pars) lists ending.Done talk
 IsOutcome parts pars lists used_up to talk (Faulted fault) =

@@ -34,10 +34,10 @@ pub fn alone(
     let mut frame = Frame::start(program, pars);
     let mut taken = none_taken(lists);
     let mut talk = Sequence::new(alloc);
-    let mut left = quota;
+    let mut unused = quota;
     'says: loop {
-        let (steps, stop) = walk(program, &mut frame, left);
-        left -= steps;
+        let (steps, stop) = walk(program, &mut frame, unused);
+        unused -= steps;
         match say(program, &mut frame, lists, &mut taken, stop) {
             Ok(said) => talk.push(said)?,
             Err(stop) => return Ok(AloneRun { talk, stop }),

@@ -1,5 +1,5 @@
 -- Names in tables, and tables taken item by item.
-use Rattle.std.proofs.Common.{◌≡◌, ℕ, zero, suc, ◌+◌, ◌<◌, ◌≤◌, List, [], ◌∷◌, ◌++◌, length, map, get_or, drop, Option, Some, None, Result, Ok, Err, refl, sym, ap, ◌∙◌, subst, append_assoc, append-nil, add-one, arith, length-append, inl, inr}
+use Rattle.std.proofs.Common.{◌≡◌, ℕ, suc, ◌+◌, ◌<◌, ◌≤◌, List, [], ◌∷◌, ◌++◌, length, map, get_or, drop, Option, Some, None, Result, Ok, Err, refl, sym, ap, ◌∙◌, subst, append_assoc, append-nil, add-one, arith, length-append, inl, inr}
 use Rattle.std.specs.Prelude.{slice_get, option_copied, IsSome, IfSome, IfNone, ◌⊎◌}
 use Rattle.std.proofs.Math.Seq.{drop-cons}
 use Rattle.std.proofs.lemmas.List.{drop_all}
@@ -8,6 +8,7 @@ use Rattle.kpn_text.specs.Phases.{Cause, in_network, network_cause, or_else, pro
 use Rattle.kpn_lang.specs.declared.program.ProgramFault.{ProgramFault}
 use Rattle.kpn_lang.specs.declared.program.ProgramFault.TheVariants as rule
 use Rattle.kpn_lang.specs.Parts.{Parts, first_fault}
+use Rattle.kpn_lang.proofs.Remaining.{drop_from_none}
 use Rattle.kpn_net.specs.declared.fault.NetFault.{NetFault}
 use Rattle.kpn_net.specs.declared.fault.NetFault.TheVariants as net
 use Rattle.kpn_net.specs.declared.tables.ChannelSpec.{ChannelSpec}
@@ -62,11 +63,6 @@ all_there own xs i e h = sym (append-nil own) ∙ ap (λ l. own ++ l) (sym (drop
 
 -- ---- two tables taken side by side
 
-drop_none : {A : Type 0} (xs : List A) (i : ℕ) → slice_get xs i ≡ None → drop i xs ≡ []
-drop_none [] i e = drop_all i [] (omega arith)
-drop_none (x ∷ xs) zero e = absurd cc
-drop_none (x ∷ xs) (suc i) e = drop_none xs i e
-
 paired-none : {A B C : Type 0} (f : A → B → C) (xs : List A) → paired f xs [] ≡ []
 paired-none f [] = refl
 paired-none f (x ∷ xs) = refl
@@ -104,7 +100,7 @@ pairs_end f g own xs ys i p h =
 pub pairs_break : {A B Y C : Type 0} (f : A → B → C) (g : Y → B) (own : List C) (xs : List A) (ys : List Y) (i : ℕ)
     → Pairs f g own xs ys i → slice_get xs i ≡ None → own ≡ paired f xs (map g ys)
 pairs_break f g own xs ys i p e =
-    sym (append-nil own) ∙ ap (λ l. own ++ l) (sym (ap (λ l. paired f l (map g (drop i ys))) (drop_none xs i e)))
+    sym (append-nil own) ∙ ap (λ l. own ++ l) (sym (ap (λ l. paired f l (map g (drop i ys))) (drop_from_none xs i e)))
     ∙ p.is
 
 -- ---- programs made one after the other

@@ -1,5 +1,5 @@
--- The phases of reading: tokens, grammar, names, the programs in order, the network. Each goes on where the one
--- before it finds no fault, and the first that finds one is the cause of a refusal.
+-- The phases of reading: tokens, grammar, names, the programs in order, the network. Each goes on where the one before
+-- it finds no fault, and the first that finds one is the cause of a refusal.
 use Rattle.std.specs.Prelude.{◌≡◌, ◌⊎◌, ℕ, suc, List, [], ◌∷◌, length, Option, Some, None, Result, Ok, Err}
 use Rattle.kpn_lang.specs.declared.program.ProgramFault.{ProgramFault}
 use Rattle.kpn_lang.specs.Parts as lang

@@ -6,9 +6,10 @@ use Rattle.std.proofs.Math.Nat.{pow-le-pow_right}
 use Rattle.std.proofs.lemmas.Int.Digits.{digits_value_more, digits_value-lt}
 use Rattle.std.proofs.lemmas.Str.{digit_value_digit}
 use Rattle.std.proofs.lemmas.Str.Parse.{digit_at, digits_value-take-le}
+use Rattle.kpn_limits.specs.declared.TheConstants.{MAX_DIGITS}
 
 -- a value of at most 19 digits
-digits_value_small : (ds : List ℕ) → AllDigits 10 ds → length ds ≤ 19 → digits_value 10 ds < 10 ^ 19
+digits_value_small : (ds : List ℕ) → AllDigits 10 ds → length ds ≤ MAX_DIGITS → digits_value 10 ds < 10 ^ 19
 digits_value_small ds digits few =
     let ten : 0 < 10 = omega arith in
     let bound : 10 ^ length ds ≤ 10 ^ 19 = pow-le-pow_right ten few in
@@ -20,7 +21,7 @@ pub record ReadsDigit (ds : List ℕ) (i : ℕ) : Type 0 where
   pub more : digits_value 10 (take (i + 1) ds) ≡ digits_value 10 (take i ds) * 10 + (get_or ds i 0 - 48)
   pub small : digits_value 10 (take (i + 1) ds) < 10 ^ 19
 
-pub reads_digit : (ds : List ℕ) (i : ℕ) → AllDigits 10 ds → length ds ≤ 19 → i < length ds → ReadsDigit ds i
+pub reads_digit : (ds : List ℕ) (i : ℕ) → AllDigits 10 ds → length ds ≤ MAX_DIGITS → i < length ds → ReadsDigit ds i
 reads_digit ds i digits few within =
     let range : IsInRange 48 57 (get_or ds i 0) = digit_at ds i digits within in
     let value = digit_value_digit (get_or ds i 0) range in

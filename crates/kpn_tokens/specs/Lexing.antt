@@ -1,5 +1,5 @@
--- The tokens of a text, and its first fault. Read from the front, a text is a row of pieces: white space,
--- comments and tokens, each the longest that can stand there.
+-- The tokens of a text, and its first fault. Read from the front, a text is a row of pieces: white space, comments and
+-- tokens, each the longest that can stand there.
 use Rattle.std.specs.Prelude.{ℕ, zero, suc, ◌-◌, ◌≤◌, Bool, not, ◌&&◌, ◌||◌, ◌==◌, nat_lt, nat_le, if◌then◌else◌, List, [], ◌∷◌, length, Option, Some, None, Result, Ok, Err, Vec, ◌≡◌}
 use Rattle.std.specs.Char.{is_ascii_digit, is_ascii_alphabetic}
 use Rattle.std.specs.List.{take_while}

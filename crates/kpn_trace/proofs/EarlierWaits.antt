@@ -1,5 +1,5 @@
--- An event makes nobody blocked but the process whose wait it is: after any other event, who is blocked was blocked
--- on the same channel before. So a blocked cycle without that process stood before.
+-- An event makes nobody blocked but the process whose wait it is: after any other event, who is blocked was blocked on
+-- the same channel before. So a blocked cycle without that process stood before.
 use Rattle.std.specs.Prelude.{Contains}
 use Rattle.std.proofs.Common.{◌≡◌, ◌≢◌, ℕ, ◌<◌, Bool, true, false, cond, zero-add, List, [], ◌∷◌, ◌++◌, length, Some, None, refl, sym, ap, ◌∙◌, subst, inl, inr}
 use Rattle.std.specs.List.{cons_option}

@@ -1,5 +1,5 @@
--- The growth that is owed is what a search for the cycle through the last waiter finds, where that is below the
--- limit; its channel has a writer that waits on it as full.
+-- The growth that is owed is what a search for the cycle through the last waiter finds, where that is below the limit;
+-- its channel has a writer that waits on it as full.
 use Rattle.std.specs.Option.{unwrap_or}
 use Rattle.std.proofs.Common.{◌≡◌, ◌↔◌, ℕ, ◌<◌, ◌≤◌, List, [], ◌∷◌, ◌++◌, Some, sym, ◌∙◌, subst, inl, inr, arith}
 use Rattle.std.proofs.lemmas.Bool.{cases_lt}

@@ -60,8 +60,7 @@ member-from x (y ∷ ys) h =
 
 -- ---- the way from a process
 
--- it comes round to the process over these others, goes off to one that waits for nobody or into another cycle, or
--- was
+-- it comes round to the process over these others, goes off to one that waits for nobody or into another cycle, or was
 -- not followed to its end
 pub data Way : Type 0 where
   Round : (others : List ℕ) → Way

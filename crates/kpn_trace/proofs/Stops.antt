@@ -2,19 +2,17 @@
 -- no event can follow.
 use Rattle.std.specs.Prelude.{Contains}
 use Rattle.std.specs.Option.{option_map, unwrap_or}
-use Rattle.std.proofs.Common.{◌≡◌, ◌≢◌, ℕ, suc, ℤ, ◌+◌, ◌<◌, ◌≤◌, Bool, true, false, not, cond, eqb, List, [], ◌∷◌, ◌++◌, length, get_or, Option, Some, None, refl, sym, ap, ◌∙◌, subst, inl, inr, arith}
-use Rattle.std.proofs.lemmas.List.{get_or_past}
+use Rattle.std.proofs.Common.{◌≡◌, ◌≢◌, ℕ, suc, ℤ, ◌+◌, ◌<◌, ◌≤◌, Bool, true, false, not, cond, eqb, List, [], ◌∷◌, ◌++◌, length, Option, Some, None, refl, sym, ap, ◌∙◌, subst, inl, inr, arith}
 use Rattle.std.proofs.lemmas.Bool.{and_parts, both_ways, cases_lt, not-true, eqb-true, false≢true}
 use Rattle.kpn_net.specs.declared.wait.Wait.{Wait}
 use Rattle.kpn_net.specs.declared.wait.Wait.TheVariants.{Nobody, Empty, Full}
 use Rattle.kpn_net.specs.declared.tables.ChannelSpec.TheVariants as channel
 use Rattle.kpn_net.specs.declared.tables.End.{End}
 use Rattle.kpn_net.specs.declared.tables.End.TheVariants.{Process, Source, Sink}
-use Rattle.kpn_net.specs.declared.tables.Instance.{Instance}
-use Rattle.kpn_net.specs.Tables.{Tables, places, ends_from, channel_at, capacity, is_sink, reader_of}
+use Rattle.kpn_net.specs.Tables.{Tables, channel_at, capacity, reader_of}
 use Rattle.kpn_net.specs.Faults.{IsNetwork}
 use Rattle.kpn_net.specs.Waits.{awaited, process_at}
-use Rattle.kpn_net.proofs.Networks.{Reads-reader_of, Reads-below, capacity_in_range}
+use Rattle.kpn_net.proofs.Networks.{Reads-reader_of, Reads-below, capacity_in_range, sink-reader_of, sink_there}
 use Rattle.kpn_net.proofs.Cycles.{full_at, cycle_below}
 use Rattle.kpn_trace.specs.declared.event.Event.{Event}
 use Rattle.kpn_trace.specs.declared.event.Event.TheVariants.{Get, Put, WaitEmpty, WaitFull, Ended, Feed, Close, Take, Leave, Grow}
@@ -97,47 +95,14 @@ in_limit t network =
         let high = in_limit_after t B e c n legal was bounds.1 in
         (omega arith, omega arith)
 
--- ---- the outside as a reader
-
-no_sink_here : (c p : ℕ) (ports : List ℕ) (more : List End) → get_or more 0 Source ≢ Sink
-    → get_or (places c p ports ++ more) 0 Source ≢ Sink
-no_sink_here c p [] more none = none
-no_sink_here c p (d ∷ ports) more none = by_port (eqb d c) (no_sink_here c p ports more none)
-  where
-    by_port : (here : Bool) → get_or (places c p ports ++ more) 0 Source ≢ Sink
-        → get_or (cond here (Process p ∷ places c p ports) (places c p ports) ++ more) 0 Source ≢ Sink
-    by_port true rest e = absurd cc
-    by_port false rest e = rest e
-
-no_sink_from : (c p : ℕ) (instances : List Instance) → get_or (ends_from (λ i. i.ins) c p instances) 0 Source ≢ Sink
-no_sink_from c p [] = λ e. absurd cc
-no_sink_from c p (i ∷ instances) =
-    no_sink_here c p i.ins (ends_from (λ j. j.ins) c (suc p) instances) (no_sink_from c (suc p) instances)
-
--- a channel that the outside reads is a sink
-is_sink-reader_of : (t : Tables) (c : ℕ) → reader_of t c ≡ Sink → is_sink (channel_at t c) ≡ true
-is_sink-reader_of t c = by_channel (is_sink (channel_at t c))
-  where
-    by_channel : (b : Bool) → get_or (cond b (Sink ∷ []) [] ++ ends_from (λ i. i.ins) c 0 t.instances) 0 Source ≡ Sink
-        → b ≡ true
-    by_channel true e = refl
-    by_channel false e = absurd (no_sink_from c 0 t.instances e)
-
 -- ---- full channels of a legal history
-
-sink_there : (t : Tables) (c : ℕ) → is_sink (channel_at t c) ≡ true → c < length t.channels
-sink_there t c sink =
-    elim (cases_lt c (length t.channels)) [
-      | inl below ↦ below
-      | inr past ↦ absurd (false≢true (sym (ap is_sink (get_or_past t.channels c (channel.Inner 0) past)) ∙ sink))
-    ]
 
 -- a channel whose reader lives is one of the network
 read_there : (t : Tables) → IsNetwork t → (H : List Event) (c : ℕ) (end : End) → reader_of t c ≡ end
     → lives H c end ≡ true → c < length t.channels
 read_there t network H c (Process q) is alive = Reads-below t network q c (Reads-reader_of t q c is)
 read_there t network H c Source is alive = absurd (false≢true alive)
-read_there t network H c Sink is alive = sink_there t c (is_sink-reader_of t c is)
+read_there t network H c Sink is alive = sink_there t c (sink-reader_of t c is)
 
 -- what is full has a capacity from 1 to the limit, and as many items are unread
 pub record IsFilled (t : Tables) (H : List Event) (c : ℕ) : Type 0 where
@@ -239,7 +204,7 @@ waits_for_blocked t network H legal settled p waits = by_reader (reader_of t c) 
     by_reader Source is = absurd (false≢true (subst (λ end. lives H c end ≡ true) is full.lives))
     by_reader Sink is =
         let lives : not (is_left H c) ≡ true = subst (λ end. lives H c end ≡ true) is full.lives in
-        elim (settled.sinks c full.there (is_sink-reader_of t c is)) [
+        elim (settled.sinks c full.there (sink-reader_of t c is)) [
           | inl empty ↦ let none : length (unread_on H c) ≡ 0 = eqb-true _ _ empty in let some =
               full.some in let unread = full.unread in absurd (omega arith)
           | inr left ↦ absurd (both_ways _ (not-true _ lives) left)

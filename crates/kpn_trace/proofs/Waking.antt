@@ -1,6 +1,6 @@
--- Which events wake which waits, and what each process waits for after one more event of a legal history. A wait on
--- an empty channel ends with an item there. On a full channel whose reader lives exactly as many items are unread as
--- its capacity, so that one item less, or a capacity of one more, ends a wait there.
+-- Which events wake which waits, and what each process waits for after one more event of a legal history. A wait on an
+-- empty channel ends with an item there. On a full channel whose reader lives exactly as many items are unread as its
+-- capacity, so that one item less, or a capacity of one more, ends a wait there.
 use Rattle.std.proofs.Common.{◌≡◌, ◌↔◌, ℕ, suc, ℤ, ◌<◌, Bool, true, false, not, ◌&&◌, cond, eqb, eq-eqb, List, [], ◌∷◌, ◌++◌, length, refl, sym, ap, ◌∙◌, subst, inl, inr, arith}
 use Rattle.std.proofs.lemmas.Bool.{cases_eq, false_from_ne_true, and_parts, false≢true, eqb-true, ne_eqb}
 use Rattle.kpn_lang.proofs.Prefixes.{length_of_prefix}

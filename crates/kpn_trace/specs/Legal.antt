@@ -21,8 +21,8 @@ use Rattle.kpn_trace.specs.Waiting.{wait_of, IsBlockedCycle, full_in_cycle}
 
 -- ---- consistency
 
--- what holds of a history at each moment: each process can say what it said on what it read, what was read begins
--- what was written, and no more is unread than the capacity of a channel whose reader lives
+-- what holds of a history at each moment: each process can say what it said on what it read, what was read begins what
+-- was written, and no more is unread than the capacity of a channel whose reader lives
 pub record IsConsistent (t : Tables) (H : List Event) : Type 0 where
   pub said : (p : ℕ) → p < length t.instances → CanSay t p (read_on H) (talk_of H p)
   pub in_order : (c : ℕ) → c < length t.channels → IsPrefix (read_on H c) (written_on H c)

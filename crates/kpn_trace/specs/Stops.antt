@@ -1,6 +1,5 @@
 -- What growth leaves behind, and what a stop rests on (Parks 1995: an artificial deadlock is a cycle of blocked
--- processes with a full channel, which a larger capacity resolves; Geilen and Basten 2003: such a cycle may be
--- local).
+-- processes with a full channel, which a larger capacity resolves; Geilen and Basten 2003: such a cycle may be local).
 use Rattle.std.specs.Prelude.{◌≡◌, ◌≢◌, ℕ, ◌<◌, List, Some, Contains, length}
 use Rattle.kpn_net.specs.declared.wait.Wait.TheVariants.{Nobody, Full}
 use Rattle.kpn_net.specs.declared.tables.End.TheVariants.{Process}

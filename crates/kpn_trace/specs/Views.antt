@@ -13,8 +13,8 @@ use Rattle.kpn_trace.specs.Talks.{has_ended}
 use Rattle.kpn_trace.specs.Channels.{written_on, read_on, capacity_after, reader_lives}
 use Rattle.kpn_trace.specs.Waiting.{wait_of}
 
--- the state of a process: ended in the way that it ended, waiting on the channel on which it is blocked, else ready
--- or held
+-- the state of a process: ended in the way that it ended, waiting on the channel on which it is blocked, else ready or
+-- held
 abbrev pub IsStateOf : Tables → List Event → (p : ℕ) → State → Type 0
 IsStateOf t H p Ready = (has_ended H p ≡ false) × (wait_of t H p ≡ Nobody)
 IsStateOf t H p Held = (has_ended H p ≡ false) × (wait_of t H p ≡ Nobody)

@@ -57,9 +57,9 @@ pub record WaitsAsFullFor (t : Tables) (q p : ℕ) (wait : Wait) : Type 0 where
   pub read : reader_of t channel ≡ Process q
   pub written : writer_of t channel ≡ Process p
 
--- the event wakes process p, which has this wait: a put or a feed wakes the reader of its channel, where that waits
--- on it as empty; a get, a take, a leave or a growth the writer of its channel, where that waits on it as full; the
--- end of a process each writer that waits as full on a channel which it reads
+-- the event wakes process p, which has this wait: a put or a feed wakes the reader of its channel, where that waits on
+-- it as empty; a get, a take, a leave or a growth the writer of its channel, where that waits on it as full; the end of
+-- a process each writer that waits as full on a channel which it reads
 abbrev pub IsWoken : Tables → Event → (p : ℕ) → Wait → Type 0
 IsWoken t (Get q c v) p wait = (wait ≡ Full c) × (writer_of t c ≡ Process p)
 IsWoken t (Put q c v) p wait = (wait ≡ Empty c) × (reader_of t c ≡ Process p)

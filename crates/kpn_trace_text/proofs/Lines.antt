@@ -14,7 +14,7 @@ use Rattle.kpn_trace.specs.declared.event.How.TheVariants as how
 use Rattle.kpn_trace_text.specs.declared.kind.Kind.{Kind}
 use Rattle.kpn_trace_text.specs.declared.kind.Kind.TheVariants as kind
 use Rattle.kpn_trace_text.specs.EventLine.{kind_word, kinds, kind_named, how_word, kind_of, parts_of, spaced, line_of, LacksByte, IsInRange, SpellsEvent}
-use Rattle.kpn_trace_text.proofs.Parting.{cut, LacksByte-append, decimal_lacks, item_lacks, front, same_number, same_item, lacks_none}
+use Rattle.kpn_trace_text.proofs.Parting.{cut, LacksByte-append, decimal_lacks, item_lacks, front, same_number, same_item}
 
 -- ---- kinds and endings
 
@@ -107,12 +107,6 @@ kind_and_parts line word parts event split lacks spells =
     cut 32 (kind_word (kind_of event)) word (spaced (parts_of event)) parts (kind_lacks_space (kind_of event)) lacks
     (sym (line_is event) ∙ sym spells.whole ∙ split) in
     (both.0, sym both.1)
-
--- a line without a space spells nothing
-pub no_space : (line : List ℕ) (event : Event) → LacksByte 32 line → SpellsEvent line event → ⊥
-no_space line event lacks spells =
-    lacks_none 32 (kind_word (kind_of event)) (spaced (parts_of event))
-    (subst (λ l. LacksByte 32 l) (spells.whole ∙ line_is event) lacks)
 
 -- a line whose first word is no kind spells nothing
 pub no_kind : (line word parts : List ℕ) (event : Event) → line ≡ word ++ 32 ∷ parts → LacksByte 32 word

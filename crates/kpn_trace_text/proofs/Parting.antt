@@ -63,11 +63,6 @@ cut s (x ∷ w) (y ∷ v) a b lacks also e =
     let rest = cut s w v a b (lacks_rest s x w lacks) (lacks_rest s y v also) tails in
     (cc (first, rest.0), rest.1)
 
--- bytes do not lack a byte that stands among them
-pub lacks_none : (s : ℕ) (w a : List ℕ) → LacksByte s (w ++ s ∷ a) → ⊥
-lacks_none s [] a lacks = lacks_first s s a lacks refl
-lacks_none s (x ∷ w) a lacks = lacks_none s w a (lacks_rest s x (w ++ s ∷ a) lacks)
-
 -- ---- the first place of a byte
 
 split_at : (s : ℕ) (xs : List ℕ) (i : ℕ) → i < length xs → get_or xs i 0 ≡ s → xs ≡ take i xs ++ s ∷ drop (i + 1) xs

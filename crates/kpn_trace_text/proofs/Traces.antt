@@ -12,7 +12,7 @@ use Rattle.kpn_trace_text.specs.declared.fault.TraceFault.TheVariants.{BadHead, 
 use Rattle.kpn_trace_text.specs.EventLine.{line_of, IsInRange, SpellsEvent, LacksByte}
 use Rattle.kpn_trace_text.specs.TraceText.{event_text, events_text, head_text, trace_text}
 use Rattle.kpn_trace_text.specs.Laws.{TraceSpellsOne, SpelledIsRead, OneBadLine}
-use Rattle.kpn_trace_text.proofs.Parting.{cut, lacks_none}
+use Rattle.kpn_trace_text.proofs.Parting.{cut}
 use Rattle.kpn_trace_text.proofs.Lines.{line_spells_one, line_lacks_feed}
 
 -- ---- the first line
@@ -54,16 +54,6 @@ no_event bytes line rest event more split lacks none fits e =
     cut 10 line (line_of event) rest more lacks (line_lacks_feed event fits)
     (sym split ∙ e ∙ text_and_more event more) in
     none event (record { whole = both.0; in_range = fits })
-
-pub no_feed : (bytes : List ℕ) (event : Event) (more : List ℕ) → LacksByte 10 bytes → bytes ≡ event_text event ++ more
-    → ⊥
-no_feed bytes event more lacks e =
-    lacks_none 10 (line_of event) more (subst (λ l. LacksByte 10 l) (e ∙ text_and_more event more) lacks)
-
-pub first_text : (bytes line rest : List ℕ) (event : Event) → bytes ≡ line ++ 10 ∷ rest → SpellsEvent line event
-    → bytes ≡ event_text event ++ rest
-first_text bytes line rest event split spells =
-    split ∙ ap (λ l. l ++ 10 ∷ rest) spells.whole ∙ sym (text_and_more event rest)
 
 -- ---- lines one after another
 

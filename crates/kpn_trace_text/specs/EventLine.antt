@@ -27,13 +27,13 @@ kind_word kind.Take = codes "take"
 kind_word kind.Leave = codes "leave"
 kind_word kind.Grow = codes "grow"
 
--- every kind
+-- every kind (scaffolding)
 abbrev pub kinds : List Kind
 kinds =
     kind.Get ∷ kind.Put ∷ kind.WaitEmpty ∷ kind.WaitFull ∷ kind.Ended ∷ kind.Feed ∷ kind.Close ∷ kind.Take
     ∷ kind.Leave ∷ kind.Grow ∷ []
 
--- the kind with this word
+-- the kind with this word (scaffolding)
 unfoldable pub kind_named : (word : List ℕ) → Option Kind
 kind_named word = find (λ k. bytes_eq (kind_word k) word) kinds
 
@@ -83,7 +83,7 @@ line_of event = spaced (kind_word (kind_of event) ∷ parts_of event)
 
 -- ---- what a line spells
 
--- none of the bytes is this one
+-- none of the bytes is this one (scaffolding)
 abbrev pub LacksByte : (byte : ℕ) → (bytes : List ℕ) → Type 0
 LacksByte byte bytes = list_any (λ b. b == byte) bytes ≡ false
 

@@ -1,5 +1,5 @@
--- The bytes kept are what the reader has lost, and there is room for them within the limit.
--- Each turn takes at least one byte of that room.
+-- The bytes kept are what the reader has lost, and there is room for them within the limit. Each turn takes at least
+-- one byte of that room.
 use Rattle.std.proofs.Common.{◌-◌, ◌≤◌, vec_len}
 use Rattle.std.specs.Io.KnownBytes.{Consumes}
 use Rattle.kpn_items.proofs.input.read_up_to.Given as goal
