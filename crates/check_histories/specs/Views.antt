@@ -1,5 +1,6 @@
 -- Views of worked histories.
 use Rattle.std.specs.Prelude.{pos, false, true, List, [], ◌∷◌, Some, None}
+use Rattle.std.specs.declared.alloc.Global.{Global}
 use Rattle.kpn_trace.specs.declared.event.How.TheVariants as how
 use Rattle.kpn_trace.specs.declared.event.Event.{Event}
 use Rattle.kpn_trace.specs.declared.event.Event.TheVariants.{Feed, Close, Leave}
@@ -10,7 +11,7 @@ use Rattle.kpn_trace.specs.declared.state.View.{View}
 unfoldable pub fed_closed_left : List Event
 fed_closed_left = Feed 0 (pos 5) ∷ Close 0 ∷ Leave 1 ∷ []
 
-unfoldable pub fed_closed_left_view : View
+unfoldable pub fed_closed_left_view : View Global
 fed_closed_left_view = record {
   journals = (pos 5 ∷ []) ∷ [] ∷ [];
   read = 0 ∷ 0 ∷ [];
@@ -21,7 +22,7 @@ fed_closed_left_view = record {
 }
 
 -- two channels between two processes, where both wait and a growth is owed
-unfoldable pub two_waiting_view : View
+unfoldable pub two_waiting_view : View Global
 two_waiting_view = record {
   journals = (pos 1 ∷ []) ∷ [] ∷ [] ∷ [];
   read = 0 ∷ 0 ∷ 0 ∷ [];
@@ -32,7 +33,7 @@ two_waiting_view = record {
 }
 
 -- the same once the first channel has grown, with the waits from before
-unfoldable pub stale_waits_view : View
+unfoldable pub stale_waits_view : View Global
 stale_waits_view = record {
   journals = (pos 1 ∷ []) ∷ [] ∷ [] ∷ [];
   read = 0 ∷ 0 ∷ 0 ∷ [];
@@ -43,7 +44,7 @@ stale_waits_view = record {
 }
 
 -- the same with the writer woken, and the counts from before
-unfoldable pub stale_counts_view : View
+unfoldable pub stale_counts_view : View Global
 stale_counts_view = record {
   journals = (pos 1 ∷ []) ∷ [] ∷ [] ∷ [];
   read = 0 ∷ 0 ∷ 0 ∷ [];
@@ -54,7 +55,7 @@ stale_counts_view = record {
 }
 
 -- the same once both have ended
-unfoldable pub two_ended_view : View
+unfoldable pub two_ended_view : View Global
 two_ended_view = record {
   journals = (pos 1 ∷ pos 2 ∷ []) ∷ (pos 3 ∷ []) ∷ (pos 312 ∷ []) ∷ [];
   read = 2 ∷ 1 ∷ 1 ∷ [];

@@ -55,7 +55,7 @@ module _ (b : Book) (step : IsInStep b) where
   of_channels f g same =
       same_list f g (channel_numbers b.tables) (λ c h. same c (number_below (length b.tables.channels) c h))
 
-  pub Agrees-copied : (view : View)
+  pub Agrees-copied : {A : Type 0} (view : View A)
       → view.journals ≡ map (λ c. (channel_in b.configuration c).journal) (channel_numbers b.tables)
       → view.read ≡ map (λ c. (channel_in b.configuration c).read) (channel_numbers b.tables)
       → view.caps ≡ map (λ c. (channel_in b.configuration c).capacity) (channel_numbers b.tables)
@@ -86,7 +86,7 @@ module _ (b : Book) (step : IsInStep b) where
   }
 
   -- where it was copied
-  pub Agrees-if : {E : Type 0} (channels : ℕ) → channels ≡ length b.tables.channels → (copied : Result View E)
+  pub Agrees-if : {A E : Type 0} (channels : ℕ) → channels ≡ length b.tables.channels → (copied : Result (View A) E)
       → IfOk copied
       (λ view. view.journals ≡ map (λ c. (channel_in b.configuration c).journal) (range_with_len 0 channels))
       → IfOk copied (λ view. view.read ≡ map (λ c. (channel_in b.configuration c).read) (range_with_len 0 channels))

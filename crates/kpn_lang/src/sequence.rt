@@ -3,16 +3,16 @@ ghost use Rattle.std.specs.Prelude.{◌≡◌, ◌+◌, ◌^◌, ◌<◌, ◌↔
 ghost use Rattle.std.specs.Cmp.Lexicographic.{pointwise, lists_per, lists_equiv};
 ghost use Rattle.kpn_lang.specs.Run.{list_at};
 
-use std::alloc::{AllocFailed, Global};
+use std::alloc::{AllocFailed, Allocator, Global};
 use std::marker::Model;
 
 /// A list of items. It is made from a `Vec` and gives it back without taking memory.
 #[derive(Debug, Drop)]
-pub struct Sequence<T> {
-    items: Vec<T>,
+pub struct Sequence<T, A: Allocator = Global> {
+    items: Vec<T, A>,
 }
 
-impl<T> Model for Sequence<T> {
+impl<T, A: Allocator> Model for Sequence<T, A> {
     ghost use Rattle.std.specs.Prelude.{List};
 
     ghost Value = { List T };
@@ -21,7 +21,7 @@ impl<T> Model for Sequence<T> {
 }
 
 /// Lists are equal where they are as long and each pair of items is equal.
-impl<T: PartialEq> PartialEq for Sequence<T> {
+impl<T: PartialEq, A: Allocator> PartialEq for Sequence<T, A> {
     ghost eq = { pointwise T.eq };
 
     ghost laws = { lists_per T.laws };
@@ -31,13 +31,13 @@ impl<T: PartialEq> PartialEq for Sequence<T> {
     }
 }
 
-impl<T: Eq> Eq for Sequence<T> {
+impl<T: Eq, A: Allocator> Eq for Sequence<T, A> {
     ghost laws = { lists_equiv T.Eq.laws };
 }
 
-impl<T> Sequence<T> {
-    /// The empty list, which takes no memory yet.
-    pub fn new(alloc: Global) -> Self
+impl<T, A: Allocator> Sequence<T, A> {
+    /// The empty list, which takes no memory yet. The allocator is kept for its items.
+    pub fn new(alloc: A) -> Self
         ensures { result ≡ [] }
     {
         Sequence {
@@ -46,14 +46,14 @@ impl<T> Sequence<T> {
     }
 
     /// The items of a `Vec`, in its order.
-    pub fn from_vec(items: Vec<T>) -> Self
+    pub fn from_vec(items: Vec<T, A>) -> Self
         ensures { result ≡ items.items }
     {
         Sequence { items }
     }
 
     /// The `Vec` of the items.
-    pub fn into_vec(self) -> Vec<T>
+    pub fn into_vec(self) -> Vec<T, A>
         ensures { result.items ≡ self }
     {
         let Sequence { items } = self;

@@ -27,7 +27,7 @@ is_fed wholly journal list starts long =
     let begins = starts_prefix journal list starts in
     record { begins = begins; whole = λ is. same_from_prefix journal list begins (long is) }
 
-module _ (t : Tables) (lists : List (List ℤ)) (view : View) (wholly : Bool) where
+module _ {A : Type 0} (t : Tables) (lists : List (List ℤ)) (view : View A) (wholly : Bool) where
   pub none_fed : AreFedBelow t lists view wholly 0
   none_fed c below source = absurd (omega arith)
 

@@ -12,6 +12,7 @@ pub record IsFed (wholly : Bool) (journal list : List ℤ) : Type 0 where
   pub whole : wholly ≡ true → journal ≡ list
 
 -- the journal of each source with a number below k, as a view shows it, is such a beginning of its list
-abbrev pub AreFedBelow : Tables → (lists : List (List ℤ)) → View → (wholly : Bool) → (k : ℕ) → Type 0
+abbrev pub AreFedBelow : {A : Type 0} → Tables → (lists : List (List ℤ)) → View A → (wholly : Bool) → (k : ℕ)
+    → Type 0
 AreFedBelow t lists view wholly k = (c : ℕ) → c < k → is_source (channel_at t c) ≡ true
     → IsFed wholly (shown_on view c) (given_by t lists c)

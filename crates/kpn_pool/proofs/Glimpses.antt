@@ -35,18 +35,18 @@ source_there t c is =
     ]
 
 -- the journal that is shown is what was written
-shown-written : (t : Tables) (H : List Event) (view : View) → Agrees t H view → (c : ℕ) → c < length t.channels
-    → shown_on view c ≡ written_on H c
+shown-written : {A : Type 0} (t : Tables) (H : List Event) (view : View A) → Agrees t H view → (c : ℕ)
+    → c < length t.channels → shown_on view c ≡ written_on H c
 shown-written t H view agrees c there =
     ap (λ xs. get_or xs c []) agrees.journals
     ∙ get_or-map-range_with_len (written_on H) 0 (length t.channels) c c [] there (omega arith)
 
-shown_fed-source : (t : Tables) (view : View) (c : ℕ) → is_source (channel_at t c) ≡ true
+shown_fed-source : {A : Type 0} (t : Tables) (view : View A) (c : ℕ) → is_source (channel_at t c) ≡ true
     → shown_fed t view c ≡ shown_on view c
 shown_fed-source t view c source = ap (λ b. cond b (shown_on view c) []) source
 
 -- what is shown as fed was fed
-fed-shown : (t : Tables) (H : List Event) (view : View) → Agrees t H view
+fed-shown : {A : Type 0} (t : Tables) (H : List Event) (view : View A) → Agrees t H view
     → AgreeOnSources t (fed t H) (shown_fed t view)
 fed-shown t H view agrees =
     record {
@@ -63,7 +63,8 @@ at_rest t H p Ready is rest = absurd rest
 at_rest t H p Held is rest = absurd rest
 at_rest t H p (WaitsFull c) is rest = absurd rest
 
-quiet : (t : Tables) (H : List Event) (view : View) → Agrees t H view → All IsAtRest view.states → IsQuiet t H
+quiet : {A : Type 0} (t : Tables) (H : List Event) (view : View A) → Agrees t H view → All IsAtRest view.states
+    → IsQuiet t H
 quiet t H view agrees rest =
     record {
       each = λ p there.
@@ -71,7 +72,7 @@ quiet t H view agrees rest =
           (All-get_or IsAtRest view.states p Ready (let n = agrees.processes in omega arith) rest);
     }
 
-module _ (t : Tables) (network : IsNetwork t) (H : List Event) (legal : Legal t H) (view : View)
+module _ {A : Type 0} (t : Tables) (network : IsNetwork t) (H : List Event) (legal : Legal t H) (view : View A)
     (agrees : Agrees t H view) where
   pub shows : ShowsARun t view
   shows = record { history = H; legal = legal; agrees = agrees }
@@ -89,19 +90,19 @@ module _ (t : Tables) (network : IsNetwork t) (H : List Event) (legal : Legal t 
       (fed-shown t H view agrees) c)
 
 -- the journals that are shown are those of a book in which they are what was written
-pub shows_journals : (b : Book)
+pub shows_journals : {A : Type 0} (b : Book)
     → ((c : ℕ) → c < length b.tables.channels → (channel_in b.configuration c).journal ≡ written_on b.history c)
-    → (view : View) → Agrees b.tables b.history view → ShowsJournals b view
+    → (view : View A) → Agrees b.tables b.history view → ShowsJournals b view
 shows_journals b written view agrees c there =
     shown-written b.tables b.history view agrees c there ∙ sym (written c there)
 
 -- the same where the tables are those of a book
-pub below_of : (t : Tables) (b : Book) → b.tables ≡ t → IsNetwork b.tables → Legal b.tables b.history → (view : View)
-    → Agrees b.tables b.history view → IsBelowKahn t view
+pub below_of : {A : Type 0} (t : Tables) (b : Book) → b.tables ≡ t → IsNetwork b.tables → Legal b.tables b.history
+    → (view : View A) → Agrees b.tables b.history view → IsBelowKahn t view
 below_of t b same network legal view agrees =
     subst (λ u. IsBelowKahn u view) same (below b.tables network b.history legal view agrees)
 
-pub at_rest_of : (t : Tables) (b : Book) → b.tables ≡ t → IsNetwork b.tables → Legal b.tables b.history → (view : View)
-    → Agrees b.tables b.history view → IsKahnAtRest t view
+pub at_rest_of : {A : Type 0} (t : Tables) (b : Book) → b.tables ≡ t → IsNetwork b.tables → Legal b.tables b.history
+    → (view : View A) → Agrees b.tables b.history view → IsKahnAtRest t view
 at_rest_of t b same network legal view agrees =
     subst (λ u. IsKahnAtRest u view) same (at_rest_least b.tables network b.history legal view agrees)

@@ -46,7 +46,7 @@ numbers_at t H legal k (Some e) is =
 
 -- ---- what was read, by a view
 
-module _ (t : Tables) (H : List Event) (legal : Legal t H) (view : View) (agrees : Agrees t H view) where
+module _ {A : Type 0} (t : Tables) (H : List Event) (legal : Legal t H) (view : View A) (agrees : Agrees t H view) where
   pub journals_there : length view.journals ≡ length t.channels
   journals_there = ap length agrees.journals ∙ length-map-range_with_len (written_on H) 0 (length t.channels)
 

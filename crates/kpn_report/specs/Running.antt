@@ -107,11 +107,11 @@ pub record ComesToOutcome (limits : Limits) (outcome : Outcome) (before after : 
 -- ---- the report is written
 
 -- the first items of a journal in a view, as many as were read of it
-abbrev pub first_read : View → (c : ℕ) → List ℤ
+abbrev pub first_read : {A : Type 0} → View A → (c : ℕ) → List ℤ
 first_read view c = take (slice_index_or view.read c 0) (slice_index_or view.journals c [])
 
 -- no more of a journal in a view was read than was written
-abbrev pub ReadsWithin : View → (c : ℕ) → Type 0
+abbrev pub ReadsWithin : {A : Type 0} → View A → (c : ℕ) → Type 0
 ReadsWithin view c = slice_index_or view.read c 0 ≤ length (slice_index_or view.journals c [])
 
 -- the report tells this of the book

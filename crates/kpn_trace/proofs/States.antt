@@ -41,7 +41,7 @@ stopped_state t H p (Ended how) is = (λ e. inl (ended_by H p how is), λ stoppe
 
 -- ---- the states of a view
 
-pub stopped_states : (t : Tables) (H : List Event) (view : View) → Agrees t H view
+pub stopped_states : {A : Type 0} (t : Tables) (H : List Event) (view : View A) → Agrees t H view
     → HaveStopped t H ↔ ((p : ℕ) → p < length t.instances → is_stopped (get_or view.states p Ready) ≡ true)
 stopped_states t H view agrees = (
   λ stopped p below. (stopped_state t H p _ (agrees.states p below)).1 (stopped p below),
@@ -85,7 +85,7 @@ all_stopped (s ∷ xs) ready held (suc p) below =
     let h = sum_by-cons (λ x. cond (is_held x) 1 0) s xs in
     all_stopped xs (omega arith) (omega arith) p (omega arith)
 
-pub stopped_counts : (t : Tables) (H : List Event) (view : View) → Agrees t H view
+pub stopped_counts : {A : Type 0} (t : Tables) (H : List Event) (view : View A) → Agrees t H view
     → HaveStopped t H ↔ ((view.counts.ready ≡ 0) × (view.counts.held ≡ 0))
 stopped_counts t H view agrees =
     let exact = stopped_states t H view agrees in

@@ -59,7 +59,7 @@ pub record AreCounts (states : List State) (counts : Counts) : Type 0 where
   pub ended : counts.ended ≡ count_by is_ended states
 
 -- a view agrees with a history
-pub record Agrees (t : Tables) (H : List Event) (view : View) : Type 0 where
+pub record Agrees {A : Type 0} (t : Tables) (H : List Event) (view : View A) : Type 0 where
   pub journals : view.journals ≡ map (written_on H) (channel_numbers t)
   pub read : view.read ≡ map (λ c. length (read_on H c)) (channel_numbers t)
   pub caps : view.caps ≡ map (capacity_after t H) (channel_numbers t)

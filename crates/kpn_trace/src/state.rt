@@ -1,6 +1,7 @@
 //! What can be seen of a run at one moment.
 use crate::event::How;
 use kpn_lang::Sequence;
+use std::alloc::{Allocator, Global};
 
 /// Where a process stands in a run.
 #[derive(Clone, Copy, Debug, PartialEq, Eq)]
@@ -32,17 +33,17 @@ pub struct Counts {
 /// A run as it is seen at one moment: the first four lists have an entry for each channel, `states` has one for each
 /// process.
 #[derive(Debug, Drop)]
-pub struct View {
+pub struct View<A: Allocator = Global> {
     /// All items that were written on the channel, in order.
-    pub journals: Sequence<Sequence<i64>>,
+    pub journals: Sequence<Sequence<i64, A>, A>,
     /// How many of them were read.
-    pub read: Sequence<usize>,
+    pub read: Sequence<usize, A>,
     /// How many may lie unread; None for a source.
-    pub caps: Sequence<Option<u32>>,
+    pub caps: Sequence<Option<u32>, A>,
     /// Whether the reader has ended or left.
-    pub retired: Sequence<bool>,
+    pub retired: Sequence<bool, A>,
     /// Where each process stands.
-    pub states: Sequence<State>,
+    pub states: Sequence<State, A>,
     pub counts: Counts,
 }
 

@@ -9,15 +9,17 @@ ghost use Rattle.kpn_trace.specs.Legal.{Legal};
 ghost use Rattle.kpn_trace.specs.Ends.{HasStopped, HaveStopped};
 ghost use Rattle.kpn_trace.specs.Views.{IsStateOf, is_stopped, Agrees};
 
+use std::alloc::Allocator;
+
 /// A process has ended or is blocked exactly where its state says that it has ended or waits. Of a view that agrees
 /// with the history: all have, exactly where all of its states say so, and where none is counted as ready or held.
-pub fn stopped_processes()
+pub fn stopped_processes<A: Allocator>()
     ensures one { (t : Tables) (H : List Event) (p : ℕ) (state : State) → IsStateOf t H p state
         → ((is_stopped state ≡ true) ↔ HasStopped t H p) }
-    ensures all { (t : Tables) (H : List Event) (view : View) → Agrees t H view → (HaveStopped t H
+    ensures all { (t : Tables) (H : List Event) (view : View A) → Agrees t H view → (HaveStopped t H
         ↔ ((p : ℕ) → p < length t.instances
         → is_stopped (slice_index_or view.states p Ready) ≡ true)) }
-    ensures counted { (t : Tables) (H : List Event) (view : View) → Agrees t H view
+    ensures counted { (t : Tables) (H : List Event) (view : View A) → Agrees t H view
         → (HaveStopped t H ↔ ((view.counts.ready ≡ 0) × (view.counts.held ≡ 0))) }
 {}
 

@@ -2,10 +2,10 @@ use Rattle.kpn_trace.proofs.States.{stopped_state, stopped_states, stopped_count
 use Rattle.kpn_trace.proofs.state_laws.stopped_processes.Goals as goal
 
 pub returns-clause-one : goal.returns-clause-one
-returns-clause-one c = stopped_state
+returns-clause-one g c = stopped_state
 
 pub returns-clause-all : goal.returns-clause-all
-returns-clause-all c = stopped_states
+returns-clause-all g c = stopped_states
 
 pub returns-clause-counted : goal.returns-clause-counted
-returns-clause-counted c = stopped_counts
+returns-clause-counted g c = stopped_counts
