@@ -1,8 +1,8 @@
 //! Each call that can want memory, refused by a heap that is filled up, with the book as before, and then once more
-//! with room. A snapshot and a report ask `Global`, which no test can exhaust.
+//! with room. A report asks `Global`, which no test can exhaust.
 ghost use Rattle.std.specs.Prelude.{◌≡◌, IfSome, vec_len};
 
-use crate::outside::{Row, answers};
+use crate::outside::{Row, answers, shows};
 use crate::processes::claimed;
 use kpn_book::{Book, Done, Refused};
 use kpn_net::Network;
@@ -129,6 +129,21 @@ fn is_take_refused(heap: &LocalHeap, network: &Network) -> Result<bool, AllocErr
     Ok(is_put && is_refused_and_repeated(heap, &mut book, refused, repeated))
 }
 
+/// Whether a snapshot of a book with one item is refused while there is no memory, changes nothing, and then shows it.
+fn is_snapshot_refused(heap: &LocalHeap, network: &Network) -> Result<bool, AllocError> {
+    let mut book = Book::new(heap, network)?;
+    let is_fed = answers(&mut book, Row::Feed(0, 5, 9, Ok(())));
+    let before = extent(&book);
+    let Some(filling) = fill(heap) else {
+        return Ok(false);
+    };
+    let is_refused = book.snapshot(heap).is_err();
+    let is_same = extent(&book) == before;
+    filling.destroy_empty();
+    let view = book.snapshot(heap)?;
+    Ok(is_fed && is_refused && is_same && shows(&view, 5))
+}
+
 /// Whether a commit by which a capacity grows, the fourth event and the fifth, is so refused and repeated.
 fn is_growth_refused(heap: &LocalHeap, network: &Network) -> Result<bool, AllocError> {
     let mut book = Book::new(heap, network)?;
@@ -158,6 +173,15 @@ fn calls_of_the_outside_want_memory(rt: HostRuntime) -> Result<(), Fail> {
     assert_eq!(rt; first_wrong(&heap, copy.network())?, None);
     let is_take_so = is_take_refused(&heap, copy.network())?;
     assert!(rt; is_take_so);
+    Ok(())
+}
+
+#[test]
+fn a_snapshot_wants_memory(rt: HostRuntime) -> Result<(), Fail> {
+    let copy = read_network(rt.alloc(), COPY.as_bytes())?;
+    let heap = LocalHeap::new(rt.alloc(), 4_096)?;
+    let is_so = is_snapshot_refused(&heap, copy.network())?;
+    assert!(rt; is_so);
     Ok(())
 }
 

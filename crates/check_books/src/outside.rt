@@ -63,7 +63,7 @@ fn first_wrong(book: &mut Book, rows: &[Row]) -> Option<usize> {
 }
 
 /// Whether the source has this one item, the sink has none, and the process is ready.
-fn shows(view: &View, item: i64) -> bool {
+pub fn shows<A: Allocator>(view: &View<A>, item: i64) -> bool {
     let [source, sink] = view.journals.as_slice() else {
         return false;
     };

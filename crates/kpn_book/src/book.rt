@@ -140,8 +140,9 @@ impl<'n, A: Allocator> Book<'n, A> {
         self.pages.verdict()
     }
 
-    /// The run as it is seen at this moment. The error is that memory ran out.
-    pub fn snapshot(&self, alloc: Global) -> Result<View, AllocError>
+    /// The run as it is seen at this moment, in lists of an allocator that the caller names. The error is that memory
+    /// ran out.
+    pub fn snapshot<B: Allocator + Copy>(&self, alloc: B) -> Result<View<B>, AllocError>
         ensures agrees { IfOk result (λ view. Agrees self.now.tables self.now.history view) }
         ensures states { IfOk result (λ view. view.states ≡ self.now.schedule.states) }
     {

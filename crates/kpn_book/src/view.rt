@@ -15,21 +15,21 @@ use std::alloc::{AllocError, Allocator, Global};
 
 /// A view but for its journals.
 #[derive(Drop)]
-struct Rest {
-    read: Sequence<usize>,
-    caps: Sequence<Option<u32>>,
-    retired: Sequence<bool>,
-    states: Sequence<State>,
+struct Rest<B: Allocator> {
+    read: Sequence<usize, B>,
+    caps: Sequence<Option<u32>, B>,
+    retired: Sequence<bool, B>,
+    states: Sequence<State, B>,
     counts: Counts,
 }
 
 /// The view of a run with this many channels. The error is that memory ran out.
-pub(crate) fn view_of<A: Allocator>(
-    alloc: Global,
+pub(crate) fn view_of<A: Allocator, B: Allocator + Copy>(
+    alloc: B,
     channels: usize,
     configuration: &Configuration<A>,
     schedule: &Schedule<A>,
-) -> Result<View, AllocError>
+) -> Result<View<B>, AllocError>
     requires { channels ≡ length configuration.now.channels }
     ensures journals { let s = configuration.now in IfOk result (λ view.
         view.journals ≡ map (λ c. (channel_in s c).journal) (range_with_len 0 channels)) }
@@ -73,7 +73,7 @@ pub(crate) fn last_view(
 }
 
 /// The view of these parts.
-fn with_journals(journals: Sequence<Sequence<i64>>, rest: Rest) -> View
+fn with_journals<B: Allocator>(journals: Sequence<Sequence<i64, B>, B>, rest: Rest<B>) -> View<B>
     ensures journals { result.journals ≡ journals }
     ensures read { result.read ≡ rest.read }
     ensures caps { result.caps ≡ rest.caps }
@@ -99,12 +99,12 @@ fn with_journals(journals: Sequence<Sequence<i64>>, rest: Rest) -> View
 }
 
 /// What a view tells but for the journals.
-fn rest_of<A: Allocator>(
-    alloc: Global,
+fn rest_of<A: Allocator, B: Allocator + Copy>(
+    alloc: B,
     channels: usize,
     configuration: &Configuration<A>,
     schedule: &Schedule<A>,
-) -> Result<Rest, AllocError>
+) -> Result<Rest<B>, AllocError>
     requires { channels ≡ length configuration.now.channels }
     ensures read { let s = configuration.now in IfOk result (λ rest.
         rest.read ≡ map (λ c. (channel_in s c).read) (range_with_len 0 channels)) }
@@ -129,10 +129,10 @@ fn rest_of<A: Allocator>(
 }
 
 /// Puts a channel behind the others.
-fn add_channel<A: Allocator>(
+fn add_channel<A: Allocator, B: Allocator>(
     configuration: &Configuration<A>,
     c: usize,
-    rest: &mut Rest,
+    rest: &mut Rest<B>,
 ) -> Result<(), AllocError>
     requires { c < length configuration.now.channels }
     ensures read { let s = configuration.now in IfOk result (λ _.
@@ -152,11 +152,11 @@ fn add_channel<A: Allocator>(
 }
 
 /// The journals of so many channels, copied.
-fn copied_journals<A: Allocator>(
-    alloc: Global,
+fn copied_journals<A: Allocator, B: Allocator + Copy>(
+    alloc: B,
     channels: usize,
     configuration: &Configuration<A>,
-) -> Result<Sequence<Sequence<i64>>, AllocError>
+) -> Result<Sequence<Sequence<i64, B>, B>, AllocError>
     requires { channels ≡ length configuration.now.channels }
     ensures { let s = configuration.now in IfOk result (λ journals.
         journals ≡ map (λ c. (channel_in s c).journal) (range_with_len 0 channels)) }

@@ -109,7 +109,7 @@ impl<'n, J: Job, A: Allocator> Desk<'n, J, A> {
 
     /// The run as it is seen at this moment: each journal is a prefix of the least solution for what was fed, and is
     /// that solution where each process has ended or waits on an empty channel. The error is that memory ran out.
-    pub fn snapshot(&self, alloc: Global) -> Result<View, AllocError>
+    pub fn snapshot<B: Allocator + Copy>(&self, alloc: B) -> Result<View<B>, AllocError>
         ensures agrees { IfOk result (λ view.
             Agrees self.now.book.tables self.now.book.history view) }
         ensures states { IfOk result (λ view. view.states ≡ self.now.book.schedule.states) }

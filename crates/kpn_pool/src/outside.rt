@@ -9,7 +9,7 @@ use crate::ends::{SinkSeat, SourceSeat};
 use crate::job::Job;
 use crate::shared::Shared;
 use kpn_book::{Refused, View};
-use std::alloc::{AllocError, Allocator, Global};
+use std::alloc::{AllocError, Allocator};
 use std::sync::Wait;
 
 /// Why a seat is given no snapshot, with its number.
@@ -136,12 +136,12 @@ pub fn leave<J: Job, A: Allocator, B: Allocator, R: Wait>(
 /// The run as it is seen at one moment, with all that the seat has fed: a legal history of the run's network agrees
 /// with it; each journal is a prefix of the least solution for what was fed, and is that solution where each process
 /// has ended or waits on an empty channel.
-pub fn snapshot<J: Job, A: Allocator, B: Allocator, R: Wait>(
+pub fn snapshot<J: Job, A: Allocator, B: Allocator, C: Allocator + Copy, R: Wait>(
     rt: &R,
-    alloc: Global,
+    alloc: C,
     shared: &Shared<'_, J, A>,
     seat: &SourceSeat<B>,
-) -> Result<View, SnapFault>
+) -> Result<View<C>, SnapFault>
     ensures run { IfOk result (λ view. ShowsARun J.network view) }
     ensures below { IfOk result (λ view. IsBelowKahn J.network view) }
     ensures quiet { IfOk result (λ view. IsKahnAtRest J.network view) }

@@ -111,7 +111,7 @@ impl<'n, J: Job, A: Allocator> Shared<'n, J, A> {
     /// The run as it is seen at one moment, or `None` where the lock is taken: a legal history of the network that was
     /// handed to `new` agrees with it; each journal is a prefix of the least solution for what was fed, and is that
     /// solution where each process has ended or waits on an empty channel. The error is that memory ran out.
-    pub fn try_snapshot(&self, alloc: Global) -> Result<Option<View>, AllocError>
+    pub fn try_snapshot<B: Allocator + Copy>(&self, alloc: B) -> Result<Option<View<B>>, AllocError>
         ensures run { IfOk result (λ found. IfSome found (λ view. ShowsARun J.network view)) }
         ensures below { IfOk result (λ found.
             IfSome found (λ view. IsBelowKahn J.network view)) }

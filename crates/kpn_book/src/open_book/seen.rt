@@ -79,7 +79,7 @@ impl<'n, A: Allocator> OpenBook<'n, A> {
     }
 
     /// The run as it is seen at this moment. The error is that memory ran out.
-    pub(crate) fn snapshot(&self, alloc: Global) -> Result<View, AllocError>
+    pub(crate) fn snapshot<B: Allocator + Copy>(&self, alloc: B) -> Result<View<B>, AllocError>
         requires { IsKept self.now.book }
         ensures agrees { IfOk result (λ view.
             Agrees self.now.book.tables self.now.book.history view) }
@@ -89,7 +89,7 @@ impl<'n, A: Allocator> OpenBook<'n, A> {
     }
 
     /// The lists of so many channels, the states of the processes and their counts, copied.
-    fn copy(&self, alloc: Global, channels: usize) -> Result<View, AllocError>
+    fn copy<B: Allocator + Copy>(&self, alloc: B, channels: usize) -> Result<View<B>, AllocError>
         requires { channels ≡ length self.now.book.configuration.channels }
         ensures journals { let s = self.now.book.configuration in IfOk result (λ view.
             view.journals ≡ map (λ c. (channel_in s c).journal) (range_with_len 0 channels)) }

@@ -16,7 +16,7 @@ use crate::outside::SnapFault;
 use kpn_book::{Refused, View};
 use kpn_net::End;
 use kpn_net::laws::one_writer_and_one_reader;
-use std::alloc::{Allocator, Global};
+use std::alloc::Allocator;
 
 impl<'n, J: Job, A: Allocator> Desk<'n, J, A> {
     /// Puts an item on a source that is not closed and on which fewer items than the bound are unread, or whose reader
@@ -113,12 +113,12 @@ impl<'n, J: Job, A: Allocator> Desk<'n, J, A> {
 
     /// The run as `snapshot` shows it, for who has fed these items to a source. Whether they begin its journal is
     /// looked at first, and takes no memory.
-    pub(crate) fn snapshot_of_feeder(
+    pub(crate) fn snapshot_of_feeder<B: Allocator + Copy>(
         &self,
-        alloc: Global,
+        alloc: B,
         source: usize,
         fed: &[i64],
-    ) -> Result<View, SnapFault>
+    ) -> Result<View<B>, SnapFault>
         ensures run { IfOk result (λ view. ShowsARun J.network view) }
         ensures below { IfOk result (λ view. IsBelowKahn J.network view) }
         ensures quiet { IfOk result (λ view. IsKahnAtRest J.network view) }
