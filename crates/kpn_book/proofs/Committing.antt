@@ -57,10 +57,6 @@ module _ (s : Stop) (b o : Book) (but : is_but_reserved s b o) where
   pub kept_reserved : IsKept b → IsKept o
   kept_reserved kept = by_cases IsKept kept (kept_reserved_on b kept)
 
-  pub held_reserved : (p : ℕ) → IsHeld b p → IsHeld o p
-  held_reserved p held =
-      by_cases (λ x. IsHeld x p) held (λ c below. record { there = held.there; held = held.held })
-
   pub tables_reserved : o.tables ≡ b.tables
   tables_reserved = by_cases (λ x. x.tables ≡ b.tables) refl (λ c below. refl)
 
@@ -228,13 +224,6 @@ source_below t c is =
     elim (cases_lt c (length t.channels)) [
       | inl below ↦ below
       | inr past ↦ absurd (false≢true (sym (ap is_source (get_or_past t.channels c _ past)) ∙ is))
-    ]
-
-pub sink_below : (t : Tables) (c : ℕ) → is_sink (channel_at t c) ≡ true → c < length t.channels
-sink_below t c is =
-    elim (cases_lt c (length t.channels)) [
-      | inl below ↦ below
-      | inr past ↦ absurd (false≢true (sym (ap is_sink (get_or_past t.channels c _ past)) ∙ is))
     ]
 
 -- ---- a commit, call by call

@@ -13,12 +13,27 @@ use Rattle.kpn_net.specs.Tables.{Tables}
 use Rattle.kpn_net.proofs.Networks.{sizes}
 use Rattle.kpn_schedule.specs.Schedule.{Schedule, state_at}
 use Rattle.kpn_book.specs.Book.{Book, IsHeld}
-use Rattle.kpn_book.specs.Appending.{own_part, woken_by}
+use Rattle.kpn_book.specs.Appending.{own_part, woken_by, schedule_after}
 use Rattle.kpn_book.specs.Kept.{IsStateBy, IsInStep}
-use Rattle.kpn_book.specs.Open.{Open, MayBeReady, Follows, of_process, next_book, on_book, with_configuration, with_event, with_schedule, made_ready_in}
+use Rattle.kpn_book.specs.Open.{Open, MayBeReady, Follows, of_process, on_book, with_configuration, with_event, made_ready_in}
 use Rattle.kpn_book.proofs.Woken.{EndsThere, woken_distinct}
 use Rattle.kpn_book.proofs.InStep.{woken_may_be_ready, woken_not_held, agree_after, length_after}
 use Rattle.kpn_book.proofs.Counting.{held_as_before, held_own}
+
+-- the book once the event has made this configuration
+abbrev pub next_book : Event → Configuration → Book → Book
+next_book e configuration b =
+    record {
+      tables = b.tables;
+      history = b.history ++ e ∷ [];
+      configuration = configuration;
+      schedule = schedule_after b.tables b.configuration.waits e b.schedule;
+      commits = b.commits;
+    }
+
+-- the book with another schedule
+abbrev pub with_schedule : Schedule → Book → Book
+with_schedule schedule b = record b { schedule = schedule }
 
 -- the process of an event is held
 pub own_held : (b : Book) (p : ℕ) → IsHeld b p → (q : ℕ) → eqb p q ≡ true → IsHeld b q

@@ -27,21 +27,6 @@ fed b o a c v bound source not_closed below there is follows = record {
       (subst (λ x. Appends (event.Feed c v) x a) is follows.appends);
 }
 
-pub closed_now : (b o a : Book) (c : ℕ) → is_source (channel_at b.tables c) ≡ true
-    → closed_in b.configuration c ≡ false → o ≡ b → Follows (event.Close c) o a → Closes c b a
-closed_now b o a c source not_closed is follows = record {
-  source = source;
-  closes =
-      subst (λ x. closes_by x c b a) (sym not_closed) (subst (λ x. Appends (event.Close c) x a) is follows.appends);
-}
-
-pub closed_before : (b : Book) (c : ℕ) → is_source (channel_at b.tables c) ≡ true
-    → closed_in b.configuration c ≡ true → Closes c b b
-closed_before b c source is_closed = record {
-  source = source;
-  closes = subst (λ x. closes_by x c b b) (sym is_closed) refl;
-}
-
 pub taken : (b o a : Book) (c : ℕ) (v : ℤ) → is_sink (channel_at b.tables c) ≡ true
     → (channel_in b.configuration c).is_retired ≡ false → o ≡ b
     → next_item (channel_in o.configuration c) ≡ Some v → Follows (event.Take c v) o a → Takes c (Some v) b a
@@ -51,21 +36,6 @@ taken b o a c v sink not_left is item follows = record {
     subst (λ x. next_item (channel_in x.configuration c) ≡ Some v) is item,
     subst (λ x. Appends (event.Take c v) x a) is follows.appends,
   );
-}
-
-pub left_now : (b o a : Book) (c : ℕ) → is_sink (channel_at b.tables c) ≡ true
-    → (channel_in b.configuration c).is_retired ≡ false → o ≡ b → Follows (event.Leave c) o a → Leaves c b a
-left_now b o a c sink not_left is follows = record {
-  sink = sink;
-  leaves =
-      subst (λ x. leaves_by x c b a) (sym not_left) (subst (λ x. Appends (event.Leave c) x a) is follows.appends);
-}
-
-pub left_before : (b : Book) (c : ℕ) → is_sink (channel_at b.tables c) ≡ true
-    → (channel_in b.configuration c).is_retired ≡ true → Leaves c b b
-left_before b c sink is_left = record {
-  sink = sink;
-  leaves = subst (λ x. leaves_by x c b b) (sym is_left) refl;
 }
 
 -- the outside reads a channel exactly where it is a sink

@@ -6,7 +6,7 @@ use Rattle.kpn_book.specs.declared.answers.Refused.{Refused}
 use Rattle.kpn_book.specs.declared.answers.Refused.TheVariants.{NoMemory}
 use Rattle.kpn_book.specs.Book.{Book, IsHeld, put_back}
 use Rattle.kpn_book.specs.Commits.{Commits}
-use Rattle.kpn_book.specs.Refusals.{RefusesCommit, RefusesPutBack, MayFeed, RefusesFeed, RefusesClose, RefusesTake, RefusesLeave, Feeds, Closes, Takes, Leaves}
+use Rattle.kpn_book.specs.Refusals.{RefusesCommit, RefusesPutBack, AcceptsItem, RefusesFeed, RefusesClose, RefusesTake, RefusesLeave, Feeds, Closes, Takes, Leaves}
 use Rattle.kpn_book.specs.Stepping.{IsStep, StepsInVain}
 use Rattle.kpn_book.specs.Open.{commits_by, puts_back_by, steps_by, has_feed_fault, feeds_by, closes_source_by, takes_by, leaves_sink_by}
 
@@ -35,7 +35,7 @@ feed_fault-lasts c item bound b (Some cause) is = is.1
 feed_fault-lasts c item bound b None is = tt
 
 pub feed_fault-none : (c : ℕ) (item : ℤ) (bound : ℕ) (b : Book) (r : Option Refused)
-    → has_feed_fault c item bound r b → IfNone r (MayFeed c bound b)
+    → has_feed_fault c item bound r b → IfNone r (AcceptsItem c bound b)
 feed_fault-none c item bound b (Some cause) is = tt
 feed_fault-none c item bound b None is = is
 

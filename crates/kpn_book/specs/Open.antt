@@ -17,9 +17,9 @@ use Rattle.kpn_schedule.specs.Schedule.{Schedule, state_at, with_state}
 use Rattle.kpn_book.specs.declared.answers.Done.{Done}
 use Rattle.kpn_book.specs.declared.answers.Done.TheVariants as done
 use Rattle.kpn_book.specs.Book.{Book, IsHeld, IsClaimed, held_count, put_back}
-use Rattle.kpn_book.specs.Appending.{Appends, AppendsAll, all_made_ready, schedule_after}
+use Rattle.kpn_book.specs.Appending.{Appends, AppendsAll, all_made_ready}
 use Rattle.kpn_book.specs.Commits.{IsWriteTo, IsAnswer, ready_if_paused, Commits}
-use Rattle.kpn_book.specs.Refusals.{RefusesCommit, RefusesPutBack, MayFeed, RefusesFeed, RefusesClose, RefusesTake, RefusesLeave, Feeds, Closes, Takes, Leaves}
+use Rattle.kpn_book.specs.Refusals.{RefusesCommit, RefusesPutBack, AcceptsItem, RefusesFeed, RefusesClose, RefusesTake, RefusesLeave, Feeds, Closes, Takes, Leaves}
 use Rattle.kpn_book.specs.Stepping.{ClaimsNobody, IsStep, StepsInVain}
 use Rattle.kpn_book.specs.declared.answers.Refused.{Refused}
 use Rattle.kpn_book.specs.declared.answers.Refused.TheVariants.{NoMemory}
@@ -42,9 +42,6 @@ with_event e b = record b { history = b.history ++ e ∷ [] }
 abbrev pub with_configuration : Configuration → Book → Book
 with_configuration configuration b = record b { configuration = configuration }
 
-abbrev pub with_schedule : Schedule → Book → Book
-with_schedule schedule b = record b { schedule = schedule }
-
 abbrev pub in_state : (p : ℕ) → State → Book → Book
 in_state p state b = record b { schedule = with_state p state b.schedule }
 
@@ -62,17 +59,6 @@ reserved_on c b =
 pub record MayBeReady (s : Schedule) (ps : List ℕ) : Type 0 where
   pub once : AreDistinct ps
   pub each : (p : ℕ) → Contains ps p → (p < length s.states) × (is_ready (state_at s.states p) ≡ false)
-
--- the book once the event has made this configuration
-abbrev pub next_book : Event → Configuration → Book → Book
-next_book e configuration b =
-    record {
-      tables = b.tables;
-      history = b.history ++ e ∷ [];
-      configuration = configuration;
-      schedule = schedule_after b.tables b.configuration.waits e b.schedule;
-      commits = b.commits;
-    }
 
 -- 1 for an event of a process, else 0
 abbrev pub of_process : Event → ℕ
@@ -154,7 +140,7 @@ steps_by quota (Err _) before after = StepsInVain quota before after
 
 abbrev pub has_feed_fault : (c : ℕ) → (item : ℤ) → (bound : ℕ) → Option Refused → Book → Type 0
 has_feed_fault c item bound (Some cause) b = RefusesFeed c item bound b cause × (cause ≢ NoMemory)
-has_feed_fault c item bound None b = MayFeed c bound b
+has_feed_fault c item bound None b = AcceptsItem c bound b
 
 abbrev pub feeds_by : {T : Type 0} → (c : ℕ) → (item : ℤ) → (bound : ℕ) → Result T Refused → (before after : Book)
     → Type 0

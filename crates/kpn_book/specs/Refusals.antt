@@ -37,8 +37,8 @@ pub record IsAtBound (channel : ChannelState) (bound : ℕ) : Type 0 where
   pub reached : bound ≤ length (unread channel)
 
 -- an open source whose bound is not reached: it is fed where there is memory
-abbrev pub MayFeed : (c : ℕ) → (bound : ℕ) → Book → Type 0
-MayFeed c bound b = IsOpenSource b c × (¬ IsAtBound (channel_in b.configuration c) bound)
+abbrev pub AcceptsItem : (c : ℕ) → (bound : ℕ) → Book → Type 0
+AcceptsItem c bound b = IsOpenSource b c × (¬ IsAtBound (channel_in b.configuration c) bound)
 
 -- feeding a source: there is none with this number, it is closed, its bound is reached, or memory is wanted
 abbrev pub RefusesFeed : (c : ℕ) → (item : ℤ) → (bound : ℕ) → Book → Refused → Type 0
@@ -47,7 +47,7 @@ RefusesFeed c item bound b SourceClosed =
     (is_source (channel_at b.tables c) ≡ true) × (closed_in b.configuration c ≡ true)
 RefusesFeed c item bound b (Full v) =
     IsOpenSource b c × IsAtBound (channel_in b.configuration c) bound × (v ≡ item)
-RefusesFeed c item bound b NoMemory = MayFeed c bound b
+RefusesFeed c item bound b NoMemory = AcceptsItem c bound b
 RefusesFeed c item bound b other = ⊥
 
 -- closing a source: there is none with this number, or memory is wanted, which is so only where it is open

@@ -11,14 +11,13 @@ use Rattle.kpn_report.specs.declared.outcome.Limits.{Limits}
 use Rattle.kpn_report.specs.declared.outcome.Outcome.{Outcome}
 use Rattle.kpn_report.specs.declared.report.Report.{Report}
 use Rattle.kpn_report.specs.Outcomes.{IsOutcome, verdict_of}
-use Rattle.kpn_report.specs.Reports.{events_of, IsReport}
-use Rattle.kpn_report.specs.Running.{Tells}
+use Rattle.kpn_report.specs.Reports.{events_of, IsWrittenFrom, IsReport}
 use Rattle.kpn_report.proofs.Ends.{source_there}
 use Rattle.kpn_report.proofs.Told.{journals_there, told_legal, told_view, IsReport-of}
 use Rattle.kpn_parallel.specs.Fed.{IsFed, AreFedBelow}
 
 module _ (t : Tables) (b : Book) (tables : b.tables ≡ t) (book : IsBook b) (outcome : Outcome) (report : Report)
-    (tells : Tells b outcome report) where
+    (tells : IsWrittenFrom b outcome report) where
   pub journals_shown : length report.view.journals ≡ length t.channels
   journals_shown =
       journals_there t (events_of report) (told_legal t b tables book outcome report tells) report.view

@@ -7,7 +7,7 @@ use Rattle.kpn_net.specs.Tables.{Tables, channel_at, is_source, is_sink}
 use Rattle.kpn_book.specs.Book.{Book}
 use Rattle.kpn_book.specs.declared.answers.Refused.{Refused}
 use Rattle.kpn_book.specs.declared.answers.Refused.TheVariants.{NotHeld, Stranger, NoMemory, NoSuchEnd, SourceClosed, Full, SinkLeft}
-use Rattle.kpn_book.specs.Refusals.{MayFeed, RefusesFeed, RefusesClose, RefusesTake, RefusesLeave, Feeds, Closes, Takes, Leaves, closes_by, takes_item, leaves_by}
+use Rattle.kpn_book.specs.Refusals.{AcceptsItem, RefusesFeed, RefusesClose, RefusesTake, RefusesLeave, Feeds, Closes, Takes, Leaves, closes_by, takes_item, leaves_by}
 use Rattle.kpn_pool.specs.Ends.{EndSeat, with_taken, MayRefuseFeed, MayRefuseEnd, MayRefuseTake}
 
 -- the network and the number of commits are the same
@@ -51,8 +51,8 @@ module _ (t : Tables) (b : Book) (same : b.tables ≡ t) (c : ℕ) where
       → is_source (channel_at t c) ≡ true
   fed_source item bound after h = there is_source true h.source.source
 
-  pub may_feed_source : (bound : ℕ) → MayFeed c bound b → is_source (channel_at t c) ≡ true
-  may_feed_source bound h = there is_source true h.0.source
+  pub accepting_source : (bound : ℕ) → AcceptsItem c bound b → is_source (channel_at t c) ≡ true
+  accepting_source bound h = there is_source true h.0.source
 
   pub closed_source : (after : Book) → Closes c b after → is_source (channel_at t c) ≡ true
   closed_source after h = there is_source true h.source

@@ -244,17 +244,6 @@ module _ (before now : Book) (p c : ℕ) (v : ℤ) (put : now.history ≡ before
   put_read : (d : ℕ) → read_on now.history d ≡ read_on before.history d
   put_read d = ap (λ H. read_on H d) put ∙ read_on-same before.history (event.Put p c v) d refl
 
-  -- on no sink
-  pub put_on_no_sink : is_sink (channel_at before.tables c) ≡ false → KeepsSinks before now
-  put_on_no_sink none = record {
-    written = λ d sink.
-        put_elsewhere d
-        (λ same.
-        both_ways (is_sink (channel_at before.tables c)) none
-        (subst (λ x. is_sink (channel_at before.tables x) ≡ true) (sym same) sink));
-    read = λ d sink. put_read d;
-  }
-
 -- what was put on a sink was taken
 pub record IsTaken (before after : Book) (c : ℕ) : Type 0 where
   pub tables : after.tables ≡ before.tables
@@ -379,13 +368,6 @@ sink_is t p c v sink = by (is_sink (channel_at t c))
     by true e = cc
     by false e = absurd cc
 
-no_sink_is : (t : Tables) (p c : ℕ) (v : ℤ) → None ≡ sink_of t (event.Put p c v) → is_sink (channel_at t c) ≡ false
-no_sink_is t p c v = by (is_sink (channel_at t c))
-  where
-    by : (b : Bool) → None ≡ cond b (Some c) None → b ≡ false
-    by true e = absurd cc
-    by false e = refl
-
 module _ (limits : Limits) (before now : Book) (left : IsLeftToItself before) (committed : IsCommitted before now)
     (put : HasPut before now) (few : IsEnough before.tables before.history limits.take → ⊥) (last : Event)
     (is_last : (B : List Event) (e : Event) → now.history ≡ B ++ e ∷ [] → Some last ≡ Some e) where
@@ -393,13 +375,6 @@ module _ (limits : Limits) (before now : Book) (left : IsLeftToItself before) (c
   last_is =
       let same : Some last ≡ Some (event.Put put.process put.channel put.item) =
       is_last before.history (event.Put put.process put.channel put.item) put.history in cc
-
-  pub put_elsewhere_stepped : None ≡ sink_of now.tables last → IsStepped limits false before now
-  put_elsewhere_stepped none =
-      let is = no_sink_is now.tables put.process put.channel put.item (none ∙ ap (sink_of now.tables) last_is) in
-      not_put limits before now left committed
-      (put_on_no_sink before now put.process put.channel put.item put.history
-      (subst (λ t. is_sink (channel_at t put.channel) ≡ false) committed.later.tables is)) few
 
   pub put_taken_stepped : (sink : ℕ) → Some sink ≡ sink_of now.tables last → IsBook now → (item : Option ℤ)
       (after : Book) → Takes sink item now after → (enough : Bool)

@@ -23,15 +23,6 @@ use Rattle.kpn_report.proofs.Held.{held_after_feed}
 
 -- ---- one source
 
-pub IsSupplied-none : (c : ℕ) (b : Book) → IsSupplied c [] b b
-IsSupplied-none c b = record {
-  tables = refl;
-  held = refl;
-  here = sym (append-nil (written_on b.history c));
-  elsewhere = λ d other. refl;
-  closed = λ d closed. closed;
-}
-
 pub IsSupplied-fed : (c : ℕ) (items : List ℤ) (item : ℤ) (bound : ℕ) (before between after : Book) → IsBook between
     → IsSupplied c items before between → Feeds c item bound between after
     → IsSupplied c (items ++ item ∷ []) before after

@@ -24,8 +24,8 @@ use Rattle.kpn_report.specs.declared.outcome.Limits.{Limits}
 use Rattle.kpn_report.specs.declared.outcome.Outcome.{Outcome}
 use Rattle.kpn_report.specs.declared.report.Report.{Report}
 use Rattle.kpn_report.specs.Outcomes.{IsOutcome, verdict_of}
-use Rattle.kpn_report.specs.Reports.{events_of, read_of_sinks, IsReport, sink_numbers}
-use Rattle.kpn_report.specs.Running.{IsFedBelow, ComesToOutcome, Tells, first_read, ReadsWithin}
+use Rattle.kpn_report.specs.Reports.{events_of, read_of_sinks, IsWrittenFrom, IsReport, sink_numbers}
+use Rattle.kpn_report.specs.Running.{IsFedBelow, ComesToOutcome, first_read, ReadsWithin}
 use Rattle.kpn_report.proofs.Ends.{source_there, closed_stays}
 use Rattle.kpn_report.proofs.Parts.{map-agree, sink_below}
 
@@ -85,7 +85,7 @@ module _ {A : Type 0} (t : Tables) (H : List Event) (legal : Legal t H) (view : 
 -- what is told of a book in which nobody is held, and which has come to an outcome, is what a report promises, where
 -- the sources were fed as it is promised
 module _ (t : Tables) (b : Book) (tables : b.tables ≡ t) (book : IsBook b) (outcome : Outcome) (report : Report)
-    (tells : Tells b outcome report) where
+    (tells : IsWrittenFrom b outcome report) where
   same : b.history ≡ events_of report
   same = sym tells.history
 
@@ -135,7 +135,7 @@ module _ (t : Tables) (network : IsNetwork t) (lists : List (List ℤ)) (limits 
       (sources.closed c there source)
       ∙ sources.fed c there source
 
-  pub IsReport-told : (report : Report) → Tells after outcome report → IsReport t lists limits report
+  pub IsReport-told : (report : Report) → IsWrittenFrom after outcome report → IsReport t lists limits report
   IsReport-told report tells =
       let whole : (c : ℕ) → is_source (channel_at t c) ≡ true
       → written_on (events_of report) c ≡ given_by t lists c =

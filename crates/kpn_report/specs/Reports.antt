@@ -11,7 +11,9 @@ use Rattle.kpn_trace.specs.Channels.{written_on, read_on}
 use Rattle.kpn_trace.specs.Legal.{Legal}
 use Rattle.kpn_trace.specs.Stops.{OwesNothing}
 use Rattle.kpn_trace.specs.Views.{Agrees}
+use Rattle.kpn_book.specs.Book.{Book}
 use Rattle.kpn_report.specs.declared.outcome.Limits.{Limits}
+use Rattle.kpn_report.specs.declared.outcome.Outcome.{Outcome}
 use Rattle.kpn_report.specs.declared.report.Report.{Report}
 use Rattle.kpn_report.specs.Outcomes.{IsOutcome, verdict_of}
 
@@ -38,6 +40,17 @@ sink_numbers t = filter (λ c. is_sink (channel_at t c)) (channel_numbers t)
 -- what was read of each sink
 abbrev pub read_of_sinks : Tables → List Event → List (List ℤ)
 read_of_sinks t H = map (read_on H) (sink_numbers t)
+
+-- ---- how it is written
+
+-- the report is written from this book, whose run has come to this outcome
+pub record IsWrittenFrom (b : Book) (outcome : Outcome) (report : Report) : Type 0 where
+  pub is : report.outcome ≡ outcome
+  pub history : events_of report ≡ b.history
+  pub commits : report.commits ≡ b.commits
+  pub view : Agrees b.tables b.history report.view
+  pub states : report.view.states ≡ b.schedule.states
+  pub taken : report.taken ≡ read_of_sinks b.tables b.history
 
 -- ---- what it promises
 

@@ -7,15 +7,12 @@ use Rattle.kpn_trace.specs.declared.event.Event.{Event}
 use Rattle.kpn_trace.specs.declared.event.Event.TheVariants as event
 use Rattle.kpn_trace.specs.declared.state.View.{View}
 use Rattle.kpn_trace.specs.Channels.{written_on, read_on, is_closed}
-use Rattle.kpn_trace.specs.Views.{Agrees}
 use Rattle.kpn_book.specs.declared.answers.Done.{Done}
 use Rattle.kpn_book.specs.declared.answers.Done.TheVariants as done
 use Rattle.kpn_book.specs.Book.{Book, held_count}
 use Rattle.kpn_report.specs.declared.outcome.Limits.{Limits}
 use Rattle.kpn_report.specs.declared.outcome.Outcome.{Outcome}
-use Rattle.kpn_report.specs.declared.report.Report.{Report}
 use Rattle.kpn_report.specs.Outcomes.{IsEnough, IsOutcome}
-use Rattle.kpn_report.specs.Reports.{events_of, read_of_sinks}
 
 -- ---- the sources are fed
 
@@ -113,12 +110,3 @@ first_read view c = take (slice_index_or view.read c 0) (slice_index_or view.jou
 -- no more of a journal in a view was read than was written
 abbrev pub ReadsWithin : {A : Type 0} → View A → (c : ℕ) → Type 0
 ReadsWithin view c = slice_index_or view.read c 0 ≤ length (slice_index_or view.journals c [])
-
--- the report tells this of the book
-pub record Tells (b : Book) (outcome : Outcome) (report : Report) : Type 0 where
-  pub is : report.outcome ≡ outcome
-  pub history : events_of report ≡ b.history
-  pub commits : report.commits ≡ b.commits
-  pub view : Agrees b.tables b.history report.view
-  pub states : report.view.states ≡ b.schedule.states
-  pub taken : report.taken ≡ read_of_sinks b.tables b.history

@@ -4,8 +4,8 @@ ghost use Rattle.kpn_net.specs.Tables.{channel_at, is_sink};
 ghost use Rattle.kpn_trace.specs.declared.event.Event.{Event};
 ghost use Rattle.kpn_trace.specs.Legal.{Legal};
 ghost use Rattle.kpn_trace.specs.Views.{Agrees};
-ghost use Rattle.kpn_report.specs.Reports.{read_of_sinks};
-ghost use Rattle.kpn_report.specs.Running.{Tells, ReadsWithin, first_read};
+ghost use Rattle.kpn_report.specs.Reports.{read_of_sinks, IsWrittenFrom};
+ghost use Rattle.kpn_report.specs.Running.{ReadsWithin, first_read};
 
 use crate::outcome::Outcome;
 use crate::report::Report;
@@ -18,7 +18,7 @@ use std::alloc::{AllocError, Global};
 
 /// The report of a run that has come to this outcome. The error is that memory ran out.
 pub fn report_of(alloc: Global, book: Book<'_>, outcome: Outcome) -> Result<Report, AllocError>
-    ensures { IfOk result (λ report. Tells book.entry outcome report) }
+    ensures { IfOk result (λ report. IsWrittenFrom book.entry outcome report) }
 {
     book.known();
     let network = book.network();

@@ -13,13 +13,6 @@ use Rattle.kpn_schedule.specs.Schedule.{HaveStopped}
 
 -- ---- one count
 
-replaced : (new old : Bool) (n m : ℕ) → m + cond old 1 0 ≡ n + cond new 1 0 → cond old 1 0 ≤ n
-    → one_more_if new (one_less_if old n) ≡ m
-replaced true true n m e some = omega arith
-replaced true false n m e some = omega arith
-replaced false true n m e some = omega arith
-replaced false false n m e some = omega arith
-
 pub count_set : (f : State → Bool) (xs : List State) (i : ℕ) (y : State) → i < length xs
     → count_by f (set xs i y) + cond (f (get_or xs i Ready)) 1 0 ≡ count_by f xs + cond (f y) 1 0
 count_set f xs i y there = sum_by-set (λ x. cond (f x) 1 0) xs i y Ready there
@@ -28,24 +21,7 @@ pub count_some : (f : State → Bool) (xs : List State) (i : ℕ) → i < length
     → cond (f (get_or xs i Ready)) 1 0 ≤ count_by f xs
 count_some f xs i there = get_or-le-sum_by (λ x. cond (f x) 1 0) xs i Ready there
 
-count_then : (f : State → Bool) (xs : List State) (i : ℕ) (y : State) → i < length xs → (n : ℕ)
-    → n ≡ count_by f xs → one_more_if (f y) (one_less_if (f (get_or xs i Ready)) n) ≡ count_by f (set xs i y)
-count_then f xs i y there n is =
-    let moved = count_set f xs i y there in
-    let some = count_some f xs i there in
-    replaced (f y) (f (get_or xs i Ready)) n (count_by f (set xs i y)) (omega arith) (omega arith)
-
 -- ---- all counts
-
-pub AreCounts-set : (xs : List State) (counts : Counts) → AreCounts xs counts → (i : ℕ) (y : State) → i < length xs
-    → AreCounts (set xs i y) (one_more y (one_less (get_or xs i Ready) counts))
-AreCounts-set xs counts are i y there = record {
-  ready = count_then is_ready xs i y there counts.ready are.ready;
-  held = count_then is_held xs i y there counts.held are.held;
-  empty = count_then waits_empty xs i y there counts.empty are.empty;
-  full = count_then waits_full xs i y there counts.full are.full;
-  ended = count_then is_ended xs i y there counts.ended are.ended;
-}
 
 pub AreCounts-ready : (n : ℕ)
     → AreCounts (replicate n Ready) (record { ready = n; held = 0; empty = 0; full = 0; ended = 0 })

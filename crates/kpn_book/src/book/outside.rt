@@ -1,7 +1,7 @@
 //! The calls of the outside: it feeds sources and closes them, takes from sinks and leaves them. Sources and sinks
 //! go by their channel numbers.
 ghost use Rattle.std.specs.Prelude.{◌≡◌, ◌≢◌, IfOk, IfErr, OnErr, IfSome, IfNone};
-ghost use Rattle.kpn_book.specs.Refusals.{MayFeed, RefusesFeed, RefusesClose, RefusesTake, RefusesLeave, Feeds, Closes, Takes, Leaves};
+ghost use Rattle.kpn_book.specs.Refusals.{AcceptsItem, RefusesFeed, RefusesClose, RefusesTake, RefusesLeave, Feeds, Closes, Takes, Leaves};
 
 use super::Book;
 use crate::answers::Refused;
@@ -13,7 +13,7 @@ impl<'n, A: Allocator> Book<'n, A> {
     pub fn feed_fault(&self, source: usize, item: i64, bound: usize) -> Option<Refused>
         ensures cause { IfSome result (λ cause. RefusesFeed source item bound self.now cause) }
         ensures lasts { IfSome result (λ cause. cause ≢ Refused.NoMemory) }
-        ensures none { IfNone result (MayFeed source bound self.now) }
+        ensures none { IfNone result (AcceptsItem source bound self.now) }
     {
         self.pages.feed_fault(source, item, bound)
     }

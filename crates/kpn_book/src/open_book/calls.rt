@@ -7,7 +7,7 @@ ghost use Rattle.kpn_configuration.specs.Configuration.{frame_in};
 ghost use Rattle.kpn_book.specs.Book.{IsHeld, IsClaimed, put_back};
 ghost use Rattle.kpn_book.specs.Commits.{Commits};
 ghost use Rattle.kpn_book.specs.Kept.{IsKept};
-ghost use Rattle.kpn_book.specs.Refusals.{RefusesCommit, RefusesPutBack, MayFeed, RefusesFeed, RefusesClose, RefusesTake, RefusesLeave, Feeds, Closes, Takes, Leaves};
+ghost use Rattle.kpn_book.specs.Refusals.{RefusesCommit, RefusesPutBack, AcceptsItem, RefusesFeed, RefusesClose, RefusesTake, RefusesLeave, Feeds, Closes, Takes, Leaves};
 ghost use Rattle.kpn_book.specs.Stepping.{ClaimsNobody, IsStep, StepsInVain};
 
 use super::OpenBook;
@@ -111,7 +111,7 @@ impl<'n, A: Allocator> OpenBook<'n, A> {
         requires { IsKept self.now.book }
         ensures cause { IfSome result (λ cause. RefusesFeed c item bound self.now.book cause) }
         ensures lasts { IfSome result (λ cause. cause ≢ Refused.NoMemory) }
-        ensures none { IfNone result (MayFeed c bound self.now.book) }
+        ensures none { IfNone result (AcceptsItem c bound self.now.book) }
     {
         self.fault_of_feed(c, item, bound)
     }

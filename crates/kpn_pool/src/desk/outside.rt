@@ -5,7 +5,7 @@ ghost use Rattle.kpn_net.specs.Tables.{channel_at, is_source, is_sink};
 ghost use Rattle.kpn_chan.specs.Channel.{unread};
 ghost use Rattle.kpn_configuration.specs.Configuration.{channel_in};
 ghost use Rattle.kpn_book.specs.Book.{Book};
-ghost use Rattle.kpn_book.specs.Refusals.{MayFeed, RefusesFeed, RefusesClose, RefusesTake, RefusesLeave, Feeds, Closes, Takes, Leaves, IsOpenSink};
+ghost use Rattle.kpn_book.specs.Refusals.{AcceptsItem, RefusesFeed, RefusesClose, RefusesTake, RefusesLeave, Feeds, Closes, Takes, Leaves, IsOpenSink};
 ghost use Rattle.kpn_pool.specs.Desk.{with_book};
 ghost use Rattle.kpn_pool.specs.Ends.{HasFed, RefusesSnapshot, MayRefuseFeed, MayRefuseEnd, MayRefuseTake};
 ghost use Rattle.kpn_pool.specs.Glimpse.{ShowsARun, shown_on, IsBelowKahn, IsKahnAtRest};
@@ -38,12 +38,12 @@ impl<'n, J: Job, A: Allocator> Desk<'n, J, A> {
     }
 
     /// Why a feed would be refused, whatever memory there is.
-    #[tactic(auto, using(crate::proofs::Keeping::feed_refused, crate::proofs::Keeping::may_feed_source))]
+    #[tactic(auto, using(crate::proofs::Keeping::feed_refused, crate::proofs::Keeping::accepting_source))]
     pub(crate) fn feed_fault(&self, source: usize, item: i64, bound: usize) -> Option<Refused>
         ensures cause { IfSome result (λ cause. RefusesFeed source item bound self.now.book cause) }
         ensures may_refuse { IfSome result (λ cause.
             MayRefuseFeed (is_source (channel_at J.network source)) item cause) }
-        ensures none { IfNone result (MayFeed source bound self.now.book) }
+        ensures none { IfNone result (AcceptsItem source bound self.now.book) }
         ensures source { IfNone result (is_source (channel_at J.network source) ≡ true) }
     {
         self.book.feed_fault(source, item, bound)

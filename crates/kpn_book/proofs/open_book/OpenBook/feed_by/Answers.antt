@@ -1,7 +1,7 @@
 use Rattle.std.proofs.Common.{◌<◌, length, subst, refl, arith, w64, SFits, rules}
 use Rattle.std.proofs.lemmas.Int.{to_z-of_z}
 use Rattle.kpn_trace.specs.declared.event.Event.TheVariants as event
-use Rattle.kpn_book.specs.Refusals.{MayFeed, RefusesFeed}
+use Rattle.kpn_book.specs.Refusals.{AcceptsItem, RefusesFeed}
 use Rattle.kpn_book.specs.Open.{Follows}
 use Rattle.kpn_book.proofs.Committing.{kept_outside, source_below}
 use Rattle.kpn_book.proofs.Outside.{kept_with_item, fed}
@@ -10,7 +10,7 @@ use Rattle.kpn_book.proofs.open_book.OpenBook.feed_by.Goals as goal
 pub feed_source-requires-clause-sound : goal.feed_source-requires-clause-sound
 feed_source-requires-clause-sound g c =
     let b = c.args.self.now.book in
-    let may : MayFeed c.args.c c.args.bound b = c.in_default.ensures in
+    let may : AcceptsItem c.args.c c.args.bound b = c.in_default.ensures in
     let there = source_below b.tables c.args.c may.0.source in
     let long = c.requires.in_step.run.shape.channels in
     let below : c.args.c < length b.configuration.channels = omega (arith, there, long) in
@@ -28,7 +28,7 @@ returns-in-Some-clause-feeds g c =
 pub returns-clause-feeds : goal.returns-clause-feeds
 returns-clause-feeds g c =
     let b = c.args.self.now.book in
-    let may : MayFeed c.args.c c.args.bound b = c.in_default.ensures in
+    let may : AcceptsItem c.args.c c.args.bound b = c.in_default.ensures in
     let there = source_below b.tables c.args.c may.0.source in
     let long = c.requires.in_step.run.shape.channels in
     let below : c.args.c < length b.configuration.channels = omega (arith, there, long) in
@@ -41,7 +41,7 @@ returns-clause-feeds g c =
 pub returns-clause-kept : goal.returns-clause-kept
 returns-clause-kept g c =
     let b = c.args.self.now.book in
-    let may : MayFeed c.args.c c.args.bound b = c.in_default.ensures in
+    let may : AcceptsItem c.args.c c.args.bound b = c.in_default.ensures in
     let there = source_below b.tables c.args.c may.0.source in
     let long = c.requires.in_step.run.shape.channels in
     let below : c.args.c < length b.configuration.channels = omega (arith, there, long) in
