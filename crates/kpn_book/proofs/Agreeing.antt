@@ -20,13 +20,13 @@ use Rattle.kpn_book.specs.Book.{Book}
 use Rattle.kpn_book.specs.Kept.{IsInStep, IsStateBy}
 
 -- functions that agree on all members give the same lists
-same_list : {A : Type 0} (f g : ℕ → A) (xs : List ℕ) → ((c : ℕ) → Contains xs c → f c ≡ g c) → map f xs ≡ map g xs
+pub same_list : {A : Type 0} (f g : ℕ → A) (xs : List ℕ) → ((c : ℕ) → Contains xs c → f c ≡ g c) → map f xs ≡ map g xs
 same_list f g [] same = refl
 same_list f g (x ∷ xs) same =
     ap (λ y. y ∷ map f xs) (same x (Contains-first x xs))
     ∙ ap (λ ys. g x ∷ ys) (same_list f g xs (λ c h. same c (Contains-later x xs c h)))
 
-number_below : (n c : ℕ) → Contains (range_with_len 0 n) c → c < n
+pub number_below : (n c : ℕ) → Contains (range_with_len 0 n) c → c < n
 number_below n c (k, below, e) =
     let long = length-range_with_len 0 n in
     let at = get_or-range_with_len 0 n k c (omega arith) in

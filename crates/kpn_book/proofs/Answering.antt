@@ -28,7 +28,7 @@ use Rattle.kpn_book.specs.Book.{Book, IsHeld, held_count, put_back, counted}
 use Rattle.kpn_book.specs.Appending.{AppendsAll}
 use Rattle.kpn_book.specs.Commits.{IsReadFrom, IsWriteTo, HasToWait, IsAnswer, ready_if_paused, Settles}
 use Rattle.kpn_book.specs.Kept.{IsStateBy, IsInStep, IsKept}
-use Rattle.kpn_book.specs.Open.{Follows, IsSound, Answers, Answered, EndsWithWait, grows_if_owed, GrowsIfOwed, of_process}
+use Rattle.kpn_book.specs.Open.{Follows, IsSound, AnswersAt, Answered, EndsWithWait, grows_if_owed, GrowsIfOwed, of_process}
 use Rattle.kpn_book.proofs.Following.{held_is_free}
 use Rattle.kpn_book.proofs.Counting.{held_less}
 use Rattle.kpn_book.proofs.Appended.{history_then, commits_stay, counts_all, counts_ready, base_history, base_commits}
@@ -131,7 +131,7 @@ module _ (b m : Book) (p : ℕ) (wait : Event) (one : of_process wait ≡ 1) (as
   before_it P is = subst P follows.appends.history is
 
   answers_wait : (answer : Done) (a : Book) → grows_if_owed p answer m a → (s : Stop) → asks s
-      → Answers p s answer b a
+      → AnswersAt p s answer b a
   answers_wait done.Blocked a grows s is = record {
     events = wait ∷ [];
     answers = record {
@@ -235,7 +235,7 @@ at_most_one done.Ended b p s events is =
     subst (λ es. count_by is_of_process es ≤ 1) (sym is.appends) (one_event (event.Ended p is.how))
 at_most_one done.Paused b p s events is = subst (λ es. count_by is_of_process es ≤ 1) (sym is.appends) (omega arith)
 
-module _ (b a : Book) (p : ℕ) (s : Stop) (answer : Done) (kept : IsKept b) (answers : Answers p s answer b a)
+module _ (b a : Book) (p : ℕ) (s : Stop) (answer : Done) (kept : IsKept b) (answers : AnswersAt p s answer b a)
     (sound : IsSound a) (released : held_count a + 1 ≡ held_count b) where
   pub settles_counted : Settles p s answer b (counted a)
   settles_counted = record {

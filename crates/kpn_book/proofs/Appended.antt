@@ -48,37 +48,21 @@ counts_all (e ∷ events) before after is =
 pub counts_ready : (answer : Done) (p : ℕ) (b : Book)
     → counted (ready_if_paused p answer b) ≡ ready_if_paused p answer (counted b)
 counts_ready done.Paused p b = refl
-counts_ready (done.Got v) p b = refl
-counts_ready done.Put p b = refl
-counts_ready done.Blocked p b = refl
-counts_ready (done.Grew d) p b = refl
-counts_ready done.Ended p b = refl
+counts_ready other p b = refl
 
 -- ---- a commit
 
 base_tables : (answer : Done) (p : ℕ) (b : Book) → (ready_if_paused p answer b).tables ≡ b.tables
 base_tables done.Paused p b = refl
-base_tables (done.Got v) p b = refl
-base_tables done.Put p b = refl
-base_tables done.Blocked p b = refl
-base_tables (done.Grew d) p b = refl
-base_tables done.Ended p b = refl
+base_tables other p b = refl
 
 pub base_history : (answer : Done) (p : ℕ) (b : Book) → (ready_if_paused p answer b).history ≡ b.history
 base_history done.Paused p b = refl
-base_history (done.Got v) p b = refl
-base_history done.Put p b = refl
-base_history done.Blocked p b = refl
-base_history (done.Grew d) p b = refl
-base_history done.Ended p b = refl
+base_history other p b = refl
 
 pub base_commits : (answer : Done) (p : ℕ) (b : Book) → (ready_if_paused p answer b).commits ≡ b.commits
 base_commits done.Paused p b = refl
-base_commits (done.Got v) p b = refl
-base_commits done.Put p b = refl
-base_commits done.Blocked p b = refl
-base_commits (done.Grew d) p b = refl
-base_commits done.Ended p b = refl
+base_commits other p b = refl
 
 pub commit_tables : (p : ℕ) (a : Advanced) (answer : Done) (before after : Book) → Commits p a answer before after
     → after.tables ≡ before.tables

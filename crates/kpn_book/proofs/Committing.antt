@@ -2,7 +2,7 @@
 use Rattle.std.proofs.Common.{◌≡◌, ◌≢◌, ℕ, ◌+◌, ◌-◌, ◌<◌, ◌^◌, ℤ, true, false, cond, IsTrue, [], length, set, Option, Some, None, refl, sym, ap, ◌∙◌, subst, inl, inr, arith, IfSome, IfNone, Result, Ok, Err, slice_index}
 use Rattle.std.proofs.lemmas.Bool.{cases_eq, cases_lt, false≢true}
 use Rattle.std.proofs.lemmas.List.{length-set, get_or-set_same, get_or-set_other, get_or_past}
-use Rattle.kpn_net.specs.Tables.{Tables, instance_at, program_of, channel_at, is_source, is_sink}
+use Rattle.kpn_net.specs.Tables.{Tables, instance_at, program_of, channel_at, is_source}
 use Rattle.kpn_step.specs.Frame.{Frame}
 use Rattle.kpn_step.specs.declared.stop.Stop.{Stop}
 use Rattle.kpn_step.specs.declared.stop.Stop.TheVariants as stop
@@ -219,8 +219,8 @@ kept_outside b a e kept follows nobody none =
     }
 
 -- a source or a sink is a channel of the network
-pub source_below : (t : Tables) (c : ℕ) → is_source (channel_at t c) ≡ true → c < length t.channels
-source_below t c is =
+pub source_there : (t : Tables) (c : ℕ) → is_source (channel_at t c) ≡ true → c < length t.channels
+source_there t c is =
     elim (cases_lt c (length t.channels)) [
       | inl below ↦ below
       | inr past ↦ absurd (false≢true (sym (ap is_source (get_or_past t.channels c _ past)) ∙ is))

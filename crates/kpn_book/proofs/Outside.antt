@@ -10,7 +10,7 @@ use Rattle.kpn_trace.specs.declared.event.Event.TheVariants as event
 use Rattle.kpn_configuration.specs.Configuration.{channel_in, closed_in}
 use Rattle.kpn_book.specs.Book.{Book}
 use Rattle.kpn_book.specs.Appending.{Appends}
-use Rattle.kpn_book.specs.Refusals.{IsAtBound, Feeds, Closes, Takes, Leaves, closes_by, leaves_by}
+use Rattle.kpn_book.specs.Refusals.{IsAtBound, Feeds, Takes}
 use Rattle.kpn_book.specs.Open.{Follows, IsSound, reserved_on}
 use Rattle.kpn_book.specs.Kept.{IsKept}
 use Rattle.kpn_book.proofs.Committing.{kept_reserved_on}

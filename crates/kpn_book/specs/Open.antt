@@ -18,12 +18,11 @@ use Rattle.kpn_book.specs.declared.answers.Done.{Done}
 use Rattle.kpn_book.specs.declared.answers.Done.TheVariants as done
 use Rattle.kpn_book.specs.Book.{Book, IsHeld, IsClaimed, held_count, put_back}
 use Rattle.kpn_book.specs.Appending.{Appends, AppendsAll, all_made_ready}
-use Rattle.kpn_book.specs.Commits.{IsWriteTo, IsAnswer, ready_if_paused, Commits}
-use Rattle.kpn_book.specs.Refusals.{RefusesCommit, RefusesPutBack, AcceptsItem, RefusesFeed, RefusesClose, RefusesTake, RefusesLeave, Feeds, Closes, Takes, Leaves}
+use Rattle.kpn_book.specs.Commits.{IsWriteTo, IsAnswer, ready_if_paused}
+use Rattle.kpn_book.specs.Refusals.{AcceptsItem, RefusesFeed}
 use Rattle.kpn_book.specs.Stepping.{ClaimsNobody, IsStep, StepsInVain}
 use Rattle.kpn_book.specs.declared.answers.Refused.{Refused}
 use Rattle.kpn_book.specs.declared.answers.Refused.TheVariants.{NoMemory}
-use Rattle.kpn_step.specs.Stops.{Advanced}
 use Rattle.kpn_book.specs.Kept.{IsInStep, IsKept}
 
 -- a book, and for how many more events memory is reserved
@@ -41,6 +40,10 @@ with_event e b = record b { history = b.history ++ e ∷ [] }
 
 abbrev pub with_configuration : Configuration → Book → Book
 with_configuration configuration b = record b { configuration = configuration }
+
+-- but for the configuration all is as before
+abbrev pub changes_configuration_alone : (before after : Open) → Type 0
+changes_configuration_alone before after = after ≡ on_book (with_configuration after.book.configuration) before
 
 abbrev pub in_state : (p : ℕ) → State → Book → Book
 in_state p state b = record b { schedule = with_state p state b.schedule }
@@ -86,7 +89,7 @@ grows_if_owed p (done.Grew d) before after =
 grows_if_owed p other before after = ⊥
 
 -- process p, which stands at this stop, is answered, and the events are appended
-pub record Answers (p : ℕ) (s : Stop) (answer : Done) (before after : Book) : Type 0 where
+pub record AnswersAt (p : ℕ) (s : Stop) (answer : Done) (before after : Book) : Type 0 where
   pub events : List Event
   pub answers : IsAnswer before p s answer events
   pub appends : AppendsAll events (ready_if_paused p answer before) after
@@ -110,7 +113,7 @@ is_but_reserved s before after =
 -- process p, which stands at a stop of this kind, is answered: the events are appended, the book is sound again, and
 -- the process is held no more
 pub record Answered (p : ℕ) (asks : Stop → Type 0) (answer : Done) (before after : Book) : Type 0 where
-  pub answers : (s : Stop) → asks s → Answers p s answer before after
+  pub answers : (s : Stop) → asks s → AnswersAt p s answer before after
   pub sound : IsSound after
   pub released : held_count after + 1 ≡ held_count before
 
@@ -126,13 +129,15 @@ abbrev pub claims_by : Option ℕ → (before after : Open) → Type 0
 claims_by (Some p) before after = IsClaimed p before.book after.book × IsKept after.book × (after.room ≡ before.room)
 claims_by None before after = ClaimsNobody before.book × (after ≡ before)
 
-abbrev pub commits_by : (p : ℕ) → Advanced → Result Done Refused → (before after : Book) → Type 0
-commits_by p a (Ok answer) before after = Commits p a answer before after
-commits_by p a (Err cause) before after = RefusesCommit p a before cause × (after ≡ before)
+-- the call has done this, or it was refused for this cause and the book is as before
+abbrev pub done_or_refused : {T : Type 0} → (does : T → Book → Book → Type 0) → (refuses : Book → Refused → Type 0)
+    → Result T Refused → (before after : Book) → Type 0
+done_or_refused does refuses (Ok answer) before after = does answer before after
+done_or_refused does refuses (Err cause) before after = refuses before cause × (after ≡ before)
 
-abbrev pub puts_back_by : {T : Type 0} → (p : ℕ) → Result T Refused → (before after : Book) → Type 0
-puts_back_by p (Ok _) before after = IsHeld before p × (after ≡ put_back p before)
-puts_back_by p (Err cause) before after = RefusesPutBack p before cause × (after ≡ before)
+-- process p, which is held, is put back
+abbrev pub puts_back : (p : ℕ) → (before after : Book) → Type 0
+puts_back p before after = IsHeld before p × (after ≡ put_back p before)
 
 abbrev pub steps_by : {E : Type 0} → (quota : ℕ) → Result (Option Done) E → (before after : Book) → Type 0
 steps_by quota (Ok answer) before after = IsStep quota answer before after
@@ -141,23 +146,6 @@ steps_by quota (Err _) before after = StepsInVain quota before after
 abbrev pub has_feed_fault : (c : ℕ) → (item : ℤ) → (bound : ℕ) → Option Refused → Book → Type 0
 has_feed_fault c item bound (Some cause) b = RefusesFeed c item bound b cause × (cause ≢ NoMemory)
 has_feed_fault c item bound None b = AcceptsItem c bound b
-
-abbrev pub feeds_by : {T : Type 0} → (c : ℕ) → (item : ℤ) → (bound : ℕ) → Result T Refused → (before after : Book)
-    → Type 0
-feeds_by c item bound (Ok _) before after = Feeds c item bound before after
-feeds_by c item bound (Err cause) before after = RefusesFeed c item bound before cause × (after ≡ before)
-
-abbrev pub closes_source_by : {T : Type 0} → (c : ℕ) → Result T Refused → (before after : Book) → Type 0
-closes_source_by c (Ok _) before after = Closes c before after
-closes_source_by c (Err cause) before after = RefusesClose c before cause × (after ≡ before)
-
-abbrev pub takes_by : (c : ℕ) → Result (Option ℤ) Refused → (before after : Book) → Type 0
-takes_by c (Ok item) before after = Takes c item before after
-takes_by c (Err cause) before after = RefusesTake c before cause × (after ≡ before)
-
-abbrev pub leaves_sink_by : {T : Type 0} → (c : ℕ) → Result T Refused → (before after : Book) → Type 0
-leaves_sink_by c (Ok _) before after = Leaves c before after
-leaves_sink_by c (Err cause) before after = RefusesLeave c before cause × (after ≡ before)
 
 -- memory is reserved for this stop, or it was refused and nothing has changed
 abbrev pub reserves_by : {T E : Type 0} → (p : ℕ) → Stop → Result T E → (before after : Open) → Type 0

@@ -12,7 +12,7 @@ use Rattle.kpn_report.specs.declared.outcome.Outcome.{Outcome}
 use Rattle.kpn_report.specs.declared.report.Report.{Report}
 use Rattle.kpn_report.specs.Outcomes.{IsOutcome, verdict_of}
 use Rattle.kpn_report.specs.Reports.{events_of, IsWrittenFrom, IsReport}
-use Rattle.kpn_report.proofs.Ends.{source_there}
+use Rattle.kpn_book.proofs.Committing.{source_there}
 use Rattle.kpn_report.proofs.Told.{journals_there, told_legal, told_view, IsReport-of}
 use Rattle.kpn_parallel.specs.Fed.{IsFed, AreFedBelow}
 

@@ -18,7 +18,8 @@ use Rattle.kpn_report.specs.declared.outcome.Outcome.TheVariants.{Ended, Clogged
 use Rattle.kpn_report.specs.declared.report.Report.{Report}
 use Rattle.kpn_report.specs.Outcomes.{IsOutcome, IsEnough, verdict_of}
 use Rattle.kpn_report.specs.Reports.{events_of, journal_of, taken_of, sink_numbers, IsReport}
-use Rattle.kpn_report.proofs.Parts.{map-agree, sink_at, sink_is, read_of_sink, read_of_sinks-length, read_of_no_sink}
+use Rattle.kpn_book.proofs.Agreeing.{same_list}
+use Rattle.kpn_report.proofs.Parts.{sink_at, sink_is, read_of_sink, read_of_sinks-length, read_of_no_sink}
 
 -- ---- one report
 
@@ -104,10 +105,10 @@ module _ (t : Tables) (network : IsNetwork t) (lists : List (List ℤ)) where
       (fed_all t lists more other also f) in (
         one.0,
         is.view.journals
-            ∙ map-agree (written_on (events_of report)) (iterate t (given_by t lists) one.0) (channel_numbers t)
+            ∙ same_list (written_on (events_of report)) (iterate t (given_by t lists) one.0) (channel_numbers t)
             (λ c h. (one.1 c).0),
         also.view.journals
-            ∙ map-agree (written_on (events_of other)) (iterate t (given_by t lists) one.0) (channel_numbers t)
+            ∙ same_list (written_on (events_of other)) (iterate t (given_by t lists) one.0) (channel_numbers t)
             (λ c h. (one.1 c).1),
       )
 

@@ -21,15 +21,6 @@ use Rattle.kpn_trace.proofs.AfterEvent.{is_closed-next}
 
 -- ---- which channels
 
-pub source_there : (t : Tables) (c : ℕ) → is_source (channel_at t c) ≡ true → c < length t.channels
-source_there t c source =
-    elim (cases_lt c (length t.channels)) [
-      | inl below ↦ below
-      | inr past ↦
-          absurd (both_ways (is_source (channel_at t c))
-          (ap is_source (get_or_past t.channels c (channel.Inner 0) past)) source)
-    ]
-
 pub sink_there : (t : Tables) (c : ℕ) → is_sink (channel_at t c) ≡ true → c < length t.channels
 sink_there t c sink =
     elim (cases_lt c (length t.channels)) [

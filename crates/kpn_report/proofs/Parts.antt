@@ -3,23 +3,16 @@ use Rattle.std.proofs.Common.{◌≡◌, ℕ, zero, suc, ◌+◌, ◌<◌, ◌�
 use Rattle.std.specs.List.{Contains, filter, range_with_len}
 use Rattle.std.proofs.lemmas.List.{get_or-map, length-map, map-append, get_or_past}
 use Rattle.std.proofs.lemmas.List.Elements.{filter-append}
-use Rattle.std.proofs.lemmas.List.FromFn.{length-range_with_len, get_or-range_with_len}
 use Rattle.kpn_schedule.proofs.Queueing.{range_next}
 use Rattle.kpn_net.specs.Tables.{Tables, channel_at, is_sink}
 use Rattle.kpn_net.specs.Faults.{channel_numbers}
 use Rattle.kpn_net.proofs.Cycles.{Contains-first, Contains-later}
 use Rattle.kpn_trace.specs.declared.event.Event.{Event}
 use Rattle.kpn_trace.specs.Channels.{read_on}
+use Rattle.kpn_book.proofs.Agreeing.{number_below}
 use Rattle.kpn_report.specs.Reports.{sink_numbers, read_of_sinks}
 
 -- ---- lists
-
--- functions that agree on all members give the same lists
-pub map-agree : {A : Type 0} (f g : ℕ → A) (xs : List ℕ) → ((c : ℕ) → Contains xs c → f c ≡ g c) → map f xs ≡ map g xs
-map-agree f g [] same = refl
-map-agree f g (x ∷ xs) same =
-    ap (λ y. y ∷ map f xs) (same x (Contains-first x xs))
-    ∙ ap (λ ys. g x ∷ ys) (map-agree f g xs (λ c h. same c (Contains-later x xs c h)))
 
 -- who is kept passes the test, and was there
 pub kept_member : (f : ℕ → Bool) (xs : List ℕ) (i d : ℕ) → i < length (filter f xs)
@@ -39,12 +32,6 @@ kept_member f (x ∷ xs) i d below = by (f x) refl i below (λ k there. kept_mem
     by false e i below rest =
         let r = rest i below in
         (r.0, Contains-later x xs (get_or (filter f xs) i d) r.1)
-
-number_below : (n c : ℕ) → Contains (range_with_len 0 n) c → c < n
-number_below n c (k, below, e) =
-    let long = length-range_with_len 0 n in
-    let at = get_or-range_with_len 0 n k c (omega arith) in
-    omega (arith, e)
 
 -- a list for each member that passes the test, with one number more
 filter_next : (f : ℕ → Bool) (n : ℕ)

@@ -46,21 +46,21 @@ module _ (b : Book) (book : IsBook b) where
       (ap is_held held)
 
   pub settles : IsLeftToItself b → b.schedule.queue ≡ [] → IsSettled b.tables b.history
-  settles left none = record {
+  settles to_itself none = record {
     processes = λ p below.
         stopped_by p below (state_at b.schedule.states p) (book.kept.in_step.states p below) (not_ready none p below)
-        (not_held left.nobody_held p below);
-    sources = λ c below source. left.closed c source;
+        (not_held to_itself.nobody_held p below);
+    sources = λ c below source. to_itself.closed c source;
     sinks = λ c below sink.
-        let all = left.all_read c sink in
+        let all = to_itself.all_read c sink in
         let long = unread_length b.history c in
         inl (eq-eqb (length (unread_on b.history c)) 0 (omega arith));
   }
 
   -- so there is somebody to be claimed where the run goes on
   pub somebody : b.commits + 1 < 2 ^ 64 → IsLeftToItself b → (IsSettled b.tables b.history → ⊥) → ClaimsNobody b → ⊥
-  somebody countable left unsettled nobody =
+  somebody countable to_itself unsettled nobody =
       elim nobody [
-        | inl none ↦ unsettled (settles left none)
-        | inr many ↦ let held = left.nobody_held in omega arith
+        | inl none ↦ unsettled (settles to_itself none)
+        | inr many ↦ let held = to_itself.nobody_held in omega arith
       ]

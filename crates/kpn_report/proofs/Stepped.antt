@@ -1,6 +1,6 @@
 -- What a step of a process does to the sinks, and what a take does then.
 use Rattle.std.proofs.Common.{◌≡◌, ◌↔◌, ℕ, ◌+◌, ◌<◌, ◌≤◌, Bool, true, false, cond, IsTrue, ℤ, List, [], ◌∷◌, ◌++◌, length, Option, Some, None, refl, sym, ap, ◌∙◌, subst, inl, inr, arith, length-append, length-drop}
-use Rattle.std.proofs.lemmas.Bool.{cases_eq, both_ways, false≢true}
+use Rattle.std.proofs.lemmas.Bool.{cases_eq, false≢true}
 use Rattle.kpn_lang.specs.Prefix.{IsPrefix}
 use Rattle.kpn_lang.proofs.Prefixes.{IsPrefix-append, IsPrefix-trans, IsPrefix-refl}
 use Rattle.kpn_net.specs.Tables.{Tables, channel_at, is_source, is_sink}
@@ -18,12 +18,12 @@ use Rattle.kpn_step.specs.declared.stop.Stop.{Stop}
 use Rattle.kpn_chan.specs.Channel.{unread}
 use Rattle.kpn_book.specs.declared.answers.Done.{Done}
 use Rattle.kpn_book.specs.declared.answers.Done.TheVariants as done
-use Rattle.kpn_book.specs.Book.{Book, held_count, standing_at, counted}
+use Rattle.kpn_book.specs.Book.{Book, held_count, standing_at}
 use Rattle.kpn_book.specs.Kept.{IsBook}
-use Rattle.kpn_book.specs.Commits.{HasToWait, IsAnswer, ready_if_paused}
+use Rattle.kpn_book.specs.Commits.{HasToWait, IsAnswer}
 use Rattle.kpn_book.specs.Refusals.{Takes, takes_item}
 use Rattle.kpn_book.specs.Stepping.{ClaimsNobody, IsStep, StepsNext}
-use Rattle.kpn_book.proofs.Appended.{tables_stay, history_then, commits_stay}
+use Rattle.kpn_book.proofs.Appended.{commit_tables, commit_history, commit_commits}
 use Rattle.kpn_report.specs.declared.outcome.Limits.{Limits}
 use Rattle.kpn_report.specs.Outcomes.{IsEnough}
 use Rattle.kpn_report.specs.Running.{IsLeftToItself, IsLater, IsCommitted, HasPut, KeepsSinks, sinks_after, has_put, sink_of, ReadsOneMore, IsStepped}
@@ -60,31 +60,6 @@ IsLater-events before after es tables history = record {
 
 -- ---- a step
 
--- a process that has paused is ready again: nothing else is changed by that
-ready_tables : (p : ℕ) (answer : Done) (b : Book) → (ready_if_paused p answer b).tables ≡ b.tables
-ready_tables p (done.Got v) b = refl
-ready_tables p done.Put b = refl
-ready_tables p done.Blocked b = refl
-ready_tables p (done.Grew d) b = refl
-ready_tables p done.Ended b = refl
-ready_tables p done.Paused b = refl
-
-ready_history : (p : ℕ) (answer : Done) (b : Book) → (ready_if_paused p answer b).history ≡ b.history
-ready_history p (done.Got v) b = refl
-ready_history p done.Put b = refl
-ready_history p done.Blocked b = refl
-ready_history p (done.Grew d) b = refl
-ready_history p done.Ended b = refl
-ready_history p done.Paused b = refl
-
-ready_commits : (p : ℕ) (answer : Done) (b : Book) → (ready_if_paused p answer b).commits ≡ b.commits
-ready_commits p (done.Got v) b = refl
-ready_commits p done.Put b = refl
-ready_commits p done.Blocked b = refl
-ready_commits p (done.Grew d) b = refl
-ready_commits p done.Ended b = refl
-ready_commits p done.Paused b = refl
-
 module _ (quota : ℕ) (answer : Done) (before after : Book) (steps : StepsNext quota answer before after) where
   abbrev events : List Event
   events = steps.commits.settles.events
@@ -92,23 +67,19 @@ module _ (quota : ℕ) (answer : Done) (before after : Book) (steps : StepsNext 
   abbrev stood : Book
   stood = standing_at steps.process steps.advance.to steps.between
 
-  abbrev start : Book
-  start = ready_if_paused steps.process answer (counted stood)
-
   pub step_tables : after.tables ≡ before.tables
   step_tables =
-      tables_stay events start after steps.commits.settles.appends ∙ ready_tables steps.process answer (counted stood)
+      commit_tables steps.process steps.advance answer steps.between after steps.commits
       ∙ ap (λ b. b.tables) steps.steps.claimed.same
 
   pub step_history : after.history ≡ before.history ++ events
   step_history =
-      history_then events start after steps.commits.settles.appends
-      ∙ ap (λ H. H ++ events)
-      (ready_history steps.process answer (counted stood) ∙ ap (λ b. b.history) steps.steps.claimed.same)
+      commit_history steps.process steps.advance answer steps.between after steps.commits
+      ∙ ap (λ b. b.history ++ events) steps.steps.claimed.same
 
   pub step_commits : after.commits ≡ before.commits + 1
   step_commits =
-      commits_stay events start after steps.commits.settles.appends ∙ ready_commits steps.process answer (counted stood)
+      commit_commits steps.process steps.advance answer steps.between after steps.commits
       ∙ ap (λ b. b.commits + 1) steps.steps.claimed.same
 
 -- waits and growths read and write nothing
@@ -194,7 +165,7 @@ stepped quota (Some answer) before after was is held some steps = (
 
 -- ---- nothing was put on a sink
 
-module _ (limits : Limits) (before after : Book) (left : IsLeftToItself before) (committed : IsCommitted before after)
+module _ (limits : Limits) (before after : Book) (to_itself : IsLeftToItself before) (committed : IsCommitted before after)
   where
     source_before : (c : ℕ) → is_source (channel_at after.tables c) ≡ true
         → is_source (channel_at before.tables c) ≡ true
@@ -208,14 +179,14 @@ module _ (limits : Limits) (before after : Book) (left : IsLeftToItself before) 
     not_put keeps few = record {
       later = committed.later;
       commits = committed.commits;
-      left = record {
+      to_itself = record {
         nobody_held = committed.nobody_held;
         closed = λ c source.
             closed_later before.history after.history committed.later.history c
-            (left.closed c (source_before c source));
+            (to_itself.closed c (source_before c source));
         all_read = λ c sink.
             let is = sink_before c sink in
-            let all = left.all_read c is in
+            let all = to_itself.all_read c is in
             let written = ap length (keeps.written c is) in
             let read = ap length (keeps.read c is) in
             omega arith;
@@ -304,7 +275,7 @@ taken c item before after book takes = by item takes.takes
         }
 
 -- what was put on a sink was taken: of this sink at most one item more was read, and the outside has nothing to do
-module _ (limits : Limits) (before now after : Book) (left : IsLeftToItself before) (committed : IsCommitted before now)
+module _ (limits : Limits) (before now after : Book) (to_itself : IsLeftToItself before) (committed : IsCommitted before now)
     (p c : ℕ) (v : ℤ) (put : now.history ≡ before.history ++ event.Put p c v ∷ []) (book : IsBook now)
     (item : Option ℤ) (takes : Takes c item now after) where
   abbrev took : IsTaken now after c
@@ -326,10 +297,10 @@ module _ (limits : Limits) (before now after : Book) (left : IsLeftToItself befo
   sinks_read : (d : ℕ) → is_sink (channel_at after.tables d) ≡ true
       → length (written_on after.history d) ≤ length (read_on after.history d)
   sinks_read d sink =
-      let was = left.all_read d (subst (λ t. is_sink (channel_at t d) ≡ true) put_taken_tables sink) in
+      let was = to_itself.all_read d (subst (λ t. is_sink (channel_at t d) ≡ true) put_taken_tables sink) in
       elim (cases_eq c d) [
         | inl same ↦
-            let bound = left.all_read c
+            let bound = to_itself.all_read c
             (subst (λ x. is_sink (channel_at before.tables x) ≡ true) (sym same)
             (subst (λ t. is_sink (channel_at t d) ≡ true) put_taken_tables sink)) in
             let written = ap length (took.written c ∙ put_written before now p c v put) in
@@ -348,12 +319,12 @@ module _ (limits : Limits) (before now after : Book) (left : IsLeftToItself befo
   put_taken enough decides = record {
     later = IsLater-trans before now after committed.later (record { tables = took.tables; history = took.history });
     commits = took.commits ∙ committed.commits;
-    left = record {
+    to_itself = record {
       nobody_held = held_after_take now book c item after takes ∙ committed.nobody_held;
       closed = λ d source.
           closed_later now.history after.history took.history d
           (closed_later before.history now.history committed.later.history d
-          (left.closed d (subst (λ t. is_source (channel_at t d) ≡ true) put_taken_tables source)));
+          (to_itself.closed d (subst (λ t. is_source (channel_at t d) ≡ true) put_taken_tables source)));
       all_read = sinks_read;
     };
     decides = decides;
@@ -368,7 +339,7 @@ sink_is t p c v sink = by (is_sink (channel_at t c))
     by true e = cc
     by false e = absurd cc
 
-module _ (limits : Limits) (before now : Book) (left : IsLeftToItself before) (committed : IsCommitted before now)
+module _ (limits : Limits) (before now : Book) (to_itself : IsLeftToItself before) (committed : IsCommitted before now)
     (put : HasPut before now) (few : IsEnough before.tables before.history limits.take → ⊥) (last : Event)
     (is_last : (B : List Event) (e : Event) → now.history ≡ B ++ e ∷ [] → Some last ≡ Some e) where
   last_is : last ≡ event.Put put.process put.channel put.item
@@ -386,9 +357,9 @@ module _ (limits : Limits) (before now : Book) (left : IsLeftToItself before) (c
       sink_is now.tables put.process put.channel put.item sink (at ∙ ap (sink_of now.tables) last_is) in
       let here : now.history ≡ before.history ++ event.Put put.process sink put.item ∷ [] =
       put.history ∙ ap (λ x. before.history ++ event.Put put.process x put.item ∷ []) (sym same) in
-      put_taken limits before now after left committed put.process sink put.item here book item takes enough
+      put_taken limits before now after to_itself committed put.process sink put.item here book item takes enough
       (decides before.history
-      (put_taken_more limits before now after left committed put.process sink put.item here book item takes)
+      (put_taken_more limits before now after to_itself committed put.process sink put.item here book item takes)
       (λ has.
       few (subst (λ t. IsEnough t before.history limits.take)
-      (put_taken_tables limits before now after left committed put.process sink put.item here book item takes) has)))
+      (put_taken_tables limits before now after to_itself committed put.process sink put.item here book item takes) has)))

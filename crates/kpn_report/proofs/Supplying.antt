@@ -1,5 +1,5 @@
 -- The sources are fed and closed, one after the other.
-use Rattle.std.proofs.Common.{◌≡◌, ℕ, ◌+◌, ◌<◌, Bool, true, false, ℤ, List, [], ◌∷◌, ◌++◌, length, count_by, refl, sym, ap, ◌∙◌, subst, inl, inr, arith, append_assoc, append-nil}
+use Rattle.std.proofs.Common.{◌≡◌, ℕ, ◌+◌, ◌<◌, Bool, true, false, ℤ, List, [], ◌∷◌, ◌++◌, length, count_by, refl, sym, ap, ◌∙◌, subst, inl, inr, arith, append_assoc}
 use Rattle.std.proofs.lemmas.Bool.{cases_eq, both_ways}
 use Rattle.kpn_net.specs.Tables.{Tables, channel_at, is_source, is_sink}
 use Rattle.kpn_net.specs.Process.{Family}
@@ -18,7 +18,8 @@ use Rattle.kpn_book.specs.Kept.{IsBook}
 use Rattle.kpn_book.specs.Refusals.{Feeds, Closes, closes_by}
 use Rattle.std.proofs.lemmas.Bool.{eq-eqb, or_right}
 use Rattle.kpn_report.specs.Running.{IsSupplied, IsFedBelow, IsLeftToItself}
-use Rattle.kpn_report.proofs.Ends.{source_there, sink_is_no_source, closed_next}
+use Rattle.kpn_book.proofs.Committing.{source_there}
+use Rattle.kpn_report.proofs.Ends.{sink_is_no_source, closed_next}
 use Rattle.kpn_report.proofs.Held.{held_after_feed}
 
 -- ---- one source

@@ -26,8 +26,10 @@ use Rattle.kpn_report.specs.declared.report.Report.{Report}
 use Rattle.kpn_report.specs.Outcomes.{IsOutcome, verdict_of}
 use Rattle.kpn_report.specs.Reports.{events_of, read_of_sinks, IsWrittenFrom, IsReport, sink_numbers}
 use Rattle.kpn_report.specs.Running.{IsFedBelow, ComesToOutcome, first_read, ReadsWithin}
-use Rattle.kpn_report.proofs.Ends.{source_there, closed_stays}
-use Rattle.kpn_report.proofs.Parts.{map-agree, sink_below}
+use Rattle.kpn_book.proofs.Agreeing.{same_list}
+use Rattle.kpn_book.proofs.Committing.{source_there}
+use Rattle.kpn_report.proofs.Ends.{closed_stays}
+use Rattle.kpn_report.proofs.Parts.{sink_below}
 
 -- ---- the events of a legal history
 
@@ -78,7 +80,7 @@ module _ {A : Type 0} (t : Tables) (H : List Event) (legal : Legal t H) (view : 
 
   pub reads_of_sinks : map (first_read view) (sink_numbers t) ≡ read_of_sinks t H
   reads_of_sinks =
-      map-agree (first_read view) (read_on H) (sink_numbers t) (λ c h. first_read_is c (sink_below t c h))
+      same_list (first_read view) (read_on H) (sink_numbers t) (λ c h. first_read_is c (sink_below t c h))
 
 -- ---- all of it
 

@@ -92,7 +92,7 @@ pub record ReadsOneMore (t : Tables) (sink : ℕ) (before after : List Event) : 
 pub record IsStepped (limits : Limits) (enough : Bool) (before after : Book) : Type 0 where
   pub later : IsLater before after
   pub commits : after.commits ≡ before.commits + 1
-  pub left : IsLeftToItself after
+  pub to_itself : IsLeftToItself after
   pub decides : IsTrue enough ↔ IsEnough after.tables after.history limits.take
 
 -- the run has come to this outcome

@@ -19,7 +19,7 @@ use std::alloc::AllocError;
 /// Steps the first process that is ready, and takes what it has put on a sink. Tells whether there is enough then.
 pub(crate) fn step(book: &mut Book<'_>, limits: &Limits) -> Result<bool, AllocError>
     requires countable { book.old.commits + 1 < 2 ^ 64 }
-    requires left { IsLeftToItself book.old }
+    requires to_itself { IsLeftToItself book.old }
     requires goes_on { IsOutcome book.old.tables book.old.history book.old.commits limits.now None }
     ensures { IfOk result (λ enough. IsStepped limits.now enough book.old book.new) }
 {
@@ -32,7 +32,7 @@ pub(crate) fn step(book: &mut Book<'_>, limits: &Limits) -> Result<bool, AllocEr
 /// Steps the first process that is ready. Tells whether it has put an item.
 fn step_first(book: &mut Book<'_>, quota: u32) -> Result<bool, AllocError>
     requires countable { book.old.commits + 1 < 2 ^ 64 }
-    requires left { IsLeftToItself book.old }
+    requires to_itself { IsLeftToItself book.old }
     requires goes_on { ¬ IsSettled book.old.tables book.old.history }
     ensures committed { IfOk result (λ _. IsCommitted book.old book.new) }
     ensures sinks { IfOk result (λ put. sinks_after put book.old book.new) }

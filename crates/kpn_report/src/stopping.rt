@@ -20,11 +20,11 @@ pub fn outcome_of(book: &Book<'_>, limits: &Limits) -> Option<Outcome>
     if has_enough(book, limits.take) {
         return Some(Outcome::Enough);
     }
-    stop_of(book, limits)
+    outcome_but_enough(book, limits)
 }
 
 /// What a run that has not enough has come to, if it has.
-pub(crate) fn stop_of(book: &Book<'_>, limits: &Limits) -> Option<Outcome>
+pub(crate) fn outcome_but_enough(book: &Book<'_>, limits: &Limits) -> Option<Outcome>
     ensures countable { IfNone result (book.now.commits + 1 < 2 ^ 64) }
     ensures outcome { (¬ IsEnough book.now.tables book.now.history limits.now.take)
         → IsOutcome book.now.tables book.now.history book.now.commits limits.now result }

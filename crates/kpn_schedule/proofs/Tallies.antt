@@ -8,7 +8,6 @@ use Rattle.kpn_trace.specs.declared.state.State.{State}
 use Rattle.kpn_trace.specs.declared.state.State.TheVariants.{Ready, Held}
 use Rattle.kpn_trace.specs.declared.state.Counts.{Counts}
 use Rattle.kpn_trace.specs.Views.{AreCounts, is_stopped, is_ready, is_held, waits_empty, waits_full, is_ended}
-use Rattle.kpn_schedule.specs.Counting.{one_more_if, one_less_if, one_more, one_less}
 use Rattle.kpn_schedule.specs.Schedule.{HaveStopped}
 
 -- ---- one count

@@ -12,7 +12,7 @@ ghost use Rattle.kpn_configuration.specs.Due.{Stands, ReadsFrom, WritesTo, stop_
 ghost use Rattle.kpn_configuration.specs.Owed.{IsOwed};
 ghost use Rattle.kpn_configuration.specs.Woken.{waiting_writer, waiting_reader};
 ghost use Rattle.kpn_book.specs.Book.{standing_at};
-ghost use Rattle.kpn_book.specs.Open.{on_book, with_configuration, reserved_on};
+ghost use Rattle.kpn_book.specs.Open.{on_book, changes_configuration_alone, reserved_on};
 
 use super::OpenBook;
 use arrayvec::ArrayVec;
@@ -39,8 +39,7 @@ impl<'n, A: Allocator> OpenBook<'n, A> {
             Changes b.tables (event.Get p c result.item)
             b.configuration self.new.book.configuration }
         ensures shape { IsConfiguration self.old.book.tables self.new.book.configuration }
-        ensures same { self.new
-            ≡ on_book (with_configuration self.new.book.configuration) self.old }
+        ensures same { changes_configuration_alone self.old self.new }
     {
         self.configuration.get(self.network, p, c)
     }
@@ -58,8 +57,7 @@ impl<'n, A: Allocator> OpenBook<'n, A> {
         ensures changes { let b = self.old.book in
             Changes b.tables (event.Put p c item) b.configuration self.new.book.configuration }
         ensures shape { IsConfiguration self.old.book.tables self.new.book.configuration }
-        ensures same { self.new
-            ≡ on_book (with_configuration self.new.book.configuration) self.old }
+        ensures same { changes_configuration_alone self.old self.new }
     {
         self.configuration.put(self.network, p, c, item)
     }
@@ -74,8 +72,7 @@ impl<'n, A: Allocator> OpenBook<'n, A> {
         ensures changes { let b = self.old.book in
             Changes b.tables (event.WaitEmpty p c) b.configuration self.new.book.configuration }
         ensures shape { IsConfiguration self.old.book.tables self.new.book.configuration }
-        ensures same { self.new
-            ≡ on_book (with_configuration self.new.book.configuration) self.old }
+        ensures same { changes_configuration_alone self.old self.new }
     {
         self.configuration.wait_on_empty(self.network, p, c);
     }
@@ -91,8 +88,7 @@ impl<'n, A: Allocator> OpenBook<'n, A> {
         ensures changes { let b = self.old.book in
             Changes b.tables (event.WaitFull p c) b.configuration self.new.book.configuration }
         ensures shape { IsConfiguration self.old.book.tables self.new.book.configuration }
-        ensures same { self.new
-            ≡ on_book (with_configuration self.new.book.configuration) self.old }
+        ensures same { changes_configuration_alone self.old self.new }
     {
         self.configuration.wait_on_full(self.network, p, c);
     }
@@ -110,8 +106,7 @@ impl<'n, A: Allocator> OpenBook<'n, A> {
         ensures changes { let b = self.old.book in
             Changes b.tables (event.Ended p how) b.configuration self.new.book.configuration }
         ensures shape { IsConfiguration self.old.book.tables self.new.book.configuration }
-        ensures same { self.new
-            ≡ on_book (with_configuration self.new.book.configuration) self.old }
+        ensures same { changes_configuration_alone self.old self.new }
     {
         self.configuration.end(self.network, p, how)
     }
@@ -130,8 +125,7 @@ impl<'n, A: Allocator> OpenBook<'n, A> {
         ensures changes { let b = self.old.book in
             Changes b.tables (event.Feed c item) b.configuration self.new.book.configuration }
         ensures shape { IsConfiguration self.old.book.tables self.new.book.configuration }
-        ensures same { self.new
-            ≡ on_book (with_configuration self.new.book.configuration) self.old }
+        ensures same { changes_configuration_alone self.old self.new }
     {
         self.configuration.feed(self.network, c, item)
     }
@@ -145,8 +139,7 @@ impl<'n, A: Allocator> OpenBook<'n, A> {
         ensures changes { let b = self.old.book in
             Changes b.tables (event.Close c) b.configuration self.new.book.configuration }
         ensures shape { IsConfiguration self.old.book.tables self.new.book.configuration }
-        ensures same { self.new
-            ≡ on_book (with_configuration self.new.book.configuration) self.old }
+        ensures same { changes_configuration_alone self.old self.new }
     {
         self.configuration.close(self.network, c);
     }
@@ -164,8 +157,7 @@ impl<'n, A: Allocator> OpenBook<'n, A> {
             Changes b.tables (event.Take c result.item)
             b.configuration self.new.book.configuration }
         ensures shape { IsConfiguration self.old.book.tables self.new.book.configuration }
-        ensures same { self.new
-            ≡ on_book (with_configuration self.new.book.configuration) self.old }
+        ensures same { changes_configuration_alone self.old self.new }
     {
         self.configuration.take(self.network, c)
     }
@@ -181,8 +173,7 @@ impl<'n, A: Allocator> OpenBook<'n, A> {
         ensures changes { let b = self.old.book in
             Changes b.tables (event.Leave c) b.configuration self.new.book.configuration }
         ensures shape { IsConfiguration self.old.book.tables self.new.book.configuration }
-        ensures same { self.new
-            ≡ on_book (with_configuration self.new.book.configuration) self.old }
+        ensures same { changes_configuration_alone self.old self.new }
     {
         self.configuration.leave(self.network, c)
     }
@@ -209,8 +200,7 @@ impl<'n, A: Allocator> OpenBook<'n, A> {
         ensures changes { let b = self.old.book in
             Changes b.tables (event.Grow p d) b.configuration self.new.book.configuration }
         ensures shape { IsConfiguration self.old.book.tables self.new.book.configuration }
-        ensures same { self.new
-            ≡ on_book (with_configuration self.new.book.configuration) self.old }
+        ensures same { changes_configuration_alone self.old self.new }
     {
         self.configuration.grow(self.network, p, d)
     }

@@ -4,8 +4,8 @@ ghost use Rattle.kpn_net.specs.Tables.{channel_at, is_source, is_sink};
 ghost use Rattle.kpn_net.specs.declared.tables.End.TheVariants.{Sink};
 ghost use Rattle.kpn_configuration.specs.Configuration.{channel_in, closed_in};
 ghost use Rattle.kpn_book.specs.Kept.{IsKept};
-ghost use Rattle.kpn_book.specs.Refusals.{IsAtBound};
-ghost use Rattle.kpn_book.specs.Open.{has_feed_fault, feeds_by, closes_source_by, takes_by, leaves_sink_by};
+ghost use Rattle.kpn_book.specs.Refusals.{IsAtBound, RefusesFeed, RefusesClose, RefusesTake, RefusesLeave, Feeds, Closes, Takes, Leaves};
+ghost use Rattle.kpn_book.specs.Open.{has_feed_fault, done_or_refused};
 
 use super::OpenBook;
 use crate::answers::Refused;
@@ -16,7 +16,8 @@ impl<'n, A: Allocator> OpenBook<'n, A> {
     /// Feeds a source.
     pub(super) fn feed_by(&mut self, c: usize, item: i64, bound: usize) -> Result<(), Refused>
         requires { IsKept self.old.book }
-        ensures feeds { feeds_by c item bound result self.old.book self.new.book }
+        ensures feeds { done_or_refused (λ _. Feeds c item bound) (RefusesFeed c item bound)
+            result self.old.book self.new.book }
         ensures kept { IsKept self.new.book }
     {
         self.known();
@@ -51,7 +52,8 @@ impl<'n, A: Allocator> OpenBook<'n, A> {
     /// Closes a source.
     pub(super) fn close_by(&mut self, c: usize) -> Result<(), Refused>
         requires { IsKept self.old.book }
-        ensures closes { closes_source_by c result self.old.book self.new.book }
+        ensures closes { done_or_refused (λ _. Closes c) (RefusesClose c)
+            result self.old.book self.new.book }
         ensures kept { IsKept self.new.book }
     {
         self.known();
@@ -71,7 +73,8 @@ impl<'n, A: Allocator> OpenBook<'n, A> {
     /// Takes the next item of a sink.
     pub(super) fn take_by(&mut self, c: usize) -> Result<Option<i64>, Refused>
         requires { IsKept self.old.book }
-        ensures takes { takes_by c result self.old.book self.new.book }
+        ensures takes { done_or_refused (Takes c) (RefusesTake c)
+            result self.old.book self.new.book }
         ensures kept { IsKept self.new.book }
     {
         self.known();
@@ -94,7 +97,8 @@ impl<'n, A: Allocator> OpenBook<'n, A> {
     /// Leaves a sink.
     pub(super) fn leave_by(&mut self, c: usize) -> Result<(), Refused>
         requires { IsKept self.old.book }
-        ensures leaves { leaves_sink_by c result self.old.book self.new.book }
+        ensures leaves { done_or_refused (λ _. Leaves c) (RefusesLeave c)
+            result self.old.book self.new.book }
         ensures kept { IsKept self.new.book }
     {
         self.known();

@@ -7,7 +7,9 @@ ghost use Rattle.kpn_step.specs.Stops.{IsAtPort, IsWithinQuota};
 ghost use Rattle.kpn_configuration.specs.Configuration.{frame_in, IsConfiguration};
 ghost use Rattle.kpn_book.specs.Book.{IsHeld, held_count};
 ghost use Rattle.kpn_book.specs.Kept.{IsInStep, IsKept};
-ghost use Rattle.kpn_book.specs.Open.{claims_by, commits_by, puts_back_by, steps_by, reserves_by, reserves_item_by};
+ghost use Rattle.kpn_book.specs.Commits.{Commits};
+ghost use Rattle.kpn_book.specs.Refusals.{RefusesCommit, RefusesPutBack};
+ghost use Rattle.kpn_book.specs.Open.{claims_by, done_or_refused, puts_back, steps_by, reserves_by, reserves_item_by};
 
 use super::OpenBook;
 use crate::answers::{Done, Refused};
@@ -61,7 +63,8 @@ impl<'n, A: Allocator> OpenBook<'n, A> {
     /// Commits the steps of process `p`.
     pub(super) fn commit_steps(&mut self, p: usize, advance: &Advance) -> Result<Done, Refused>
         requires { IsKept self.old.book }
-        ensures commits { commits_by p advance.now result self.old.book self.new.book }
+        ensures commits { done_or_refused (Commits p advance.now) (RefusesCommit p advance.now)
+            result self.old.book self.new.book }
         ensures kept { IsKept self.new.book }
     {
         self.known();
@@ -78,7 +81,8 @@ impl<'n, A: Allocator> OpenBook<'n, A> {
     pub(super) fn commit_own_steps(&mut self, p: usize, advance: &Advance) -> Result<Done, Refused>
         requires kept { IsKept self.old.book }
         requires program { advance.now.program ≡ program_of self.old.book.tables p }
-        ensures commits { commits_by p advance.now result self.old.book self.new.book }
+        ensures commits { done_or_refused (Commits p advance.now) (RefusesCommit p advance.now)
+            result self.old.book self.new.book }
         ensures kept { IsKept self.new.book }
     {
         self.known();
@@ -101,7 +105,8 @@ impl<'n, A: Allocator> OpenBook<'n, A> {
     /// Puts process `p` to the tail of the queue.
     pub(super) fn release(&mut self, p: usize) -> Result<(), Refused>
         requires { IsKept self.old.book }
-        ensures back { puts_back_by p result self.old.book self.new.book }
+        ensures back { done_or_refused (λ _. puts_back p) (RefusesPutBack p)
+            result self.old.book self.new.book }
         ensures kept { IsKept self.new.book }
     {
         if !self.is_held(p) {

@@ -12,7 +12,7 @@ returns-then-has_enough c = record {
 pub run-init : goal.run-init
 run-init c = record {
   later = IsLater-refl c.args.book.now;
-  left = c.requires;
+  to_itself = c.requires;
   few = λ enough. both_ways c.has_enough.result c.if-has_enough.false (c.has_enough.ensures.1 enough);
 }
 
@@ -21,7 +21,7 @@ returns-then-branch c =
     let stepped = c.in_ok-step.ensures in
     record {
       later = IsLater-trans c.args.book.now c.run.book c.step.new.book c.run.invariant.later stepped.later;
-      nobody_held = stepped.left.nobody_held;
+      nobody_held = stepped.to_itself.nobody_held;
       comes_to = stepped.decides.0 c.if-branch.true;
     }
 
@@ -30,6 +30,6 @@ run-preserved c =
     let stepped = c.in_ok-step.ensures in
     record {
       later = IsLater-trans c.args.book.now c.run.book c.step.new.book c.run.invariant.later stepped.later;
-      left = stepped.left;
+      to_itself = stepped.to_itself;
       few = λ enough. both_ways c.in_ok-step.field-0 c.if-branch.false (stepped.decides.1 enough);
     }

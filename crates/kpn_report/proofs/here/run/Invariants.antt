@@ -6,7 +6,7 @@ use Rattle.kpn_report.proofs.here.run.Given as goal
 abbrev pub invariant-run : goal.invariant-run
 invariant-run l = record {
   later : IsLater l.initial.book l.book;
-  left : IsLeftToItself l.book;
+  to_itself : IsLeftToItself l.book;
   few : ¬ IsEnough l.book.tables l.book.history l.limits.take;
 }
 

@@ -5,14 +5,14 @@ use Rattle.kpn_report.proofs.stepping.step_first.Goals as goal
 pub returns-clause-committed : goal.returns-clause-committed
 returns-clause-committed c =
     (stepped c.args.quota c.in_ok-answer.answer c.args.book.now c.step_next.new.self c.known.ensures c.known-2.ensures
-    c.requires.left.nobody_held
-    (somebody c.args.book.now c.known.ensures c.requires.countable c.requires.left c.requires.goes_on)
+    c.requires.to_itself.nobody_held
+    (somebody c.args.book.now c.known.ensures c.requires.countable c.requires.to_itself c.requires.goes_on)
     c.in_ok-answer.ensures.step).0
 
 pub returns-clause-sinks : goal.returns-clause-sinks
 returns-clause-sinks c =
     rw c.has_put.ensures
     (stepped c.args.quota c.in_ok-answer.answer c.args.book.now c.step_next.new.self c.known.ensures c.known-2.ensures
-    c.requires.left.nobody_held
-    (somebody c.args.book.now c.known.ensures c.requires.countable c.requires.left c.requires.goes_on)
+    c.requires.to_itself.nobody_held
+    (somebody c.args.book.now c.known.ensures c.requires.countable c.requires.to_itself c.requires.goes_on)
     c.in_ok-answer.ensures.step).1

@@ -3,7 +3,7 @@ use Rattle.std.proofs.lemmas.Int.{to_z-of_z}
 use Rattle.kpn_trace.specs.declared.event.Event.TheVariants as event
 use Rattle.kpn_book.specs.Refusals.{AcceptsItem, RefusesFeed}
 use Rattle.kpn_book.specs.Open.{Follows}
-use Rattle.kpn_book.proofs.Committing.{kept_outside, source_below}
+use Rattle.kpn_book.proofs.Committing.{kept_outside, source_there}
 use Rattle.kpn_book.proofs.Outside.{kept_with_item, fed}
 use Rattle.kpn_book.proofs.open_book.OpenBook.feed_by.Goals as goal
 
@@ -11,7 +11,7 @@ pub feed_source-requires-clause-sound : goal.feed_source-requires-clause-sound
 feed_source-requires-clause-sound g c =
     let b = c.args.self.now.book in
     let may : AcceptsItem c.args.c c.args.bound b = c.in_default.ensures in
-    let there = source_below b.tables c.args.c may.0.source in
+    let there = source_there b.tables c.args.c may.0.source in
     let long = c.requires.in_step.run.shape.channels in
     let below : c.args.c < length b.configuration.channels = omega (arith, there, long) in
     let kept = kept_with_item b c.reserve_write.new.self.book c.args.c below c.in-Ok.ensures.1 c.requires in
@@ -29,7 +29,7 @@ pub returns-clause-feeds : goal.returns-clause-feeds
 returns-clause-feeds g c =
     let b = c.args.self.now.book in
     let may : AcceptsItem c.args.c c.args.bound b = c.in_default.ensures in
-    let there = source_below b.tables c.args.c may.0.source in
+    let there = source_there b.tables c.args.c may.0.source in
     let long = c.requires.in_step.run.shape.channels in
     let below : c.args.c < length b.configuration.channels = omega (arith, there, long) in
     let fits : SFits w64 c.args.item = search rules in
@@ -42,7 +42,7 @@ pub returns-clause-kept : goal.returns-clause-kept
 returns-clause-kept g c =
     let b = c.args.self.now.book in
     let may : AcceptsItem c.args.c c.args.bound b = c.in_default.ensures in
-    let there = source_below b.tables c.args.c may.0.source in
+    let there = source_there b.tables c.args.c may.0.source in
     let long = c.requires.in_step.run.shape.channels in
     let below : c.args.c < length b.configuration.channels = omega (arith, there, long) in
     kept_outside c.reserve_write.new.self.book c.feed_source.new.self.book (event.Feed c.args.c _)
