@@ -137,8 +137,10 @@ pub fn has_events<A: Allocator>(book: &Book<'_, A>, events: &[Event]) -> bool {
     history.len() == events.len()
 }
 
+/// Claims and commits with ample memory make a history, whose events and answers are compared: a book that always
+/// answers that memory ran out is refused here.
 #[test]
-fn claims_and_commits_make_a_history(rt: HostRuntime) -> Result<(), Fail> {
+fn always_out_of_memory(rt: HostRuntime) -> Result<(), Fail> {
     let two = read_network(rt.alloc(), TWO.as_bytes())?;
     let mut book = Book::new(rt.alloc(), two.network())?;
     assert_eq!(rt; first_other(&mut book, &COMMITS), None);
