@@ -91,7 +91,7 @@ impl<A: Allocator> Schedule<A> {
         ensures none { IfNone result ((self.old.queue ≡ []) × (self.new ≡ self.old)) }
     {
         let p = self.queue.pop_front()?;
-        self.states.set(p, State::Held);
+        self.states.change(p, State::Ready, State::Held);
         Some(p)
     }
 
@@ -101,7 +101,26 @@ impl<A: Allocator> Schedule<A> {
         requires state { is_ready (state_at self.old.states p) ≡ false }
         ensures { self.new ≡ made_ready p self.old }
     {
-        self.states.set(p, State::Ready);
+        self.make_ready_from(p, self.state(p));
+    }
+
+    /// Process `p`, which is held, becomes ready, at the tail of the queue.
+    pub fn put_back(&mut self, p: usize)
+        requires process { p < length self.old.states }
+        requires held { state_at self.old.states p ≡ State.Held }
+        ensures { self.new ≡ made_ready p self.old }
+    {
+        self.make_ready_from(p, State::Held);
+    }
+
+    /// Process `p`, which was in the state `from`, becomes ready, at the tail of the queue.
+    fn make_ready_from(&mut self, p: usize, from: State)
+        requires process { p < length self.old.states }
+        requires from { state_at self.old.states p ≡ from }
+        requires state { is_ready from ≡ false }
+        ensures { self.new ≡ made_ready p self.old }
+    {
+        self.states.change(p, from, State::Ready);
         self.queue.push_back_reserved(p);
     }
 

@@ -64,9 +64,20 @@ impl<A: Allocator> States<A> {
         requires { p < length self.old }
         ensures { self.new ≡ slice_set self.old p state }
     {
-        leave(&mut self.counts, self.states[p]);
-        enter(&mut self.counts, state);
-        self.states[p] = state;
+        let from = self.states[p];
+        self.change(p, from, state);
+    }
+
+    /// From now on process `p`, which was in the state `from`, is in the state `to`. It does not look at the state that
+    /// is kept.
+    pub(crate) fn change(&mut self, p: usize, from: State, to: State)
+        requires process { p < length self.old }
+        requires from { state_at self.old p ≡ from }
+        ensures { self.new ≡ slice_set self.old p to }
+    {
+        leave(&mut self.counts, from);
+        enter(&mut self.counts, to);
+        self.states[p] = to;
     }
 
     /// How many processes are in each state.

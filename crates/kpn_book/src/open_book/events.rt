@@ -32,7 +32,7 @@ impl<'n, A: Allocator> OpenBook<'n, A> {
         self.known();
         let got = self.get_item(p, c);
         self.push(Event::Get(number(p), number(c), got.item));
-        self.make_ready(p);
+        self.requeue(p);
         self.wake(got.woken);
         got.item
     }
@@ -51,7 +51,7 @@ impl<'n, A: Allocator> OpenBook<'n, A> {
         self.known();
         let woken = self.put_item(p, c, item);
         self.push(Event::Put(number(p), number(c), item));
-        self.make_ready(p);
+        self.requeue(p);
         self.wake(woken);
     }
 

@@ -56,6 +56,15 @@ impl<'n, A: Allocator> OpenBook<'n, A> {
         self.schedule.make_ready(p);
     }
 
+    /// Process `p`, which is held, becomes ready, at the tail of the queue.
+    pub(super) fn requeue(&mut self, p: usize)
+        requires process { p < length self.old.book.schedule.states }
+        requires held { state_at self.old.book.schedule.states p ≡ State.Held }
+        ensures { self.new ≡ on_book (put_back p) self.old }
+    {
+        self.schedule.put_back(p);
+    }
+
     /// From now on process `p`, which is not ready, is in this state, which is another than ready.
     pub(super) fn set_state(&mut self, p: usize, state: State)
         requires process { p < length self.old.book.schedule.states }

@@ -70,6 +70,9 @@ impl<'n, A: Allocator> OpenBook<'n, A> {
         self.schedule.is_idle()
     }
 
+    // Apart, so that a verdict is asked for at each step by one look at the counts.
+    #[cold]
+    #[inline(never)]
     fn judge(&self) -> Option<Verdict>
         requires { IsConfiguration self.now.book.tables self.now.book.configuration }
         ensures { let b = self.now.book in

@@ -25,12 +25,12 @@ wake-requires g c =
     let fits : SFits w64 c.get_item-got.result.item = search rules in
     may_be_woken c.args.self.now.book c.known.ensures.network c.requires.sound.in_step
     (event.Get c.args.p c.args.c c.get_item-got.result.item)
-    (own_held c.args.self.now.book c.args.p c.requires.held) tt c.make_ready.new.self.book.schedule
+    (own_held c.args.self.now.book c.args.p c.requires.held) tt c.requeue.new.self.book.schedule
     (option_to_list c.get_item-got.result.woken)
-    (chain_schedule c.args.self.now c.get_item-got.new.self c.push.new.self c.make_ready.new.self
+    (chain_schedule c.args.self.now c.get_item-got.new.self c.push.new.self c.requeue.new.self
     c.get_item-got.new.self.book.configuration (event.Get c.args.p c.args.c c.get_item-got.result.item)
     (event.Get c.number.result c.number-2.result (to_z w64 (of_z w64 c.get_item-got.result.item)))
-    (made_ready c.args.p) c.get_item-got.ensures.same c.push.ensures.book (ap (λ o. o.book) c.make_ready.ensures)
+    (made_ready c.args.p) c.get_item-got.ensures.same c.push.ensures.book (ap (λ o. o.book) c.requeue.ensures)
     (λ x. refl))
     (ap option_to_list c.get_item-got.ensures.woken)
 
@@ -56,11 +56,11 @@ returns-clause-follows g c =
       c.get_item-got.ensures.item,
     ))
     c.wake.new.self.book
-    (chain c.args.self.now c.get_item-got.new.self c.push.new.self c.make_ready.new.self c.wake.new.self
+    (chain c.args.self.now c.get_item-got.new.self c.push.new.self c.requeue.new.self c.wake.new.self
     c.get_item-got.new.self.book.configuration (event.Get c.args.p c.args.c c.get_item-got.result.item)
     (event.Get c.number.result c.number-2.result (to_z w64 (of_z w64 c.get_item-got.result.item)))
     (made_ready c.args.p) (option_to_list c.get_item-got.result.woken)
-    c.get_item-got.ensures.same c.push.ensures.book (ap (λ o. o.book) c.make_ready.ensures)
+    c.get_item-got.ensures.same c.push.ensures.book (ap (λ o. o.book) c.requeue.ensures)
     (ap (λ o. o.book) c.wake.ensures)
     (ap (λ x. event.Get x c.number-2.result (to_z w64 (of_z w64 c.get_item-got.result.item))) c.number.ensures ∙ ap
     (λ x. event.Get c.args.p x (to_z w64 (of_z w64 c.get_item-got.result.item))) c.number-2.ensures ∙ ap

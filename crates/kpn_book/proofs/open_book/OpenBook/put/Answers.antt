@@ -26,12 +26,12 @@ wake-requires g c =
     let fits : SFits w64 c.args.item = search rules in
     may_be_woken c.args.self.now.book c.known.ensures.network c.requires.sound.in_step
     (event.Put c.args.p c.args.c c.args.item)
-    (own_held c.args.self.now.book c.args.p c.requires.held) tt c.make_ready.new.self.book.schedule
+    (own_held c.args.self.now.book c.args.p c.requires.held) tt c.requeue.new.self.book.schedule
     (option_to_list c.put_item-woken.result)
-    (chain_schedule c.args.self.now c.put_item-woken.new.self c.push.new.self c.make_ready.new.self
+    (chain_schedule c.args.self.now c.put_item-woken.new.self c.push.new.self c.requeue.new.self
     c.put_item-woken.new.self.book.configuration (event.Put c.args.p c.args.c c.args.item)
     (event.Put c.number.result c.number-2.result (to_z w64 (of_z w64 c.args.item))) (made_ready c.args.p)
-    c.put_item-woken.ensures.same c.push.ensures.book (ap (λ o. o.book) c.make_ready.ensures) (λ x. refl))
+    c.put_item-woken.ensures.same c.push.ensures.book (ap (λ o. o.book) c.requeue.ensures) (λ x. refl))
     (ap option_to_list c.put_item-woken.ensures.woken)
 
 pub returns-clause-follows : goal.returns-clause-follows
@@ -56,11 +56,11 @@ returns-clause-follows g c =
       c.requires.ready,
     ))
     c.wake.new.self.book
-    (chain c.args.self.now c.put_item-woken.new.self c.push.new.self c.make_ready.new.self c.wake.new.self
+    (chain c.args.self.now c.put_item-woken.new.self c.push.new.self c.requeue.new.self c.wake.new.self
     c.put_item-woken.new.self.book.configuration (event.Put c.args.p c.args.c c.args.item)
     (event.Put c.number.result c.number-2.result (to_z w64 (of_z w64 c.args.item))) (made_ready c.args.p)
     (option_to_list c.put_item-woken.result)
-    c.put_item-woken.ensures.same c.push.ensures.book (ap (λ o. o.book) c.make_ready.ensures)
+    c.put_item-woken.ensures.same c.push.ensures.book (ap (λ o. o.book) c.requeue.ensures)
     (ap (λ o. o.book) c.wake.ensures)
     (ap (λ x. event.Put x c.number-2.result (to_z w64 (of_z w64 c.args.item))) c.number.ensures ∙ ap
     (λ x. event.Put c.args.p x (to_z w64 (of_z w64 c.args.item))) c.number-2.ensures ∙ ap

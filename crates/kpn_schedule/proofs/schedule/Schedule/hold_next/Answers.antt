@@ -1,18 +1,24 @@
 use Rattle.std.proofs.Common.{arith}
 use Rattle.std.proofs.lemmas.List.{length-set}
 use Rattle.kpn_trace.specs.declared.state.State.TheVariants.{Held}
-use Rattle.kpn_schedule.proofs.Queueing.{popped, first_there, IsSchedule-held, HoldsFirst-popped}
+use Rattle.kpn_schedule.proofs.Queueing.{popped, first_there, first_ready, IsSchedule-held, HoldsFirst-popped}
 use Rattle.kpn_schedule.proofs.schedule.Schedule.hold_next.Goals as goal
 
-pub set-requires : goal.set-requires
-set-requires g c =
+pub change-requires-clause-process : goal.change-requires-clause-process
+change-requires-clause-process g c =
     first_there c.self.inside.states c.in_ok-p.p c.pop_front.new.self.items
+    (popped c.self.inside.states c.self.inside.queue.items c.in_ok-p.p c.pop_front.new.self.items c.self.invariant.0
+    c.in_ok-p.ensures.items)
+
+pub change-requires-clause-from : goal.change-requires-clause-from
+change-requires-clause-from g c =
+    first_ready c.self.inside.states c.in_ok-p.p c.pop_front.new.self.items
     (popped c.self.inside.states c.self.inside.queue.items c.in_ok-p.p c.pop_front.new.self.items c.self.invariant.0
     c.in_ok-p.ensures.items)
 
 pub invariant_of-self-2 : goal.invariant_of-self-2
 invariant_of-self-2 g c =
-    rw c.set.ensures (
+    rw c.change.ensures (
       IsSchedule-held c.self.inside.states c.in_ok-p.p c.pop_front.new.self.items
           (popped c.self.inside.states c.self.inside.queue.items c.in_ok-p.p c.pop_front.new.self.items
           c.self.invariant.0 c.in_ok-p.ensures.items),
@@ -21,6 +27,6 @@ invariant_of-self-2 g c =
 
 pub returns-clause-held : goal.returns-clause-held
 returns-clause-held g c =
-    rw (← c.self.view_is, c.set.ensures)
+    rw (← c.self.view_is, c.change.ensures)
     (HoldsFirst-popped c.self.inside.states c.self.inside.queue.items c.in_ok-p.p c.pop_front.new.self.items
     c.self.invariant.0 c.in_ok-p.ensures.items)
