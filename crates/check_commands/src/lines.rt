@@ -61,8 +61,8 @@ fn is_refused<R: Threads + Wait + Clock + Sync>(
     Ok(answer.status == status && answer.out.is_empty() && answer.err.as_slice() == told.as_bytes())
 }
 
-/// Whether a command line over a shelf that holds copy as `n`, and an output that takes so many calls, has this status
-/// and tells this.
+/// Whether a command line over a shelf that holds copy as `n` and a trace as `t`, and an output that takes so many
+/// calls, has this status and tells this.
 fn writes_to<R: Threads + Wait + Clock + Sync>(
     rt: &R,
     alloc: Global,
@@ -73,6 +73,7 @@ fn writes_to<R: Threads + Wait + Clock + Sync>(
 ) -> Result<bool, Fail> {
     let mut shelf = MemoryShelf::new(alloc);
     shelf.store("n", COPY.as_bytes())?;
+    shelf.store("t", b"kpn-trace 1\n")?;
     let words = words_of(alloc, line)?;
     let mut out = Failing { calls };
     let mut err = Vec::new(alloc);
@@ -116,6 +117,8 @@ fn tells_an_output_that_fails_at_any_call(rt: HostRuntime) -> Result<(), Fail> {
         "kpn check n",
         "kpn print n",
         "kpn rounds n 3",
+        "kpn run n",
+        "kpn audit n t",
         "kpn --help",
         "kpn check --help",
     ] {

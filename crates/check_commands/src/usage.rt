@@ -8,15 +8,20 @@ use std::thread::Threads;
 use std::time::Clock;
 
 /// Words, and the status: 2 where they are not understood, 0 where they ask for help.
-const ROWS: [(&str, u8); 23] = [
+const ROWS: [(&str, u8); 30] = [
     ("kpn", 2),
     ("kpn alone", 2),
     ("kpn run two.kpn --take 0", 2),
+    ("kpn run two.kpn --take 1000000001", 2),
+    ("kpn run two.kpn --max-commits 0", 2),
+    ("kpn run two.kpn --max-commits 1000000001", 2),
     ("kpn run two.kpn --workers 0", 2),
     ("kpn run two.kpn --workers 17", 2),
     ("kpn run two.kpn --workers two", 2),
     ("kpn run two.kpn --workers", 2),
     ("kpn audit two.kpn", 2),
+    ("kpn audit two.kpn two.trace --steps 0", 2),
+    ("kpn audit two.kpn two.trace --steps 1000000001", 2),
     ("kpn check", 2),
     ("kpn print one.kpn two.kpn", 2),
     ("kpn rounds two.kpn", 2),
@@ -32,6 +37,8 @@ const ROWS: [(&str, u8); 23] = [
     ("kpn check --help", 0),
     ("kpn print --help", 0),
     ("kpn rounds --help", 0),
+    ("kpn run --help", 0),
+    ("kpn audit --help", 0),
 ];
 
 /// Whether a command line has this status, and its answer stands where it belongs: help on the output, all else where

@@ -1,3 +1,2 @@
--- Lemmas: answers of the command, and states of reports.
-pub mod Commands
+-- Lemmas: states of reports.
 pub mod Reported

@@ -1,8 +1,8 @@
 //! The command: a network and the lists of its sources are read, the network is run, and the report is written.
-ghost use Rattle.std.specs.Prelude.{map, option_map, Some, None, IfOk, IfErr};
-ghost use Rattle.kpn_answers.specs.Answer.{Concludes};
+ghost use Rattle.std.specs.Prelude.{◌≡◌, map, option_map, Some, None, IfOk, IfErr};
+ghost use Rattle.kpn_report.specs.Reports.{IsReport};
 ghost use Rattle.kpn_run.specs.Reported.{IsReported};
-ghost use Rattle.kpn_run.specs.Run.{AnswersRun, ChangesTraceAlone, IsRefusalOfTrace, IsRun};
+ghost use Rattle.kpn_run.specs.Run.{AnswersRun, IsReportText, TellsReport};
 
 use crate::report_text::{status_of, text_of};
 use crate::reporting::{Reported, report_by_workers, report_here};
@@ -11,6 +11,7 @@ use crate::trace::store_trace;
 use kpn_answers::answer::{Conclusion, conclude};
 use kpn_answers::refusal::Refusal;
 use kpn_answers::shelf::Shelf;
+use kpn_report::Limits;
 use std::alloc::Global;
 use std::io::Write;
 use std::sync::Wait;
@@ -72,42 +73,29 @@ fn tell<S: Shelf, O: Write, E: Write>(
 ) -> u8
     requires { IsReported (S.may_give shelf.old) request.now.file.now
         (map (λ word. word.now) request.now.words.items) request.now.limits reported.now }
-    ensures answer { let trace = option_map (λ name. name.now) request.now.trace in
-        Concludes O.contents
-        (IsRun (S.may_give shelf.old) (S.may_give shelf.new) request.now.file.now
-        (map (λ word. word.now) request.now.words.items) request.now.limits trace)
-        (IsRefusalOfTrace trace) out.old out.new err.old err.new result }
-    ensures shelf { ChangesTraceAlone S.may_give
-        (option_map (λ name. name.now) request.now.trace) shelf.old shelf.new }
+    ensures { TellsReport S.may_give O.contents request.now.limits
+        (option_map (λ name. name.now) request.now.trace) reported.now
+        shelf.old shelf.new out.old out.new err.old err.new result }
 {
-    conclude(answer(alloc, request, reported, shelf), out, err)
+    match store_trace(alloc, shelf, request.trace, &reported.report.history) {
+        Ok(()) => conclude(conclusion_of(alloc, &request.limits, reported), out, err),
+        Err(refusal) => refusal.report(err),
+    }
 }
 
-// The text of the report and its status. The trace is stored before.
-fn answer<S: Shelf>(
-    alloc: Global,
-    request: &RunRequest<'_>,
-    reported: &Reported,
-    shelf: &mut S,
-) -> Result<Conclusion, Refusal>
-    requires { IsReported (S.may_give shelf.old) request.now.file.now
-        (map (λ word. word.now) request.now.words.items) request.now.limits reported.now }
-    ensures ok { IfOk result (λ conclusion.
-        IsRun (S.may_give shelf.old) (S.may_give shelf.new) request.now.file.now
-        (map (λ word. word.now) request.now.words.items) request.now.limits
-        (option_map (λ name. name.now) request.now.trace)
+// The text of a report and its status.
+fn conclusion_of(alloc: Global, limits: &Limits, reported: &Reported) -> Result<Conclusion, Refusal>
+    requires { IsReport reported.now.inputs.document.tables reported.now.inputs.given.items
+        limits.now reported.now.report }
+    ensures ok { IfOk result (λ conclusion. IsReportText limits.now reported.now
         conclusion.text.items conclusion.status) }
-    ensures refused { IfErr result
-        (IsRefusalOfTrace (option_map (λ name. name.now) request.now.trace)) }
-    ensures shelf { ChangesTraceAlone S.may_give
-        (option_map (λ name. name.now) request.now.trace) shelf.old shelf.new }
+    ensures refused { IfErr result (λ refusal. refusal ≡ Refusal.NoMemory) }
 {
     let document = &reported.inputs.document;
     let report = &reported.report;
     let network = document.network();
     network.known();
-    store_trace(alloc, shelf, request.trace, &report.history)?;
-    let text = text_of(alloc, document, request.limits.take, report)?;
+    let text = text_of(alloc, document, limits.take, report)?;
     let status = status_of(report.outcome);
     Ok(Conclusion { text, status })
 }

@@ -1,7 +1,7 @@
 //! The trace of a run, stored on a shelf.
 ghost use Rattle.std.specs.Prelude.{◌≡◌, IfOk, IfErr, OnOk, option_map};
 ghost use Rattle.kpn_trace_text.specs.TraceText.{trace_text};
-ghost use Rattle.kpn_run.specs.Run.{ChangesTraceAlone, IsRefusalOfTrace, IsStored};
+ghost use Rattle.kpn_run.specs.Run.{IsStored, IsUnstored};
 
 use kpn_answers::refusal::Refusal;
 use kpn_answers::shelf::Shelf;
@@ -19,11 +19,10 @@ pub fn store_trace<S: Shelf>(
     trace: Option<&str>,
     history: &History,
 ) -> Result<(), Refusal>
-    ensures stored { OnOk result (IsStored (S.may_give shelf.new)
-        (option_map (λ name. name.now) trace.entry) history.now.events) }
-    ensures refused { IfErr result (IsRefusalOfTrace (option_map (λ name. name.now) trace.entry)) }
-    ensures shelf { ChangesTraceAlone S.may_give (option_map (λ name. name.now) trace.entry)
-        shelf.old shelf.new }
+    ensures stored { OnOk result (IsStored S.may_give (option_map (λ name. name.now) trace.entry)
+        history.now.events shelf.old shelf.new) }
+    ensures refused { IfErr result (λ refusal. IsUnstored S.may_give
+        (option_map (λ name. name.now) trace.entry) refusal shelf.old shelf.new) }
 {
     let Some(name) = trace else {
         return Ok(());

@@ -3,15 +3,10 @@ use Rattle.std.proofs.Common.{subst}
 use Rattle.std.proofs.lemmas.Result.{err_from_is_err_and}
 use Rattle.kpn_net.specs.Faults.{IsNetwork}
 use Rattle.kpn_run.proofs.Reported.{waits_within}
-use Rattle.kpn_run.proofs.run.answer.Goals as goal
+use Rattle.kpn_run.proofs.run.conclusion_of.Goals as goal
 
 pub text_of-requires-clause-waits : goal.text_of-requires-clause-waits
-text_of-requires-clause-waits g c =
+text_of-requires-clause-waits c =
     let reported = c.args.reported.now in
     waits_within reported.inputs.document.tables (subst IsNetwork c.network-network.ensures c.known.ensures)
-    reported.inputs.given.items c.args.request.now.limits reported.report c.requires.is_report
-
-pub returns-in_err-text-clause-refused : goal.returns-in_err-text-clause-refused
-returns-in_err-text-clause-refused g c =
-    let p = err_from_is_err_and c.from_residual-in_err-text.result c.from_residual-in_err-text.ensures.1 in
-    rw (p.1, p.2) tt
+    reported.inputs.given.items c.args.limits.now reported.report c.requires
