@@ -34,8 +34,10 @@ pub struct Desk<'n, J: Job, A: Allocator = Global> {
     pub(crate) book: Book<'n, A>,
     pub(crate) total: ledger::Book<J>,
     halts: bool,
-    // who of the workers steps and who rests: no contract sees it
+    // no contract sees the rest: who of the workers steps and who rests, and whether whoever lets the desk go rings for
+    // whoever serves the sinks
     crew: Crew,
+    taker_is_wanted: bool,
 }
 
 impl<'n, J: Job, A: Allocator> Model for Desk<'n, J, A> {
@@ -70,6 +72,7 @@ impl<'n, J: Job, A: Allocator + Copy> Desk<'n, J, A> {
             total,
             halts: false,
             crew: Crew::new(),
+            taker_is_wanted: false,
         })
     }
 }
@@ -214,6 +217,7 @@ impl<'n, J: Job, A: Allocator> Desk<'n, J, A> {
             mut total,
             halts: _,
             crew: _,
+            taker_is_wanted: _,
         } = self;
         let mut all = all;
         total.audit(&mut all);

@@ -1,22 +1,20 @@
-//! How a worker judges its work, and when it leaves it to others.
+//! How a worker judges its work.
+use crate::crew::Crew;
 use std::mem;
 use std::time::{Clock, Duration, Instant};
 
-// below this many nanoseconds from a claim to its commit work is fine
+// below this many nanoseconds from a claim to the wish to commit, work is fine
 const FINE: u64 = 2_000;
 
-// one turn in so many is judged by the clock
+// of so many claims the first is judged by the clock
 const JUDGED: u32 = 8;
-
-// who has made so many commits while another worked beside it does not stand at a gate
-const MOVES: u64 = 4;
 
 /// What is known of the work.
 #[derive(Clone, Copy, Debug, PartialEq, Eq)]
 enum Work {
     /// Nothing yet.
     New,
-    /// A turn takes no longer than what it takes to hand the lock over.
+    /// To step a process takes no longer than to hand the lock over.
     Fine,
     /// Several workers get on with it side by side.
     Coarse,
@@ -26,27 +24,27 @@ enum Work {
 #[derive(Clone, Copy, Debug)]
 pub(crate) struct Pace {
     work: Work,
-    turns: u32,
-    // how many commits the others had made when this one last was alone, or came
-    others: u64,
+    claims: u32,
+    // how far the leader had come when this worker last looked
+    seen: u64,
     has_listened: bool,
 }
 
 impl Pace {
-    /// Of a worker that comes when the others have made so many commits.
-    pub(crate) const fn new(others: u64) -> Pace {
+    /// Of a worker that knows nothing of its work.
+    pub(crate) const fn new() -> Pace {
         Pace {
             work: Work::New,
-            turns: 0,
-            others,
+            claims: 0,
+            seen: 0,
             has_listened: false,
         }
     }
 
-    /// Begins a turn: the time, where the turn is to be judged.
+    /// Begins with a claim: the time, where the claim is to be judged.
     pub(crate) fn begin<R: Clock>(&mut self, rt: &R) -> Option<Instant> {
-        let is_judged = self.turns % JUDGED == 0;
-        self.turns = self.turns.wrapping_add(1);
+        let is_judged = self.claims % JUDGED == 0;
+        self.claims = self.claims.wrapping_add(1);
         self.has_listened = false;
         if is_judged {
             Instant::now(rt).ok()
@@ -55,8 +53,8 @@ impl Pace {
         }
     }
 
-    /// Ends a turn that began at this time, before the lock is asked for: waits for it would make fine work look
-    /// coarse.
+    /// Ends with a claim that began at this time. It is called before the lock is asked for: with waits for the lock in
+    /// it, fine work would look coarse.
     pub(crate) fn end<R: Clock>(&mut self, rt: &R, begun: Option<Instant>) {
         let Some(begun) = begun else {
             return;
@@ -72,23 +70,16 @@ impl Pace {
         self.work == Work::Coarse
     }
 
-    /// Whether the worker, which has nothing to step, may listen for a moment: once before it rests.
-    pub(crate) fn listens(&mut self) -> bool {
+    /// The worker, which has nothing to step, wants to listen for a moment: whether it may, as it does once before it
+    /// rests.
+    pub(crate) fn take_moment(&mut self) -> bool {
         !mem::replace(&mut self.has_listened, true)
     }
 
-    /// From now on it is looked at what the others commit, who have made so many commits.
-    pub(crate) fn look_from(&mut self, others: u64) {
-        self.others = others;
-    }
-
-    /// Whether the worker leaves its fine work to another one, where so many are active and the others have made so
-    /// many commits.
-    pub(crate) fn gives_way(&mut self, active: usize, others: u64) -> bool {
-        if active <= 1 {
-            self.others = others;
-            return false;
-        }
-        self.work == Work::Fine && others.saturating_sub(self.others) >= MOVES
+    /// This worker looks whether it is to take up a process. It is not where it yields, as it does at fine work alone.
+    pub(crate) fn join_in(&mut self, crew: &mut Crew, worker: usize) -> bool {
+        let joins = self.work != Work::Fine || crew.seek_lead(worker, self.seen);
+        self.seen = crew.led();
+        joins
     }
 }

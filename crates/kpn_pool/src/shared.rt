@@ -19,7 +19,7 @@ use std::alloc::{AllocError, Allocator, Global};
 use std::sync::ledger::Blank;
 use std::sync::{Condvar, Mutex, MutexGuard, Wait};
 
-mod turns;
+mod holds;
 
 /// A desk under its lock, the place where workers rest until it changes, and what is told across the lock.
 #[derive(Drop)]
@@ -91,16 +91,17 @@ impl<'n, J: Job, A: Allocator> Shared<'n, J, A> {
         self.changed.notify_all();
     }
 
-    /// How often whoever serves the sinks was called: for a writer that waits for a full sink, by workers that find
-    /// nothing to step, and by each worker that ends. It is read before the sinks are looked at.
+    /// How often the bell rang for whoever serves the sinks: for a process that waits for a full sink or has filled one
+    /// of capacity 1, by a worker that finds nothing to step, and by each worker that ends. It is read before the sinks
+    /// are looked at.
     pub fn rings(&self) -> u64 {
-        self.signals.calls()
+        self.signals.rings()
     }
 
-    /// Waits for a call more than the `seen` ones: it listens for some microseconds, and then sleeps, for at most
-    /// 5 milliseconds.
+    /// Waits for a ring more than the `seen` ones, and no longer than some milliseconds: it listens for a moment, and then
+    /// sleeps.
     pub fn await_ring<R: Wait>(&self, rt: &R, seen: u64) {
-        self.signals.await_call(rt, seen);
+        self.signals.await_ring(rt, seen);
     }
 
     /// Whether as many calls of `work` have ended as there are workers.
@@ -142,17 +143,17 @@ impl<'n, J: Job, A: Allocator> Shared<'n, J, A> {
         self.desk.lock(rt)
     }
 
-    /// Lets the desk go after a call of the outside, and tells the workers what there is for them: one that rests where
-    /// a process is ready and nobody is active, all where the run is settled, and who listens in any case.
+    /// Lets the desk go after a call of the outside, and tells the workers: whoever listens, and, where nobody is active,
+    /// one that rests if a process is ready, or all if the run is settled.
     pub(crate) fn tell<'l>(&'l self, desk: MutexGuard<'l, Desk<'n, J, A>>) {
         let mut desk = desk;
-        let calls = desk.calls_from_outside();
+        let notifies = desk.notify_from_outside();
         let is_over = desk.is_over();
         drop(desk);
         self.signals.move_made();
         if is_over {
             self.changed.notify_all();
-        } else if calls {
+        } else if notifies {
             self.changed.notify_one();
         }
     }

@@ -1,66 +1,63 @@
-//! What is told across the lock: to the workers that something was fed or taken, to whoever serves the sinks that
-//! something is to be taken, or that all workers have ended.
-use crate::bell::Bell;
+//! What is told with no lock held: to a worker that listens that the outside has made a call, to whoever serves the
+//! sinks that something is to be taken, or that a worker has ended.
+use crate::bell::{Bell, listen};
 use std::sync::Wait;
 use std::sync::atomic::{AtomicU64, Ordering};
-use std::time::Duration;
 
-// for how many milliseconds whoever serves the sinks sleeps where nobody rings
-const NAP: u64 = 5;
-
-/// Two bells, and how many workers have ended.
+/// Two counts and a bell.
 #[derive(Debug, Drop)]
 pub(crate) struct Signals {
-    // rung at each call of the outside, for a worker that listens
-    moved: Bell,
-    // rung for whoever serves the sinks, who sleeps there
-    wanted: Bell,
+    // the calls of the outside
+    moves: AtomicU64,
+    // the workers that have ended
     ended: AtomicU64,
+    // for whoever serves the sinks
+    bell: Bell,
 }
 
 impl Signals {
     pub(crate) const fn new() -> Signals {
         Signals {
-            moved: Bell::new(),
-            wanted: Bell::new(),
+            moves: AtomicU64::new(0),
             ended: AtomicU64::new(0),
+            bell: Bell::new(),
         }
     }
 
     /// The outside has made a call.
     pub(crate) fn move_made(&self) {
-        self.moved.ring();
+        self.moves.fetch_add(1, Ordering::SeqCst);
     }
 
     /// How many calls the outside has made.
     pub(crate) fn moves(&self) -> u64 {
-        self.moved.rings()
+        self.moves.load(Ordering::SeqCst)
     }
 
-    /// Whether the outside makes a call within a few microseconds, after so many.
-    pub(crate) fn listen_for_move(&self, seen: u64) -> bool {
-        self.moved.listen(seen)
+    /// Listens for a moment whether the outside makes a call more than the `seen` ones.
+    pub(crate) fn listen_for_move(&self, seen: u64) {
+        let _ = listen(&self.moves, seen);
     }
 
     /// Whoever serves the sinks is to look at them.
-    pub(crate) fn call_server(&self) {
-        self.wanted.ring();
+    pub(crate) fn ring(&self) {
+        self.bell.ring();
     }
 
-    /// How often the server was called.
-    pub(crate) fn calls(&self) -> u64 {
-        self.wanted.rings()
+    /// How often the bell rang.
+    pub(crate) fn rings(&self) -> u64 {
+        self.bell.rings()
     }
 
-    /// The server listens, and then sleeps until it is called once more than so often, or for a nap.
-    pub(crate) fn await_call<R: Wait>(&self, rt: &R, seen: u64) {
-        self.wanted.wait(rt, seen, Duration::from_millis(NAP));
+    /// Waits for a ring more than the `seen` ones, as `Bell::wait` does.
+    pub(crate) fn await_ring<R: Wait>(&self, rt: &R, seen: u64) {
+        self.bell.wait(rt, seen);
     }
 
-    /// A worker has ended, which the server is told.
+    /// A worker has ended, which whoever serves the sinks is told.
     pub(crate) fn end(&self) {
         self.ended.fetch_add(1, Ordering::SeqCst);
-        self.wanted.ring();
+        self.bell.ring();
     }
 
     /// How often a worker has ended.

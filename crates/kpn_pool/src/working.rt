@@ -15,7 +15,8 @@ use std::time::Clock;
 /// Steps processes and commits their steps until there is a reason to end, which the seat then tells.
 ///
 /// A process is claimed, makes at most `quota` steps with the lock free, the gate is asked, and the steps are
-/// committed.
+/// committed. Steps that are refused there as of a process that is not held, or of another one, are dropped: the worker
+/// goes on, and counts no commit.
 pub fn work<'n, J: Job, A: Allocator, G: Gate, R: Wait + Clock>(
     rt: &R,
     shared: &Shared<'n, J, A>,
@@ -29,7 +30,7 @@ pub fn work<'n, J: Job, A: Allocator, G: Gate, R: Wait + Clock>(
     ensures commits { seat.commits ≤ result.commits }
 {
     let mut seat = seat;
-    let mut pace = Pace::new(0);
+    let mut pace = Pace::new();
     let Some(claim) = shared.begin(rt, &mut seat, &mut pace) else {
         return seat;
     };

@@ -1,4 +1,5 @@
-//! What the workers ask of a desk to find out who of them steps and who rests. Nothing that contracts see changes.
+//! What the workers ask of a desk to find out who of them steps, who rests, and who is to be told. Nothing that
+//! contracts see changes.
 ghost use Rattle.std.specs.Prelude.{◌≡◌};
 
 use super::Desk;
@@ -7,12 +8,14 @@ use crate::pace::Pace;
 use kpn_book::Event;
 use kpn_net::End;
 use std::alloc::Allocator;
+use std::mem;
 use std::time::Duration;
 
-// for how many microseconds the one that naps sleeps while others work, and while nobody does
-const SHORT_NAP: u64 = 500;
+// for how many microseconds the one that naps rests while others work
+const NAP: u64 = 500;
 
-const LONG_NAP: u64 = 10_000;
+// for how many microseconds everybody else rests
+const REST: u64 = 5_000;
 
 impl<'n, J: Job, A: Allocator> Desk<'n, J, A> {
     /// One worker more is active.
@@ -22,26 +25,24 @@ impl<'n, J: Job, A: Allocator> Desk<'n, J, A> {
         self.crew.enter();
     }
 
-    /// One worker fewer is active.
-    pub(crate) fn leave(&mut self)
+    /// This worker is active no more.
+    pub(crate) fn leave(&mut self, worker: usize)
         ensures { self.new ≡ self.old }
     {
-        self.crew.leave();
+        self.crew.leave(worker);
     }
 
-    /// A worker rests from now on: how long it naps, or `None` where it sleeps until it is called.
-    pub(crate) fn rest(&mut self) -> Option<Duration>
+    /// This worker rests from now on. Tells whether it naps.
+    pub(crate) fn rest(&mut self, worker: usize) -> bool
         ensures { self.new ≡ self.old }
     {
-        if !self.crew.rest() {
-            return None;
-        }
-        let microseconds = if self.crew.active() > 0 {
-            SHORT_NAP
-        } else {
-            LONG_NAP
-        };
-        Some(Duration::from_micros(microseconds))
+        self.crew.rest(worker)
+    }
+
+    /// For how long a worker rests that naps, or does not.
+    pub(crate) fn rest_of(&self, naps: bool) -> Duration {
+        let is_short = naps && self.crew.active() > 0;
+        Duration::from_micros(if is_short { NAP } else { REST })
     }
 
     /// A worker that has rested is active again.
@@ -51,46 +52,57 @@ impl<'n, J: Job, A: Allocator> Desk<'n, J, A> {
         self.crew.wake(napped);
     }
 
-    /// Whether a worker that rests is to be called, since more processes are ready than workers were called for.
-    pub(crate) fn calls(&mut self) -> bool
-        ensures { self.new ≡ self.old }
-    {
-        let ready = self.book.counts().ready;
-        self.crew.calls(ready)
-    }
-
     /// Whether no more than one worker is active.
     pub(crate) fn is_alone(&self) -> bool {
         self.crew.active() <= 1
     }
 
-    /// Whether a worker with so many commits of its own is to step a process now: one is ready, and the worker does not
-    /// leave its fine work to another one.
-    pub(crate) fn is_for(&self, pace: &mut Pace, own: u64) -> bool {
-        self.book.counts().ready > 0 && !pace.gives_way(self.crew.active(), self.others(own))
-    }
-
-    /// How many commits the other workers made.
-    pub(crate) fn others(&self, own: u64) -> u64 {
-        self.book.commits().saturating_sub(own)
-    }
-
-    /// What the outside is to be told by its call: whether a worker is called, as nobody is active and a process is
-    /// ready.
-    pub(crate) fn calls_from_outside(&mut self) -> bool
+    /// This worker looks for a process to step. Tells whether one is ready, and the worker does not yield.
+    pub(crate) fn join_in(&mut self, pace: &mut Pace, worker: usize) -> bool
         ensures { self.new ≡ self.old }
     {
-        self.crew.active() == 0 && self.calls()
+        self.book.counts().ready > 0 && pace.join_in(&mut self.crew, worker)
     }
 
-    /// Whether the run is settled while a worker rests.
+    /// Counts a worker that rests as notified, where more processes are ready than workers were notified for. Tells
+    /// whether there is one.
+    pub(crate) fn notify(&mut self) -> bool
+        ensures { self.new ≡ self.old }
+    {
+        let ready = self.book.counts().ready;
+        self.crew.notify(ready)
+    }
+
+    /// The same after a call of the outside, where nobody is active: whoever is finds out without.
+    pub(crate) fn notify_from_outside(&mut self) -> bool
+        ensures { self.new ≡ self.old }
+    {
+        self.crew.active() == 0 && self.notify()
+    }
+
+    /// Whether workers rest and nobody is active, who would find that the run is settled.
     pub(crate) fn is_over(&self) -> bool {
-        self.crew.rests() && self.book.verdict().is_some()
+        self.crew.rests() && self.crew.active() == 0 && self.book.verdict().is_some()
     }
 
-    /// Whether something is to be taken from a sink by what happened last: a process came to wait for that, or filled
-    /// a sink of capacity 1.
-    pub(crate) fn wants_taker(&self) -> bool {
+    /// Notes whether whoever serves the sinks is wanted for what happened last: a process came to wait for a full sink,
+    /// or filled a sink of capacity 1.
+    pub(crate) fn note_taker(&mut self)
+        ensures { self.new ≡ self.old }
+    {
+        if self.wants_taker() {
+            self.taker_is_wanted = true;
+        }
+    }
+
+    /// Strikes the note out: whether there was one.
+    pub(crate) fn strike_taker(&mut self) -> bool
+        ensures { self.new ≡ self.old }
+    {
+        mem::replace(&mut self.taker_is_wanted, false)
+    }
+
+    fn wants_taker(&self) -> bool {
         let history = self.book.history();
         let Some(last) = history.len().checked_sub(1) else {
             return false;

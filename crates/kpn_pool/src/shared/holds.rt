@@ -1,5 +1,5 @@
-//! The turns of a worker: each time it has the lock it commits what it has stepped, and takes the next process or
-//! rests.
+//! The holds of a worker: each time it has the lock it commits what it has stepped, and claims the next process or
+//! rests. What it has to tell it tells once the lock is free.
 ghost use Rattle.std.specs.Prelude.{◌≡◌, ◌≤◌, IfSome, IfNone, IsSome, IsTrue};
 ghost use Rattle.kpn_net.specs.Tables.{program_of};
 ghost use Rattle.kpn_step.specs.Frame.{fits};
@@ -40,7 +40,7 @@ impl<'n, J: Job, A: Allocator> Shared<'n, J, A> {
             self.end(desk, seat, Why::Limit);
             return None;
         };
-        self.call_others(desk, pace);
+        self.let_go(desk, pace);
         Some(claim)
     }
 
@@ -67,8 +67,11 @@ impl<'n, J: Job, A: Allocator> Shared<'n, J, A> {
                 self.end(desk, seat, Why::NoMemory);
                 return None;
             }
-            Ok(Done::Blocked | Done::Put) if desk.wants_taker() => self.signals.call_server(),
-            _ => {}
+            Ok(Done::Blocked | Done::Put) => desk.note_taker(),
+            Ok(Done::Got(_) | Done::Grew(_) | Done::Ended | Done::Paused) => {}
+            // the process is not held, or the steps are of another one, which nothing known behind a lock rules out:
+            // the steps are dropped, nothing is counted, and the worker goes on
+            Err(_) => {}
         }
         let Some(mut desk) = self.wait_for_work(rt, seat, pace, desk) else {
             return None;
@@ -77,7 +80,7 @@ impl<'n, J: Job, A: Allocator> Shared<'n, J, A> {
             self.end(desk, seat, Why::Limit);
             return None;
         };
-        self.call_others(desk, pace);
+        self.let_go(desk, pace);
         Some(process)
     }
 
@@ -87,7 +90,7 @@ impl<'n, J: Job, A: Allocator> Shared<'n, J, A> {
     {
         let mut desk = self.desk.lock(rt);
         seat.abandon(&mut desk, process);
-        desk.leave();
+        desk.leave(seat.number());
         drop(desk);
         self.changed.notify_one();
         self.signals.end();
@@ -110,62 +113,67 @@ impl<'n, J: Job, A: Allocator> Shared<'n, J, A> {
                 self.end(desk, seat, why);
                 return None;
             }
-            if desk.is_for(pace, seat.commits()) {
+            if desk.join_in(pace, seat.number()) {
                 return Some(desk);
             }
-            desk = if desk.is_alone() && pace.listens() {
+            desk = if desk.is_alone() && pace.take_moment() {
                 self.listen(rt, desk)
             } else {
-                self.rest(rt, desk, pace, seat.commits())
+                self.rest(rt, desk, pace, seat.number())
             };
         }
         unreachable!()
     }
 
-    /// The only worker that is active finds nothing to step: it calls whoever serves the sinks, and waits for a moment
-    /// whether the outside moves, since it costs more to sleep and to be woken.
+    /// The only worker that is active finds nothing to step. It rings for whoever serves the sinks, and listens for a
+    /// moment whether the outside makes a call, since it costs more to sleep and to be woken.
     fn listen<'l, R: Wait>(
         &'l self,
         rt: &R,
         desk: MutexGuard<'l, Desk<'n, J, A>>,
     ) -> MutexGuard<'l, Desk<'n, J, A>> {
+        let mut desk = desk;
+        let _ = desk.strike_taker();
         let seen = self.signals.moves();
         drop(desk);
-        self.signals.call_server();
-        let _ = self.signals.listen_for_move(seen);
+        self.signals.ring();
+        self.signals.listen_for_move(seen);
         self.desk.lock(rt)
     }
 
-    /// Rests until it is called, or until it is time to look whether it has to take over.
+    /// Rests until it is notified, or until it is time to look again. One that is notified comes as if it were new.
     fn rest<'l, R: Wait + Clock>(
         &self,
         rt: &R,
         desk: MutexGuard<'l, Desk<'n, J, A>>,
         pace: &mut Pace,
-        own: u64,
+        worker: usize,
     ) -> MutexGuard<'l, Desk<'n, J, A>> {
         let mut desk = desk;
-        let Some(nap) = desk.rest() else {
-            let mut desk = self.changed.wait(rt, desk);
-            desk.wake(false);
-            *pace = Pace::new(desk.others(own));
-            return desk;
-        };
-        pace.look_from(desk.others(own));
-        let (mut desk, waited) = self.changed.wait_timeout(rt, desk, nap);
-        desk.wake(true);
+        if desk.strike_taker() {
+            self.signals.ring();
+        }
+        let naps = desk.rest(worker);
+        let most = desk.rest_of(naps);
+        let (mut desk, waited) = self.changed.wait_timeout(rt, desk, most);
+        desk.wake(naps);
         if !waited.timed_out() {
-            *pace = Pace::new(desk.others(own));
+            *pace = Pace::new();
         }
         desk
     }
 
-    /// Lets the desk go after a claim. At coarse work it calls one that rests where more processes are ready.
-    fn call_others<'l>(&'l self, desk: MutexGuard<'l, Desk<'n, J, A>>, pace: &Pace) {
+    /// Lets the desk go after a claim. It rings where somebody is to take from a sink, and at coarse work it notifies a
+    /// worker that rests where more processes are ready.
+    fn let_go<'l>(&'l self, desk: MutexGuard<'l, Desk<'n, J, A>>, pace: &Pace) {
         let mut desk = desk;
-        let calls = pace.is_coarse() && desk.calls();
+        let rings = desk.strike_taker();
+        let notifies = pace.is_coarse() && desk.notify();
         drop(desk);
-        if calls {
+        if rings {
+            self.signals.ring();
+        }
+        if notifies {
             self.changed.notify_one();
         }
     }
@@ -175,7 +183,7 @@ impl<'n, J: Job, A: Allocator> Shared<'n, J, A> {
         ensures { seat.new ≡ ended why seat.old }
     {
         let mut desk = desk;
-        desk.leave();
+        desk.leave(seat.number());
         drop(desk);
         seat.end(why);
         self.changed.notify_all();
