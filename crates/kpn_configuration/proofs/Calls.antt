@@ -54,9 +54,6 @@ becomes_retired ch b is = sym (ap (λ b. ch.is_retired || b) is ∙ or-true ch.i
     or-true true = refl
     or-true false = refl
 
-one_written : (c : ℕ) (v : ℤ) (xs : List ℤ) → cond (eqb c c) (v ∷ []) xs ≡ v ∷ []
-one_written c v xs = ap (λ b. cond b (v ∷ []) xs) (eq-eqb c c refl)
-
 put_is_no_silence : (v : ℤ) (xs : List ℤ) → xs ≡ v ∷ [] → xs ≡ [] → ⊥
 put_is_no_silence v xs is none = let e : (v ∷ []) ≡ [] = sym is ∙ none in absurd cc
 

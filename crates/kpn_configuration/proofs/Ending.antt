@@ -29,25 +29,6 @@ use Rattle.kpn_configuration.specs.EndSoFar.{is_wait_on_full_among, IsRetiredAs,
 use Rattle.kpn_configuration.proofs.Parts.{or-false, untouched, waits_of_kind}
 use Rattle.kpn_configuration.proofs.Calls.{Made, Made-from}
 
-none_among : (w : Wait) → w ≡ cond (is_wait_on_full_among [] w) Nobody w
-none_among Nobody = refl
-none_among (Empty d) = refl
-none_among (Full d) = refl
-
-pub EndSoFar-none : (t : Tables) (s : Configuration) → AreWaits t s.waits → EndSoFar t s s [] []
-EndSoFar-none t s own =
-    record {
-      channels = refl;
-      closed = refl;
-      ends = refl;
-      frames = refl;
-      own = own;
-      retires = λ d h. absurd (Contains-none d h);
-      keeps = λ d h. refl;
-      waits = record { each = λ q. none_among (wait_at s.waits q) };
-      woken = refl;
-    }
-
 -- ---- one port more
 
 among : (d : ℕ) (ports : List ℕ) → list_any (eqb d) ports ≡ true → Contains ports d

@@ -17,9 +17,6 @@ use Rattle.kpn_configuration.specs.Woken.{is_wait_on_full, is_wait_on_empty, Are
 use Rattle.kpn_configuration.proofs.Parts.{SameLengths}
 use Rattle.kpn_configuration.proofs.Calls.{Made, Made-from, Changes-got, Changes-put, Changes-fed, Changes-taken, Changes-left, Changes-closed, Changes-wait_empty, Changes-wait_full}
 
-same_lengths : (s : Configuration) → SameLengths s s
-same_lengths s = record { channels = refl; closed = refl; ends = refl; frames = refl }
-
 module _ (t : Tables) (s : Configuration) (shape : IsConfiguration t s) where
   -- of a configuration that is written out
   made : (e : Event) (final s3 : Configuration) → s3 ≡ final → Changes t e s final → SameLengths s final

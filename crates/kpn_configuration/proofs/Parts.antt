@@ -126,9 +126,6 @@ wakes-feed t c v Nobody = refl
 wakes-feed t c v (Empty d) = refl
 wakes-feed t c v (Full d) = refl
 
-wakes_none : Wait → Bool
-wakes_none w = false
-
 -- an event that makes its process wait, and wakes nobody
 pub waits_set : (t : Tables) (e : Event) (p : ℕ) (wait : Wait) (waits : List Wait) → p < length waits
     → ((q : ℕ) → is_of q e ≡ eqb p q) → wait_made e ≡ wait → ((w : Wait) → wakes t e w ≡ false) → (q : ℕ)

@@ -71,19 +71,21 @@ module _ (t : Tables) (network : IsNetwork t) (H : List Event) (s : Configuratio
   settled_now = (
     λ h. record {
       processes = λ p there. stopped p there (h.processes p there);
-      sources = λ c below source. sym (run.leads.closed c below) ∙ h.sources c below source;
-      sinks = λ c below sink. elim (h.sinks c below sink) [
+      sources = λ c below source. sym (run.leads.closed c below) ∙ h.outside.sources c below source;
+      sinks = λ c below sink. elim (h.outside.sinks c below sink) [
         | inl empty ↦ inl (empty_same t H c (channel_in s c) (run.leads.channels c below) empty)
         | inr gone ↦ inr (sym (left_now c below sink) ∙ gone)
       ];
     },
     λ h. record {
       processes = λ p there. stopped_now p there (h.processes p there);
-      sources = λ c below source. run.leads.closed c below ∙ h.sources c below source;
-      sinks = λ c below sink. elim (h.sinks c below sink) [
-        | inl empty ↦ inl (unread_same t H c (channel_in s c) (run.leads.channels c below) ∙ no_items _ empty)
-        | inr left ↦ inr (left_now c below sink ∙ left)
-      ];
+      outside = record {
+        sources = λ c below source. run.leads.closed c below ∙ h.sources c below source;
+        sinks = λ c below sink. elim (h.sinks c below sink) [
+          | inl empty ↦ inl (unread_same t H c (channel_in s c) (run.leads.channels c below) ∙ no_items _ empty)
+          | inr left ↦ inr (left_now c below sink ∙ left)
+        ];
+      };
     },
   )
 

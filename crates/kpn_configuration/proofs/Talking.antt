@@ -15,6 +15,7 @@ use Rattle.kpn_net.specs.Tables.{Tables, instance_at, program_of}
 use Rattle.kpn_net.specs.Faults.{IsNetwork}
 use Rattle.kpn_net.specs.Process.{Family, talk_on, CanSay, ComesTo, at_channel, ends_at_channel}
 use Rattle.kpn_net.specs.Waits.{AreDistinct}
+use Rattle.kpn_net.proofs.Growth.{map-prefix}
 use Rattle.kpn_net.proofs.PortsApart.{reads_its_ins, ins_distinct, one_port}
 use Rattle.kpn_step.specs.declared.stop.Stop.{Stop}
 use Rattle.kpn_step.specs.declared.stop.Stop.TheVariants as stop
@@ -28,11 +29,6 @@ use Rattle.kpn_trace.specs.Channels.{read_on}
 use Rattle.kpn_trace.specs.Legal.{Legal}
 use Rattle.kpn_trace.proofs.Journals.{read_on-got}
 use Rattle.kpn_configuration.specs.Run.{NamesInsBelow, StandsAfter}
-
-IsPrefix-map : {A B : Type 0} (f : A → B) (xs ys : List A) → IsPrefix xs ys → IsPrefix (map f xs) (map f ys)
-IsPrefix-map f [] ys h = tt
-IsPrefix-map f (x ∷ xs) [] h = absurd h
-IsPrefix-map f (x ∷ xs) (y ∷ ys) h = (ap f h.0, IsPrefix-map f xs ys h.1)
 
 -- ---- what was got at a port was got from the channel there
 
@@ -70,9 +66,6 @@ got_at-past n (said.Put q v ∷ talk) below port past = got_at-past n talk below
 
 module _ (t : Tables) (network : IsNetwork t) (H : List Event) (legal : Legal t H) (p : ℕ)
     (there : p < length t.instances) (f : Frame) (stand : StandsAfter t H p f) where
-  at_own : Said → Said
-  at_own = at_channel (instance_at t p)
-
   -- what the process read, and then these items on each of its channels
   pub Leaves-more : (X more : Family) → ((c : ℕ) → X c ≡ read_on H c ++ more c)
       → Leaves stand.said (map X (instance_at t p).ins) (map more (instance_at t p).ins)
@@ -127,7 +120,7 @@ module _ (t : Tables) (network : IsNetwork t) (H : List Event) (legal : Legal t 
               subst (λ talk. IsPrefix talk (talk_on t p can.turns X))
               (map-append (at_channel (instance_at t p)) stand.said (spoken ∷ [])
               ∙ ap (λ xs. xs ++ at_channel (instance_at t p) spoken ∷ []) stand.talk)
-              (IsPrefix-map (at_channel (instance_at t p)) (stand.said ++ spoken ∷ []) _ can.said);
+              (map-prefix (at_channel (instance_at t p)) (stand.said ++ spoken ∷ []) _ can.said);
         }
 
     -- it comes to the end that the stop is

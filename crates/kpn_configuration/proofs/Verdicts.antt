@@ -22,8 +22,8 @@ use Rattle.kpn_trace.specs.declared.state.Verdict.{Verdict}
 use Rattle.kpn_trace.specs.declared.state.Verdict.TheVariants.{Ended, Clogged, Jammed}
 use Rattle.kpn_configuration.specs.Configuration.{Configuration, channel_in, closed_in, wait_in, end_in, capacities}
 use Rattle.kpn_configuration.specs.Quiet.{IsQuietNow}
-use Rattle.kpn_configuration.specs.Settled.{HasFullCycleNow, IsVerdictNow}
-use Rattle.kpn_configuration.specs.Stopped.{AreOutsideDone, is_empty_wait, is_quiet_at, is_outside, awaits_outside}
+use Rattle.kpn_configuration.specs.Settled.{IsOutsideDone, HasFullCycleNow, IsVerdictNow}
+use Rattle.kpn_configuration.specs.Stopped.{is_empty_wait, is_quiet_at, is_outside, awaits_outside}
 
 -- ---- answers of tests
 
@@ -102,7 +102,7 @@ module _ (t : Tables) (s : Configuration) where
       ∙ ap (λ e. is_outside e && is_some (next_item (channel_in s c))) (reader_of-sink t c sink)) ∙ h in
       no_item (channel_in s c).is_retired (unread (channel_in s c)) item
 
-  still_awaited : (c : ℕ) → c < length t.channels → awaits_outside t s c ≡ true → AreOutsideDone t s → ⊥
+  still_awaited : (c : ℕ) → c < length t.channels → awaits_outside t s c ≡ true → IsOutsideDone t s → ⊥
   still_awaited c below h done = by_kind (is_source (channel_at t c)) refl
     where
       by_kind : (b : Bool) → is_source (channel_at t c) ≡ b → ⊥
@@ -131,7 +131,7 @@ module _ (t : Tables) (s : Configuration) where
   quiet_no p there h = fails (λ quiet. not_quiet (end_in s p) (wait_in s p) h (quiet.each p there))
 
   pub outside_yes : ((c : ℕ) → c < length t.channels → awaits_outside t s c ≡ false)
-      → IsTrue true ↔ AreOutsideDone t s
+      → IsTrue true ↔ IsOutsideDone t s
   outside_yes all =
       holds
       (record {
@@ -139,7 +139,7 @@ module _ (t : Tables) (s : Configuration) where
         sinks = λ c below sink. sink_done c (all c below) sink;
       })
 
-  pub outside_no : (c : ℕ) → c < length t.channels → awaits_outside t s c ≡ true → IsTrue false ↔ AreOutsideDone t s
+  pub outside_no : (c : ℕ) → c < length t.channels → awaits_outside t s c ≡ true → IsTrue false ↔ IsOutsideDone t s
   outside_no c below h = fails (still_awaited c below h)
 
   pub no_full_more : (p : ℕ) (f : Found)
@@ -149,11 +149,6 @@ module _ (t : Tables) (s : Configuration) where
   no_full_more p f before finds none q d below =
       below_more (λ x. ¬ IsSmallestOfCycle t s.waits (cap_in (capacities s)) x d) p (λ x less. before x d less)
       (λ h. none d (finding_unique t s.waits (cap_in (capacities s)) p f (found.Full d) finds h)) q below
-
-  pub full_cycle_yes : (p c : ℕ) → Finds t s.waits (cap_in (capacities s)) p (found.Full c)
-      → IsTrue true ↔ HasFullCycleNow t s
-  full_cycle_yes p c h =
-      holds (record { process = p; others = h.others; cycle = h.cycle; channel = c; full = h.smallest.among })
 
   pub full_cycle_no : ((p d : ℕ) → p < length t.instances
       → ¬ IsSmallestOfCycle t s.waits (cap_in (capacities s)) p d) → IsTrue false ↔ HasFullCycleNow t s

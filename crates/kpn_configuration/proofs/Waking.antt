@@ -1,6 +1,5 @@
 -- Who is woken: the writer of a channel that waits as full on it, its reader that waits as empty on it; and who is
--- woken is
--- who becomes free.
+-- woken is who becomes free.
 use Rattle.std.proofs.Common.{◌≡◌, ◌↔◌, ℕ, ◌<◌, Bool, true, false, cond, eq-eqb, List, [], ◌∷◌, length, Option, Some, None, refl, sym, ap, ◌∙◌, subst, inl, inr, ◌⊎◌}
 use Rattle.std.specs.List.{Contains, filter_map, cons_option}
 use Rattle.std.proofs.lemmas.Bool.{false≢true, eqb-true}

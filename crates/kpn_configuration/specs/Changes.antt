@@ -14,10 +14,8 @@ use Rattle.kpn_trace.specs.AfterEvent.{capacity_then, takes_reader}
 use Rattle.kpn_configuration.specs.Configuration.{Configuration, channel_in, closed_in, wait_in, end_in, frame_in}
 
 -- a channel after an event: what the event writes stands behind its journal, what it reads is read, a growth of it
--- makes
--- its capacity larger, and it is retired from then on where the event takes its reader. But for a put, what was
--- reserved
--- stays so
+-- makes its capacity larger, and it is retired from then on where the event takes its reader. But for a put, what was
+-- reserved stays so
 pub record IsChannelAfter (t : Tables) (event : Event) (c : ℕ) (before after : ChannelState) : Type 0 where
   pub journal : after.journal ≡ before.journal ++ written_in c event
   pub read : after.read ≡ before.read + length (read_in c event)

@@ -11,8 +11,7 @@ use Rattle.kpn_chan.specs.Channel.{ChannelState, opened}
 use Rattle.kpn_trace.specs.declared.event.How.{How}
 
 -- for each channel what it holds and whether it is closed; for each process what it waits for, how it ended if it
--- did,
--- and the frame where it stands
+-- did, and the frame where it stands
 pub record Configuration : Type 0 where
   pub channels : List ChannelState
   pub closed : List Bool
@@ -71,6 +70,11 @@ pub record IsFree (s : Configuration) (p : ℕ) : Type 0 where
 abbrev pub with_channel : (c : ℕ) → ChannelState → Configuration → Configuration
 with_channel c channel s = record s { channels = slice_set s.channels c channel }
 
+abbrev pub with_frame : (p : ℕ) → Frame → Configuration → Configuration
+with_frame p frame s = record s { frames = slice_set s.frames p frame }
+
+-- ---- parts that the code changes one by one; a reader of the public contracts needs none of it
+
 abbrev pub with_closed : (c : ℕ) → Configuration → Configuration
 with_closed c s = record s { closed = slice_set s.closed c true }
 
@@ -79,6 +83,3 @@ with_waits waits s = record s { waits = waits }
 
 abbrev pub with_end : (p : ℕ) → How → Configuration → Configuration
 with_end p how s = record s { ends = slice_set s.ends p (Some how) }
-
-abbrev pub with_frame : (p : ℕ) → Frame → Configuration → Configuration
-with_frame p frame s = record s { frames = slice_set s.frames p frame }

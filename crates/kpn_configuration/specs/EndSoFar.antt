@@ -1,6 +1,5 @@
 -- What the code keeps while it retires the channels of a process that has ended. A reader of the public contracts
--- needs
--- none of it.
+-- needs none of it.
 use Rattle.std.specs.Prelude.{◌≡◌, ℕ, Bool, false, nat_eq, IsTrue, List, length}
 use Rattle.std.specs.List.{Contains, list_any, filter_map}
 use Rattle.kpn_net.specs.declared.wait.Wait.{Wait}

@@ -10,6 +10,8 @@ use Rattle.kpn_configuration.specs.Configuration.{Configuration, capacities}
 abbrev pub IsOwed : Tables → Configuration → (p d : ℕ) → Type 0
 IsOwed t s p d = IsBelowLimit t s.waits (cap_in (capacities s)) p d
 
+-- ---- what the code makes of a search; a reader of the public contracts needs none of it
+
 -- the channel that a search found, if it may grow
 abbrev pub channel_to_grow : (cap : ℕ → ℕ) → (limit : ℕ) → Found → Option ℕ
 channel_to_grow cap limit NoCycle = None

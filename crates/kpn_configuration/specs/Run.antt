@@ -18,8 +18,7 @@ use Rattle.kpn_trace.specs.Legal.{Legal}
 use Rattle.kpn_configuration.specs.Configuration.{Configuration, channel_in, closed_in, wait_in, end_in, frame_in, IsConfiguration}
 
 -- a channel holds what the history brought it: its journal is what was written, of which as many items were read as
--- the
--- history read; it has its capacity then, and is retired where its reader does not live
+-- the history read; it has its capacity then, and is retired where its reader does not live
 pub record HoldsChannel (t : Tables) (H : List Event) (c : ℕ) (channel : ChannelState) : Type 0 where
   pub journal : channel.journal ≡ written_on H c
   pub read : channel.read ≡ length (read_on H c)

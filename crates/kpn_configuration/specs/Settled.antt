@@ -9,12 +9,21 @@ use Rattle.kpn_trace.specs.declared.state.Verdict.{Verdict}
 use Rattle.kpn_trace.specs.declared.state.Verdict.TheVariants.{Ended, Clogged, Jammed}
 use Rattle.kpn_configuration.specs.Configuration.{Configuration, channel_in, closed_in, wait_in, end_in}
 
--- each process has ended or waits, each source is closed, and each sink is empty or left
-pub record IsSettledNow (t : Tables) (s : Configuration) : Type 0 where
-  pub processes : (p : ℕ) → p < length t.instances → ((how : How) × (end_in s p ≡ Some how)) ⊎ (wait_in s p ≢ Nobody)
+-- each process has ended or waits
+abbrev pub HaveStopped : Tables → Configuration → Type 0
+HaveStopped t s =
+    (p : ℕ) → p < length t.instances → ((how : How) × (end_in s p ≡ Some how)) ⊎ (wait_in s p ≢ Nobody)
+
+-- each source is closed, and each sink is empty or left
+pub record IsOutsideDone (t : Tables) (s : Configuration) : Type 0 where
   pub sources : (c : ℕ) → c < length t.channels → is_source (channel_at t c) ≡ true → closed_in s c ≡ true
   pub sinks : (c : ℕ) → c < length t.channels → is_sink (channel_at t c) ≡ true
       → (unread (channel_in s c) ≡ []) ⊎ ((channel_in s c).is_retired ≡ true)
+
+-- nothing goes on by itself, and the outside has done all that it may
+pub record IsSettledNow (t : Tables) (s : Configuration) : Type 0 where
+  pub processes : HaveStopped t s
+  pub outside : IsOutsideDone t s
 
 -- some cycle of waiting processes has a full channel
 pub record HasFullCycleNow (t : Tables) (s : Configuration) : Type 0 where

@@ -1,12 +1,12 @@
 -- What the code asks of each process and each channel before it gives a verdict. A reader of the public contracts
 -- needs none of it.
-use Rattle.std.specs.Prelude.{◌≡◌, ℕ, ◌<◌, ◌||◌, ◌&&◌, ◌⊎◌, Bool, true, false, not, is_some, if◌then◌else◌, [], length}
+use Rattle.std.specs.Prelude.{ℕ, ◌||◌, ◌&&◌, Bool, true, false, not, is_some, if◌then◌else◌}
 use Rattle.kpn_net.specs.declared.wait.Wait.{Wait}
 use Rattle.kpn_net.specs.declared.wait.Wait.TheVariants.{Nobody, Empty, Full}
 use Rattle.kpn_net.specs.declared.tables.End.{End}
 use Rattle.kpn_net.specs.declared.tables.End.TheVariants.{Sink}
-use Rattle.kpn_net.specs.Tables.{Tables, channel_at, is_source, is_sink, reader_of}
-use Rattle.kpn_chan.specs.Channel.{unread, next_item}
+use Rattle.kpn_net.specs.Tables.{Tables, channel_at, is_source, reader_of}
+use Rattle.kpn_chan.specs.Channel.{next_item}
 use Rattle.kpn_configuration.specs.Configuration.{Configuration, channel_in, closed_in, wait_in, end_in}
 
 abbrev pub is_empty_wait : Wait → Bool
@@ -38,9 +38,3 @@ abbrev pub awaits_outside : Tables → Configuration → (c : ℕ) → Bool
 awaits_outside t s c =
     if is_source (channel_at t c) then not (closed_in s c)
     else (is_outside (reader_of t c) && is_some (next_item (channel_in s c)))
-
--- each source is closed, and each sink is empty or left
-pub record AreOutsideDone (t : Tables) (s : Configuration) : Type 0 where
-  pub sources : (c : ℕ) → c < length t.channels → is_source (channel_at t c) ≡ true → closed_in s c ≡ true
-  pub sinks : (c : ℕ) → c < length t.channels → is_sink (channel_at t c) ≡ true
-      → (unread (channel_in s c) ≡ []) ⊎ ((channel_in s c).is_retired ≡ true)

@@ -135,9 +135,9 @@ pub fn no_cycle_is_left_to_grow()
         → Contains (full_channels s.waits (p ∷ others)) d → t.limit ≤ cap_in (capacities s) d }
 {}
 
-/// Whom an event on a channel wakes is who waits there; whom an end wakes are those that wait on a full channel
-/// of the process, each once. A process that has ended waits for nobody. So of the other
-/// processes those are free after an event that were free before it, and those that it wakes.
+/// Whom an event on a channel wakes is who waits there; whom an end wakes are those that wait on a full channel of the
+/// process, each once. A process that has ended waits for nobody. So of the other processes those are free after an
+/// event that were free before it, and those that it wakes.
 pub fn who_is_woken()
     ensures writer { (t : Tables) (waits : List Wait) → AreWaits t waits
         → (c q : ℕ) → ((waiting_writer t waits c ≡ Some q)

@@ -8,8 +8,8 @@ ghost use Rattle.kpn_trace.specs.Ends.{IsQuiet, IsVerdict};
 ghost use Rattle.kpn_configuration.specs.Configuration.{wait_in, end_in, IsConfiguration};
 ghost use Rattle.kpn_configuration.specs.Quiet.{IsQuietNow};
 ghost use Rattle.kpn_configuration.specs.Run.{IsRun};
-ghost use Rattle.kpn_configuration.specs.Settled.{IsSettledNow, HasFullCycleNow, HasFullWaitNow, IsVerdictNow};
-ghost use Rattle.kpn_configuration.specs.Stopped.{AreOutsideDone, is_quiet_at, has_stopped, is_full_wait, awaits_outside};
+ghost use Rattle.kpn_configuration.specs.Settled.{HaveStopped, IsOutsideDone, IsSettledNow, HasFullCycleNow, HasFullWaitNow, IsVerdictNow};
+ghost use Rattle.kpn_configuration.specs.Stopped.{is_quiet_at, has_stopped, is_full_wait, awaits_outside};
 
 use super::Configuration;
 use kpn_net::{End, Found, Network, Wait};
@@ -81,8 +81,7 @@ impl<A: Allocator> Configuration<A> {
 
     fn all_stopped(&self, network: &Network) -> bool
         requires shape { IsConfiguration network.now self.now }
-        ensures { IsTrue result ↔ ((p : ℕ) → p < length network.now.instances
-            → ((how : How) × (end_in self.now p ≡ Some how)) ⊎ (wait_in self.now p ≢ wait.Nobody)) }
+        ensures { IsTrue result ↔ HaveStopped network.now self.now }
     {
         for p in 0..network.instances() {
             if !self.has_stopped(p) {
@@ -95,7 +94,7 @@ impl<A: Allocator> Configuration<A> {
     /// Whether each source is closed, and each sink is empty or left.
     fn is_outside_done(&self, network: &Network) -> bool
         requires shape { IsConfiguration network.now self.now }
-        ensures { IsTrue result ↔ AreOutsideDone network.now self.now }
+        ensures { IsTrue result ↔ IsOutsideDone network.now self.now }
     {
         for c in 0..network.channels() {
             if self.awaits_outside(network, c) {
