@@ -27,10 +27,6 @@ same_item o v w e f = let g : ◌≡◌ {A = Option ℤ} (Some v) (Some w) = sym
 -- ---- where a process stands
 
 module _ (t : Tables) (s : Configuration) (p : ℕ) (stop : Stop) (at : IsStopped t s p stop) (c : ℕ) where
-  pub reads_from : IsReadFrom (instance_at t p).ins c stop → ReadsFrom t s p c
-  reads_from read =
-      record { port = read.0; channel = read.1; stands = subst (λ x. Stands t s p x) read.2 at.stands }
-
   pub is_read : ReadsFrom t s p c → IsReadFrom (instance_at t p).ins c stop
   is_read reads = (
     reads.port,
@@ -38,10 +34,6 @@ module _ (t : Tables) (s : Configuration) (p : ℕ) (stop : Stop) (at : IsStoppe
     one_stop (program_of t p).blocks (frame_in s p) stop (WantRead reads.port) at.stands reads.stands at.is_no_pause
         (λ e. absurd cc),
   )
-
-  pub writes_to : (v : ℤ) → IsWriteOf (instance_at t p).outs c v stop → WritesTo t s p c v
-  writes_to v write =
-      record { port = write.0; channel = write.1; stands = subst (λ x. Stands t s p x) write.2 at.stands }
 
   pub is_write : (v : ℤ) → WritesTo t s p c v → IsWriteOf (instance_at t p).outs c v stop
   is_write v writes = (

@@ -64,6 +64,11 @@ IsMade t H event before after (Follows owed) = IsFollowed t H event before after
 IsMade t H event before after Illegal = ¬ Legal t (H ++ event ∷ [])
 IsMade t H event before after Budget = ⊥
 
+-- the same whatever history led to the configuration, if that owes nothing
+abbrev pub IsFound : Tables → Event → (before after : Configuration) → Judged → Type 0
+IsFound t event before after judged =
+    (H : List Event) → IsRun t H before → OwesNothing t H → IsMade t H event before after judged
+
 -- so many steps lead one process from where it stands to where it stands then, and all others stay
 pub record IsMoved (t : Tables) (p : ℕ) (before after : Configuration) : Type 0 where
   pub steps : ℕ

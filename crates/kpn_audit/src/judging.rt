@@ -8,7 +8,7 @@ ghost use Rattle.kpn_trace.specs.Stops.{OwesNothing};
 ghost use Rattle.kpn_configuration.specs.Configuration.{IsConfiguration};
 ghost use Rattle.kpn_configuration.specs.Owed.{IsOwed};
 ghost use Rattle.kpn_configuration.specs.Run.{IsRun};
-ghost use Rattle.kpn_audit.specs.Judged.{IsStopped, Owes, IsMade, IsJudged};
+ghost use Rattle.kpn_audit.specs.Judged.{IsStopped, Owes, IsFound, IsJudged};
 
 use crate::growth::judge_owed;
 use crate::judged::{Growth, Judged};
@@ -69,10 +69,8 @@ fn judge_at_stop<A: Allocator>(
     requires stopped { (p : ℕ) → is_of p event ≡ true
         → IsStopped network.now configuration.old p stop }
     ensures shape { IsConfiguration network.now configuration.new }
-    ensures judged { (H : List Event) → IsRun network.now H configuration.old
-        → OwesNothing network.now H → is_of_process event ≡ true
-        → IfOk result
-        (IsMade network.now H event configuration.old configuration.new) }
+    ensures judged { is_of_process event ≡ true
+        → IfOk result (IsFound network.now event configuration.old configuration.new) }
 {
     match event {
         Event::Get(p, c, item) => {
@@ -125,10 +123,8 @@ fn judge_outside<A: Allocator>(
     requires numbers { HasNumbers network.now event }
     requires outside { is_of_process event ≡ false }
     ensures shape { IsConfiguration network.now configuration.new }
-    ensures judged { (H : List Event) → IsRun network.now H configuration.old
-        → OwesNothing network.now H
-        → IfOk result
-        (IsMade network.now H event configuration.old configuration.new) }
+    ensures judged { IfOk result
+        (IsFound network.now event configuration.old configuration.new) }
 {
     network.known();
     match event {

@@ -1,12 +1,9 @@
 //! Events of the outside: each is judged by its channel, and made where it may follow.
 ghost use Rattle.std.specs.Prelude.{◌≡◌, ◌↔◌, ◌<◌, true, List, length, IsTrue, IfOk};
 ghost use Rattle.kpn_net.specs.Tables.{channel_at, is_sink};
-ghost use Rattle.kpn_trace.specs.declared.event.Event.{Event};
 ghost use Rattle.kpn_trace.specs.declared.event.Event.TheVariants as event;
-ghost use Rattle.kpn_trace.specs.Stops.{OwesNothing};
 ghost use Rattle.kpn_configuration.specs.Configuration.{IsConfiguration};
-ghost use Rattle.kpn_configuration.specs.Run.{IsRun};
-ghost use Rattle.kpn_audit.specs.Judged.{IsMade};
+ghost use Rattle.kpn_audit.specs.Judged.{IsFound};
 
 use crate::judged::Judged;
 use kpn_configuration::Configuration;
@@ -33,10 +30,8 @@ pub(crate) fn feed<A: Allocator>(
     requires shape { IsConfiguration network.now configuration.old }
     requires channel { c < length network.now.channels }
     ensures shape { IsConfiguration network.now configuration.new }
-    ensures judged { (H : List Event) → IsRun network.now H configuration.old
-        → OwesNothing network.now H
-        → IfOk result
-        (IsMade network.now H (event.Feed c item) configuration.old configuration.new) }
+    ensures judged { IfOk result
+        (IsFound network.now (event.Feed c item) configuration.old configuration.new) }
 {
     network.known();
     if !network.is_source(c) || configuration.is_closed(c) {
@@ -56,9 +51,8 @@ pub(crate) fn close<A: Allocator>(
     requires shape { IsConfiguration network.now configuration.old }
     requires channel { c < length network.now.channels }
     ensures shape { IsConfiguration network.now configuration.new }
-    ensures judged { (H : List Event) → IsRun network.now H configuration.old
-        → OwesNothing network.now H
-        → IsMade network.now H (event.Close c) configuration.old configuration.new result }
+    ensures judged { IsFound network.now (event.Close c)
+        configuration.old configuration.new result }
 {
     network.known();
     if !network.is_source(c) || configuration.is_closed(c) {
@@ -78,9 +72,8 @@ pub(crate) fn take<A: Allocator>(
     requires shape { IsConfiguration network.now configuration.old }
     requires channel { c < length network.now.channels }
     ensures shape { IsConfiguration network.now configuration.new }
-    ensures judged { (H : List Event) → IsRun network.now H configuration.old
-        → OwesNothing network.now H
-        → IsMade network.now H (event.Take c item) configuration.old configuration.new result }
+    ensures judged { IsFound network.now (event.Take c item)
+        configuration.old configuration.new result }
 {
     network.known();
     if !is_sink(network, c) || !configuration.has_item(c) {
@@ -103,9 +96,8 @@ pub(crate) fn leave<A: Allocator>(
     requires shape { IsConfiguration network.now configuration.old }
     requires channel { c < length network.now.channels }
     ensures shape { IsConfiguration network.now configuration.new }
-    ensures judged { (H : List Event) → IsRun network.now H configuration.old
-        → OwesNothing network.now H
-        → IsMade network.now H (event.Leave c) configuration.old configuration.new result }
+    ensures judged { IsFound network.now (event.Leave c)
+        configuration.old configuration.new result }
 {
     network.known();
     if !is_sink(network, c) || configuration.channel(c).is_retired() {

@@ -1,11 +1,8 @@
 //! Events of processes: each is judged by where its process stands, and made where it may follow.
 ghost use Rattle.std.specs.Prelude.{◌≡◌, ◌<◌, List, length, IfOk};
-ghost use Rattle.kpn_trace.specs.declared.event.Event.{Event};
 ghost use Rattle.kpn_trace.specs.declared.event.Event.TheVariants as event;
-ghost use Rattle.kpn_trace.specs.Stops.{OwesNothing};
 ghost use Rattle.kpn_configuration.specs.Configuration.{IsConfiguration};
-ghost use Rattle.kpn_configuration.specs.Run.{IsRun};
-ghost use Rattle.kpn_audit.specs.Judged.{IsStopped, IsMade};
+ghost use Rattle.kpn_audit.specs.Judged.{IsStopped, IsFound};
 
 use crate::growth::after_wait;
 use crate::judged::Judged;
@@ -29,9 +26,8 @@ pub(crate) fn get<A: Allocator>(
     requires channel { c < length network.now.channels }
     requires stopped { IsStopped network.now configuration.old p stop }
     ensures shape { IsConfiguration network.now configuration.new }
-    ensures judged { (H : List Event) → IsRun network.now H configuration.old
-        → OwesNothing network.now H
-        → IsMade network.now H (event.Get p c item) configuration.old configuration.new result }
+    ensures judged { IsFound network.now (event.Get p c item)
+        configuration.old configuration.new result }
 {
     network.known();
     if !is_read_from(network, p, c, stop) || !configuration.has_item(c) {
@@ -58,10 +54,8 @@ pub(crate) fn put<A: Allocator>(
     requires channel { c < length network.now.channels }
     requires stopped { IsStopped network.now configuration.old p stop }
     ensures shape { IsConfiguration network.now configuration.new }
-    ensures judged { (H : List Event) → IsRun network.now H configuration.old
-        → OwesNothing network.now H
-        → IfOk result
-        (IsMade network.now H (event.Put p c item) configuration.old configuration.new) }
+    ensures judged { IfOk result
+        (IsFound network.now (event.Put p c item) configuration.old configuration.new) }
 {
     network.known();
     if !is_write_of(network, p, c, item, stop) || configuration.channel(c).is_full() {
@@ -84,9 +78,8 @@ pub(crate) fn wait_on_empty<A: Allocator>(
     requires channel { c < length network.now.channels }
     requires stopped { IsStopped network.now configuration.old p stop }
     ensures shape { IsConfiguration network.now configuration.new }
-    ensures judged { (H : List Event) → IsRun network.now H configuration.old
-        → OwesNothing network.now H
-        → IsMade network.now H (event.WaitEmpty p c) configuration.old configuration.new result }
+    ensures judged { IsFound network.now (event.WaitEmpty p c)
+        configuration.old configuration.new result }
 {
     network.known();
     if !is_read_from(network, p, c, stop) || !configuration.channel(c).is_empty() {
@@ -108,9 +101,8 @@ pub(crate) fn wait_on_full<A: Allocator>(
     requires channel { c < length network.now.channels }
     requires stopped { IsStopped network.now configuration.old p stop }
     ensures shape { IsConfiguration network.now configuration.new }
-    ensures judged { (H : List Event) → IsRun network.now H configuration.old
-        → OwesNothing network.now H
-        → IsMade network.now H (event.WaitFull p c) configuration.old configuration.new result }
+    ensures judged { IsFound network.now (event.WaitFull p c)
+        configuration.old configuration.new result }
 {
     network.known();
     if !is_write_to(network, p, c, stop) || !configuration.channel(c).is_full() {
@@ -131,9 +123,8 @@ pub(crate) fn end<A: Allocator>(
     requires shape { IsConfiguration network.now configuration.old }
     requires stopped { IsStopped network.now configuration.old p stop }
     ensures shape { IsConfiguration network.now configuration.new }
-    ensures judged { (H : List Event) → IsRun network.now H configuration.old
-        → OwesNothing network.now H
-        → IsMade network.now H (event.Ended p how) configuration.old configuration.new result }
+    ensures judged { IsFound network.now (event.Ended p how)
+        configuration.old configuration.new result }
 {
     network.known();
     if !is_end(how, stop) {

@@ -44,17 +44,6 @@ pub record IsRefusedTrace (may_give : List ℕ → List ℕ → Type 0) (trace :
   pub loaded : may_give trace bytes
   pub refused : Refuses bytes fault
 
--- why a file gives no events
-abbrev pub IsRefusalOfTrace : (may_give : List ℕ → List ℕ → Type 0) (trace : List ℕ) → Refusal → Type 0
-IsRefusalOfTrace may_give trace (Input fault) = NamesNoLine fault
-IsRefusalOfTrace may_give trace (Trace fault) = IsRefusedTrace may_give trace fault
-IsRefusalOfTrace may_give trace other = ⊥
-
-abbrev pub IsWantOfMemory : Refusal → Type 0
-IsWantOfMemory NoMemoryToAudit = ⊤
-IsWantOfMemory NoMemory = ⊤
-IsWantOfMemory other = ⊥
-
 -- why there is nothing to tell: the description is read first, then the trace, and then memory may run out
 abbrev pub IsRefusalOfAudit : (may_give : List ℕ → List ℕ → Type 0) (file trace : List ℕ) → Refusal → Type 0
 IsRefusalOfAudit may_give file trace (Input fault) = NamesNoLine fault
@@ -64,3 +53,17 @@ IsRefusalOfAudit may_give file trace (Trace fault) =
 IsRefusalOfAudit may_give file trace NoMemoryToAudit = ⊤
 IsRefusalOfAudit may_give file trace NoMemory = ⊤
 IsRefusalOfAudit may_give file trace other = ⊥
+
+-- ---- what the code's parts answer; a reader of the public contract needs none of it
+
+-- why a file gives no events
+abbrev pub IsRefusalOfTrace : (may_give : List ℕ → List ℕ → Type 0) (trace : List ℕ) → Refusal → Type 0
+IsRefusalOfTrace may_give trace (Input fault) = NamesNoLine fault
+IsRefusalOfTrace may_give trace (Trace fault) = IsRefusedTrace may_give trace fault
+IsRefusalOfTrace may_give trace other = ⊥
+
+-- memory ran out
+abbrev pub IsWantOfMemory : Refusal → Type 0
+IsWantOfMemory NoMemoryToAudit = ⊤
+IsWantOfMemory NoMemory = ⊤
+IsWantOfMemory other = ⊥

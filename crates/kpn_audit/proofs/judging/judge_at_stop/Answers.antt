@@ -3,7 +3,7 @@ use Rattle.std.proofs.Common.{◌≡◌, IfOk, to_z, of_z, w64, rules, sym, ap, 
 use Rattle.std.proofs.lemmas.Bool.{eq-eqb}
 use Rattle.kpn_trace.specs.Talks.{is_of}
 use Rattle.kpn_trace.specs.declared.event.Event.TheVariants.{Get, Put, WaitEmpty, WaitFull, Ended}
-use Rattle.kpn_audit.specs.Judged.{IsMade}
+use Rattle.kpn_audit.specs.Judged.{IsFound}
 use Rattle.kpn_audit.proofs.judging.judge_at_stop.Goals as goal
 
 pub get-requires-clause-stopped : goal.get-requires-clause-stopped
@@ -35,36 +35,34 @@ end-requires-clause-stopped g c =
     (sym c.into-in-Ended.ensures))
 
 pub returns-in-Get-clause-judged : goal.returns-in-Get-clause-judged
-returns-in-Get-clause-judged g c H run owes own =
+returns-in-Get-clause-judged g c own =
     let item : to_z w64 (of_z w64 c.in-Get.item) ≡ c.in-Get.item = search rules in
     let same : Get c.into.result c.into-in-Get.result (to_z w64 (of_z w64 c.in-Get.item)) ≡ c.args.event = cc in
-    subst (λ e. IsMade c.args.network.now H e c.args.configuration.now c.get.new.configuration c.get.result) same
-    (c.get.ensures.judged H run owes)
+    subst (λ e. IsFound c.args.network.now e c.args.configuration.now c.get.new.configuration c.get.result) same
+    c.get.ensures.judged
 
 pub returns-in-Put-clause-judged : goal.returns-in-Put-clause-judged
-returns-in-Put-clause-judged g c H run owes own =
+returns-in-Put-clause-judged g c own =
     let item : to_z w64 (of_z w64 c.in-Put.item) ≡ c.in-Put.item = search rules in
     let same : Put c.into-in-Put.result c.into-in-Put-2.result (to_z w64 (of_z w64 c.in-Put.item)) ≡ c.args.event =
     cc in
-    subst (λ e. IfOk c.put.result (IsMade c.args.network.now H e c.args.configuration.now c.put.new.configuration)) same
-    (c.put.ensures.judged H run owes)
+    subst (λ e. IfOk c.put.result (IsFound c.args.network.now e c.args.configuration.now c.put.new.configuration)) same
+    c.put.ensures.judged
 
 pub returns-in-WaitEmpty-clause-judged : goal.returns-in-WaitEmpty-clause-judged
-returns-in-WaitEmpty-clause-judged g c H run owes own =
+returns-in-WaitEmpty-clause-judged g c own =
     let same : WaitEmpty c.into-in-WaitEmpty.result c.into-in-WaitEmpty-2.result ≡ c.args.event = cc in
-    subst (λ e. IsMade c.args.network.now H e c.args.configuration.now c.wait_on_empty.new.configuration
-    c.wait_on_empty.result) same
-    (c.wait_on_empty.ensures.judged H run owes)
+    subst (λ e. IsFound c.args.network.now e c.args.configuration.now c.wait_on_empty.new.configuration
+    c.wait_on_empty.result) same c.wait_on_empty.ensures.judged
 
 pub returns-in-WaitFull-clause-judged : goal.returns-in-WaitFull-clause-judged
-returns-in-WaitFull-clause-judged g c H run owes own =
+returns-in-WaitFull-clause-judged g c own =
     let same : WaitFull c.into-in-WaitFull.result c.into-in-WaitFull-2.result ≡ c.args.event = cc in
-    subst (λ e. IsMade c.args.network.now H e c.args.configuration.now c.wait_on_full.new.configuration
-    c.wait_on_full.result) same
-    (c.wait_on_full.ensures.judged H run owes)
+    subst (λ e. IsFound c.args.network.now e c.args.configuration.now c.wait_on_full.new.configuration
+    c.wait_on_full.result) same c.wait_on_full.ensures.judged
 
 pub returns-in-Ended-clause-judged : goal.returns-in-Ended-clause-judged
-returns-in-Ended-clause-judged g c H run owes own =
+returns-in-Ended-clause-judged g c own =
     let same : Ended c.into-in-Ended.result c.in-Ended.how ≡ c.args.event = cc in
-    subst (λ e. IsMade c.args.network.now H e c.args.configuration.now c.end.new.configuration c.end.result) same
-    (c.end.ensures.judged H run owes)
+    subst (λ e. IsFound c.args.network.now e c.args.configuration.now c.end.new.configuration c.end.result) same
+    c.end.ensures.judged

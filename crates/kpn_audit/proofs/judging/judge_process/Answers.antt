@@ -14,9 +14,8 @@ returns-in-Ok-clause-judged g c H run owes =
     (λ found made. judged_if_made t H e c.args.quota s after found
     (made_after_steps t H e c.args.p c.requires.own s c.come_to_stop.new.configuration after
     c.come_to_stop.ensures.moved
-    found made))
-    (c.judge_at_stop.ensures.judged H (c.come_to_stop.ensures.run H run) owes
-    ((of_process e).1 (c.args.p, c.requires.own)))
+    found (made H (c.come_to_stop.ensures.run H run) owes)))
+    (c.judge_at_stop.ensures.judged ((of_process e).1 (c.args.p, c.requires.own)))
 
 pub returns-in-Err-clause-judged : goal.returns-in-Err-clause-judged
 returns-in-Err-clause-judged g c H run owes =
