@@ -1,5 +1,5 @@
 -- What each call makes of a configuration: its parts are changed as its event changes them.
-use Rattle.std.proofs.Common.{◌≡◌, ◌≢◌, ℕ, ◌+◌, ◌<◌, Bool, true, false, ◌||◌, ℤ, cond, eqb, eq-eqb, IsTrue, List, [], ◌∷◌, ◌++◌, length, slice_set, Option, Some, refl, sym, ap, ◌∙◌, subst, inl, inr, arith, append-nil, add-zero}
+use Rattle.std.proofs.Common.{◌≡◌, ◌≢◌, ℕ, ◌+◌, ◌<◌, Bool, true, false, ◌||◌, ℤ, eqb, eq-eqb, IsTrue, List, [], ◌∷◌, ◌++◌, length, slice_set, Option, Some, refl, sym, ap, ◌∙◌, subst, inl, inr, arith, append-nil, add-zero}
 use Rattle.std.proofs.lemmas.Bool.{cases_eq, ne_eqb, eqb-true}
 use Rattle.std.proofs.lemmas.List.{get_or-set_same, get_or-set_other}
 use Rattle.kpn_net.specs.declared.wait.Wait.{Wait}

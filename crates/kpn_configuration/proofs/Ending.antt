@@ -15,7 +15,6 @@ use Rattle.kpn_net.specs.declared.tables.End.TheVariants.{Process, Source, Sink}
 use Rattle.kpn_net.specs.Tables.{Tables, reader_of, writer_of, instance_at}
 use Rattle.kpn_net.specs.Faults.{IsNetwork}
 use Rattle.kpn_net.specs.Waits.{wait_at, AreWaits, AreDistinct}
-use Rattle.kpn_net.proofs.Cycles.{Contains-none}
 use Rattle.kpn_net.proofs.PortsApart.{reads_its_ins, one_port}
 use Rattle.kpn_chan.specs.Channel.{opened, retired}
 use Rattle.kpn_trace.specs.declared.event.How.{How}

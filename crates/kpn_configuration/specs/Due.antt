@@ -40,8 +40,8 @@ stop_of how.ZeroDivisor = Faulted fault.ZeroDivisor
 -- ---- when an event is due
 
 -- an event of a process: it is free, it stands where it asks for the event, and its channel is ready for it. An event
--- of the outside: the source is open, the sink has this item next, or somebody reads it. No growth is due where nothing
--- is owed; which one is owed says IsOwed
+-- of the outside: the source is not closed, the sink has this item next, or the sink has not been left. No growth is
+-- due where nothing is owed; which one is owed says IsOwed
 abbrev pub IsDueNow : Tables → Configuration → Event → Type 0
 IsDueNow t s (Get p c v) = IsFree s p × ReadsFrom t s p c × (next_item (channel_in s c) ≡ Some v)
 IsDueNow t s (Put p c v) = IsFree s p × WritesTo t s p c v × (is_full (channel_in s c) ≡ false)

@@ -23,7 +23,7 @@ mod steps;
 mod verdicts;
 mod wakes;
 
-pub use processes::Got;
+pub use processes::{Got, stop_of};
 
 /// The states of the processes of a network and the contents of its channels at one moment of a run.
 ///

@@ -18,8 +18,10 @@ ghost use Rattle.kpn_configuration.specs.EndSoFar.{EndSoFar};
 
 use super::Configuration;
 use arrayvec::ArrayVec;
+use kpn_lang::Fault;
 use kpn_limits::MAX_PORTS;
 use kpn_net::{Network, Wait};
+use kpn_step::Stop;
 use kpn_trace::How;
 use std::alloc::Allocator;
 
@@ -131,7 +133,7 @@ impl<A: Allocator> Configuration<A> {
         requires channels { length self.old.channels ≡ length network.now.channels }
         requires channel { c < length network.now.channels }
         requires waits { AreWaits network.now self.old.waits }
-        requires room { array_vec_len woken.old < MAX_PORTS }
+        requires few { array_vec_len woken.old < MAX_PORTS }
         ensures more { let t = network.now in
             (before : Seen) (ports : List ℕ) → EndSoFar t before self.old ports woken.old.items
             → (Contains ports c → ⊥)
@@ -159,6 +161,17 @@ impl<A: Allocator> Configuration<A> {
             self.retire_in(network, c, &mut woken);
         }
         woken
+    }
+}
+
+/// The stop at which an end comes: the end of the program, or the fault.
+pub fn stop_of(how: How) -> Stop
+    ensures { result ≡ stop_of how }
+{
+    match how {
+        How::Done => Stop::Done,
+        How::Overflow => Stop::Faulted(Fault::Overflow),
+        How::ZeroDivisor => Stop::Faulted(Fault::ZeroDivisor),
     }
 }
 

@@ -1,4 +1,5 @@
-use Rattle.std.proofs.Common.{[], ◌∷◌, ◌++◌, SFits, w64, rules, sym, subst}
+use Rattle.std.proofs.Common.{[], ◌∷◌, ◌++◌, Some, SFits, w64, rules, sym, ap, ◌∙◌, subst}
+use Rattle.kpn_configuration.specs.Woken.{waiting_writer}
 use Rattle.std.proofs.lemmas.Int.{to_z-of_z}
 use Rattle.kpn_trace.specs.declared.event.Event.TheVariants.{Get}
 use Rattle.kpn_configuration.specs.Run.{IsRun}
@@ -31,59 +32,37 @@ wake_writer-woken-requires-clause-channel g c =
     reads_below c.args.network.now c.known.ensures c.args.self.now c.args.p c.requires.process c.args.c
     c.requires.reads
 
-pub returns-clause-changes : goal.returns-clause-changes
-returns-clause-changes g c =
-    let fits : SFits w64 c.read_next-item.result = search rules in
+pub returns : goal.returns
+returns g c =
     let t = c.args.network.now in
-    let below = reads_below t c.known.ensures c.args.self.now c.args.p c.requires.process c.args.c c.requires.reads in
-    subst (λ v. Changes c.args.network.now (Get c.args.p c.args.c v) c.args.self.now c.wake_writer-woken.new.self)
-    (sym (to_z-of_z w64 c.read_next-item.result fits))
-    ((Made-got t c.args.self.now c.requires.shape c.read_next-item.new.self c.give.new.self
-    c.wake_writer-woken.new.self c.args.p c.args.c c.read_next-item.result c.requires.process below
-    c.requires.free c.requires.reads
-    c.read_next-item.ensures.after c.read_next-item.ensures.reserved
-    (subst
+    let s = c.args.self.now in
+    let item = c.read_next-item.result in
+    let after = c.wake_writer-woken.new.self in
+    let fits : SFits w64 c.read_next-item.result = search rules in
+    let stored = sym (to_z-of_z w64 item fits) in
+    let below = reads_below t c.known.ensures s c.args.p c.requires.process c.args.c c.requires.reads in
+    let given =
+    subst
     (λ v.
-    IsGiven (program_of c.args.network.now c.args.p).blocks (frame_in c.read_next-item.new.self c.args.p)
-    v (frame_in c.give.new.self c.args.p)) (to_z-of_z w64 c.read_next-item.result fits)
-    c.give.ensures.given) c.give.ensures.after c.wake_writer-woken.ensures.after
-    c.wake_writer-woken.ensures.woken c.wake_writer-woken.ensures.waits).changes)
-
-pub returns-clause-shape : goal.returns-clause-shape
-returns-clause-shape g c =
-    let fits : SFits w64 c.read_next-item.result = search rules in
-    let t = c.args.network.now in
-    let below = reads_below t c.known.ensures c.args.self.now c.args.p c.requires.process c.args.c c.requires.reads in
-    (Made-got t c.args.self.now c.requires.shape c.read_next-item.new.self c.give.new.self
-    c.wake_writer-woken.new.self c.args.p c.args.c c.read_next-item.result c.requires.process below
-    c.requires.free c.requires.reads
-    c.read_next-item.ensures.after c.read_next-item.ensures.reserved
-    (subst
-    (λ v.
-    IsGiven (program_of c.args.network.now c.args.p).blocks (frame_in c.read_next-item.new.self c.args.p)
-    v (frame_in c.give.new.self c.args.p)) (to_z-of_z w64 c.read_next-item.result fits)
-    c.give.ensures.given) c.give.ensures.after c.wake_writer-woken.ensures.after
-    c.wake_writer-woken.ensures.woken c.wake_writer-woken.ensures.waits).shape
-
-pub returns-clause-run : goal.returns-clause-run
-returns-clause-run g c H run owes =
-    let fits : SFits w64 c.read_next-item.result = search rules in
-    let t = c.args.network.now in
-    let below = reads_below t c.known.ensures c.args.self.now c.args.p c.requires.process c.args.c c.requires.reads in
+    IsGiven (program_of t c.args.p).blocks (frame_in c.read_next-item.new.self c.args.p) v
+    (frame_in c.give.new.self c.args.p))
+    (to_z-of_z w64 item fits) c.give.ensures.given in
     let made =
-    Made-got t c.args.self.now c.requires.shape c.read_next-item.new.self c.give.new.self c.wake_writer-woken.new.self
-    c.args.p c.args.c c.read_next-item.result c.requires.process below c.requires.free c.requires.reads
-    c.read_next-item.ensures.after c.read_next-item.ensures.reserved
-    (subst
-    (λ v.
-    IsGiven (program_of c.args.network.now c.args.p).blocks (frame_in c.read_next-item.new.self c.args.p)
-    v (frame_in c.give.new.self c.args.p)) (to_z-of_z w64 c.read_next-item.result fits)
-    c.give.ensures.given) c.give.ensures.after c.wake_writer-woken.ensures.after
+    Made-got t s c.requires.shape c.read_next-item.new.self c.give.new.self after c.args.p c.args.c item
+    c.requires.process below c.requires.free c.requires.reads c.read_next-item.ensures.after
+    c.read_next-item.ensures.reserved given c.give.ensures.after c.wake_writer-woken.ensures.after
     c.wake_writer-woken.ensures.woken c.wake_writer-woken.ensures.waits in
-    subst (λ v. IsRun c.args.network.now (H ++ Get c.args.p c.args.c v ∷ []) c.wake_writer-woken.new.self)
-    (sym (to_z-of_z w64 c.read_next-item.result fits))
-    (IsRun-next t c.known.ensures H (Get c.args.p c.args.c c.read_next-item.result) c.args.self.now
-    c.wake_writer-woken.new.self run
-    (Legal-got t c.known.ensures H c.args.self.now run owes c.args.p c.requires.process c.requires.free c.args.c
-    c.read_next-item.result below c.requires.reads c.read_next-item.ensures.item)
-    made.changes made.shape)
+    record {
+      item = c.read_next-item.ensures.item ∙ ap Some stored;
+      woken =
+          c.wake_writer-woken.ensures.who
+          ∙ ap (λ ws. waiting_writer t ws c.args.c)
+          (ap (λ x. x.waits) c.give.ensures.after ∙ ap (λ x. x.waits) c.read_next-item.ensures.after);
+      changes = subst (λ v. Changes t (Get c.args.p c.args.c v) s after) stored made.changes;
+      shape = made.shape;
+      run = λ H run owes. subst (λ v. IsRun t (H ++ Get c.args.p c.args.c v ∷ []) after) stored
+          (IsRun-next t c.known.ensures H (Get c.args.p c.args.c item) s after run
+          (Legal-got t c.known.ensures H s run owes c.args.p c.requires.process c.requires.free c.args.c item below
+          c.requires.reads c.read_next-item.ensures.item)
+          made.changes made.shape);
+    }

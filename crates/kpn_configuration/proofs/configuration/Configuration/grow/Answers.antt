@@ -1,4 +1,5 @@
-use Rattle.std.proofs.Common.{arith}
+use Rattle.std.proofs.Common.{ap, ◌∙◌, arith}
+use Rattle.kpn_configuration.specs.Woken.{waiting_writer}
 use Rattle.kpn_configuration.proofs.Growing.{owed_below, owed_may_grow, Made-grown, Legal-grown}
 use Rattle.kpn_configuration.proofs.Running.{IsRun-next}
 use Rattle.kpn_configuration.proofs.configuration.Configuration.grow.Goals as goal
@@ -19,25 +20,20 @@ pub wake_writer-requires-clause-channel : goal.wake_writer-requires-clause-chann
 wake_writer-requires-clause-channel g c =
     owed_below c.args.network.now c.known.ensures c.args.self.now c.requires.shape c.args.p c.args.d c.requires.owed
 
-pub returns-clause-changes : goal.returns-clause-changes
-returns-clause-changes g c =
-    (Made-grown c.args.network.now c.known.ensures c.args.self.now c.requires.shape c.args.p c.args.d c.requires.owed
-    c.enlarge.new.self c.wake_writer.new.self c.enlarge.ensures.after c.enlarge.ensures.reserved
-    c.wake_writer.ensures.after c.wake_writer.ensures.woken c.wake_writer.ensures.waits).changes
-
-pub returns-clause-shape : goal.returns-clause-shape
-returns-clause-shape g c =
-    (Made-grown c.args.network.now c.known.ensures c.args.self.now c.requires.shape c.args.p c.args.d c.requires.owed
-    c.enlarge.new.self c.wake_writer.new.self c.enlarge.ensures.after c.enlarge.ensures.reserved
-    c.wake_writer.ensures.after c.wake_writer.ensures.woken c.wake_writer.ensures.waits).shape
-
-pub returns-clause-run : goal.returns-clause-run
-returns-clause-run g c H run owes =
+pub returns : goal.returns
+returns g c =
+    let t = c.args.network.now in
+    let s = c.args.self.now in
     let made =
-    Made-grown c.args.network.now c.known.ensures c.args.self.now c.requires.shape c.args.p c.args.d c.requires.owed
-    c.enlarge.new.self c.wake_writer.new.self c.enlarge.ensures.after c.enlarge.ensures.reserved
-    c.wake_writer.ensures.after c.wake_writer.ensures.woken c.wake_writer.ensures.waits in
-    IsRun-next c.args.network.now c.known.ensures H _ c.args.self.now c.wake_writer.new.self run
-    (Legal-grown c.args.network.now c.known.ensures c.args.self.now c.requires.shape c.args.p c.args.d c.requires.owed
-    H c.requires.process run owes)
-    made.changes made.shape
+    Made-grown t c.known.ensures s c.requires.shape c.args.p c.args.d c.requires.owed c.enlarge.new.self
+    c.wake_writer.new.self c.enlarge.ensures.after c.enlarge.ensures.reserved c.wake_writer.ensures.after
+    c.wake_writer.ensures.woken c.wake_writer.ensures.waits in
+    record {
+      woken = c.wake_writer.ensures.who ∙ ap (λ x. waiting_writer t x.waits c.args.d) c.enlarge.ensures.after;
+      changes = made.changes;
+      shape = made.shape;
+      run = λ H run owes. IsRun-next t c.known.ensures H _ s c.wake_writer.new.self run
+          (Legal-grown t c.known.ensures s c.requires.shape c.args.p c.args.d c.requires.owed H c.requires.process run
+          owes)
+          made.changes made.shape;
+    }

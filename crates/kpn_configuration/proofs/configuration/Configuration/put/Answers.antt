@@ -1,4 +1,5 @@
-use Rattle.std.proofs.Common.{◌≡◌, subst, w64, SFits, rules}
+use Rattle.std.proofs.Common.{◌≡◌, ap, ◌∙◌, subst, w64, SFits, rules}
+use Rattle.kpn_configuration.specs.Woken.{waiting_reader}
 use Rattle.std.proofs.lemmas.Int.{to_z-of_z}
 use Rattle.kpn_chan.specs.Channel.{after_put}
 use Rattle.kpn_configuration.specs.Configuration.{channel_in, with_channel}
@@ -31,58 +32,31 @@ wake_reader-requires-clause-channel g c =
     writes_below c.args.network.now c.known.ensures c.args.self.now c.args.p c.requires.process c.args.c c.args.item
     c.requires.writes
 
-pub returns-clause-changes : goal.returns-clause-changes
-returns-clause-changes g c =
+pub returns : goal.returns
+returns g c =
     let fits : SFits w64 c.args.item = search rules in
     let t = c.args.network.now in
+    let s = c.args.self.now in
     let below =
-    writes_below t c.known.ensures c.args.self.now c.args.p c.requires.process c.args.c c.args.item
-    c.requires.writes in
-    (Made-put t c.args.self.now c.requires.shape c.put_item.new.self c.wrote.new.self c.wake_reader.new.self c.args.p
-    c.args.c c.args.item c.requires.process below c.requires.free c.requires.writes
-    (subst
+    writes_below t c.known.ensures s c.args.p c.requires.process c.args.c c.args.item c.requires.writes in
+    let put =
+    subst
     (λ v. c.put_item.new.self
     ≡ with_channel c.args.c
-    (after_put v (channel_in c.put_item.new.self c.args.c).is_reserved
-    (channel_in c.args.self.now c.args.c)) c.args.self.now) (to_z-of_z w64 c.args.item fits)
-    c.put_item.ensures) c.wrote.ensures c.wake_reader.ensures.after c.wake_reader.ensures.woken
-    c.wake_reader.ensures.waits).changes
-
-pub returns-clause-shape : goal.returns-clause-shape
-returns-clause-shape g c =
-    let fits : SFits w64 c.args.item = search rules in
-    let t = c.args.network.now in
-    let below =
-    writes_below t c.known.ensures c.args.self.now c.args.p c.requires.process c.args.c c.args.item
-    c.requires.writes in
-    (Made-put t c.args.self.now c.requires.shape c.put_item.new.self c.wrote.new.self c.wake_reader.new.self c.args.p
-    c.args.c c.args.item c.requires.process below c.requires.free c.requires.writes
-    (subst
-    (λ v. c.put_item.new.self
-    ≡ with_channel c.args.c
-    (after_put v (channel_in c.put_item.new.self c.args.c).is_reserved
-    (channel_in c.args.self.now c.args.c)) c.args.self.now) (to_z-of_z w64 c.args.item fits)
-    c.put_item.ensures) c.wrote.ensures c.wake_reader.ensures.after c.wake_reader.ensures.woken
-    c.wake_reader.ensures.waits).shape
-
-pub returns-clause-run : goal.returns-clause-run
-returns-clause-run g c H run owes =
-    let fits : SFits w64 c.args.item = search rules in
-    let t = c.args.network.now in
-    let below =
-    writes_below t c.known.ensures c.args.self.now c.args.p c.requires.process c.args.c c.args.item
-    c.requires.writes in
+    (after_put v (channel_in c.put_item.new.self c.args.c).is_reserved (channel_in s c.args.c)) s)
+    (to_z-of_z w64 c.args.item fits) c.put_item.ensures in
     let made =
-    Made-put t c.args.self.now c.requires.shape c.put_item.new.self c.wrote.new.self c.wake_reader.new.self c.args.p
-    c.args.c c.args.item c.requires.process below c.requires.free c.requires.writes
-    (subst
-    (λ v. c.put_item.new.self
-    ≡ with_channel c.args.c
-    (after_put v (channel_in c.put_item.new.self c.args.c).is_reserved
-    (channel_in c.args.self.now c.args.c)) c.args.self.now) (to_z-of_z w64 c.args.item fits)
-    c.put_item.ensures) c.wrote.ensures c.wake_reader.ensures.after c.wake_reader.ensures.woken
-    c.wake_reader.ensures.waits in
-    IsRun-next t c.known.ensures H _ c.args.self.now c.wake_reader.new.self run
-    (Legal-put t c.known.ensures H c.args.self.now run owes c.args.p c.requires.process c.requires.free c.args.c
-    c.args.item below c.requires.writes c.requires.ready)
-    made.changes made.shape
+    Made-put t s c.requires.shape c.put_item.new.self c.wrote.new.self c.wake_reader.new.self c.args.p c.args.c
+    c.args.item c.requires.process below c.requires.free c.requires.writes put c.wrote.ensures
+    c.wake_reader.ensures.after c.wake_reader.ensures.woken c.wake_reader.ensures.waits in
+    record {
+      woken =
+          c.wake_reader.ensures.who
+          ∙ ap (λ ws. waiting_reader t ws c.args.c) (ap (λ x. x.waits) c.wrote.ensures ∙ ap (λ x. x.waits) put);
+      changes = made.changes;
+      shape = made.shape;
+      run = λ H run owes. IsRun-next t c.known.ensures H _ s c.wake_reader.new.self run
+          (Legal-put t c.known.ensures H s run owes c.args.p c.requires.process c.requires.free c.args.c c.args.item
+          below c.requires.writes c.requires.ready)
+          made.changes made.shape;
+    }

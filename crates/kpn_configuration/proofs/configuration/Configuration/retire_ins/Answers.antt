@@ -16,8 +16,8 @@ retire_in-requires-clause-channel g c =
     (subst (λ xs. Contains xs (get_or c.ins-ins.result.now c.ports.port 0)) c.ins-ins.ensures
     (Contains-get_or ins c.ports.port 0 (omega arith)))
 
-pub retire_in-requires-clause-room : goal.retire_in-requires-clause-room
-retire_in-requires-clause-room g c =
+pub retire_in-requires-clause-few : goal.retire_in-requires-clause-few
+retire_in-requires-clause-few g c =
     let few = few_ins c.args.network.now c.known.ensures c.args.p c.requires.process in
     let len = ap length c.ins-ins.ensures in
     omega (arith, c.ports.invariant.few)

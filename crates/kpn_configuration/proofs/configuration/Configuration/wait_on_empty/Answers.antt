@@ -4,31 +4,20 @@ use Rattle.kpn_configuration.proofs.Due.{Legal-wait_empty}
 use Rattle.kpn_configuration.proofs.Running.{IsRun-next}
 use Rattle.kpn_configuration.proofs.configuration.Configuration.wait_on_empty.Goals as goal
 
-pub returns-clause-changes : goal.returns-clause-changes
-returns-clause-changes g c =
+pub returns : goal.returns
+returns g c =
     let t = c.args.network.now in
-    (Made-wait_empty t c.args.self.now c.requires.shape c.set_wait.new.self c.args.p c.args.c c.requires.process
-    (reads_own t c.known.ensures c.args.self.now c.args.p c.requires.process c.args.c c.requires.reads)
-    c.set_wait.ensures).changes
-
-pub returns-clause-shape : goal.returns-clause-shape
-returns-clause-shape g c =
-    let t = c.args.network.now in
-    (Made-wait_empty t c.args.self.now c.requires.shape c.set_wait.new.self c.args.p c.args.c c.requires.process
-    (reads_own t c.known.ensures c.args.self.now c.args.p c.requires.process c.args.c c.requires.reads)
-    c.set_wait.ensures).shape
-
-pub returns-clause-run : goal.returns-clause-run
-returns-clause-run g c H run owes =
-    let t = c.args.network.now in
-    let below =
-    reads_below c.args.network.now c.known.ensures c.args.self.now c.args.p c.requires.process c.args.c
-    c.requires.reads in
+    let s = c.args.self.now in
+    let below = reads_below t c.known.ensures s c.args.p c.requires.process c.args.c c.requires.reads in
+    let own = reads_own t c.known.ensures s c.args.p c.requires.process c.args.c c.requires.reads in
     let made =
-    Made-wait_empty t c.args.self.now c.requires.shape c.set_wait.new.self c.args.p c.args.c c.requires.process
-    (reads_own t c.known.ensures c.args.self.now c.args.p c.requires.process c.args.c c.requires.reads)
+    Made-wait_empty t s c.requires.shape c.set_wait.new.self c.args.p c.args.c c.requires.process own
     c.set_wait.ensures in
-    IsRun-next t c.known.ensures H _ c.args.self.now c.set_wait.new.self run
-    (Legal-wait_empty t c.known.ensures H c.args.self.now run owes c.args.p c.requires.process c.requires.free
-    c.args.c below c.requires.reads c.requires.ready)
-    made.changes made.shape
+    record {
+      changes = made.changes;
+      shape = made.shape;
+      run = λ H run owes. IsRun-next t c.known.ensures H _ s c.set_wait.new.self run
+          (Legal-wait_empty t c.known.ensures H s run owes c.args.p c.requires.process c.requires.free c.args.c below
+          c.requires.reads c.requires.ready)
+          made.changes made.shape;
+    }
