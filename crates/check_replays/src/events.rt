@@ -2,12 +2,11 @@
 ghost use Rattle.std.specs.Prelude.{◌≡◌, ◌<◌, true, length, IsTrue, IfOk, OnOk};
 ghost use Rattle.kpn_net.specs.Tables.{channel_at, is_sink};
 ghost use Rattle.kpn_configuration.specs.Configuration.{IsConfiguration, IsFree};
-ghost use Rattle.kpn_configuration.specs.Due.{Stands, ReadsFrom, WritesTo, stop_of};
+ghost use Rattle.kpn_configuration.specs.Due.{Stands, ReadsFrom, WritesTo};
 
 use anyhow::{Result, bail, ensure};
 use arrayvec::ArrayVec;
-use kpn_configuration::Configuration;
-use kpn_lang::Fault;
+use kpn_configuration::{Configuration, stop_of};
 use kpn_limits::MAX_PORTS;
 use kpn_net::laws::one_writer_and_one_reader;
 use kpn_net::{End, Network, Wait};
@@ -80,17 +79,6 @@ fn to_write(state: &mut Configuration, network: &Network, p: usize, c: usize) ->
     ensure!(outs[port] == c, "the process writes to another channel");
     ensure!(c < network.channels(), "there is no such channel");
     Ok(item)
-}
-
-/// The stop that an end is.
-fn stop_of(how: How) -> Stop
-    ensures { result ≡ stop_of how }
-{
-    match how {
-        How::Done => Stop::Done,
-        How::Overflow => Stop::Faulted(Fault::Overflow),
-        How::ZeroDivisor => Stop::Faulted(Fault::ZeroDivisor),
-    }
 }
 
 /// Whether the outside reads a channel.

@@ -20,7 +20,7 @@ use Rattle.kpn_configuration.specs.Due.{Stands}
 use Rattle.kpn_configuration.specs.Run.{IsRun}
 use Rattle.kpn_audit.specs.declared.judged.Judged.{Judged}
 use Rattle.kpn_audit.specs.declared.judged.Judged.TheVariants.{Follows, Illegal, Budget}
-use Rattle.kpn_audit.specs.Judged.{IsStopped, AllGoBy, IsFollowed, IsMade, IsMoved, IsJudged}
+use Rattle.kpn_audit.specs.Judged.{StandsFree, AllGoBy, IsFollowed, IsMade, IsMoved, IsJudged}
 
 -- words that are stored alike are equal
 pub same_word : (a b : ℤ) → SFits w64 a → SFits w64 b → of_z w64 a ≡ of_z w64 b → a ≡ b
@@ -48,7 +48,7 @@ abbrev pub FramesAfter : Tables → Event → (before after : Configuration) →
 FramesAfter t e before after =
     (q : ℕ) → q < length t.instances → IsFrameAfter t e q (frame_in before q) (frame_in after q)
 
-pub goes_made : (t : Tables) (before after : Configuration) (p : ℕ) (stop : Stop) → IsStopped t before p stop
+pub goes_made : (t : Tables) (before after : Configuration) (p : ℕ) (stop : Stop) → StandsFree t before p stop
     → (e : Event) → is_of p e ≡ true → FramesAfter t e before after → AllGoBy t e before after
 goes_made t before after p stop at e own frames q below =
     record {

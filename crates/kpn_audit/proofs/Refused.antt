@@ -19,14 +19,14 @@ use Rattle.kpn_configuration.specs.Due.{Stands, ReadsFrom, WritesTo, stop_of, Is
 use Rattle.kpn_configuration.specs.Run.{IsRun}
 use Rattle.kpn_configuration.proofs.OneStop.{one_stop}
 use Rattle.kpn_configuration.proofs.Exact.{due_here, due_outside}
-use Rattle.kpn_audit.specs.Judged.{IsReadFrom, IsWriteOf, IsStopped}
+use Rattle.kpn_audit.specs.Judged.{IsReadFrom, IsWriteOf, StandsFree}
 
 same_item : (o : Option ℤ) (v w : ℤ) → o ≡ Some v → o ≡ Some w → v ≡ w
 same_item o v w e f = let g : ◌≡◌ {A = Option ℤ} (Some v) (Some w) = sym e ∙ f in cc
 
 -- ---- where a process stands
 
-module _ (t : Tables) (s : Configuration) (p : ℕ) (stop : Stop) (at : IsStopped t s p stop) (c : ℕ) where
+module _ (t : Tables) (s : Configuration) (p : ℕ) (stop : Stop) (at : StandsFree t s p stop) (c : ℕ) where
   pub is_read : ReadsFrom t s p c → IsReadFrom (instance_at t p).ins c stop
   is_read reads = (
     reads.port,
@@ -48,7 +48,7 @@ no_pause how.Done e = absurd cc
 no_pause how.Overflow e = absurd cc
 no_pause how.ZeroDivisor e = absurd cc
 
-pub is_stop : (t : Tables) (s : Configuration) (p : ℕ) (stop : Stop) → IsStopped t s p stop → (how : How)
+pub is_stop : (t : Tables) (s : Configuration) (p : ℕ) (stop : Stop) → StandsFree t s p stop → (how : How)
     → Stands t s p (stop_of how) → stop ≡ stop_of how
 is_stop t s p stop at how stands =
     one_stop (program_of t p).blocks (frame_in s p) stop (stop_of how) at.stands stands at.is_no_pause (no_pause how)
@@ -56,7 +56,7 @@ is_stop t s p stop at how stands =
 -- ---- events of processes
 
 module _ (t : Tables) (network : IsNetwork t) (H : List Event) (s : Configuration) (run : IsRun t H s) (p : ℕ)
-    (stop : Stop) (at : IsStopped t s p stop) where
+    (stop : Stop) (at : StandsFree t s p stop) where
   due : (e : Event) → is_of p e ≡ true → Legal t (H ++ e ∷ []) → IsDueNow t s e
   due e own legal = due_here t network H s run p at.there stop at.stands at.is_no_pause e own legal
 
@@ -100,22 +100,6 @@ module _ (t : Tables) (network : IsNetwork t) (H : List Event) (s : Configuratio
 
 module _ (t : Tables) (network : IsNetwork t) (H : List Event) (s : Configuration) (run : IsRun t H s)
     (owes : OwesNothing t H) (c : ℕ) where
-  pub feed_of_no_source : (v : ℤ) → is_source (channel_at t c) ≡ false → ¬ Legal t (H ++ Feed c v ∷ [])
-  feed_of_no_source v not legal =
-      both_ways (is_source (channel_at t c)) not (due_outside t network H s run owes (Feed c v) refl legal).0
-
-  pub feed_of_closed : (v : ℤ) → closed_in s c ≡ true → ¬ Legal t (H ++ Feed c v ∷ [])
-  feed_of_closed v closed legal =
-      both_ways (closed_in s c) (due_outside t network H s run owes (Feed c v) refl legal).1 closed
-
-  pub close_of_no_source : is_source (channel_at t c) ≡ false → ¬ Legal t (H ++ Close c ∷ [])
-  close_of_no_source not legal =
-      both_ways (is_source (channel_at t c)) not (due_outside t network H s run owes (Close c) refl legal).0
-
-  pub close_of_closed : closed_in s c ≡ true → ¬ Legal t (H ++ Close c ∷ [])
-  close_of_closed closed legal =
-      both_ways (closed_in s c) (due_outside t network H s run owes (Close c) refl legal).1 closed
-
   pub take_of_no_sink : (v : ℤ) → is_sink (channel_at t c) ≡ false → ¬ Legal t (H ++ Take c v ∷ [])
   take_of_no_sink v not legal =
       both_ways (is_sink (channel_at t c)) not (due_outside t network H s run owes (Take c v) refl legal).0

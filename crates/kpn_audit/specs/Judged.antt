@@ -29,7 +29,7 @@ abbrev pub IsWriteOf : (ports : List ℕ) → (c : ℕ) → (v : ℤ) → Stop �
 IsWriteOf ports c v stop = (port : ℕ) × IsChannelAt ports port c × (stop ≡ WantWrite port v)
 
 -- a free process stands at this stop, which is no pause
-pub record IsStopped (t : Tables) (s : Configuration) (p : ℕ) (stop : Stop) : Type 0 where
+pub record StandsFree (t : Tables) (s : Configuration) (p : ℕ) (stop : Stop) : Type 0 where
   pub there : p < length t.instances
   pub free : IsFree s p
   pub stands : Stands t s p stop

@@ -19,11 +19,11 @@ use std::alloc::{Allocator, Global};
 /// whether the network has its numbers, and whether its process has ended or is blocked. Then the process makes steps,
 /// `quota` of them at most, and where it stops the event has to be due.
 ///
-/// The configuration on which it replays takes its memory from `own`, and what it finds from `alloc`. Where either is
+/// The configuration on which it replays takes its memory from `replay_alloc`, and what it finds from `alloc`. Where either is
 /// refused the answer is [`AuditFault::NoMemory`], and nothing is kept.
 pub fn audit<A: Allocator + Copy>(
     alloc: Global,
-    own: A,
+    replay_alloc: A,
     network: &Network,
     events: &[Event],
     quota: u64,
@@ -36,13 +36,13 @@ pub fn audit<A: Allocator + Copy>(
         (fault ≡ AuditFault.NoMemory) ⊎ ((k : ℕ) × (fault ≡ AuditFault.Budget k))) }
 {
     network.known();
-    let configuration = replay(own, network, events, quota)?;
+    let configuration = replay(replay_alloc, network, events, quota)?;
     Ok(summary(alloc, network, &configuration)?)
 }
 
 /// Replays the events on a configuration of its own, from the start.
 fn replay<A: Allocator + Copy>(
-    own: A,
+    replay_alloc: A,
     network: &Network,
     events: &[Event],
     quota: u64,
@@ -51,7 +51,7 @@ fn replay<A: Allocator + Copy>(
     ensures refused { IfErr result (λ fault. IsFault network.now events.now quota fault) }
 {
     network.known();
-    let mut configuration = Configuration::new(own, network)?;
+    let mut configuration = Configuration::new(replay_alloc, network)?;
     let mut owed = None;
     'events: for k in 0..events.len() {
         let event = events[k];

@@ -8,7 +8,7 @@ ghost use Rattle.kpn_trace.specs.Stops.{OwesNothing};
 ghost use Rattle.kpn_configuration.specs.Configuration.{IsConfiguration};
 ghost use Rattle.kpn_configuration.specs.Owed.{IsOwed};
 ghost use Rattle.kpn_configuration.specs.Run.{IsRun};
-ghost use Rattle.kpn_audit.specs.Judged.{IsStopped, Owes, IsFound, IsJudged};
+ghost use Rattle.kpn_audit.specs.Judged.{StandsFree, Owes, IsFound, IsJudged};
 
 use crate::growth::judge_owed;
 use crate::judged::{Growth, Judged};
@@ -67,7 +67,7 @@ fn judge_at_stop<A: Allocator>(
     requires shape { IsConfiguration network.now configuration.old }
     requires numbers { HasNumbers network.now event }
     requires stopped { (p : ℕ) → is_of p event ≡ true
-        → IsStopped network.now configuration.old p stop }
+        → StandsFree network.now configuration.old p stop }
     ensures shape { IsConfiguration network.now configuration.new }
     ensures judged { is_of_process event ≡ true
         → IfOk result (IsFound network.now event configuration.old configuration.new) }

@@ -1,8 +1,8 @@
 //! Events of the outside: each is judged by its channel, and made where it may follow.
-ghost use Rattle.std.specs.Prelude.{◌≡◌, ◌↔◌, ◌<◌, true, List, length, IsTrue, IfOk};
-ghost use Rattle.kpn_net.specs.Tables.{channel_at, is_sink};
+ghost use Rattle.std.specs.Prelude.{◌≡◌, ◌↔◌, ◌<◌, true, false, List, length, IsTrue, IfOk};
+ghost use Rattle.kpn_net.specs.Tables.{channel_at, is_source, is_sink};
 ghost use Rattle.kpn_trace.specs.declared.event.Event.TheVariants as event;
-ghost use Rattle.kpn_configuration.specs.Configuration.{IsConfiguration};
+ghost use Rattle.kpn_configuration.specs.Configuration.{closed_in, IsConfiguration};
 ghost use Rattle.kpn_audit.specs.Judged.{IsFound};
 
 use crate::judged::Judged;
@@ -20,6 +20,20 @@ fn is_sink(network: &Network, c: usize) -> bool
     matches!(network.reader_of(c), End::Sink)
 }
 
+/// Whether channel `c` is a source that is not closed.
+fn is_open_source<A: Allocator>(
+    configuration: &Configuration<A>,
+    network: &Network,
+    c: usize,
+) -> bool
+    requires shape { IsConfiguration network.now configuration.now }
+    requires channel { c < length network.now.channels }
+    ensures { IsTrue result ↔ ((is_source (channel_at network.now c) ≡ true)
+        × (closed_in configuration.now c ≡ false)) }
+{
+    network.is_source(c) && !configuration.is_closed(c)
+}
+
 /// The outside feeds this item to channel `c`. The error is that memory ran out.
 pub(crate) fn feed<A: Allocator>(
     configuration: &mut Configuration<A>,
@@ -34,7 +48,7 @@ pub(crate) fn feed<A: Allocator>(
         (IsFound network.now (event.Feed c item) configuration.old configuration.new) }
 {
     network.known();
-    if !network.is_source(c) || configuration.is_closed(c) {
+    if !is_open_source(configuration, network, c) {
         return Ok(Judged::Illegal);
     }
     configuration.reserve_one(c)?;
@@ -55,7 +69,7 @@ pub(crate) fn close<A: Allocator>(
         configuration.old configuration.new result }
 {
     network.known();
-    if !network.is_source(c) || configuration.is_closed(c) {
+    if !is_open_source(configuration, network, c) {
         return Judged::Illegal;
     }
     configuration.close(network, c);

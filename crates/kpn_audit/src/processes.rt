@@ -2,7 +2,7 @@
 ghost use Rattle.std.specs.Prelude.{◌≡◌, ◌<◌, List, length, IfOk};
 ghost use Rattle.kpn_trace.specs.declared.event.Event.TheVariants as event;
 ghost use Rattle.kpn_configuration.specs.Configuration.{IsConfiguration};
-ghost use Rattle.kpn_audit.specs.Judged.{IsStopped, IsFound};
+ghost use Rattle.kpn_audit.specs.Judged.{StandsFree, IsFound};
 
 use crate::growth::after_wait;
 use crate::judged::Judged;
@@ -24,7 +24,7 @@ pub(crate) fn get<A: Allocator>(
 ) -> Judged
     requires shape { IsConfiguration network.now configuration.old }
     requires channel { c < length network.now.channels }
-    requires stopped { IsStopped network.now configuration.old p stop }
+    requires stopped { StandsFree network.now configuration.old p stop }
     ensures shape { IsConfiguration network.now configuration.new }
     ensures judged { IsFound network.now (event.Get p c item)
         configuration.old configuration.new result }
@@ -52,7 +52,7 @@ pub(crate) fn put<A: Allocator>(
 ) -> Result<Judged, AllocError>
     requires shape { IsConfiguration network.now configuration.old }
     requires channel { c < length network.now.channels }
-    requires stopped { IsStopped network.now configuration.old p stop }
+    requires stopped { StandsFree network.now configuration.old p stop }
     ensures shape { IsConfiguration network.now configuration.new }
     ensures judged { IfOk result
         (IsFound network.now (event.Put p c item) configuration.old configuration.new) }
@@ -76,7 +76,7 @@ pub(crate) fn wait_on_empty<A: Allocator>(
 ) -> Judged
     requires shape { IsConfiguration network.now configuration.old }
     requires channel { c < length network.now.channels }
-    requires stopped { IsStopped network.now configuration.old p stop }
+    requires stopped { StandsFree network.now configuration.old p stop }
     ensures shape { IsConfiguration network.now configuration.new }
     ensures judged { IsFound network.now (event.WaitEmpty p c)
         configuration.old configuration.new result }
@@ -99,7 +99,7 @@ pub(crate) fn wait_on_full<A: Allocator>(
 ) -> Judged
     requires shape { IsConfiguration network.now configuration.old }
     requires channel { c < length network.now.channels }
-    requires stopped { IsStopped network.now configuration.old p stop }
+    requires stopped { StandsFree network.now configuration.old p stop }
     ensures shape { IsConfiguration network.now configuration.new }
     ensures judged { IsFound network.now (event.WaitFull p c)
         configuration.old configuration.new result }
@@ -121,7 +121,7 @@ pub(crate) fn end<A: Allocator>(
     stop: Stop,
 ) -> Judged
     requires shape { IsConfiguration network.now configuration.old }
-    requires stopped { IsStopped network.now configuration.old p stop }
+    requires stopped { StandsFree network.now configuration.old p stop }
     ensures shape { IsConfiguration network.now configuration.new }
     ensures judged { IsFound network.now (event.Ended p how)
         configuration.old configuration.new result }

@@ -10,7 +10,7 @@ ghost use Rattle.kpn_trace.specs.Stops.{OwesNothing};
 ghost use Rattle.kpn_configuration.specs.Configuration.{frame_in, IsConfiguration, IsFree};
 ghost use Rattle.kpn_configuration.specs.Run.{IsRun};
 ghost use Rattle.kpn_configuration.specs.Due.{Stands};
-ghost use Rattle.kpn_audit.specs.Judged.{IsStopped, IsMoved, IsJudged};
+ghost use Rattle.kpn_audit.specs.Judged.{StandsFree, IsMoved, IsJudged};
 
 use crate::judged::Judged;
 use kpn_configuration::Configuration;
@@ -28,11 +28,11 @@ fn is_free<A: Allocator>(configuration: &Configuration<A>, network: &Network, p:
 }
 
 /// How many of these steps are made in one call: all, where they fit its number.
-fn part_of(left: u64) -> u32
-    ensures most { result ≤ left }
-    ensures some { 0 < left → 0 < result }
+fn part_of(remaining: u64) -> u32
+    ensures most { result ≤ remaining }
+    ensures some { 0 < remaining → 0 < result }
 {
-    u32::try_from(left).unwrap_or(u32::MAX)
+    u32::try_from(remaining).unwrap_or(u32::MAX)
 }
 
 /// Steps process `p` on from its frame until it stops, or until `quota` steps were made, which is a pause. Paused it
@@ -54,12 +54,12 @@ fn step_on<A: Allocator>(
     ensures paused { result ≡ Paused → Steps (program_of network.now p).blocks quota
         (frame_in configuration.old p) (frame_in configuration.new p) }
 {
-    let mut left = quota;
+    let mut remaining = quota;
     let mut stop = Stop::Paused;
     'steps: loop {
-        let steps = configuration.step(network, p, part_of(left), &mut stop);
-        left -= u64::from(steps);
-        if left == 0 || !matches!(stop, Stop::Paused) {
+        let steps = configuration.step(network, p, part_of(remaining), &mut stop);
+        remaining -= u64::from(steps);
+        if remaining == 0 || !matches!(stop, Stop::Paused) {
             return stop;
         }
     }
@@ -77,7 +77,7 @@ pub(crate) fn come_to_stop<A: Allocator>(
     requires process { p < length network.now.instances }
     ensures shape { IsConfiguration network.now configuration.new }
     ensures moved { IsMoved network.now p configuration.old configuration.new }
-    ensures stopped { IfOk result (λ stop. IsStopped network.now configuration.new p stop) }
+    ensures stopped { IfOk result (λ stop. StandsFree network.now configuration.new p stop) }
     ensures run { (H : List Event) → IsRun network.now H configuration.old
         → IsRun network.now H configuration.new }
     ensures judged { (H : List Event) → IsRun network.now H configuration.old

@@ -8,22 +8,22 @@ use Rattle.kpn_configuration.specs.Configuration.{Configuration, frame_in, with_
 use Rattle.kpn_configuration.proofs.Calls.{frame_in-other}
 use Rattle.kpn_audit.proofs.Followed.{stays_free}
 use Rattle.kpn_audit.proofs.stepping.step_on.Goals as goal
-use Rattle.kpn_audit.proofs.stepping.step_on.Goals.{then-left-eq0-via-then-left-eq0, then-left-eq0-via-else-left-eq0+then-not-matches, in-Paused, in_default}
+use Rattle.kpn_audit.proofs.stepping.step_on.Goals.{then-remaining-eq0-via-then-remaining-eq0, then-remaining-eq0-via-else-remaining-eq0+then-not-matches, in-Paused, in_default}
 
-pub returns-then-left-eq0-clause-paused : goal.returns-then-left-eq0-clause-paused
-returns-then-left-eq0-clause-paused g c paused =
+pub returns-then-remaining-eq0-clause-paused : goal.returns-then-remaining-eq0-clause-paused
+returns-then-remaining-eq0-clause-paused g c paused =
     let p = c.args.p in
     let blocks = (program_of c.args.network.now p).blocks in
     let before = frame_in c.args.configuration.now p in
     let after = frame_in c.step-steps.new.self p in
-    elim c.then-left-eq0.branch [
-      | then-left-eq0-via-then-left-eq0 w ↦
-          let whole : c.args.quota - c.steps.left + c.step-steps.result ≡ c.args.quota = omega arith in
+    elim c.then-remaining-eq0.branch [
+      | then-remaining-eq0-via-then-remaining-eq0 w ↦
+          let whole : c.args.quota - c.steps.remaining + c.step-steps.result ≡ c.args.quota = omega arith in
           subst (λ n. Steps blocks n before after) whole
-          (Steps-append blocks (c.args.quota - c.steps.left) c.step-steps.result before
+          (Steps-append blocks (c.args.quota - c.steps.remaining) c.step-steps.result before
           (frame_in c.steps.configuration p) after
           c.steps.invariant.stepped c.step-steps.ensures.advance.stepped)
-      | then-left-eq0-via-else-left-eq0+then-not-matches w ↦
+      | then-remaining-eq0-via-else-remaining-eq0+then-not-matches w ↦
           elim w.match-matches.branch [
             | in-Paused x ↦ let clash : ◌≡◌ {A = Bool} true false = sym x.matches-is ∙ w.if-not-matches.true in
                 absurd cc
@@ -37,14 +37,14 @@ others_kept : (s mid after : Configuration) (p : ℕ) (f : Frame) → after ≡ 
 others_kept s mid after p f e kept q differs =
     ap (λ x. frame_in x q) e ∙ frame_in-other mid p q f differs ∙ kept q differs
 
-pub returns-then-left-eq0-clause-moved : goal.returns-then-left-eq0-clause-moved
-returns-then-left-eq0-clause-moved g c =
+pub returns-then-remaining-eq0-clause-moved : goal.returns-then-remaining-eq0-clause-moved
+returns-then-remaining-eq0-clause-moved g c =
     let p = c.args.p in
     let after = frame_in c.step-steps.new.self p in
     record {
-      steps = c.args.quota - c.steps.left + c.step-steps.result;
+      steps = c.args.quota - c.steps.remaining + c.step-steps.result;
       reached =
-          Steps-append (program_of c.args.network.now p).blocks (c.args.quota - c.steps.left) c.step-steps.result
+          Steps-append (program_of c.args.network.now p).blocks (c.args.quota - c.steps.remaining) c.step-steps.result
           (frame_in c.args.configuration.now p) (frame_in c.steps.configuration p) after
           c.steps.invariant.stepped c.step-steps.ensures.advance.stepped;
       others =
@@ -58,20 +58,20 @@ steps-preserved g c =
     let blocks = (program_of c.args.network.now p).blocks in
     let before = frame_in c.args.configuration.now p in
     let after = frame_in c.step-steps.new.self p in
-    let more : c.args.quota - c.steps.left + c.step-steps.result ≡ c.args.quota - (c.steps.left - c.from.result) =
+    let more : c.args.quota - c.steps.remaining + c.step-steps.result ≡ c.args.quota - (c.steps.remaining - c.from.result) =
     omega arith in
     record {
       shape = c.step-steps.ensures.shape;
       free = λ free. stays_free c.steps.configuration c.step-steps.new.self p after c.step-steps.ensures.after
           (c.steps.invariant.free free);
       run = λ H run. c.step-steps.ensures.run H (c.steps.invariant.run H run);
-      left = omega arith;
+      remaining = omega arith;
       others =
           others_kept c.args.configuration.now c.steps.configuration c.step-steps.new.self p after
           c.step-steps.ensures.after c.steps.invariant.others;
       stepped =
           subst (λ n. Steps blocks n before after) more
-          (Steps-append blocks (c.args.quota - c.steps.left) c.step-steps.result before
+          (Steps-append blocks (c.args.quota - c.steps.remaining) c.step-steps.result before
           (frame_in c.steps.configuration p) after
           c.steps.invariant.stepped c.step-steps.ensures.advance.stepped);
     }

@@ -14,11 +14,11 @@ invariant-steps g l =
       shape : IsConfiguration t l.configuration;
       free : IsFree l.fn.configuration l.p → IsFree l.configuration l.p;
       run : (H : List Event) → IsRun t H l.fn.configuration → IsRun t H l.configuration;
-      left : l.left ≤ l.quota;
+      remaining : l.remaining ≤ l.quota;
       others : (q : ℕ) → q ≢ l.p → frame_in l.configuration q ≡ frame_in l.fn.configuration q;
-      stepped : Steps (program_of t l.p).blocks (l.quota - l.left) (frame_in l.fn.configuration l.p)
+      stepped : Steps (program_of t l.p).blocks (l.quota - l.remaining) (frame_in l.fn.configuration l.p)
           (frame_in l.configuration l.p);
     }
 
 abbrev pub decreases-steps : goal.decreases-steps
-decreases-steps g l = l.left
+decreases-steps g l = l.remaining
