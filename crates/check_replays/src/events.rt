@@ -1,6 +1,5 @@
 //! Events made by their calls, each after a look whether it may follow.
-ghost use Rattle.std.specs.Prelude.{◌≡◌, ◌<◌, true, length, IsTrue, IfOk, OnOk};
-ghost use Rattle.kpn_net.specs.Tables.{channel_at, is_sink};
+ghost use Rattle.std.specs.Prelude.{◌<◌, length, IfOk, OnOk};
 ghost use Rattle.kpn_configuration.specs.Configuration.{IsConfiguration, IsFree};
 ghost use Rattle.kpn_configuration.specs.Due.{Stands, ReadsFrom, WritesTo};
 
@@ -8,8 +7,7 @@ use anyhow::{Result, bail, ensure};
 use arrayvec::ArrayVec;
 use kpn_configuration::{Configuration, stop_of};
 use kpn_limits::MAX_PORTS;
-use kpn_net::laws::one_writer_and_one_reader;
-use kpn_net::{End, Network, Wait};
+use kpn_net::{Network, Wait};
 use kpn_step::Stop;
 use kpn_trace::{Event, How};
 
@@ -79,15 +77,6 @@ fn to_write(state: &mut Configuration, network: &Network, p: usize, c: usize) ->
     ensure!(outs[port] == c, "the process writes to another channel");
     ensure!(c < network.channels(), "there is no such channel");
     Ok(item)
-}
-
-/// Whether the outside reads a channel.
-fn is_sink(network: &Network, c: usize) -> bool
-    requires { c < length network.now.channels }
-    ensures { IsTrue result → is_sink (channel_at network.now c) ≡ true }
-{
-    one_writer_and_one_reader();
-    network.reader_of(c) == End::Sink
 }
 
 fn get(state: &mut Configuration, network: &Network, p: usize, c: usize, item: i64) -> Woken
@@ -171,7 +160,7 @@ fn take(state: &mut Configuration, network: &Network, c: usize, item: i64) -> Wo
     ensures { IsConfiguration network.now state.new }
 {
     ensure!(c < network.channels(), "there is no such channel");
-    ensure!(is_sink(network, c), "the channel is no sink");
+    ensure!(network.is_sink(c), "the channel is no sink");
     ensure!(state.has_item(c), "there is no item");
     let got = state.take(network, c);
     ensure!(got.item == item, "another item was taken");
@@ -183,7 +172,7 @@ fn leave(state: &mut Configuration, network: &Network, c: usize) -> Woken
     ensures { IsConfiguration network.now state.new }
 {
     ensure!(c < network.channels(), "there is no such channel");
-    ensure!(is_sink(network, c), "the channel is no sink");
+    ensure!(network.is_sink(c), "the channel is no sink");
     ensure!(!state.channel(c).is_retired(), "the sink was left");
     woken(state.leave(network, c))
 }

@@ -7,18 +7,8 @@ ghost use Rattle.kpn_audit.specs.Judged.{IsFound};
 
 use crate::judged::Judged;
 use kpn_configuration::Configuration;
-use kpn_net::laws::one_writer_and_one_reader;
-use kpn_net::{End, Network};
+use kpn_net::Network;
 use std::alloc::{AllocError, Allocator};
-
-/// Whether the outside reads channel `c`.
-fn is_sink(network: &Network, c: usize) -> bool
-    requires { c < length network.now.channels }
-    ensures { result ≡ is_sink (channel_at network.now c) }
-{
-    one_writer_and_one_reader();
-    matches!(network.reader_of(c), End::Sink)
-}
 
 /// Whether channel `c` is a source that is not closed.
 fn is_open_source<A: Allocator>(
@@ -90,7 +80,7 @@ pub(crate) fn take<A: Allocator>(
         configuration.old configuration.new result }
 {
     network.known();
-    if !is_sink(network, c) || !configuration.has_item(c) {
+    if !network.is_sink(c) || !configuration.has_item(c) {
         return Judged::Illegal;
     }
     let got = configuration.take(network, c);
@@ -114,7 +104,7 @@ pub(crate) fn leave<A: Allocator>(
         configuration.old configuration.new result }
 {
     network.known();
-    if !is_sink(network, c) || configuration.channel(c).is_retired() {
+    if !network.is_sink(c) || configuration.channel(c).is_retired() {
         return Judged::Illegal;
     }
     configuration.leave(network, c);

@@ -23,7 +23,7 @@ use Rattle.kpn_trace.specs.declared.state.Verdict.TheVariants.{Ended, Clogged, J
 use Rattle.kpn_configuration.specs.Configuration.{Configuration, channel_in, closed_in, wait_in, end_in, capacities}
 use Rattle.kpn_configuration.specs.Quiet.{IsQuietNow}
 use Rattle.kpn_configuration.specs.Settled.{IsOutsideDone, HasFullCycleNow, IsVerdictNow}
-use Rattle.kpn_configuration.specs.Stopped.{is_empty_wait, is_quiet_at, is_outside, awaits_outside}
+use Rattle.kpn_configuration.specs.Stopped.{is_empty_wait, is_quiet_at, awaits_outside}
 
 -- ---- answers of tests
 
@@ -81,11 +81,6 @@ sink_no_source (channel.Inner cap) h = absurd cc
 sink_no_source channel.Source h = absurd cc
 sink_no_source (channel.Sink cap) h = refl
 
-outside_is_sink : (end : End) → is_outside end ≡ true → end ≡ Sink
-outside_is_sink (Process p) h = absurd cc
-outside_is_sink Source h = absurd cc
-outside_is_sink Sink h = refl
-
 both_true : (a b : Bool) → (a && b) ≡ true → (a ≡ true) × (b ≡ true)
 both_true true true h = (refl, refl)
 both_true true false h = absurd cc
@@ -97,9 +92,9 @@ module _ (t : Tables) (s : Configuration) where
   sink_done c h sink =
       let item : is_some (next_item (channel_in s c)) ≡ false =
       sym
-      (ap (λ b. cond b (not (closed_in s c)) (is_outside (reader_of t c) && is_some (next_item (channel_in s c))))
+      (ap (λ b. cond b (not (closed_in s c)) (is_sink (channel_at t c) && is_some (next_item (channel_in s c))))
       (sink_no_source (channel_at t c) sink)
-      ∙ ap (λ e. is_outside e && is_some (next_item (channel_in s c))) (reader_of-sink t c sink)) ∙ h in
+      ∙ ap (λ b. b && is_some (next_item (channel_in s c))) sink) ∙ h in
       no_item (channel_in s c).is_retired (unread (channel_in s c)) item
 
   still_awaited : (c : ℕ) → c < length t.channels → awaits_outside t s c ≡ true → IsOutsideDone t s → ⊥
@@ -109,18 +104,18 @@ module _ (t : Tables) (s : Configuration) where
       by_kind true is =
           let unshut : not (closed_in s c) ≡ true =
           sym (ap
-          (λ b. cond b (not (closed_in s c)) (is_outside (reader_of t c) && is_some (next_item (channel_in s c)))) is)
+          (λ b. cond b (not (closed_in s c)) (is_sink (channel_at t c) && is_some (next_item (channel_in s c)))) is)
           ∙ h in
           let shut : not (closed_in s c) ≡ false = ap not (done.sources c below is) in
           both_ways _ shut unshut
       by_kind false is =
           let two =
-          both_true (is_outside (reader_of t c)) (is_some (next_item (channel_in s c)))
+          both_true (is_sink (channel_at t c)) (is_some (next_item (channel_in s c)))
           (sym (ap
-          (λ b. cond b (not (closed_in s c)) (is_outside (reader_of t c) && is_some (next_item (channel_in s c)))) is)
+          (λ b. cond b (not (closed_in s c)) (is_sink (channel_at t c) && is_some (next_item (channel_in s c)))) is)
           ∙ h) in
           item_there (channel_in s c).is_retired (unread (channel_in s c)) two.1
-          (done.sinks c below (sink-reader_of t c (outside_is_sink (reader_of t c) two.0)))
+          (done.sinks c below two.0)
 
   -- ---- the answers of the loops
 

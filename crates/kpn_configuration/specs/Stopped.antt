@@ -3,9 +3,7 @@
 use Rattle.std.specs.Prelude.{ℕ, ◌||◌, ◌&&◌, Bool, true, false, not, is_some, if◌then◌else◌}
 use Rattle.kpn_net.specs.declared.wait.Wait.{Wait}
 use Rattle.kpn_net.specs.declared.wait.Wait.TheVariants.{Nobody, Empty, Full}
-use Rattle.kpn_net.specs.declared.tables.End.{End}
-use Rattle.kpn_net.specs.declared.tables.End.TheVariants.{Sink}
-use Rattle.kpn_net.specs.Tables.{Tables, channel_at, is_source, reader_of}
+use Rattle.kpn_net.specs.Tables.{Tables, channel_at, is_source, is_sink}
 use Rattle.kpn_chan.specs.Channel.{next_item}
 use Rattle.kpn_configuration.specs.Configuration.{Configuration, channel_in, closed_in, wait_in, end_in}
 
@@ -29,12 +27,8 @@ is_quiet_at s p = is_some (end_in s p) || is_empty_wait (wait_in s p)
 abbrev pub has_stopped : Configuration → (p : ℕ) → Bool
 has_stopped s p = is_some (end_in s p) || not (is_free (wait_in s p))
 
-abbrev pub is_outside : End → Bool
-is_outside Sink = true
-is_outside end = false
-
 -- the outside may still feed the channel or close it, or take an item from it
 abbrev pub awaits_outside : Tables → Configuration → (c : ℕ) → Bool
 awaits_outside t s c =
     if is_source (channel_at t c) then not (closed_in s c)
-    else (is_outside (reader_of t c) && is_some (next_item (channel_in s c)))
+    else (is_sink (channel_at t c) && is_some (next_item (channel_in s c)))

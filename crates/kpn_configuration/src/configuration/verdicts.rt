@@ -12,7 +12,7 @@ ghost use Rattle.kpn_configuration.specs.Settled.{HaveStopped, IsOutsideDone, Is
 ghost use Rattle.kpn_configuration.specs.Stopped.{is_quiet_at, has_stopped, is_full_wait, awaits_outside};
 
 use super::Configuration;
-use kpn_net::{End, Found, Network, Wait};
+use kpn_net::{Found, Network, Wait};
 use kpn_trace::Verdict;
 use std::alloc::Allocator;
 
@@ -161,6 +161,6 @@ impl<A: Allocator> Configuration<A> {
         if network.is_source(c) {
             return !self.is_closed(c);
         }
-        matches!(network.reader_of(c), End::Sink) && self.has_item(c)
+        network.is_sink(c) && self.has_item(c)
     }
 }
