@@ -1,7 +1,7 @@
 -- Why an event may not follow: what it needs of the configuration is not there.
-use Rattle.std.proofs.Common.{◌≡◌, ◌≢◌, ℕ, true, false, ℤ, List, [], ◌∷◌, ◌++◌, Option, Some, is_some, refl, sym, ap, ◌∙◌, subst}
+use Rattle.std.proofs.Common.{◌≡◌, ◌≢◌, ℕ, true, false, ℤ, List, [], ◌∷◌, ◌++◌, Option, Some, is_some, refl, sym, ap, ◌∙◌}
 use Rattle.std.proofs.lemmas.Bool.{eq-eqb, both_ways}
-use Rattle.kpn_net.specs.Tables.{Tables, instance_at, program_of, channel_at, is_source, is_sink}
+use Rattle.kpn_net.specs.Tables.{Tables, instance_at, program_of, channel_at, is_sink}
 use Rattle.kpn_net.specs.Faults.{IsNetwork}
 use Rattle.kpn_step.specs.declared.stop.Stop.{Stop}
 use Rattle.kpn_step.specs.declared.stop.Stop.TheVariants.{WantRead, WantWrite, Paused}
@@ -14,7 +14,7 @@ use Rattle.kpn_trace.specs.Talks.{is_of, is_of_process}
 use Rattle.kpn_trace.specs.Legal.{HasNumbers, OwesGrowth, Legal}
 use Rattle.kpn_trace.specs.Stops.{OwesNothing}
 use Rattle.kpn_trace.proofs.OneMore.{Legal-exactly}
-use Rattle.kpn_configuration.specs.Configuration.{Configuration, channel_in, closed_in, frame_in}
+use Rattle.kpn_configuration.specs.Configuration.{Configuration, channel_in, frame_in}
 use Rattle.kpn_configuration.specs.Due.{Stands, ReadsFrom, WritesTo, stop_of, IsDueNow}
 use Rattle.kpn_configuration.specs.Run.{IsRun}
 use Rattle.kpn_configuration.proofs.OneStop.{one_stop}

@@ -7,12 +7,9 @@ use Rattle.kpn_net.specs.declared.found.Found.{Found}
 use Rattle.kpn_net.specs.declared.found.Found.TheVariants as found
 use Rattle.kpn_net.specs.declared.tables.ChannelSpec.{ChannelSpec}
 use Rattle.kpn_net.specs.declared.tables.ChannelSpec.TheVariants as channel
-use Rattle.kpn_net.specs.declared.tables.End.{End}
-use Rattle.kpn_net.specs.declared.tables.End.TheVariants.{Process, Source, Sink}
-use Rattle.kpn_net.specs.Tables.{Tables, channel_at, is_source, is_sink, reader_of}
+use Rattle.kpn_net.specs.Tables.{Tables, channel_at, is_source, is_sink}
 use Rattle.kpn_net.specs.Waits.{full_channels}
 use Rattle.kpn_net.specs.Finding.{Finds, IsSmallestOfCycle}
-use Rattle.kpn_net.proofs.Networks.{reader_of-sink, sink-reader_of}
 use Rattle.kpn_net.proofs.Cycles.{Contains-first, cycle_below, smallest_among}
 use Rattle.kpn_net.proofs.Findings.{finding_unique}
 use Rattle.kpn_chan.specs.Channel.{unread, next_item}
