@@ -1,10 +1,7 @@
 -- What the calls of the outside come to.
-use Rattle.std.proofs.Common.{◌≡◌, ◌↔◌, IsTrue, is_some, cond, slice_get, ℕ, ◌<◌, ℤ, Bool, true, false, List, [], ◌∷◌, length, Some, None, refl, sym, ap, ◌∙◌, subst}
+use Rattle.std.proofs.Common.{◌≡◌, is_some, cond, slice_get, ℕ, ◌<◌, ℤ, true, false, List, [], ◌∷◌, length, Some, None, refl, sym, ap, ◌∙◌, subst}
 use Rattle.std.proofs.lemmas.Bool.{false≢true}
-use Rattle.kpn_net.specs.Tables.{Tables, channel_at, is_source, is_sink, reader_of}
-use Rattle.kpn_net.specs.declared.tables.End.{End}
-use Rattle.kpn_net.specs.declared.tables.End.TheVariants.{Sink}
-use Rattle.kpn_net.proofs.Networks.{reader_of-sink, sink-reader_of}
+use Rattle.kpn_net.specs.Tables.{channel_at, is_source, is_sink}
 use Rattle.kpn_chan.specs.Channel.{ChannelState, unread, next_item}
 use Rattle.kpn_trace.specs.declared.event.Event.TheVariants as event
 use Rattle.kpn_configuration.specs.Configuration.{channel_in, closed_in}
@@ -37,16 +34,6 @@ taken b o a c v sink not_left is item follows = record {
     subst (λ x. Appends (event.Take c v) x a) is follows.appends,
   );
 }
-
--- the outside reads a channel exactly where it is a sink
-pub sink_by : (t : Tables) (c : ℕ) (end : End) (b sink : Bool) → end ≡ reader_of t c → IsTrue b ↔ (end ≡ Sink)
-    → is_sink (channel_at t c) ≡ sink → b ≡ is_sink (channel_at t c)
-sink_by t c end true true is same now = sym now
-sink_by t c end false false is same now = sym now
-sink_by t c end true false is same now =
-    absurd (false≢true (sym now ∙ sink-reader_of t c (sym is ∙ same.0 refl)))
-sink_by t c end false true is same now =
-    absurd (false≢true (same.1 (is ∙ reader_of-sink t c now)))
 
 -- memory was reserved, and the book is as it was
 pub kept_same : (b o : Book) → o ≡ b → IsKept b → IsKept o

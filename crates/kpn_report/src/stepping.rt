@@ -10,7 +10,7 @@ ghost use Rattle.kpn_report.specs.Outcomes.{IsEnough, IsOutcome};
 ghost use Rattle.kpn_report.specs.Running.{IsLeftToItself, IsStepped, IsCommitted, sinks_after, has_put, HasPut, sink_of};
 
 use crate::outcome::Limits;
-use crate::stopping::{has_enough_by, is_sink};
+use crate::stopping::has_enough_by;
 use kpn_book::{Book, Done};
 use kpn_net::Network;
 use kpn_trace::Event;
@@ -84,7 +84,7 @@ fn sink_of(network: &Network, event: Event) -> Option<usize>
     ensures { result ≡ sink_of network.now event }
 {
     match event {
-        Event::Put(_, c, _) if is_sink(network, usize::from(c)) => Some(usize::from(c)),
+        Event::Put(_, c, _) if network.is_sink(usize::from(c)) => Some(usize::from(c)),
         _ => None,
     }
 }

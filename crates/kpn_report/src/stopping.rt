@@ -1,6 +1,5 @@
 //! Whether a run has come to its outcome.
 ghost use Rattle.std.specs.Prelude.{◌≡◌, ◌↔◌, ℕ, ◌+◌, ◌<◌, ◌^◌, List, length, IsTrue, IfNone};
-ghost use Rattle.kpn_net.specs.Tables.{channel_at, is_sink};
 ghost use Rattle.kpn_trace.specs.declared.event.Event.{Event};
 ghost use Rattle.kpn_trace.specs.Channels.{read_on};
 ghost use Rattle.kpn_report.specs.Outcomes.{HaveRead, IsEnough, IsOutcome};
@@ -8,8 +7,6 @@ ghost use Rattle.kpn_report.specs.Running.{ReadsOneMore};
 
 use crate::outcome::{Limits, Outcome};
 use kpn_book::Book;
-use kpn_net::laws::one_writer_and_one_reader;
-use kpn_net::{End, Network};
 use kpn_trace::Verdict;
 
 /// What a run has come to under its limits, if it has: enough where what is wanted was read of each sink, else the
@@ -68,18 +65,9 @@ fn have_read(book: &Book<'_>, items: u64) -> bool
 {
     let network = book.network();
     'channels: for c in 0..network.channels() {
-        if is_sink(network, c) && (book.read_count(c) as u64) < items {
+        if network.is_sink(c) && (book.read_count(c) as u64) < items {
             return false;
         }
     }
     true
-}
-
-/// Whether the outside reads the channel.
-pub(crate) fn is_sink(network: &Network, c: usize) -> bool
-    requires { c < length network.now.channels }
-    ensures { result ≡ is_sink (channel_at network.now c) }
-{
-    one_writer_and_one_reader();
-    matches!(network.reader_of(c), End::Sink)
 }

@@ -1,6 +1,5 @@
 //! A report is written from a book.
 ghost use Rattle.std.specs.Prelude.{◌≡◌, ℕ, ◌+◌, ◌<◌, List, length, IfOk};
-ghost use Rattle.kpn_net.specs.Tables.{channel_at, is_sink};
 ghost use Rattle.kpn_trace.specs.declared.event.Event.{Event};
 ghost use Rattle.kpn_trace.specs.Legal.{Legal};
 ghost use Rattle.kpn_trace.specs.Views.{Agrees};
@@ -9,7 +8,6 @@ ghost use Rattle.kpn_report.specs.Running.{ReadsWithin, first_read};
 
 use crate::outcome::Outcome;
 use crate::report::Report;
-use crate::stopping::is_sink;
 use kpn_book::Book;
 use kpn_lang::Sequence;
 use kpn_net::Network;
@@ -46,7 +44,7 @@ fn read_of_sinks(
 {
     let mut taken = Sequence::new(alloc);
     'channels: for c in 0..network.channels() {
-        if is_sink(network, c) {
+        if network.is_sink(c) {
             let items = read_of(alloc, view, c)?;
             taken.push(items)?;
         }

@@ -1,7 +1,6 @@
 //! The calls of the outside.
 ghost use Rattle.std.specs.Prelude.{◌≡◌, ◌↔◌, ◌<◌, length, IsTrue};
 ghost use Rattle.kpn_net.specs.Tables.{channel_at, is_source, is_sink};
-ghost use Rattle.kpn_net.specs.declared.tables.End.TheVariants.{Sink};
 ghost use Rattle.kpn_configuration.specs.Configuration.{channel_in, closed_in};
 ghost use Rattle.kpn_book.specs.Kept.{IsKept};
 ghost use Rattle.kpn_book.specs.Refusals.{IsAtBound, RefusesFeed, RefusesClose, RefusesTake, RefusesLeave, Feeds, Closes, Takes, Leaves};
@@ -9,7 +8,6 @@ ghost use Rattle.kpn_book.specs.Open.{has_feed_fault, done_or_refused};
 
 use super::OpenBook;
 use crate::answers::Refused;
-use kpn_net::{End, Network};
 use std::alloc::Allocator;
 
 impl<'n, A: Allocator> OpenBook<'n, A> {
@@ -119,14 +117,14 @@ impl<'n, A: Allocator> OpenBook<'n, A> {
     fn is_source(&self, c: usize) -> bool
         ensures { result ≡ is_source (channel_at self.now.book.tables c) }
     {
-        is_source(self.network, c)
+        self.network.is_source(c)
     }
 
     /// Whether there is a sink with this number.
     fn is_sink(&self, c: usize) -> bool
         ensures { result ≡ is_sink (channel_at self.now.book.tables c) }
     {
-        is_sink(self.network, c)
+        self.network.is_sink(c)
     }
 
     /// Whether a source is closed.
@@ -153,30 +151,4 @@ impl<'n, A: Allocator> OpenBook<'n, A> {
         let channel = self.configuration.channel(c);
         !channel.is_retired() && bound <= channel.len()
     }
-}
-
-fn is_source(network: &Network, c: usize) -> bool
-    ensures { result ≡ is_source (channel_at network.now c) }
-{
-    c < network.channels() && network.is_source(c)
-}
-
-fn is_sink(network: &Network, c: usize) -> bool
-    ensures { result ≡ is_sink (channel_at network.now c) }
-{
-    c < network.channels() && is_read_by_outside(network, c)
-}
-
-fn is_read_by_outside(network: &Network, c: usize) -> bool
-    requires { c < length network.now.channels }
-    ensures { result ≡ is_sink (channel_at network.now c) }
-{
-    is_outside(network.reader_of(c))
-}
-
-/// Whether the outside reads at this end.
-fn is_outside(end: End) -> bool
-    ensures { IsTrue result ↔ (end ≡ Sink) }
-{
-    end == End::Sink
 }
