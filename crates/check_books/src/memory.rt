@@ -60,7 +60,7 @@ fn is_refused_and_repeated(
     is_refused && answers(book, repeated)
 }
 
-/// Whether a commit of these steps of a process is so refused, and then answered by this.
+/// Whether a commit of these steps of a process is refused while the heap is full, and afterwards gives `done`.
 fn is_commit_refused_and_repeated(
     heap: &LocalHeap,
     book: &mut Book<'_, &LocalHeap>,

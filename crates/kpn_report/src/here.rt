@@ -8,7 +8,7 @@ use crate::feeding::feed_sources;
 use crate::outcome::{Limits, Outcome};
 use crate::report::Report;
 use crate::stepping::step;
-use crate::stopping::{has_enough, outcome_but_enough};
+use crate::stopping::{has_enough, outcome_unless_enough};
 use crate::telling::report_of;
 use kpn_book::Book;
 use kpn_lang::Sequence;
@@ -45,7 +45,7 @@ fn run(book: &mut Book<'_>, limits: &Limits) -> Result<Outcome, AllocError>
         return Ok(Outcome::Enough);
     }
     'run: loop {
-        if let Some(outcome) = outcome_but_enough(book, limits) {
+        if let Some(outcome) = outcome_unless_enough(book, limits) {
             return Ok(outcome);
         }
         if step(book, limits)? {

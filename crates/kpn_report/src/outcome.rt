@@ -5,9 +5,10 @@
 pub struct Limits {
     /// After so many commits the run is stopped.
     pub commits: u64,
-    /// Once so many items were read of each sink the run is stopped, where this is asked for.
+    /// Once so many items were read of each sink the run is stopped, where this is asked for: at once where there is no
+    /// sink.
     pub take: Option<u64>,
-    /// The most steps that a process makes before it is the next one's turn. It should be 1 or more.
+    /// The most steps that a process makes before the next one is stepped. 0 counts as 1.
     pub quota: u32,
 }
 

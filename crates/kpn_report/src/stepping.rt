@@ -23,7 +23,7 @@ pub(crate) fn step(book: &mut Book<'_>, limits: &Limits) -> Result<bool, AllocEr
     requires goes_on { IsOutcome book.old.tables book.old.history book.old.commits limits.now None }
     ensures { IfOk result (λ enough. IsStepped limits.now enough book.old book.new) }
 {
-    if !step_first(book, limits.quota)? {
+    if !step_first(book, limits.quota.max(1))? {
         return Ok(false);
     }
     take_what_was_put(book, limits)

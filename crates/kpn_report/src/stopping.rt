@@ -17,11 +17,11 @@ pub fn outcome_of(book: &Book<'_>, limits: &Limits) -> Option<Outcome>
     if has_enough(book, limits.take) {
         return Some(Outcome::Enough);
     }
-    outcome_but_enough(book, limits)
+    outcome_unless_enough(book, limits)
 }
 
 /// What a run that has not enough has come to, if it has.
-pub(crate) fn outcome_but_enough(book: &Book<'_>, limits: &Limits) -> Option<Outcome>
+pub(crate) fn outcome_unless_enough(book: &Book<'_>, limits: &Limits) -> Option<Outcome>
     ensures countable { IfNone result (book.now.commits + 1 < 2 ^ 64) }
     ensures outcome { (¬ IsEnough book.now.tables book.now.history limits.now.take)
         → IsOutcome book.now.tables book.now.history book.now.commits limits.now result }
@@ -45,8 +45,8 @@ pub(crate) fn has_enough(book: &Book<'_>, wanted: Option<u64>) -> bool
     }
 }
 
-/// Whether there is enough now that at most one item more was read of this sink, and none of the others, where there
-/// was not enough before: all sinks are looked at only where this one has just as many as are wanted.
+/// Whether there is enough after at most one more item was read of this sink. Before it there was not, so the other
+/// sinks are looked at only where this one has exactly as many as are wanted.
 pub(crate) fn has_enough_by(book: &Book<'_>, sink: usize, wanted: Option<u64>) -> bool
     requires { sink < length book.now.tables.channels }
     ensures { (before : List Event) → ReadsOneMore book.now.tables sink before book.now.history
