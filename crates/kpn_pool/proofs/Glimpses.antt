@@ -27,7 +27,7 @@ use Rattle.kpn_book.specs.Book.{Book}
 use Rattle.kpn_pool.specs.Glimpse.{ShowsARun, ShowsJournals, shown_on, shown_fed, IsBelowKahn, IsAtRest, IsKahnAtRest}
 
 -- a source is a channel of the network
-source_there : (t : Tables) (c : ℕ) → is_source (channel_at t c) ≡ true → c < length t.channels
+pub source_there : (t : Tables) (c : ℕ) → is_source (channel_at t c) ≡ true → c < length t.channels
 source_there t c is =
     elim (cases_lt c (length t.channels)) [
       | inl there ↦ there

@@ -1,14 +1,19 @@
 -- The calls of the outside keep the network and the number of commits, and what they tell of the network.
-use Rattle.std.proofs.Common.{◌≡◌, ℕ, Bool, true, false, ℤ, List, [], ◌∷◌, ◌++◌, Option, Some, None, ap, sym, subst}
+use Rattle.std.proofs.Common.{◌≡◌, ℕ, Bool, true, false, ℤ, List, ◌++◌, Option, Some, None, ap, sym, subst}
 use Rattle.kpn_lang.specs.Prefix.{IsPrefix}
-use Rattle.kpn_lang.proofs.Prefixes.{IsPrefix-refl, IsPrefix-trans, IsPrefix-append, IsPrefix-from_rest}
+use Rattle.kpn_lang.proofs.Prefixes.{IsPrefix-from_rest}
 use Rattle.kpn_net.specs.declared.tables.ChannelSpec.{ChannelSpec}
 use Rattle.kpn_net.specs.Tables.{Tables, channel_at, is_source, is_sink}
+use Rattle.kpn_configuration.specs.Configuration.{channel_in}
 use Rattle.kpn_book.specs.Book.{Book}
 use Rattle.kpn_book.specs.declared.answers.Refused.{Refused}
 use Rattle.kpn_book.specs.declared.answers.Refused.TheVariants.{NotHeld, Stranger, NoMemory, NoSuchEnd, SourceClosed, Full, SinkLeft}
 use Rattle.kpn_book.specs.Refusals.{AcceptsItem, RefusesFeed, RefusesClose, RefusesTake, RefusesLeave, Feeds, Closes, Takes, Leaves, closes_by, takes_item, leaves_by}
-use Rattle.kpn_pool.specs.Ends.{EndSeat, with_taken, MayRefuseFeed, MayRefuseEnd, MayRefuseTake}
+use Rattle.kpn_pool.specs.declared.outside.SnapFault.{SnapFault}
+use Rattle.kpn_pool.specs.declared.outside.SnapFault.TheVariants as snap_fault
+use Rattle.kpn_pool.specs.declared.outside.SnapFault.TheVariants.{Foreign}
+use Rattle.kpn_pool.proofs.Glimpses.{source_there}
+use Rattle.kpn_pool.specs.Ends.{RefusesSnapshot, MayRefuseFeed, MayRefuseEnd, MayRefuseTake, MayRefuseSnapshot}
 
 -- the network and the number of commits are the same
 pub record KeepsCount (before after : Book) : Type 0 where
@@ -100,24 +105,20 @@ module _ (t : Tables) (b : Book) (same : b.tables ≡ t) (c : ℕ) where
   leave_refused Stranger h = absurd h
   leave_refused SinkLeft h = absurd h
 
+  pub snapshot_refused : (fed : List ℤ) (cause : SnapFault) → RefusesSnapshot c fed b cause
+      → MayRefuseSnapshot (is_source (channel_at t c)) fed cause
+  snapshot_refused fed Foreign h =
+      λ is none.
+      let source = subst (λ u. is_source (channel_at u c) ≡ true) (sym same) is in
+      h (record {
+        there = source_there b.tables c source;
+        source = source;
+        begins = subst (λ xs. IsPrefix xs (channel_in b.configuration c).journal) (sym none) tt;
+      })
+  snapshot_refused fed snap_fault.NoMemory h = there is_source true h.source
+
 -- ---- the lists of the seats
-
-pub begins_itself : (xs : List ℤ) → IsPrefix xs xs
-begins_itself xs = IsPrefix-refl xs
-
-pub begins_further : (xs ys zs : List ℤ) → IsPrefix xs ys → IsPrefix ys zs → IsPrefix xs zs
-begins_further xs ys zs p q = IsPrefix-trans xs ys zs p q
 
 -- a list and more begins with it
 pub fed_behind : (xs more ys : List ℤ) → ys ≡ xs ++ more → IsPrefix xs ys
 fed_behind xs more ys is = IsPrefix-from_rest xs more ys (sym is)
-
-taken_cases : (item : Option ℤ) (s : EndSeat) → IsPrefix s.items (with_taken item s).items
-taken_cases None s = IsPrefix-refl s.items
-taken_cases (Some v) s = IsPrefix-append s.items (v ∷ [])
-
-pub taken_behind : (item : Option ℤ) (s now : EndSeat) → now ≡ with_taken item s → IsPrefix s.items now.items
-taken_behind item s now is = rw is (taken_cases item s)
-
-pub kept_behind : (s now : EndSeat) → now ≡ s → IsPrefix s.items now.items
-kept_behind s now is = rw is (IsPrefix-refl s.items)

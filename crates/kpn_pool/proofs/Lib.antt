@@ -1,4 +1,5 @@
 pub mod Glimpses
 pub mod Keeping
+pub mod Recording
 pub mod Seating
 pub mod Sharing

@@ -1,12 +1,16 @@
 -- What who feeds a source, or takes from a sink, knows of its own calls.
-use Rattle.std.specs.Prelude.{◌≡◌, ◌<◌, ℕ, length, ℤ, Bool, true, false, List, [], ◌∷◌, ◌++◌, map, Option, Some, None}
+use Rattle.std.specs.Prelude.{◌≡◌, ◌≢◌, ◌<◌, ℕ, length, ℤ, Bool, true, false, List, [], ◌∷◌, ◌++◌, map, take, slice_get, Option, Some, None}
 use Rattle.std.specs.List.{filter}
 use Rattle.kpn_net.specs.declared.tables.ChannelSpec.{ChannelSpec}
 use Rattle.kpn_net.specs.Tables.{Tables, channel_at, is_source}
 use Rattle.kpn_net.specs.Faults.{channel_numbers}
 use Rattle.kpn_lang.specs.Prefix.{IsPrefix}
+use Rattle.kpn_chan.specs.Channel.{unread}
+use Rattle.kpn_trace.specs.declared.event.Event.{Event}
+use Rattle.kpn_trace.specs.declared.event.Event.TheVariants as event
 use Rattle.kpn_configuration.specs.Configuration.{channel_in}
 use Rattle.kpn_book.specs.Book.{Book}
+use Rattle.kpn_book.specs.Appending.{AppendsAll}
 use Rattle.kpn_pool.specs.declared.outside.SnapFault.{SnapFault}
 use Rattle.kpn_pool.specs.declared.outside.SnapFault.TheVariants as snap_fault
 use Rattle.kpn_pool.specs.declared.outside.SnapFault.TheVariants.{Foreign}
@@ -34,6 +38,32 @@ with_item item s = record s { items = s.items ++ item ∷ [] }
 abbrev pub with_taken : Option ℤ → EndSeat → EndSeat
 with_taken None s = s
 with_taken (Some item) s = with_item item s
+
+-- ---- many items in one call
+
+-- the items that the seat has more than before are recorded in the book, each by its event, in order, and nothing else
+-- happens there
+pub record AreRecorded (event_of : ℕ → ℤ → Event) (before after : EndSeat) (b b_after : Book) : Type 0 where
+  pub more : List ℤ
+  pub items : after.items ≡ before.items ++ more
+  pub events : AppendsAll (map (event_of before.channel) more) b b_after
+
+-- the seat has the first ones of these items more than before, and the next one is refused
+pub record FeedsUntil (items : List ℤ) (before after : EndSeat) (refuses : ℤ → Type 0) : Type 0 where
+  pub count : ℕ
+  pub fed : after.items ≡ before.items ++ take count items
+  pub item : ℤ
+  pub next : slice_get items count ≡ Some item
+  pub refused : refuses item
+
+-- the items that the seat has more than before were the first unread ones of its sink
+pub record TakesFirst (before after : EndSeat) (b b_after : Book) : Type 0 where
+  pub channel : after.channel ≡ before.channel
+  pub recorded : AreRecorded event.Take before after b b_after
+  pub first : unread (channel_in b.configuration before.channel)
+      ≡ recorded.more ++ unread (channel_in b_after.configuration before.channel)
+
+-- ---- a snapshot with all that a seat has fed
 
 -- there is a source with this number, and its journal begins with these items
 pub record HasFed (b : Book) (c : ℕ) (items : List ℤ) : Type 0 where
@@ -69,3 +99,8 @@ MayRefuseTake is_there NoSuchEnd = is_there ≡ false
 MayRefuseTake is_there SinkLeft = is_there ≡ true
 MayRefuseTake is_there NoMemory = is_there ≡ true
 MayRefuseTake is_there other = ⊥
+
+-- a snapshot for who has fed these items to a source: a seat of another run has fed something, or has no such source
+abbrev pub MayRefuseSnapshot : (is_there : Bool) → (fed : List ℤ) → SnapFault → Type 0
+MayRefuseSnapshot is_there fed Foreign = is_there ≡ true → fed ≢ []
+MayRefuseSnapshot is_there fed snap_fault.NoMemory = is_there ≡ true

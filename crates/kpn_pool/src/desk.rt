@@ -3,6 +3,7 @@ ghost use Rattle.std.specs.Prelude.{◌≡◌, false, IfNone, IfSome, IfOk, IfEr
 ghost use Rattle.kpn_net.specs.Tables.{program_of};
 ghost use Rattle.kpn_step.specs.Frame.{fits};
 ghost use Rattle.kpn_step.specs.Stops.{IsWithinQuota};
+ghost use Rattle.kpn_trace.specs.declared.state.Counts.{Counts as Tally};
 ghost use Rattle.kpn_trace.specs.Views.{Agrees, AreCounts};
 ghost use Rattle.kpn_configuration.specs.Configuration.{frame_in};
 ghost use Rattle.kpn_book.specs.Book.{IsHeld, IsClaimed, put_back};
@@ -80,9 +81,10 @@ impl<'n, J: Job, A: Allocator + Copy> Desk<'n, J, A> {
 impl<'n, J: Job, A: Allocator> Desk<'n, J, A> {
     /// Does nothing. It tells a caller's proof what holds whenever the lock is free: the book is one of the run's
     /// network, the ledger's total is the number of its commits, and each journal is a prefix of Kahn's least solution
-    /// for the items fed so far, and is what was read followed by what is queued, within capacity; each growth took the
-    /// smallest full channel of a blocked cycle; when every process has ended or waits on an empty channel, the
-    /// journals are that solution; and no blocked cycle has a full channel below the limit.
+    /// for the items fed so far, and is what was read followed by what is queued, within capacity; the counts of
+    /// blocked processes are exact; each growth took the smallest full channel of a blocked cycle; when every process
+    /// has ended or waits on an empty channel, the journals are that solution; and no blocked cycle has a full channel
+    /// below the limit.
     pub fn known(&self)
         ensures network { self.now.book.tables ≡ J.network }
         ensures book { IsBook self.now.book }
@@ -90,11 +92,14 @@ impl<'n, J: Job, A: Allocator> Desk<'n, J, A> {
         ensures below { AreBelowLeast self.now.book }
         ensures queued { AreReadThenQueued self.now.book }
         ensures within { AreWithinCapacity self.now.book }
+        ensures counts { (counts : Tally) → AreCounts self.now.book.schedule.states counts
+            → AreBlockedCounts self.now.book counts }
         ensures growths { AreOwedGrowths self.now.book }
         ensures quiet { AreLeastWhenQuiet self.now.book }
         ensures none_left { HasNoneLeftToGrow self.now.book }
     {
         journals();
+        the_history();
         growths();
         a_quiet_book();
         let _ = &self.halts;

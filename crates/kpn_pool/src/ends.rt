@@ -1,10 +1,13 @@
 //! The seats of the outside: who feeds a source, and who takes from a sink.
-ghost use Rattle.std.specs.Prelude.{◌≡◌, true, [], ◌∷◌, ◌++◌, IfOk, IfErr, OnErr, OnOk};
+ghost use Rattle.std.specs.Prelude.{◌≡◌, ◌<◌, true, false, [], ◌∷◌, ◌++◌, length, IfOk, IfErr, OnErr, OnOk, IsTrue};
 ghost use Rattle.kpn_lang.specs.Prefix.{IsPrefix};
 ghost use Rattle.kpn_net.specs.Tables.{channel_at, is_source, is_sink};
+ghost use Rattle.kpn_chan.specs.Channel.{unread};
+ghost use Rattle.kpn_trace.specs.declared.event.Event.TheVariants as event;
+ghost use Rattle.kpn_configuration.specs.Configuration.{channel_in};
 ghost use Rattle.kpn_book.specs.Refusals.{RefusesFeed, RefusesClose, RefusesTake, RefusesLeave, Feeds, Closes, Takes, Leaves};
 ghost use Rattle.kpn_pool.specs.Desk.{with_book};
-ghost use Rattle.kpn_pool.specs.Ends.{with_item, with_taken, new_end, MayRefuseFeed, MayRefuseEnd, MayRefuseTake};
+ghost use Rattle.kpn_pool.specs.Ends.{with_item, with_taken, new_end, AreRecorded, FeedsUntil, TakesFirst, MayRefuseFeed, MayRefuseEnd, MayRefuseTake};
 
 use crate::desk::Desk;
 use crate::job::Job;
@@ -82,7 +85,8 @@ impl<A: Allocator> SourceSeat<A> {
         Ok(())
     }
 
-    /// Feeds these items to the source, one after the other. Where it is refused those before the refused one were fed.
+    /// Feeds these items to the source, one after the other. Where one is refused, as the book refuses it, those before
+    /// it were fed.
     #[tactic(auto, using(crate::proofs::Keeping::fed_behind))]
     pub fn feed_all<J: Job, B: Allocator>(
         &mut self,
@@ -93,7 +97,14 @@ impl<A: Allocator> SourceSeat<A> {
         ensures channel { self.new.channel ≡ self.old.channel }
         ensures fed { OnOk result (self.new.items ≡ self.old.items ++ items.now) }
         ensures before { IsPrefix self.old.items self.new.items }
+        ensures recorded { AreRecorded event.Feed self.old self.new desk.old.book desk.new.book }
+        ensures source { OnOk result (0 < length items.now
+            → is_source (channel_at J.network self.old.channel) ≡ true) }
         ensures desk { desk.new ≡ with_book desk.new.book desk.old }
+        ensures refused { IfErr result (λ cause. FeedsUntil items.now self.old self.new (λ item.
+            RefusesFeed self.old.channel item bound desk.new.book cause)) }
+        ensures may_refuse { IfErr result (λ cause. FeedsUntil items.now self.old self.new (λ item.
+            MayRefuseFeed (is_source (channel_at J.network self.old.channel)) item cause)) }
     {
         'items: for item in items {
             self.feed(desk, *item, bound)?;
@@ -185,33 +196,46 @@ impl<A: Allocator> SinkSeat<A> {
         Ok(item)
     }
 
-    /// Takes all that is unread at the sink.
-    #[tactic(auto, using(crate::proofs::Keeping::begins_itself, crate::proofs::Keeping::begins_further))]
+    /// Takes all that is unread at the sink. Where it is refused what was taken before that stays with the seat.
     pub fn take_all<J: Job, B: Allocator>(
         &mut self,
         desk: &mut Desk<'_, J, B>,
     ) -> Result<(), Refused>
         ensures channel { self.new.channel ≡ self.old.channel }
         ensures taken { IsPrefix self.old.items self.new.items }
+        ensures all { OnOk result (self.new.items ≡ self.old.items
+            ++ unread (channel_in desk.old.book.configuration self.old.channel)) }
+        ensures none_left { OnOk result
+            (unread (channel_in desk.new.book.configuration self.old.channel) ≡ []) }
+        ensures first { TakesFirst self.old self.new desk.old.book desk.new.book }
+        ensures sink { OnOk result (is_sink (channel_at J.network self.old.channel) ≡ true) }
         ensures desk { desk.new ≡ with_book desk.new.book desk.old }
+        ensures refused { IfErr result (λ cause.
+            RefusesTake self.old.channel desk.new.book cause) }
+        ensures may_refuse { IfErr result (λ cause.
+            MayRefuseTake (is_sink (channel_at J.network self.old.channel)) cause) }
     {
-        'items: for _ in 0..u64::MAX {
-            if !self.take_next(desk)? {
-                return Ok(());
-            }
-        }
+        'items: while self.take_next(desk)? {}
         Ok(())
     }
 
     /// Takes the next item, if one is unread: whether one was.
-    #[tactic(auto, using(crate::proofs::Keeping::taken_behind, crate::proofs::Keeping::kept_behind))]
     fn take_next<J: Job, B: Allocator>(
         &mut self,
         desk: &mut Desk<'_, J, B>,
     ) -> Result<bool, Refused>
-        ensures channel { self.new.channel ≡ self.old.channel }
-        ensures taken { IsPrefix self.old.items self.new.items }
+        ensures first { TakesFirst self.old self.new desk.old.book desk.new.book }
+        ensures less { IfOk result (λ more. IsTrue more
+            → length (unread (channel_in desk.new.book.configuration self.old.channel))
+            < length (unread (channel_in desk.old.book.configuration self.old.channel))) }
+        ensures none_left { IfOk result (λ more. more ≡ false
+            → unread (channel_in desk.new.book.configuration self.old.channel) ≡ []) }
+        ensures sink { OnOk result (is_sink (channel_at J.network self.old.channel) ≡ true) }
         ensures desk { desk.new ≡ with_book desk.new.book desk.old }
+        ensures refused { IfErr result (λ cause.
+            RefusesTake self.old.channel desk.new.book cause) }
+        ensures may_refuse { IfErr result (λ cause.
+            MayRefuseTake (is_sink (channel_at J.network self.old.channel)) cause) }
     {
         let item = self.take(desk)?;
         Ok(item.is_some())

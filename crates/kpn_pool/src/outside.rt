@@ -1,8 +1,9 @@
 //! The calls of the outside on a shared desk. Each waits for the lock alone.
-ghost use Rattle.std.specs.Prelude.{◌≡◌, ◌++◌, IfOk, IfErr, OnErr, OnOk, IsTrue, true};
+ghost use Rattle.std.specs.Prelude.{◌≡◌, ◌<◌, ◌++◌, length, IfOk, IfErr, OnErr, OnOk, IsTrue, true};
 ghost use Rattle.kpn_lang.specs.Prefix.{IsPrefix};
 ghost use Rattle.kpn_net.specs.Tables.{channel_at, is_source, is_sink};
-ghost use Rattle.kpn_pool.specs.Ends.{with_item, with_taken, MayRefuseFeed, MayRefuseEnd, MayRefuseTake};
+ghost use Rattle.kpn_pool.specs.declared.outside.SnapFault.TheVariants.{NoMemory};
+ghost use Rattle.kpn_pool.specs.Ends.{with_item, with_taken, FeedsUntil, MayRefuseFeed, MayRefuseEnd, MayRefuseTake, MayRefuseSnapshot};
 ghost use Rattle.kpn_pool.specs.Glimpse.{ShowsARun, shown_on, IsBelowKahn, IsKahnAtRest};
 
 use crate::ends::{SinkSeat, SourceSeat};
@@ -22,6 +23,8 @@ pub enum SnapFault {
 }
 
 impl From<AllocError> for SnapFault {
+    ghost from_gives = { λ _ fault. fault ≡ NoMemory };
+
     fn from(_error: AllocError) -> SnapFault {
         SnapFault::NoMemory
     }
@@ -48,8 +51,8 @@ pub fn feed<J: Job, A: Allocator, B: Allocator, R: Wait>(
     fed
 }
 
-/// Feeds these items to the source of the seat, one after the other, under one hold of the lock. Where it is refused
-/// those before the refused one were fed.
+/// Feeds these items to the source of the seat, one after the other, under one hold of the lock. Where one is refused
+/// those before it were fed.
 pub fn feed_all<J: Job, A: Allocator, B: Allocator, R: Wait>(
     rt: &R,
     shared: &Shared<'_, J, A>,
@@ -60,6 +63,10 @@ pub fn feed_all<J: Job, A: Allocator, B: Allocator, R: Wait>(
     ensures channel { seat.new.channel ≡ seat.old.channel }
     ensures fed { OnOk result (seat.new.items ≡ seat.old.items ++ items.now) }
     ensures before { IsPrefix seat.old.items seat.new.items }
+    ensures source { OnOk result (0 < length items.now
+        → is_source (channel_at J.network seat.old.channel) ≡ true) }
+    ensures refused { IfErr result (λ cause. FeedsUntil items.now seat.old seat.new (λ item.
+        MayRefuseFeed (is_source (channel_at J.network seat.old.channel)) item cause)) }
 {
     let mut desk = shared.lock(rt);
     let fed = seat.feed_all(&mut desk, items, bound);
@@ -101,7 +108,8 @@ pub fn take<J: Job, A: Allocator, B: Allocator, R: Wait>(
     item
 }
 
-/// Takes all that is unread at the sink of the seat, under one hold of the lock.
+/// Takes all that is unread at the sink of the seat, under one hold of the lock. Where it is refused what was taken
+/// before that stays with the seat.
 pub fn take_all<J: Job, A: Allocator, B: Allocator, R: Wait>(
     rt: &R,
     shared: &Shared<'_, J, A>,
@@ -109,6 +117,9 @@ pub fn take_all<J: Job, A: Allocator, B: Allocator, R: Wait>(
 ) -> Result<(), Refused>
     ensures channel { seat.new.channel ≡ seat.old.channel }
     ensures taken { IsPrefix seat.old.items seat.new.items }
+    ensures sink { OnOk result (is_sink (channel_at J.network seat.old.channel) ≡ true) }
+    ensures refused { IfErr result (λ cause.
+        MayRefuseTake (is_sink (channel_at J.network seat.old.channel)) cause) }
 {
     let mut desk = shared.lock(rt);
     let taken = seat.take_all(&mut desk);
@@ -147,6 +158,8 @@ pub fn snapshot<J: Job, A: Allocator, B: Allocator, C: Allocator + Copy, R: Wait
     ensures quiet { IfOk result (λ view. IsKahnAtRest J.network view) }
     ensures source { IfOk result (λ _. IsTrue (is_source (channel_at J.network seat.now.channel))) }
     ensures fresh { IfOk result (λ view. IsPrefix seat.now.items (shown_on view seat.now.channel)) }
+    ensures refused { IfErr result
+        (MayRefuseSnapshot (is_source (channel_at J.network seat.now.channel)) seat.now.items) }
 {
     let desk = shared.lock(rt);
     desk.snapshot_of_feeder(alloc, seat.channel(), seat.fed())

@@ -7,7 +7,7 @@ ghost use Rattle.kpn_configuration.specs.Configuration.{channel_in};
 ghost use Rattle.kpn_book.specs.Book.{Book};
 ghost use Rattle.kpn_book.specs.Refusals.{AcceptsItem, RefusesFeed, RefusesClose, RefusesTake, RefusesLeave, Feeds, Closes, Takes, Leaves, IsOpenSink};
 ghost use Rattle.kpn_pool.specs.Desk.{with_book};
-ghost use Rattle.kpn_pool.specs.Ends.{HasFed, RefusesSnapshot, MayRefuseFeed, MayRefuseEnd, MayRefuseTake};
+ghost use Rattle.kpn_pool.specs.Ends.{HasFed, RefusesSnapshot, MayRefuseFeed, MayRefuseEnd, MayRefuseTake, MayRefuseSnapshot};
 ghost use Rattle.kpn_pool.specs.Glimpse.{ShowsARun, shown_on, IsBelowKahn, IsKahnAtRest};
 
 use super::Desk;
@@ -125,7 +125,10 @@ impl<'n, J: Job, A: Allocator> Desk<'n, J, A> {
         ensures source { IfOk result (λ _. IsTrue (is_source (channel_at J.network source))) }
         ensures fresh { IfOk result (λ view. IsPrefix fed.now (shown_on view source)) }
         ensures refused { IfErr result (RefusesSnapshot source fed.now self.now.book) }
+        ensures may_refuse { IfErr result
+            (MayRefuseSnapshot (is_source (channel_at J.network source)) fed.now) }
     {
+        self.known();
         if !self.has_fed(source, fed) {
             return Err(SnapFault::Foreign);
         }

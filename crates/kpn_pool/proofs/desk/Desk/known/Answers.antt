@@ -3,6 +3,14 @@ use Rattle.kpn_book.specs.Kept.{IsBook}
 use Rattle.kpn_pool.specs.Desk.{Desk}
 use Rattle.kpn_pool.proofs.desk.Desk.known.Goals as goal
 
+pub returns-clause-counts : goal.returns-clause-counts
+returns-clause-counts g c = λ counts are.
+    let book = subst (λ (x : Desk). IsBook x.book) c.self.view_is c.self.invariant.book in
+    record {
+      empty = c.the_history.ensures.empty c.args.self.now.book book counts are;
+      full = c.the_history.ensures.full c.args.self.now.book book counts are;
+    }
+
 pub returns-clause-growths : goal.returns-clause-growths
 returns-clause-growths g c = λ B rest p d is.
     c.growths.ensures.owed c.args.self.now.book

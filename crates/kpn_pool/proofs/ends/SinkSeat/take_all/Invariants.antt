@@ -1,9 +1,15 @@
-use Rattle.std.proofs.Common.{◌≡◌}
-use Rattle.kpn_lang.specs.Prefix.{IsPrefix}
+use Rattle.std.proofs.Common.{◌≡◌, length}
+use Rattle.kpn_chan.specs.Channel.{unread}
+use Rattle.kpn_configuration.specs.Configuration.{channel_in}
 use Rattle.kpn_pool.specs.Desk.{with_book}
+use Rattle.kpn_pool.specs.Ends.{TakesFirst}
 use Rattle.kpn_pool.proofs.ends.SinkSeat.take_all.Given as goal
 
 abbrev pub invariant-items : goal.invariant-items
-invariant-items g l =
-    (l.self.channel ≡ l.fn.self.channel) × IsPrefix l.fn.self.items l.self.items
-    × (l.desk ≡ with_book l.desk.book l.fn.desk)
+invariant-items g l = record {
+  desk : l.desk ≡ with_book l.desk.book l.fn.desk;
+  first : TakesFirst l.fn.self l.self l.fn.desk.book l.desk.book;
+}
+
+abbrev pub decreases-items : goal.decreases-items
+decreases-items g l = length (unread (channel_in l.desk.book.configuration l.self.channel))

@@ -1,8 +1,15 @@
-use Rattle.std.proofs.Common.{◌≡◌, ◌++◌, take}
+use Rattle.std.proofs.Common.{◌≡◌, ◌<◌, true, ◌++◌, take}
+use Rattle.kpn_net.specs.Tables.{channel_at, is_source}
+use Rattle.kpn_trace.specs.declared.event.Event.TheVariants as event
 use Rattle.kpn_pool.specs.Desk.{with_book}
+use Rattle.kpn_pool.specs.Ends.{AreRecorded}
 use Rattle.kpn_pool.proofs.ends.SourceSeat.feed_all.Given as goal
 
 abbrev pub invariant-items : goal.invariant-items
-invariant-items g l =
-    (l.self.channel ≡ l.fn.self.channel) × (l.self.items ≡ l.fn.self.items ++ take l.item-index l.items)
-    × (l.desk ≡ with_book l.desk.book l.fn.desk)
+invariant-items g l = record {
+  channel : l.self.channel ≡ l.fn.self.channel;
+  fed : l.self.items ≡ l.fn.self.items ++ take l.item-index l.items;
+  recorded : AreRecorded event.Feed l.fn.self l.self l.fn.desk.book l.desk.book;
+  source : 0 < l.item-index → is_source (channel_at g.J.Job.network l.fn.self.channel) ≡ true;
+  desk : l.desk ≡ with_book l.desk.book l.fn.desk;
+}

@@ -1,0 +1,196 @@
+-- The items that a seat feeds or takes in one call, and the events that record them in the book.
+use Rattle.std.proofs.Common.{◌≡◌, ℕ, ◌+◌, ◌<◌, Bool, true, false, ℤ, pos, List, [], ◌∷◌, ◌++◌, length, map, take, drop, get_or, Option, Some, None, is_some, refl, sym, ap, ◌∙◌, subst, inl, inr, arith, append-nil}
+use Rattle.std.specs.Prelude.{slice_get}
+use Rattle.std.proofs.lemmas.Bool.{cases_lt, false≢true}
+use Rattle.std.proofs.lemmas.List.{append_assoc, map-append, get_or_past}
+use Rattle.std.proofs.lemmas.Option.{slice_get-get_or}
+use Rattle.kpn_lang.specs.Prefix.{IsPrefix}
+use Rattle.kpn_lang.proofs.Prefixes.{IsPrefix-from_rest}
+use Rattle.kpn_net.specs.declared.tables.ChannelSpec.TheVariants.{Inner}
+use Rattle.kpn_net.specs.Tables.{Tables, channel_at, is_source, is_sink}
+use Rattle.kpn_chan.specs.Channel.{ChannelState, unread}
+use Rattle.kpn_chan.proofs.Reading.{given, drop-given}
+use Rattle.kpn_trace.specs.declared.event.Event.{Event}
+use Rattle.kpn_trace.specs.declared.event.Event.TheVariants as event
+use Rattle.kpn_trace.proofs.OneMore.{item_here}
+use Rattle.kpn_configuration.specs.Configuration.{channel_in}
+use Rattle.kpn_book.specs.Book.{Book}
+use Rattle.kpn_book.specs.Appending.{Appends, AppendsAll}
+use Rattle.kpn_book.specs.declared.answers.Refused.{Refused}
+use Rattle.kpn_book.specs.Refusals.{Takes, RefusesFeed, RefusesTake}
+use Rattle.kpn_pool.specs.Desk.{Desk}
+use Rattle.kpn_pool.specs.Ends.{EndSeat, with_item, with_taken, AreRecorded, FeedsUntil, TakesFirst, MayRefuseFeed}
+
+-- ---- some items, and then more
+
+appends_more : (es fs : List Event) (a b c : Book) → AppendsAll es a b → AppendsAll fs b c → AppendsAll (es ++ fs) a c
+appends_more [] fs a b c first rest = subst (λ x. AppendsAll fs x c) first rest
+appends_more (e ∷ es) fs a b c first rest = (first.0, first.1, appends_more es fs first.0 b c first.2 rest)
+
+events_more : (event_of : ℕ → ℤ → Event) (m n : ℕ) (xs ys : List ℤ) (a b c : Book) → n ≡ m
+    → AppendsAll (map (event_of m) xs) a b → AppendsAll (map (event_of n) ys) b c
+    → AppendsAll (map (event_of m) (xs ++ ys)) a c
+events_more event_of m n xs ys a b c same first rest =
+    subst (λ es. AppendsAll es a c) (sym (map-append (event_of m) xs ys))
+    (appends_more (map (event_of m) xs) (map (event_of m) ys) a b c first
+    (subst (λ k. AppendsAll (map (event_of k) ys) b c) same rest))
+
+items_more : (r s t : EndSeat) (xs ys : List ℤ) → s.items ≡ r.items ++ xs → t.items ≡ s.items ++ ys
+    → t.items ≡ r.items ++ (xs ++ ys)
+items_more r s t xs ys first rest = rest ∙ ap (λ zs. zs ++ ys) first ∙ append_assoc r.items xs ys
+
+-- ---- what is fed
+
+-- one item more
+pub fed_then : (r s t : EndSeat) (a b c : Book) (v : ℤ) → s.channel ≡ r.channel → t ≡ with_item v s
+    → AreRecorded event.Feed r s a b → Appends (event.Feed s.channel v) b c → AreRecorded event.Feed r t a c
+fed_then r s t a b c v same is so_far feeds = record {
+  more = so_far.more ++ v ∷ [];
+  items = items_more r s t so_far.more (v ∷ []) so_far.items (ap (λ (e : EndSeat). e.items) is);
+  events =
+      events_more event.Feed r.channel s.channel so_far.more (v ∷ []) a b c same so_far.events (c, feeds, refl);
+}
+
+-- the next item is refused
+pub fed_until : (items : List ℤ) (r s t : EndSeat) (k : ℕ) (v : ℤ) (refuses : ℤ → Type 0) → k < length items
+    → v ≡ get_or items k (pos 0) → s.items ≡ r.items ++ take k items → t ≡ s → refuses v
+    → FeedsUntil items r t refuses
+fed_until items r s t k v refuses there is so_far same refused = record {
+  count = k;
+  fed = ap (λ (e : EndSeat). e.items) same ∙ so_far;
+  item = v;
+  next = slice_get-get_or items k (pos 0) there ∙ ap Some (sym is);
+  refused = refused;
+}
+
+-- where it is refused nothing more was fed
+pub still_recorded : (event_of : ℕ → ℤ → Event) (r s t : EndSeat) (a : Book) (d e : Desk) → t ≡ s → e ≡ d
+    → AreRecorded event_of r s a d.book → AreRecorded event_of r t a e.book
+still_recorded event_of r s t a d e seat desk so_far =
+    subst (λ x. AreRecorded event_of r x a e.book) (sym seat)
+    (subst (λ (x : Desk). AreRecorded event_of r s a x.book) (sym desk) so_far)
+
+-- the same by the book, and by the network alone
+module _ (items : List ℤ) (r s t : EndSeat) (k : ℕ) (v : ℤ) (cause : Refused) (there : k < length items)
+    (is : v ≡ get_or items k (pos 0)) (channel : s.channel ≡ r.channel) (so_far : s.items ≡ r.items ++ take k items)
+    (same : t ≡ s) where
+  pub refused_there : (bound : ℕ) (d e : Desk) → e ≡ d → RefusesFeed s.channel v bound d.book cause
+      → FeedsUntil items r t (λ item. RefusesFeed r.channel item bound e.book cause)
+  refused_there bound d e desk refused =
+      fed_until items r s t k v (λ item. RefusesFeed r.channel item bound e.book cause) there is so_far same
+      (subst (λ n. RefusesFeed n v bound e.book cause) channel
+      (subst (λ (x : Desk). RefusesFeed s.channel v bound x.book cause) (sym desk) refused))
+
+  pub may_refuse_there : (u : Tables) → MayRefuseFeed (is_source (channel_at u s.channel)) v cause
+      → FeedsUntil items r t (λ item. MayRefuseFeed (is_source (channel_at u r.channel)) item cause)
+  may_refuse_there u refused =
+      fed_until items r s t k v (λ item. MayRefuseFeed (is_source (channel_at u r.channel)) item cause) there is so_far
+      same (subst (λ n. MayRefuseFeed (is_source (channel_at u n)) v cause) channel refused)
+
+-- ---- what is taken
+
+-- a sink is a channel of the network
+sink_there : (t : Tables) (c : ℕ) → is_sink (channel_at t c) ≡ true → c < length t.channels
+sink_there t c is =
+    elim (cases_lt c (length t.channels)) [
+      | inl there ↦ there
+      | inr past ↦ absurd (false≢true (sym (ap is_sink (get_or_past t.channels c (Inner 0) past)) ∙ is))
+    ]
+
+-- what is taken was the first unread item
+first_unread : (c : ℕ) (v : ℤ) (a b : Book) → Takes c (Some v) a b
+    → unread (channel_in a.configuration c) ≡ v ∷ unread (channel_in b.configuration c)
+first_unread c v a b takes =
+    let was : ChannelState = channel_in a.configuration c in
+    let is : ChannelState = channel_in b.configuration c in
+    let after = takes.takes.1.configuration.channels c (sink_there a.tables c takes.sink.sink) in
+    let one = ap length (item_here c v) in
+    let read = after.read in
+    let more : is.read ≡ was.read + 1 = omega arith in
+    let journal : is.journal ≡ was.journal = after.journal ∙ append-nil was.journal in
+    drop-given was.journal was.read v (given was.is_retired (slice_get (unread was) 0) v takes.takes.0)
+    ∙ ap (λ xs. v ∷ xs)
+    (ap (λ n. drop n was.journal) (sym more) ∙ ap (λ xs. drop is.read xs) (sym journal))
+
+pub none_taken : (s : EndSeat) (b : Book) → TakesFirst s s b b
+none_taken s b = record {
+  channel = refl;
+  recorded = record { more = []; items = sym (append-nil s.items); events = refl };
+  first = refl;
+}
+
+pub taken_once : (item : Option ℤ) (s t : EndSeat) (a b : Book) → t ≡ with_taken item s → Takes s.channel item a b
+    → TakesFirst s t a b
+taken_once None s t a b is takes =
+    subst (λ x. TakesFirst s x a b) (sym is) (subst (λ x. TakesFirst s s a x) (sym takes.takes.1) (none_taken s a))
+taken_once (Some v) s t a b is takes = record {
+  channel = ap (λ (e : EndSeat). e.channel) is;
+  recorded = record {
+    more = v ∷ [];
+    items = ap (λ (e : EndSeat). e.items) is;
+    events = (b, takes.takes.1, refl);
+  };
+  first = first_unread s.channel v a b takes;
+}
+
+-- where it is refused nothing was taken
+pub taken_not : (s t : EndSeat) (d e : Desk) → t ≡ s → e ≡ d → TakesFirst s t d.book e.book
+taken_not s t d e seat desk =
+    subst (λ x. TakesFirst s x d.book e.book) (sym seat)
+    (subst (λ (x : Desk). TakesFirst s s d.book x.book) (sym desk) (none_taken s d.book))
+
+pub refused_still : (c : ℕ) (d e : Desk) (cause : Refused) → e ≡ d → RefusesTake c d.book cause
+    → RefusesTake c e.book cause
+refused_still c d e cause same refused = subst (λ (x : Desk). RefusesTake c x.book cause) (sym same) refused
+
+pub taken_then : (r s t : EndSeat) (a b c : Book) → TakesFirst r s a b → TakesFirst s t b c → TakesFirst r t a c
+taken_then r s t a b c first rest =
+    let xs : List ℤ = first.recorded.more in
+    let ys : List ℤ = rest.recorded.more in
+    record {
+      channel = rest.channel ∙ first.channel;
+      recorded = record {
+        more = first.recorded.more ++ rest.recorded.more;
+        items = items_more r s t xs ys first.recorded.items rest.recorded.items;
+        events =
+            events_more event.Take r.channel s.channel xs ys a b c first.channel first.recorded.events
+            rest.recorded.events;
+      };
+      first =
+          first.first
+          ∙ ap (λ zs. xs ++ zs)
+          (subst (λ n. unread (channel_in b.configuration n) ≡ ys ++ unread (channel_in c.configuration n))
+          first.channel rest.first)
+          ∙ sym (append_assoc xs ys (unread (channel_in c.configuration r.channel)));
+    }
+
+pub taken_less : (item : Option ℤ) (c : ℕ) (a b : Book) → Takes c item a b → (more : Bool) → more ≡ is_some item
+    → more ≡ true
+    → length (unread (channel_in b.configuration c)) < length (unread (channel_in a.configuration c))
+taken_less (Some v) c a b takes more is goes_on = let long = ap length (first_unread c v a b takes) in omega arith
+taken_less None c a b takes more is goes_on = absurd (false≢true (sym is ∙ goes_on))
+
+pub taken_last : (item : Option ℤ) (c : ℕ) (a b : Book) → Takes c item a b → (more : Bool) → more ≡ is_some item
+    → more ≡ false → unread (channel_in b.configuration c) ≡ []
+taken_last None c a b takes more is last =
+    ap (λ (x : Book). unread (channel_in x.configuration c)) takes.takes.1 ∙ takes.takes.0
+taken_last (Some v) c a b takes more is last = absurd (false≢true (sym last ∙ is))
+
+-- nothing is left: all that was unread was taken
+pub took_all : (r t : EndSeat) (a b : Book) → TakesFirst r t a b → unread (channel_in b.configuration r.channel) ≡ []
+    → t.items ≡ r.items ++ unread (channel_in a.configuration r.channel)
+took_all r t a b takes none =
+    takes.recorded.items
+    ∙ ap (λ xs. r.items ++ xs)
+    (sym (takes.first ∙ ap (λ xs. takes.recorded.more ++ xs) none ∙ append-nil takes.recorded.more))
+
+pub begins_taken : (r t : EndSeat) (a b : Book) → TakesFirst r t a b → IsPrefix r.items t.items
+begins_taken r t a b takes = IsPrefix-from_rest r.items takes.recorded.more t.items (sym takes.recorded.items)
+
+-- less is left of the channel, whatever seat names it
+pub less_left : (s t : EndSeat) (a b : Book) → t.channel ≡ s.channel
+    → length (unread (channel_in b.configuration s.channel)) < length (unread (channel_in a.configuration s.channel))
+    → length (unread (channel_in b.configuration t.channel)) < length (unread (channel_in a.configuration s.channel))
+less_left s t a b same less =
+    subst (λ n. length (unread (channel_in b.configuration n)) < length (unread (channel_in a.configuration s.channel)))
+    (sym same) less
