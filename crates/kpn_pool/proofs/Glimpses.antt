@@ -24,7 +24,7 @@ use Rattle.kpn_trace.proofs.EndsOnce.{ended_by}
 use Rattle.kpn_trace.proofs.Kahn.{below_least, least_if_quiet_given}
 use Rattle.kpn_configuration.specs.Configuration.{channel_in}
 use Rattle.kpn_book.specs.Book.{Book}
-use Rattle.kpn_pool.specs.Glimpse.{ShowsARun, ShowsJournals, shown_on, shown_fed, IsBelowKahn, IsAtRest, IsKahnAtRest}
+use Rattle.kpn_pool.specs.Glimpse.{ShowsJournals, shown_on, shown_fed, IsBelowKahn, IsAtRest, IsKahnAtRest}
 
 -- a source is a channel of the network
 pub source_there : (t : Tables) (c : ℕ) → is_source (channel_at t c) ≡ true → c < length t.channels
@@ -74,9 +74,6 @@ quiet t H view agrees rest =
 
 module _ {A : Type 0} (t : Tables) (network : IsNetwork t) (H : List Event) (legal : Legal t H) (view : View A)
     (agrees : Agrees t H view) where
-  pub shows : ShowsARun t view
-  shows = record { history = H; legal = legal; agrees = agrees }
-
   pub below : IsBelowKahn t view
   below c there =
       subst (IsBelowLeast t (shown_fed t view) c) (sym (shown-written t H view agrees c there))

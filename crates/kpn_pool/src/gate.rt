@@ -11,6 +11,7 @@ pub enum Go {
 
 /// Is asked after the steps of a process and before they are committed, while nobody holds the lock on its behalf.
 pub trait Gate: Sync {
-    /// Whether this worker, which has stepped this process, goes on.
+    /// Whether this worker, which has stepped this process, goes on. Both are numbers from 0. However long the answer
+    /// takes, other workers go on with other processes.
     fn between(&self, worker: usize, process: usize) -> Go;
 }
