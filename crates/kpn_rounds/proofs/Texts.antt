@@ -1,1 +1,0 @@
--- The lines of lists, one after another.
