@@ -38,12 +38,12 @@ pub record IsReportText (limits : Limits) (reported : Reported) (text : List ℕ
   pub made : text ≡ report_text reported.inputs.document limits.take reported.report
   pub ends_with : status ≡ outcome_status reported.report.outcome
 
--- The command tells a report: it stores its trace first, where one was asked for. Given are the shelf, the output and
--- the place for faults, each as it was and as it is afterwards, and the status.
+-- The command tells a report. Given are the shelf, the output and the place for faults, each as it was and as it is
+-- afterwards, and the status.
 pub data TellsReport {S O E : Type 0} (may_give : S → List ℕ → List ℕ → Type 0) (contents : O → Option (List ℕ))
     (limits : Limits) (trace : Option (List ℕ)) (reported : Reported)
     (shelf kept : S) (out written : O) (err told : E) (status : ℕ) : Type 0 where
-  -- the trace is stored; then the text goes out, or there is no memory for it
+  -- the trace is stored, where one was asked for; then the text goes out, or it can't be made or written
   traced : IsStored may_give trace (events_of reported.report) shelf kept →
       Concludes contents (IsReportText limits reported) (λ refusal. refusal ≡ NoMemory)
       out written err told status →

@@ -172,8 +172,8 @@ fn push_fault(text: &mut Vec<u8>, name: &[u8], state: State) -> Result<(), Alloc
     ensures { OnOk result (text.new.items ≡ text.old.items ++ fault_text name.now state) }
 {
     match state {
-        State::Ended(How::Overflow) => push_line(text, b"fault ", name, b" overflow\n"),
-        State::Ended(How::ZeroDivisor) => push_line(text, b"fault ", name, b" zero-divisor\n"),
+        State::Ended(How::Overflow) => push_pieces(text, b"fault ", name, b" overflow\n"),
+        State::Ended(How::ZeroDivisor) => push_pieces(text, b"fault ", name, b" zero-divisor\n"),
         _ => Ok(()),
     }
 }
@@ -205,19 +205,24 @@ fn push_wait(
 {
     match state {
         State::WaitsEmpty(channel) => {
-            push_line(text, b"waits ", name, b" ")?;
-            push_line(text, document.channel_name(channel), b"\n", b"")
+            push_pieces(text, b"waits ", name, b" ")?;
+            push_pieces(text, document.channel_name(channel), b"\n", b"")
         }
         State::WaitsFull(channel) => {
-            push_line(text, b"waits ", name, b" ")?;
-            push_line(text, document.channel_name(channel), b" full\n", b"")
+            push_pieces(text, b"waits ", name, b" ")?;
+            push_pieces(text, document.channel_name(channel), b" full\n", b"")
         }
         _ => Ok(()),
     }
 }
 
 // Three pieces of text.
-fn push_line(text: &mut Vec<u8>, before: &[u8], name: &[u8], after: &[u8]) -> Result<(), AllocError>
+fn push_pieces(
+    text: &mut Vec<u8>,
+    before: &[u8],
+    name: &[u8],
+    after: &[u8],
+) -> Result<(), AllocError>
     ensures { OnOk result
         (text.new.items ≡ text.old.items ++ (before.now ++ name.now ++ after.now)) }
 {

@@ -9,7 +9,8 @@ use kpn_trace::History;
 use kpn_trace_text::write_trace;
 use std::alloc::Global;
 
-// The most bytes of a line, its line feed included.
+// How many bytes are reserved for each line. The longest has 37 with its line feed: a `put` of the least item, where
+// the two numbers are 65535.
 const LINE: usize = 40;
 
 /// Stores the trace of a history under the name that was asked for, if one was.
