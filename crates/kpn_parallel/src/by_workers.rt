@@ -6,7 +6,7 @@ ghost use Rattle.kpn_report.specs.Reports.{IsReport};
 use crate::ending::conclude;
 use crate::fault::RunFault;
 use crate::serving::Outside;
-use crate::threads::{have_abandoned, lack_memory, work_side_by_side};
+use crate::threads::{Ended, have_abandoned, lack_memory, work_side_by_side};
 use kpn_lang::Sequence;
 use kpn_limits::MAX_WORKERS;
 use kpn_net::Network;
@@ -22,10 +22,13 @@ use std::time::Clock;
 /// Runs a network on these lists, one for each source in order of channel number, until there is an outcome under the
 /// limits. The processes are stepped by 1 to `MAX_WORKERS` workers, each on a thread of its own.
 ///
-/// The calling thread feeds each source its whole list, closes it, and takes from the sinks what is put on them, while
-/// the workers run. The gate is asked before each commit. What is promised of the report is what
-/// `kpn_report::run_here` promises of its own: which capacities and which prefixes of the journals it shows depends on
-/// who was first. A quota of 0 counts as 1.
+/// The calling thread feeds each source its list, closes it, and takes from the sinks what is put on them, while the
+/// workers run. The gate is asked before each commit. The report keeps the promise of `kpn_report::run_here`. Which
+/// capacities and which prefixes of the journals it shows depends on the schedule. The workers may make more commits
+/// than the limit, by one for each worker but the first. A quota of 0 counts as 1.
+///
+/// The error is the first of these: a thread could not be started; memory ran out; the gate made every worker end
+/// before there was an outcome; a source was fed something else than its list, or a call of the outside was refused.
 pub fn run<R: Threads + Wait + Clock + Sync, G: Gate>(
     rt: &R,
     alloc: Global,
@@ -74,6 +77,22 @@ fn run_job<J: Job + Send + Sync, R: Threads + Wait + Clock + Sync, G: Gate>(
     };
     let quota = limits.quota.max(1);
     let ended = work_side_by_side(rt, alloc, &shared, seats, gate, quota, outside)?;
+    report_or_fault(alloc, shared, ended, workers, lists, limits)
+}
+
+/// The report of a run whose workers have ended, or the first of its faults.
+fn report_or_fault<J: Job>(
+    alloc: Global,
+    shared: Shared<'_, J>,
+    ended: Ended<J>,
+    workers: usize,
+    lists: &[Sequence<i64>],
+    limits: &Limits,
+) -> Result<Report, RunFault>
+    requires lists { length lists.now ≡ sources J.network }
+    requires workers { (workers ≡ J.parts) × (0 < workers) }
+    ensures { IfOk result (λ report. IsReport J.network lists.now limits.now report) }
+{
     if !ended.had_threads {
         return Err(RunFault::Threads);
     }

@@ -2,6 +2,7 @@
 use kpn_lang::Sequence;
 use kpn_pool::{Job, Refused, Shared, SinkSeat, SourceSeat, close, feed_all, take_all};
 use std::sync::Wait;
+use std::time::Clock;
 
 // how many items are fed under one hold of the lock
 const BATCH: usize = 512;
@@ -16,67 +17,91 @@ pub(crate) struct Outside<'l> {
     pub wanted: Option<u64>,
 }
 
-/// Feeds each source its list and closes it, and takes from the sinks until all workers have ended or what is wanted of
-/// the sinks was taken. Then, and where something is refused, the workers are told to end.
-pub(crate) fn serve<J: Job, R: Wait>(
+/// The seats of the sinks, and how many items are wanted of each.
+#[derive(Drop)]
+struct Sinks<'s> {
+    seats: &'s mut [SinkSeat],
+    wanted: Option<u64>,
+}
+
+impl Sinks<'_> {
+    /// Whether what is wanted, if anything, was taken of each.
+    fn have_enough(&self) -> bool {
+        match self.wanted {
+            Some(items) => self
+                .seats
+                .iter()
+                .all(|seat| seat.taken().len() as u64 >= items),
+            None => false,
+        }
+    }
+}
+
+/// Feeds each source its list and closes it, and takes from the sinks, until all workers have ended or what is wanted
+/// of the sinks was taken. Then, and where something is refused, the workers are told to end.
+pub(crate) fn serve<J: Job, R: Wait + Clock>(
     rt: &R,
     shared: &Shared<'_, J>,
     outside: Outside<'_>,
 ) -> Result<(), Refused> {
-    let Outside {
-        mut sources,
-        mut sinks,
-        lists,
-        wanted,
-    } = outside;
-    let mut served = feed_lists(rt, shared, sources.as_mut_slice(), lists);
-    if served.is_ok() {
-        served = take_items(rt, shared, sinks.as_mut_slice(), wanted);
-    }
+    let mut outside = outside;
+    let served = feed_and_take(rt, shared, &mut outside);
     shared.halt(rt);
     served
 }
 
-/// Feeds each source its list and closes it.
-fn feed_lists<J: Job, R: Wait>(
+/// Feeds the sources and takes from the sinks until the run is over.
+fn feed_and_take<J: Job, R: Wait + Clock>(
     rt: &R,
     shared: &Shared<'_, J>,
-    seats: &mut [SourceSeat],
-    lists: &[Sequence<i64>],
+    outside: &mut Outside<'_>,
 ) -> Result<(), Refused> {
-    for (seat, list) in seats.iter_mut().zip(lists) {
-        feed_list(rt, shared, seat, list.as_slice())?;
+    let Outside {
+        sources,
+        sinks,
+        lists,
+        wanted,
+    } = outside;
+    let mut sinks = Sinks {
+        seats: sinks.as_mut_slice(),
+        wanted: *wanted,
+    };
+    for (seat, list) in sources.iter_mut().zip(*lists) {
+        if feed_list(rt, shared, seat, list.as_slice(), &mut sinks)? {
+            return Ok(());
+        }
     }
-    Ok(())
+    take_items(rt, shared, &mut sinks)
 }
 
-/// Feeds a source its list and closes it.
+/// Feeds a source its list and closes it. After each batch it is taken what is there, so that no full sink holds the
+/// workers up meanwhile. Tells whether the run is over before that.
 fn feed_list<J: Job, R: Wait>(
     rt: &R,
     shared: &Shared<'_, J>,
     seat: &mut SourceSeat,
     list: &[i64],
-) -> Result<(), Refused> {
+    sinks: &mut Sinks<'_>,
+) -> Result<bool, Refused> {
     for items in list.chunks(BATCH) {
         feed_all(rt, shared, seat, items, usize::MAX)?;
+        if take_what_is_there(rt, shared, sinks)? {
+            return Ok(true);
+        }
     }
-    close(rt, shared, seat)
+    close(rt, shared, seat)?;
+    Ok(false)
 }
 
-/// Takes from the sinks until all workers have ended, or what is wanted was taken.
-fn take_items<J: Job, R: Wait>(
+/// Takes from the sinks until the run is over.
+fn take_items<J: Job, R: Wait + Clock>(
     rt: &R,
     shared: &Shared<'_, J>,
-    seats: &mut [SinkSeat],
-    wanted: Option<u64>,
+    sinks: &mut Sinks<'_>,
 ) -> Result<(), Refused> {
     for _ in rt.forever() {
         let rings = shared.rings();
-        if shared.has_ended() {
-            return Ok(());
-        }
-        take_what_is_there(rt, shared, seats)?;
-        if have_enough(seats, wanted) {
+        if take_what_is_there(rt, shared, sinks)? {
             return Ok(());
         }
         shared.await_ring(rt, rings);
@@ -84,22 +109,18 @@ fn take_items<J: Job, R: Wait>(
     unreachable!()
 }
 
-/// Takes all that is unread at the sinks.
+/// Takes all that is unread at the sinks. Tells whether the run is over: all workers have ended, or what is wanted was
+/// taken.
 fn take_what_is_there<J: Job, R: Wait>(
     rt: &R,
     shared: &Shared<'_, J>,
-    seats: &mut [SinkSeat],
-) -> Result<(), Refused> {
-    for seat in seats.iter_mut() {
+    sinks: &mut Sinks<'_>,
+) -> Result<bool, Refused> {
+    if shared.has_ended() {
+        return Ok(true);
+    }
+    for seat in sinks.seats.iter_mut() {
         take_all(rt, shared, seat)?;
     }
-    Ok(())
-}
-
-/// Whether what is wanted of the sinks, if anything, was taken of each.
-fn have_enough(seats: &[SinkSeat], wanted: Option<u64>) -> bool {
-    match wanted {
-        Some(items) => seats.iter().all(|seat| seat.taken().len() as u64 >= items),
-        None => false,
-    }
+    Ok(sinks.have_enough())
 }

@@ -12,7 +12,7 @@ use std::time::Clock;
 /// What a run has come to once its workers have ended.
 #[derive(Drop)]
 pub(crate) struct Ended<J: Job> {
-    /// The seats of the workers. One is missing only where memory ran out.
+    /// The seats of the workers. None is missing, which the type cannot say.
     pub seats: Vec<WorkerSeat<J>>,
     /// Whether each worker had a thread of its own.
     pub had_threads: bool,
@@ -71,6 +71,7 @@ fn start_all<'s, E, J: Job + Send + Sync, R: Wait + Clock + Sync, G: Gate>(
     requires { 0 < quota }
 {
     let mut started = started;
+    // there is room for each
     for seat in seats {
         match start(rt, scope, shared, gate, seat, quota) {
             Ok(thread) => {
@@ -116,6 +117,7 @@ fn join_all<J: Job, R: Threads>(
     let Started { threads, ended } = started;
     let had_threads = ended.is_empty();
     let mut seats = ended;
+    // there is room for all of them
     for thread in threads {
         let _ = seats.push(thread.join(rt));
     }
@@ -135,7 +137,7 @@ pub(crate) fn lack_memory<J: Job>(ended: &Ended<J>) -> bool {
             .any(|seat| seat.why() == Some(Why::NoMemory))
 }
 
-/// Whether the gate ended all workers.
+/// Whether the gate made all workers end.
 pub(crate) fn have_abandoned<J: Job>(seats: &[WorkerSeat<J>]) -> bool {
     seats.iter().all(|seat| seat.why() == Some(Why::Abandoned))
 }

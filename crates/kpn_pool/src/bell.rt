@@ -3,19 +3,27 @@
 use std::hint::spin_loop;
 use std::sync::Wait;
 use std::sync::atomic::{AtomicU64, Ordering};
-use std::time::Duration;
+use std::time::{Clock, Duration, Instant};
 
 // so many looks take some ten microseconds
-const LOOKS: u32 = 400;
+const LOOKS: u64 = 400;
+
+// and so many some fifty: it costs about as much to sleep and to be woken
+const MOST_LOOKS: u64 = 4 * LOOKS;
+
+// who is woken within so many microseconds had better have listened on
+const SHORT: u64 = 100;
 
 // for how many milliseconds a thread sleeps where nobody rings
 const NAP: u64 = 5;
 
-/// How often it rang, and how many threads sleep until it rings again.
+/// How often it rang, how many threads sleep until it rings again, and for how many looks a thread listens before it
+/// sleeps.
 #[derive(Debug, Drop)]
 pub(crate) struct Bell {
     rings: AtomicU64,
     sleepers: AtomicU64,
+    looks: AtomicU64,
 }
 
 impl Bell {
@@ -23,6 +31,7 @@ impl Bell {
         Bell {
             rings: AtomicU64::new(0),
             sleepers: AtomicU64::new(0),
+            looks: AtomicU64::new(LOOKS),
         }
     }
 
@@ -39,11 +48,25 @@ impl Bell {
         self.rings.load(Ordering::SeqCst)
     }
 
-    /// Listens, and then sleeps, until it has rung since there were `seen` rings, and no longer than the nap.
-    pub(crate) fn wait<R: Wait>(&self, rt: &R, seen: u64) {
-        if listen(&self.rings, seen) {
+    /// Listens, and then sleeps, until it has rung since there were `seen` rings, and no longer than the nap. Where it
+    /// is woken soon, it listens for longer from then on, and otherwise for less long.
+    pub(crate) fn wait<R: Wait + Clock>(&self, rt: &R, seen: u64) {
+        let looks = self.looks.load(Ordering::SeqCst);
+        if listen_for(&self.rings, seen, looks) {
             return;
         }
+        let begun = Instant::now(rt).ok();
+        self.sleep(rt, seen);
+        let looks = if is_short(rt, begun) {
+            looks.saturating_mul(2).min(MOST_LOOKS)
+        } else {
+            (looks / 2).max(LOOKS)
+        };
+        self.looks.store(looks, Ordering::SeqCst);
+    }
+
+    /// Sleeps until it has rung since there were `seen` rings, and no longer than the nap.
+    fn sleep<R: Wait>(&self, rt: &R, seen: u64) {
         self.sleepers.fetch_add(1, Ordering::SeqCst);
         // the kernel compares the lower half
         let lower = (seen % (1 << 32)) as u32;
@@ -53,9 +76,23 @@ impl Bell {
     }
 }
 
+/// Whether little time went by since this one.
+fn is_short<R: Clock>(rt: &R, begun: Option<Instant>) -> bool {
+    match begun {
+        Some(begun) => begun
+            .elapsed(rt)
+            .is_ok_and(|time| time < Duration::from_micros(SHORT)),
+        None => false,
+    }
+}
+
 /// Listens for a moment to a count that rises: whether it is another one than `seen`.
 pub(crate) fn listen(count: &AtomicU64, seen: u64) -> bool {
-    for _ in 0..LOOKS {
+    listen_for(count, seen, LOOKS)
+}
+
+fn listen_for(count: &AtomicU64, seen: u64, looks: u64) -> bool {
+    for _ in 0..looks {
         if count.load(Ordering::SeqCst) != seen {
             return true;
         }

@@ -4,16 +4,15 @@
 //! where no process is ready for it, and no longer than some milliseconds: then it looks again. So nobody sleeps for
 //! good over a process that is ready, whatever the others do, and whether or not somebody notified it.
 //!
-//! At fine work, where a step takes no longer than to hand the lock over, several workers would only wait for one
-//! another. So one of them leads, and another one yields to it: it rests where it finds that the leader has got on since
-//! it last looked. Where the leader has not, as it stands at a gate or steps for long, the other one takes the lead.
-//! A leader is active and yields to nobody, so whoever yields leaves somebody at work. The first that rests naps: it looks
-//! every half millisecond, and so takes over from a leader that is held. If it is held in its turn, the next one that
-//! looks naps in its place.
+//! At fine work, where the turn of a process takes no longer than to hand the lock over, several workers would only
+//! wait for one another. So one of them leads, and another one yields to it: it rests where it finds that the leader
+//! has got on since it last looked. Where the leader has not, as it stands at the gate or its turn is long, the other
+//! one takes the lead. A leader is active and yields to nobody, so whoever yields leaves somebody at work. The first
+//! that rests naps: it looks every half millisecond, and so takes over from a leader that is held. If that one is held
+//! too, the next one that looks naps in its place.
 //!
 //! At coarse work nobody yields. Who claims a process then and leaves others ready notifies one that rests, and so does
 //! a call of the outside that finds a process ready and nobody active.
-
 use std::mem;
 
 /// How many workers there are of each kind, and who leads.

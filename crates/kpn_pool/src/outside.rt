@@ -122,8 +122,13 @@ pub fn take_all<J: Job, A: Allocator, B: Allocator, R: Wait>(
         MayRefuseTake (is_sink (channel_at J.network seat.old.channel)) cause) }
 {
     let mut desk = shared.lock(rt);
+    let before = seat.taken().len();
     let taken = seat.take_all(&mut desk);
-    shared.tell(desk);
+    if seat.taken().len() > before {
+        shared.tell(desk);
+    } else {
+        drop(desk);
+    }
     taken
 }
 

@@ -3,18 +3,18 @@ use crate::crew::Crew;
 use std::mem;
 use std::time::{Clock, Duration, Instant};
 
-// below this many nanoseconds from a claim to the wish to commit, work is fine
+// work is fine where a turn, the gate included, takes fewer nanoseconds
 const FINE: u64 = 2_000;
 
-// of so many claims the first is judged by the clock
-const JUDGED: u32 = 8;
+// of so many turns the first is judged by the clock
+const JUDGED: u32 = 16;
 
 /// What is known of the work.
 #[derive(Clone, Copy, Debug, PartialEq, Eq)]
 enum Work {
     /// Nothing yet.
     New,
-    /// To step a process takes no longer than to hand the lock over.
+    /// The turn of a process takes no longer than to hand the lock over.
     Fine,
     /// Several workers get on with it side by side.
     Coarse,
@@ -24,7 +24,7 @@ enum Work {
 #[derive(Clone, Copy, Debug)]
 pub(crate) struct Pace {
     work: Work,
-    claims: u32,
+    turns: u32,
     // how far the leader had come when this worker last looked
     seen: u64,
     has_listened: bool,
@@ -35,16 +35,16 @@ impl Pace {
     pub(crate) const fn new() -> Pace {
         Pace {
             work: Work::New,
-            claims: 0,
+            turns: 0,
             seen: 0,
             has_listened: false,
         }
     }
 
-    /// Begins with a claim: the time, where the claim is to be judged.
+    /// Begins a turn: the time, where the turn is to be judged.
     pub(crate) fn begin<R: Clock>(&mut self, rt: &R) -> Option<Instant> {
-        let is_judged = self.claims % JUDGED == 0;
-        self.claims = self.claims.wrapping_add(1);
+        let is_judged = self.turns % JUDGED == 0;
+        self.turns = self.turns.wrapping_add(1);
         self.has_listened = false;
         if is_judged {
             Instant::now(rt).ok()
@@ -53,8 +53,8 @@ impl Pace {
         }
     }
 
-    /// Ends with a claim that began at this time. It is called before the lock is asked for: with waits for the lock in
-    /// it, fine work would look coarse.
+    /// Ends a turn that began at this time. It is called before the lock is asked for: with waits for the lock in them,
+    /// short turns would look long.
     pub(crate) fn end<R: Clock>(&mut self, rt: &R, begun: Option<Instant>) {
         let Some(begun) = begun else {
             return;

@@ -16,10 +16,15 @@ use kpn_book::View;
 use kpn_limits::MAX_WORKERS;
 use kpn_net::Network;
 use std::alloc::{AllocError, Allocator, Global};
+use std::hint::spin_loop;
 use std::sync::ledger::Blank;
 use std::sync::{Condvar, Mutex, MutexGuard, Wait};
+use std::time::Clock;
 
 mod holds;
+
+// so many tries to take the lock take some ten microseconds
+const TRIES: u32 = 400;
 
 /// A desk under its lock, the place where workers rest until it changes, and what is told across the lock.
 #[derive(Drop)]
@@ -98,9 +103,9 @@ impl<'n, J: Job, A: Allocator> Shared<'n, J, A> {
         self.signals.rings()
     }
 
-    /// Waits for a ring more than the `seen` ones, and no longer than some milliseconds: it listens for a moment, and then
-    /// sleeps.
-    pub fn await_ring<R: Wait>(&self, rt: &R, seen: u64) {
+    /// Waits for a ring more than the `seen` ones, and no longer than some milliseconds: it listens for a moment, and
+    /// then sleeps.
+    pub fn await_ring<R: Wait + Clock>(&self, rt: &R, seen: u64) {
         self.signals.await_ring(rt, seen);
     }
 
@@ -138,13 +143,20 @@ impl<'n, J: Job, A: Allocator> Shared<'n, J, A> {
         desk.into_inner()
     }
 
-    /// The desk, once nobody else has it.
+    /// The desk, for a call of the outside, once nobody else has it. A worker has it often and for a short time, so who
+    /// asks for it tries for a while before it sleeps.
     pub(crate) fn lock<R: Wait>(&self, rt: &R) -> MutexGuard<'_, Desk<'n, J, A>> {
+        for _ in 0..TRIES {
+            if let Some(desk) = self.desk.try_lock() {
+                return desk;
+            }
+            spin_loop();
+        }
         self.desk.lock(rt)
     }
 
-    /// Lets the desk go after a call of the outside, and tells the workers: whoever listens, and, where nobody is active,
-    /// one that rests if a process is ready, or all if the run is settled.
+    /// Lets the desk go after a call of the outside, and tells the workers: whoever listens, and, where nobody is
+    /// active, one that rests if a process is ready, or all if the run is settled.
     pub(crate) fn tell<'l>(&'l self, desk: MutexGuard<'l, Desk<'n, J, A>>) {
         let mut desk = desk;
         let notifies = desk.notify_from_outside();

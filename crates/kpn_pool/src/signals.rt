@@ -3,6 +3,7 @@
 use crate::bell::{Bell, listen};
 use std::sync::Wait;
 use std::sync::atomic::{AtomicU64, Ordering};
+use std::time::Clock;
 
 /// Two counts and a bell.
 #[derive(Debug, Drop)]
@@ -50,7 +51,7 @@ impl Signals {
     }
 
     /// Waits for a ring more than the `seen` ones, as `Bell::wait` does.
-    pub(crate) fn await_ring<R: Wait>(&self, rt: &R, seen: u64) {
+    pub(crate) fn await_ring<R: Wait + Clock>(&self, rt: &R, seen: u64) {
         self.bell.wait(rt, seen);
     }
 
