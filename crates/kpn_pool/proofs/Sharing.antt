@@ -19,7 +19,7 @@ use Rattle.kpn_lang.specs.contracts.syntax.Stmt as Stmt
 use Rattle.kpn_lang.specs.contracts.chain.Chain as Chain
 use Rattle.kpn_lang.specs.contracts.spine.Links as Links
 use Rattle.kpn_lang.specs.contracts.spine.Spine as Spine
-use Rattle.kpn_lang.specs.contracts.turn.Turn as Turn
+use Rattle.kpn_lang.specs.contracts.instruction.Instruction as Instruction
 use Rattle.kpn_lang.specs.contracts.program.Program as Program
 use Rattle.kpn_net.specs.contracts.network.Network as Network
 use Rattle.kpn_trace.specs.contracts.history.History as History
@@ -50,11 +50,11 @@ chain_sync : IsSync Chain.the_field.row
 chain_sync =
     let spines = spine_sync in search (start.the_field_sync, link.the_field_sync, crosses, sendable) depth 40
 
-turn_sync : IsSync Turn.the_field.row
-turn_sync = let chains = chain_sync in search (crosses, sendable) depth 40
+instruction_sync : IsSync Instruction.the_field.row
+instruction_sync = let chains = chain_sync in search (crosses, sendable) depth 40
 
 program_sync : IsSync Program.the_field.row
-program_sync = let turns = turn_sync in let statements = statement_sync in search (crosses, sendable) depth 40
+program_sync = let instructions = instruction_sync in let statements = statement_sync in search (crosses, sendable) depth 40
 
 pub network_sync : IsSync Network.the_field.row
 network_sync = let programs = program_sync in search (crosses, sendable) depth 40
