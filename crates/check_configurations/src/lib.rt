@@ -1,5 +1,5 @@
 //! Tests of configurations and audits, by public calls alone: memory that is refused. What the calls for events do
-//! stands in the stored run of check_replays.
+//! stands in the compared run of check_replays.
 #![tactic(auto)]
 
 #[cfg(test)]

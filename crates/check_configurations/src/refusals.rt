@@ -1,27 +1,15 @@
 //! Calls that want memory are refused it once, by a heap that is filled up for a while: all is as before, and the
 //! repeated call succeeds.
-ghost use Rattle.std.specs.Prelude.{◌≡◌, IfSome, vec_len};
 ghost use Rattle.kpn_configuration.specs.Configuration.{IsConfiguration};
 
 use crate::feeding::{copying, feed};
+use full_heaps::fill;
 use kpn_configuration::Configuration;
 use kpn_net::{Network, Wait};
 use linked_list_allocator::LocalHeap;
 use std::alloc::{AllocError, Allocator};
 use std::process::Abort;
 use std::test::Fail;
-
-/// Takes the greatest block of memory that is left.
-fn fill<'a>(heap: &'a LocalHeap) -> Option<Vec<u8, &'a LocalHeap>>
-    ensures { IfSome result (λ filling. vec_len filling ≡ 0) }
-{
-    for n in (1..256usize).rev() {
-        if let Ok(filling) = Vec::with_capacity(heap, 16 * n) {
-            return Some(filling);
-        }
-    }
-    None
-}
 
 /// Feeds as many items as a channel has room for from the beginning.
 fn feed_four<A: Allocator>(

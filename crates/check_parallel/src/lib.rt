@@ -3,6 +3,4 @@
 #![tactic(auto)]
 
 #[cfg(test)]
-mod gates;
-#[cfg(test)]
 mod runs;

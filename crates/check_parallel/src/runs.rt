@@ -1,5 +1,5 @@
 //! Runs of described networks.
-use crate::gates::{Always, Holding};
+use commit_gates::{Always, Held, Holding};
 use kpn_lang::Sequence;
 use kpn_limits::MAX_WORKERS;
 use kpn_parallel::{Gate, Go, Limits, Outcome, Report, RunFault, run};
@@ -47,6 +47,13 @@ const FEW: Limits = Limits {
     quota: 1_000,
 };
 
+/// Turns of no step, which count as turns of one.
+const STILL: Limits = Limits {
+    commits: 1_000_000,
+    take: None,
+    quota: 0,
+};
+
 /// What a run by so many workers answers, where there is a list for each source.
 fn answer<R: Threads + Wait + Clock + Sync, G: Gate>(
     rt: &R,
@@ -80,7 +87,8 @@ fn here(
     Ok(Some(run_here(alloc, network, lists, limits)?))
 }
 
-/// Whether a run by so many workers comes to the outcome and the items of a run on one thread.
+/// Whether a run by so many workers comes to the outcome and the items of a run on one thread, and passes the limit of
+/// commits, where that stops it, by one for each other worker at most.
 fn runs_as_here<R: Threads + Wait + Clock + Sync>(
     rt: &R,
     alloc: Global,
@@ -96,11 +104,15 @@ fn runs_as_here<R: Threads + Wait + Clock + Sync>(
     let Some(wanted) = here(alloc, text, lists, limits)? else {
         return Ok(false);
     };
-    Ok(report.outcome == wanted.outcome && report.taken == wanted.taken)
+    let past = report.commits.checked_sub(limits.commits);
+    let is_within = past.is_none_or(|past| past < workers as u64);
+    let is_reached = report.outcome != Outcome::Stopped || past.is_some();
+    let is_same = report.outcome == wanted.outcome && report.taken == wanted.taken;
+    Ok(is_same && is_within && is_reached)
 }
 
 #[test]
-fn run_answers_what_run_here_computes(rt: HostRuntime) -> Result<(), Fail> {
+fn run_always_refuses(rt: HostRuntime) -> Result<(), Fail> {
     let alloc = rt.alloc();
     let items = Sequence::from_vec(vec![in alloc; 1, 2, 3]?);
     let lists = vec![in alloc; items]?;
@@ -109,18 +121,17 @@ fn run_answers_what_run_here_computes(rt: HostRuntime) -> Result<(), Fail> {
             runs_as_here(&rt, alloc, COPY, &lists, workers, &ALL)?,
             "copy, {workers}"
         );
-        assert!(rt;
-            runs_as_here(&rt, alloc, TWO, &[], workers, &ALL)?,
-            "two, {workers}"
-        );
-        assert!(rt;
-            runs_as_here(&rt, alloc, SPIN, &[], workers, &ONE)?,
-            "spin, {workers}"
-        );
-        assert!(rt;
-            runs_as_here(&rt, alloc, SPIN, &[], workers, &FEW)?,
-            "stops, {workers}"
-        );
+        for (name, text, limits) in [
+            ("two", TWO, ALL),
+            ("two in turns of one step", TWO, STILL),
+            ("spin", SPIN, ONE),
+            ("stops", SPIN, FEW),
+        ] {
+            assert!(rt;
+                runs_as_here(&rt, alloc, text, &[], workers, &limits)?,
+                "{name}, {workers}"
+            );
+        }
     }
     Ok(())
 }
@@ -149,34 +160,48 @@ fn a_gate_that_always_abandons(rt: HostRuntime) -> Result<(), Fail> {
     Ok(())
 }
 
-/// Whether two workers step the processes 0 and 1 at once: the first call for one of them is held until this many came
-/// for the other, and this is the first event then.
-fn meets<R: Threads + Wait + Clock + Sync>(
+/// The first event of a run by two workers whose gate holds this call until the other process came, or `None` where it
+/// did not come, or the run has not ended.
+fn first_event<R: Threads + Wait + Clock + Sync>(
     rt: &R,
     alloc: Global,
-    held: usize,
-    until: u64,
-    first: Event,
-) -> Result<bool, Fail> {
-    let gate = Holding::new(held, until);
+    held: Held,
+) -> Result<Option<Event>, Fail> {
+    let gate = Holding::new(held);
     let Some(Ok(report)) = answer(rt, alloc, SEVENS, &[], 2, &gate, &ALL)? else {
-        return Ok(false);
+        return Ok(None);
     };
-    let is_first = until == 1 || report.history.at(0) == Some(first);
-    Ok(gate.have_met() && is_first && report.outcome == Outcome::Ended)
+    if !gate.have_met() || report.outcome != Outcome::Ended {
+        return Ok(None);
+    }
+    Ok(report.history.at(0))
 }
 
+/// Both processes stand at the gate at once, whichever call is held.
 #[test]
-fn two_workers_meet(rt: HostRuntime) -> Result<(), Fail> {
-    for until in [1, 2] {
+fn one_worker_steps_everything(rt: HostRuntime) -> Result<(), Fail> {
+    for process in [None, Some(0), Some(1)] {
+        let held = Held { process, until: 1 };
         assert!(rt;
-            meets(&rt, rt.alloc(), 0, until, Event::Put(1, 1, 7))?,
-            "0 is held"
-        );
-        assert!(rt;
-            meets(&rt, rt.alloc(), 1, until, Event::Put(0, 0, 7))?,
-            "1 is held"
+            first_event(&rt, rt.alloc(), held)?.is_some(),
+            "{process:?} is held"
         );
     }
+    Ok(())
+}
+
+/// The history tells what the workers did: the one that is held puts its item later. On one thread `TWO` is four puts,
+/// three gets, a wait and an end of each process.
+#[test]
+fn run_answers_what_run_here_computes(rt: HostRuntime) -> Result<(), Fail> {
+    for (process, first) in [(0, Event::Put(1, 1, 7)), (1, Event::Put(0, 0, 7))] {
+        let held = Held {
+            process: Some(process),
+            until: 2,
+        };
+        assert_eq!(rt; first_event(&rt, rt.alloc(), held)?, Some(first));
+    }
+    let two = here(rt.alloc(), TWO, &[], &ALL)?;
+    assert_eq!(rt; two.map(|report| report.commits), Some(11));
     Ok(())
 }

@@ -1,9 +1,9 @@
 //! Why a worker ends, and what is seen then.
 ghost use Rattle.std.specs.Prelude.{◌≡◌};
 
-use crate::gates::Always;
 use crate::networks::{spinning, two_readers};
 use crate::working::both_work;
+use commit_gates::Always;
 use kpn_net::Network;
 use kpn_pool::{Gate, Go, Job, Opened, Shared, View, Why, work};
 use std::alloc::{AllocError, Global};
@@ -14,7 +14,7 @@ use std::test::Fail;
 use std::thread::Threads;
 use std::time::Clock;
 
-/// Why one worker of a network ends, which is told to before it begins or never, and what is seen then.
+/// Why a lone worker ends, halted beforehand or not, and a snapshot then.
 fn ends_alone<J: Job, G: Gate, R: Wait + Clock>(
     rt: &R,
     alloc: Global,

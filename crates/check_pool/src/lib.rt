@@ -15,6 +15,8 @@ mod outside;
 #[cfg(test)]
 mod refusals;
 #[cfg(test)]
+mod resting;
+#[cfg(test)]
 mod stepping;
 #[cfg(test)]
 mod working;

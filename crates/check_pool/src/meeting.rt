@@ -1,9 +1,9 @@
 //! Two workers that are at work at once: a gate holds one of them until the other comes with another process.
 ghost use Rattle.std.specs.Prelude.{◌≡◌};
 
-use crate::gates::{Held, Holding, MOST_TURNS};
 use crate::networks::two_sevens;
 use crate::working::both_work;
+use commit_gates::{Held, Holding, MOST_TURNS};
 use kpn_book::Event;
 use kpn_net::Network;
 use kpn_pool::{Gate, Go, Job, Opened, Shared, Why, WorkerSeat, gather};

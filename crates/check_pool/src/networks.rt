@@ -67,6 +67,13 @@ pub fn spinning(alloc: Global) -> Result<Network, Fail> {
     processes(alloc, spin, &ports, &[])
 }
 
+/// Three processes that step for ever.
+pub fn three_spinning(alloc: Global) -> Result<Network, Fail> {
+    let spin = forever(alloc, 0, 0, 0, Vec::new(alloc))?;
+    let ports: [Ports; 3] = [(&[], &[]), (&[], &[]), (&[], &[])];
+    processes(alloc, spin, &ports, &[])
+}
+
 /// A process that copies the source 0 to the sink 1.
 pub fn copying(alloc: Global) -> Result<Network, Fail> {
     let body = vec![in alloc; Stmt::Read(0, 0), Stmt::Write(0, Expr::Var(0))]?;

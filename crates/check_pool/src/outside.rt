@@ -1,14 +1,14 @@
 //! The seats of the outside: what is fed is copied by a worker and taken, and a seat of another run is known as such.
 ghost use Rattle.std.specs.Prelude.{◌≡◌};
 
-use crate::gates::{Always, MOST_TURNS};
 use crate::networks::{copying, two_sevens};
+use commit_gates::{Always, MOST_TURNS};
 use kpn_net::Network;
 use kpn_pool::{
     Go, Job, Opened, Refused, Shared, SinkSeat, SnapFault, SourceSeat, View, Why, WorkerSeat,
     close, feed, leave, snapshot, take, work,
 };
-use std::alloc::{AllocError, Global};
+use std::alloc::{AllocError, Allocator, Global};
 use std::marker::Brand;
 use std::sync::Wait;
 use std::sync::ledger::Blank;
@@ -18,7 +18,11 @@ use std::thread::Threads;
 use std::time::Clock;
 
 /// Whether the journals of the two channels are these.
-pub fn shows(view: &Result<View, SnapFault>, source: &[i64], sink: &[i64]) -> bool {
+pub fn shows<A: Allocator>(
+    view: &Result<View<A>, SnapFault>,
+    source: &[i64],
+    sink: &[i64],
+) -> bool {
     let Ok(view) = view else {
         return false;
     };

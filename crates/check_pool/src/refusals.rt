@@ -1,15 +1,16 @@
 //! Calls that want memory are refused it, by a heap that is full for a while: all is as before, and the repeated call
 //! succeeds.
-ghost use Rattle.std.specs.Prelude.{◌≡◌, IfSome, vec_len};
+ghost use Rattle.std.specs.Prelude.{◌≡◌};
 
 use crate::endings::is_ready;
-use crate::gates::Always;
 use crate::networks::{copying, pouring};
 use crate::outside::shows;
+use commit_gates::Always;
+use full_heaps::fill;
 use kpn_net::Network;
 use kpn_pool::{
-    Go, Job, Opened, Refused, Shared, SinkSeat, SourceSeat, Why, close, feed, leave, snapshot,
-    take, work,
+    Go, Job, Opened, Refused, Shared, SinkSeat, SnapFault, SourceSeat, Why, close, feed, leave,
+    snapshot, take, work,
 };
 use linked_list_allocator::LocalHeap;
 use std::alloc::{AllocError, Global};
@@ -21,18 +22,6 @@ use std::time::Clock;
 
 /// How many bytes the heap of a test has.
 const HEAP: usize = 16_384;
-
-/// Takes the greatest block of memory that is left.
-fn fill<'a>(heap: &'a LocalHeap) -> Option<Vec<u8, &'a LocalHeap>>
-    ensures { IfSome result (λ filling. vec_len filling ≡ 0) }
-{
-    for n in (1..1_024usize).rev() {
-        if let Ok(filling) = Vec::with_capacity(heap, 16 * n) {
-            return Some(filling);
-        }
-    }
-    None
-}
 
 /// Whether a run is opened.
 fn opens<'a, J: Job>(heap: &'a LocalHeap, blank: Blank, network: &Network) -> bool
@@ -46,10 +35,11 @@ fn opens<'a, J: Job>(heap: &'a LocalHeap, blank: Blank, network: &Network) -> bo
     opened.is_ok()
 }
 
-/// Whether each call is refused memory while nothing has happened, and nothing has happened then.
+/// Whether each call is refused for want of memory and leaves the run empty.
 fn all_refused<'a, J: Job, R: Wait>(
     rt: &R,
     alloc: Global,
+    heap: &'a LocalHeap,
     shared: &Shared<'_, J, &'a LocalHeap>,
     source: &mut SourceSeat<&'a LocalHeap>,
     sink: &SinkSeat<&'a LocalHeap>,
@@ -57,6 +47,8 @@ fn all_refused<'a, J: Job, R: Wait>(
     feed(rt, shared, source, 5, 9) == Err(Refused::NoMemory)
         && close(rt, shared, source) == Err(Refused::NoMemory)
         && leave(rt, shared, sink) == Err(Refused::NoMemory)
+        && snapshot(rt, heap, shared, source).err() == Some(SnapFault::NoMemory)
+        && shared.try_snapshot(heap).is_err()
         && source.fed().is_empty()
         && shows(&snapshot(rt, alloc, shared, source), &[], &[])
 }
@@ -104,10 +96,11 @@ fn is_fed<'a, J: Job, R: Wait>(
     let Some(filling) = fill(heap) else {
         return Ok(false);
     };
-    let are_refused = all_refused(rt, alloc, &shared, &mut source, &sink);
+    let are_refused = all_refused(rt, alloc, heap, &shared, &mut source, &sink);
     filling.destroy_empty();
+    let is_shown = shows(&snapshot(rt, heap, &shared, &source), &[], &[]);
     let are_fed = feeds_until_refused(rt, alloc, &shared, &mut source);
-    Ok(are_refused && are_fed)
+    Ok(are_refused && is_shown && are_fed)
 }
 
 /// Takes until memory is refused. Tells whether the seat then has what was taken before.

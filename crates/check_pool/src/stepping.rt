@@ -1,8 +1,8 @@
 //! The lock is free while a process is stepped.
 ghost use Rattle.std.specs.Prelude.{◌≡◌};
 
-use crate::gates::{Flag, MOST_TURNS};
 use crate::networks::spinning;
+use commit_gates::{Flag, MOST_TURNS};
 use kpn_net::Network;
 use kpn_pool::{Job, Opened, Shared, Why, WorkerSeat, work};
 use std::alloc::{AllocError, Global};

@@ -1,11 +1,11 @@
-//! Two workers at once.
+//! Two or three workers at once.
 use kpn_pool::{Gate, Job, Shared, WorkerSeat, work};
 use std::sync::Wait;
 use std::thread;
 use std::thread::Threads;
 use std::time::Clock;
 
-/// Two workers are at work at once, on two threads, until both have ended. Gives their seats.
+/// Two workers are at work at once, on two threads and in turns of ten steps, until both have ended. Gives their seats.
 pub fn both_work<J: Job + Send + Sync, G: Gate, R: Threads + Wait + Clock + Sync>(
     rt: &R,
     shared: &Shared<'_, J>,
@@ -15,7 +15,23 @@ pub fn both_work<J: Job + Send + Sync, G: Gate, R: Threads + Wait + Clock + Sync
 ) -> (WorkerSeat<J>, WorkerSeat<J>) {
     thread::join(
         rt,
-        move || work(rt, shared, gate, first, 1_000),
-        move || work(rt, shared, gate, second, 1_000),
+        move || work(rt, shared, gate, first, 10),
+        move || work(rt, shared, gate, second, 10),
+    )
+}
+
+/// The same of three workers.
+pub fn three_work<J: Job + Send + Sync, G: Gate, R: Threads + Wait + Clock + Sync>(
+    rt: &R,
+    shared: &Shared<'_, J>,
+    gate: &G,
+    first: WorkerSeat<J>,
+    second: WorkerSeat<J>,
+    third: WorkerSeat<J>,
+) -> (WorkerSeat<J>, (WorkerSeat<J>, WorkerSeat<J>)) {
+    thread::join(
+        rt,
+        move || work(rt, shared, gate, first, 10),
+        move || both_work(rt, shared, gate, second, third),
     )
 }

@@ -1,7 +1,7 @@
 use denote.Param.Send.{sendable}
 use Rattle.std.proofs.Crossing.{crosses}
 use Rattle.kpn_pool.proofs.Sharing.{shared_sync, seat_send}
-use Rattle.check_pool.proofs.gates.Flag.TheSendSync as flag
+use Rattle.commit_gates.proofs.flag.Flag.TheSendSync as flag
 use Rattle.check_pool.proofs.stepping.step_and_see.Goals as goal
 
 -- the worker may be on another thread
