@@ -1,4 +1,4 @@
-//! Command lines as a stored run. A line of standard input is one of these, and is repeated behind `$ `:
+//! Command lines as a compared run. A line of standard input is one of these, and is repeated behind `$ `:
 //!
 //! - `kpn WORDS`, a command line, which is run over the files that lie here. What it wrote follows; where it failed,
 //!   also what it told and its status. Its standard input is the file `input`, where a line has made one.

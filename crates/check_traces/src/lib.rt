@@ -1,5 +1,5 @@
 //! Tests of traces as texts, by public calls alone: worked lines, and memory that is refused. What whole texts of
-//! traces come to stands in the stored run of check_examples.
+//! traces come to stands in the compared run of check_examples.
 #![tactic(auto)]
 
 #[cfg(test)]

@@ -1,0 +1,183 @@
+#!/usr/bin/env python3
+"""The tests of workers, and runs by workers, over and over: none may hang, and none come to something else.
+
+It is no part of the gate. Words:
+
+    tests COUNT         the tests of check_pool and check_parallel, which are proved before, so often on all processors
+                        and so often on two
+    runs COUNT [KPN]    each row `kpn run` of check_examples by 1, 2, 4 and 16 workers, so often on all processors and
+                        so often on two: what it writes and its status are to be those of one thread
+    threads [KPN]       these rows where the system has 0 to 3 threads for the workers, by a user of its own, so begun
+                        by root: where one is refused the run tells it (48), else it is as on one thread
+    memory [KPN]        these rows where call N of malloc and realloc is refused, or each from N on, for N from 1 on
+                        until nothing is refused any more (refuse.c): the run tells it, or is as on one thread
+
+KPN is the program, crates/kpn/out/kpn where none is named.
+"""
+import os
+import pathlib
+import resource
+import shutil
+import subprocess
+import sys
+import tempfile
+import time
+
+TOP = pathlib.Path(__file__).resolve().parent.parent.parent
+DATA = TOP / 'crates/check_examples/data'
+ROWS = TOP / 'crates/check_examples/stdin'
+TESTS = ('check_pool', 'check_parallel')
+WORKERS = (1, 2, 4, 16)
+PROCESSORS = {'all processors': [], 'two processors': ['taskset', '-c', '0,1']}
+
+# seconds that a test or a run may take, where others work on the machine too
+MOST = 60
+
+# a user who has no process
+USER = 54_321
+
+# what a run answers that wants a thread more than there are, and one that wants memory, which a thread wants too
+TOLD = (b'', b'kpn: 48 Threads\n', 7)
+LACKS = [TOLD, (b'', b'kpn: 28 NoMemory\n', 6), (b'', b'kpn: 42 NoMemory\n', 6)]
+
+# a run needs no more memory where so many beginnings of a refusal in a row changed nothing
+STEADY = 20
+
+
+def rows():
+    """The words of each run of the examples, without workers and traces."""
+    examples = ROWS.read_text().split('# The examples\n')[1].split('\n')
+    found = {}
+    for line in examples:
+        words = line.split()
+        if words[:2] == ['kpn', 'run'] and '--workers' not in words:
+            end = words.index('--trace') if '--trace' in words else len(words)
+            found[tuple(words[1:end])] = None
+    return list(found)
+
+
+def answer(words, **how):
+    """What a command writes, what it tells, and its status. One that hangs ends this program."""
+    try:
+        done = subprocess.run(words, cwd=DATA, capture_output=True, timeout=MOST, **how)
+    except subprocess.TimeoutExpired:
+        sys.exit(f'{" ".join(words)}: no end within {MOST} seconds')
+    return done.stdout, done.stderr, done.returncode
+
+
+def run_rows(program, prefix):
+    """Each row once by each number of workers. Tells how many runs there were."""
+    for row in ROWS_OF_RUNS:
+        wanted = answer([program, *row])
+        for workers in WORKERS:
+            words = [*prefix, program, *row, '--workers', str(workers)]
+            found = answer(words)
+            if found != wanted:
+                sys.exit(f'{" ".join(words)}: {found} in place of {wanted}')
+    return len(ROWS_OF_RUNS) * len(WORKERS)
+
+
+def repeat_runs(count, program):
+    for name, prefix in PROCESSORS.items():
+        before = time.monotonic()
+        runs = sum(run_rows(program, prefix) for _ in range(count))
+        print(f'{name}: {runs} runs of {len(ROWS_OF_RUNS)} rows, each as on one thread, none hung, '
+              f'{time.monotonic() - before:.0f} s', flush=True)
+
+
+def repeat_tests(count):
+    runner = pathlib.Path(shutil.which('rt')).resolve().parent / 'rattle-test'
+    for crate in TESTS:
+        subprocess.run(['rt', 'test'], cwd=TOP / 'crates' / crate, check=True, capture_output=True)
+    for name, prefix in PROCESSORS.items():
+        for crate in TESTS:
+            program = TOP / f'crates/{crate}/out/{crate}_tests'
+            seconds = repeat_program([*prefix, str(runner), '--seconds', str(MOST), str(program)], count)
+            print(f'{name}: the tests of {crate} {count} times, none failed and none hung, {seconds:.0f} s', flush=True)
+
+
+def repeat_program(words, count):
+    """Runs a program so often, and tells how many seconds that took. One run that fails ends this program."""
+    before = time.monotonic()
+    for number in range(count):
+        done = subprocess.run(words, capture_output=True, text=True)
+        if done.returncode != 0:
+            sys.exit(f'{" ".join(words)}, run {number}: {done.stdout}{done.stderr}')
+    return time.monotonic() - before
+
+
+def refused(program, row, workers, threads):
+    """What a run answers where the system has so many threads for it beside its first one."""
+    def allow():
+        resource.setrlimit(resource.RLIMIT_NPROC, (1 + threads, 1 + threads))
+    words = [program, *row, '--workers', str(workers)]
+    return answer(words, user=USER, group=USER, extra_groups=[], preexec_fn=allow)
+
+
+def refuse_threads(program):
+    """Of runs that come to an outcome. Where a worker has ended, the next one may have its thread."""
+    told = ended = 0
+    for row in ROWS_OF_RUNS:
+        wanted = answer([program, *row])
+        for workers in WORKERS if wanted[2] == 0 else ():
+            for threads in range(4):
+                found = refused(program, row, workers, threads)
+                is_told = found == TOLD and threads < workers
+                if not is_told and (found != wanted or threads == 0):
+                    sys.exit(f'{" ".join(row)}, {workers} workers, {threads} threads: {found}')
+                told, ended = told + is_told, ended + (not is_told)
+    print(f'{told} runs that were refused a thread told it, {ended} others were as on one thread, none hung')
+
+
+def refused_memory(words, library, wanted):
+    """One run after the other. Tells how many told that they were refused memory, and how many were as wanted."""
+    told = ended = steady = first = 0
+    while steady < STEADY:
+        first += 1
+        for last in (first, 1_000_000_000):
+            refusing = {'LD_PRELOAD': library, 'FIRST': str(first), 'LAST': str(last)}
+            found = answer(words, env={**os.environ, **refusing})
+            if found not in [wanted, *LACKS]:
+                sys.exit(f'{" ".join(words)}, {refusing}: {found}')
+            told, ended = told + (found != wanted), ended + (found == wanted)
+        steady = steady + 1 if found == wanted else 0
+    return told, ended
+
+
+def refuse_memory(program):
+    """Of runs that come to an outcome."""
+    library = str(pathlib.Path(program).parent / 'refuse.so')
+    source = pathlib.Path(__file__).parent / 'refuse.c'
+    subprocess.run(['cc', '-O2', '-shared', '-fPIC', '-o', library, source], check=True)
+    told = ended = 0
+    for row in ROWS_OF_RUNS:
+        wanted = answer([program, *row])
+        for workers in WORKERS if wanted[2] == 0 else ():
+            counts = refused_memory([program, *row, '--workers', str(workers)], library, wanted)
+            told, ended = told + counts[0], ended + counts[1]
+    print(f'{told} runs that were refused memory told it, {ended} others were as on one thread, none hung')
+
+
+def main():
+    what, *words = sys.argv[1:] or ['']
+    if what == 'tests':
+        return repeat_tests(int(words[0]))
+    program = words[-1] if words and not words[-1].isdecimal() else str(TOP / 'crates/kpn/out/kpn')
+    with tempfile.TemporaryDirectory() as folder:
+        # a copy, which a build in the meantime does not change and another user may run
+        os.chmod(folder, 0o755)
+        copy = shutil.copy(program, f'{folder}/kpn')
+        if what == 'runs':
+            repeat_runs(int(words[0]), copy)
+        elif what == 'threads':
+            refuse_threads(copy)
+        elif what == 'memory':
+            refuse_memory(copy)
+        else:
+            sys.exit(__doc__)
+
+
+ROWS_OF_RUNS = rows()
+
+if __name__ == '__main__':
+    main()
