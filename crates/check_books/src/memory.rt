@@ -1,9 +1,8 @@
 //! Each call that can want memory, refused by a heap that is filled up, with the book as before, and then once more
 //! with room. A report asks `Global`, which no test can exhaust.
-ghost use Rattle.std.specs.Prelude.{◌≡◌, IfSome, vec_len};
-
 use crate::outside::{Row, answers, shows};
 use crate::processes::claimed;
+use full_heaps::fill;
 use kpn_book::{Book, Done, Refused};
 use kpn_net::Network;
 use kpn_step::Advance;
@@ -20,18 +19,6 @@ process q(in a, b) { read b x; read a y; read a w; }
 process idle() { }
 network { channel a cap 1; channel b cap 1; p = p(; a, b); q = q(a, b;); i = idle(;); }
 ";
-
-/// Takes the greatest block of memory that is left.
-fn fill<'a>(heap: &'a LocalHeap) -> Option<Vec<u8, &'a LocalHeap>>
-    ensures { IfSome result (λ filling. vec_len filling ≡ 0) }
-{
-    for n in (1..256usize).rev() {
-        if let Ok(filling) = Vec::with_capacity(heap, 16 * n) {
-            return Some(filling);
-        }
-    }
-    None
-}
 
 /// How much has happened: events, commits, and processes that are ready or held.
 fn extent(book: &Book<'_, &LocalHeap>) -> (usize, u64, usize, usize) {
