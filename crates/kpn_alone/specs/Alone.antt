@@ -21,7 +21,7 @@ IsUnknown name = (process : BuiltIn) → name_of process ≢ name
 
 -- the text is what `kpn alone NAME` makes of the bytes that came in: they spell items, the process of this name was
 -- stepped alone on them, and the text tells what it put and how it faulted
-pub record IsAnswer (name : List ℕ) (came_in : Option (List ℕ)) (text : List ℕ) : Type 0 where
+pub record IsAloneText (name : List ℕ) (came_in : Option (List ℕ)) (text : List ℕ) : Type 0 where
   pub process : BuiltIn
   pub named : name_of process ≡ name
   pub items : List ℤ
@@ -44,7 +44,7 @@ IsRefusalOfAlone name came_in other = WantsMemory other
 pub record RunsAlone {I O E : Type 0} (remaining : I → Option (List ℕ)) (contents : O → Option (List ℕ))
     (name : List ℕ)
     (input read : I) (out written : O) (err told : E) (status : ℕ) : Type 0 where
-  pub answers : Answers contents (IsAnswer name (remaining input)) (IsRefusalOfAlone name (remaining input)) out
+  pub answers : Answers contents (IsAloneText name (remaining input)) (IsRefusalOfAlone name (remaining input)) out
       written err told status
   -- an unknown name is refused before the input is read
   pub unknown : IsUnknown name → status ≡ 2

@@ -6,7 +6,7 @@ ghost use Rattle.kpn_step.specs.Walk.{AloneGives};
 ghost use Rattle.kpn_alone.specs.BuiltIn.{program_of};
 ghost use Rattle.kpn_alone.specs.Plain.{TalksPlainly};
 ghost use Rattle.kpn_alone.specs.Refused.{WantsMemory};
-ghost use Rattle.kpn_alone.specs.Alone.{IsAnswer, IsRefusalOfAlone, IsUnknown, RunsAlone};
+ghost use Rattle.kpn_alone.specs.Alone.{IsAloneText, IsRefusalOfAlone, IsUnknown, RunsAlone};
 
 use crate::alone_text::text_of;
 use crate::built_in::BuiltIn;
@@ -36,7 +36,7 @@ pub fn alone_command<I: Read, O: Write, E: Write>(
 
 // The whole text that goes out. The name is looked at before the input is read.
 fn answer<I: Read>(alloc: Global, name: &str, input: &mut I) -> Result<Vec<u8>, Refusal>
-    ensures ok { IfOk result (λ text. IsAnswer name.now (I.remaining input.old) text.items) }
+    ensures ok { IfOk result (λ text. IsAloneText name.now (I.remaining input.old) text.items) }
     ensures refused { IfErr result (IsRefusalOfAlone name.now (I.remaining input.old)) }
     ensures unknown { IsUnknown name.now → IsErrOf result Refusal.UnknownProcess }
     ensures unread { IsUnknown name.now → input.new ≡ input.old }

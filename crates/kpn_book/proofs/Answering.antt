@@ -26,7 +26,7 @@ use Rattle.kpn_book.specs.declared.answers.Done.{Done}
 use Rattle.kpn_book.specs.declared.answers.Done.TheVariants as done
 use Rattle.kpn_book.specs.Book.{Book, IsHeld, held_count, put_back, counted}
 use Rattle.kpn_book.specs.Appending.{AppendsAll}
-use Rattle.kpn_book.specs.Commits.{IsReadFrom, IsWriteTo, HasToWait, IsAnswer, ready_if_paused, Settles}
+use Rattle.kpn_book.specs.Commits.{IsReadFrom, IsWriteTo, HasToWait, IsAnswer, ready_if_paused, HandlesStop}
 use Rattle.kpn_book.specs.Kept.{IsStateBy, IsInStep, IsKept}
 use Rattle.kpn_book.specs.Open.{Follows, IsSound, AnswersAt, Answered, EndsWithWait, grows_if_owed, GrowsIfOwed, of_process}
 use Rattle.kpn_book.proofs.Following.{held_is_free}
@@ -237,8 +237,8 @@ at_most_one done.Paused b p s events is = subst (λ es. count_by is_of_process e
 
 module _ (b a : Book) (p : ℕ) (s : Stop) (answer : Done) (kept : IsKept b) (answers : AnswersAt p s answer b a)
     (sound : IsSound a) (released : held_count a + 1 ≡ held_count b) where
-  pub settles_counted : Settles p s answer b (counted a)
-  settles_counted = record {
+  pub handles_counted : HandlesStop p s answer b (counted a)
+  handles_counted = record {
     events = answers.events;
     answers = answers.answers;
     appends =

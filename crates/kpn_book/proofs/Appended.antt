@@ -67,21 +67,21 @@ base_commits other p b = refl
 pub commit_tables : (p : ℕ) (a : Advanced) (answer : Done) (before after : Book) → Commits p a answer before after
     → after.tables ≡ before.tables
 commit_tables p a answer before after is =
-    tables_stay is.settles.events (ready_if_paused p answer (counted (standing_at p a.to before))) after
-    is.settles.appends ∙ base_tables answer p (counted (standing_at p a.to before))
+    tables_stay is.handles.events (ready_if_paused p answer (counted (standing_at p a.to before))) after
+    is.handles.appends ∙ base_tables answer p (counted (standing_at p a.to before))
 
 pub commit_history : (p : ℕ) (a : Advanced) (answer : Done) (before after : Book)
-    → (commits : Commits p a answer before after) → after.history ≡ before.history ++ commits.settles.events
+    → (commits : Commits p a answer before after) → after.history ≡ before.history ++ commits.handles.events
 commit_history p a answer before after is =
-    history_then is.settles.events (ready_if_paused p answer (counted (standing_at p a.to before))) after
-    is.settles.appends
-    ∙ ap (λ H. H ++ is.settles.events) (base_history answer p (counted (standing_at p a.to before)))
+    history_then is.handles.events (ready_if_paused p answer (counted (standing_at p a.to before))) after
+    is.handles.appends
+    ∙ ap (λ H. H ++ is.handles.events) (base_history answer p (counted (standing_at p a.to before)))
 
 pub commit_commits : (p : ℕ) (a : Advanced) (answer : Done) (before after : Book) → Commits p a answer before after
     → after.commits ≡ before.commits + 1
 commit_commits p a answer before after is =
-    commits_stay is.settles.events (ready_if_paused p answer (counted (standing_at p a.to before))) after
-    is.settles.appends ∙ base_commits answer p (counted (standing_at p a.to before))
+    commits_stay is.handles.events (ready_if_paused p answer (counted (standing_at p a.to before))) after
+    is.handles.appends ∙ base_commits answer p (counted (standing_at p a.to before))
 
 -- who is claimed is held
 pub claimed_is_held : (p : ℕ) (before after : Book) → IsClaimed p before after → IsHeld after p

@@ -19,13 +19,13 @@ use Rattle.kpn_configuration.proofs.Reserving.{IsRun-reserved}
 use Rattle.kpn_schedule.specs.Schedule.{Schedule, state_at, HoldsFirst}
 use Rattle.kpn_book.specs.declared.answers.Done.{Done}
 use Rattle.kpn_book.specs.Book.{Book, IsHeld, held_count, standing_at, put_back, IsClaimed}
-use Rattle.kpn_book.specs.Commits.{IsWriteTo, Settles, IsOwnAdvance, Commits}
+use Rattle.kpn_book.specs.Commits.{IsWriteTo, HandlesStop, IsOwnAdvance, Commits}
 use Rattle.kpn_book.specs.Kept.{IsStateBy, IsKept}
 use Rattle.kpn_book.specs.Open.{Open, Follows, of_process, claims_by, IsReserved, is_but_reserved, reserved_on, reserves_by, reserves_item_by}
 use Rattle.kpn_book.proofs.Counting.{held_in, held_more}
 use Rattle.kpn_book.specs.Stepping.{ClaimsAndSteps, StepsNext, StepsInVain}
 use Rattle.kpn_book.proofs.Appended.{claimed_is_held}
-use Rattle.kpn_book.proofs.Reserved.{settles_unreserved, is_reserved_here}
+use Rattle.kpn_book.proofs.Reserved.{handles_unreserved, is_reserved_here}
 use Rattle.kpn_configuration.specs.Changes.{IsChannelAt}
 use Rattle.kpn_book.proofs.Answering.{put_back_in_step, put_back_released, sound_after}
 
@@ -71,13 +71,13 @@ module _ (s : Stop) (b o : Book) (but : is_but_reserved s b o) where
         | inr is ↦ inr (is.0, (is.1.0, is.1.1, ap (standing_at p f) is.1.2))
       ]
 
-  pub settles_reserved : (p : ℕ) (answer : Done) (a : Book) → Settles p s answer o a → Settles p s answer b a
-  settles_reserved p answer a is =
+  pub handles_reserved : (p : ℕ) (answer : Done) (a : Book) → HandlesStop p s answer o a → HandlesStop p s answer b a
+  handles_reserved p answer a is =
       elim but [
-        | inl same ↦ subst (λ x. Settles p s answer x a) same is
+        | inl same ↦ subst (λ x. HandlesStop p s answer x a) same is
         | inr more ↦
-            settles_unreserved b more.1.0 more.1.1 p s answer a more.0
-            (subst (λ x. Settles p s answer x a) more.1.2 is)
+            handles_unreserved b more.1.0 more.1.1 p s answer a more.0
+            (subst (λ x. HandlesStop p s answer x a) more.1.2 is)
       ]
 
 -- ---- a process that stands elsewhere
@@ -187,15 +187,15 @@ claims_from (Some p) o a kept more held room none = (held, kept_claimed o.book k
 
 -- the steps are committed
 pub commits_from : (b o1 o2 a : Book) (p : ℕ) (x : Advanced) (answer : Done) → IsHeld b p → IsOwnAdvance b p x
-    → is_but_reserved x.stop b o1 → o2 ≡ standing_at p x.to o1 → Settles p x.stop answer o2 a
+    → is_but_reserved x.stop b o1 → o2 ≡ standing_at p x.to o1 → HandlesStop p x.stop answer o2 a
     → Commits p x answer b a
-commits_from b o1 o2 a p x answer held own but is settles = record {
+commits_from b o1 o2 a p x answer held own but is handles = record {
   held = held;
   own = own;
-  settles =
-      settles_reserved x.stop (standing_at p x.to b) (standing_at p x.to o1)
+  handles =
+      handles_reserved x.stop (standing_at p x.to b) (standing_at p x.to o1)
       (standing_reserved x.stop b o1 but p x.to) p answer a
-      (subst (λ z. Settles p x.stop answer z a) is settles);
+      (subst (λ z. HandlesStop p x.stop answer z a) is handles);
 }
 
 -- ---- an event of the outside
@@ -265,10 +265,10 @@ kept_stepped s b o1 o2 but kept p there x advance own is =
 -- the steps of a commit by the stop that was read of them
 pub commits_read : (b : Book) (o1 : Open) (o2 a : Book) (p : ℕ) (x : Advanced) (s : Stop) (answer : Done) → s ≡ x.stop
     → IsHeld b p → IsOwnAdvance b p x → is_but_reserved s b o1.book → o2 ≡ standing_at p x.to o1.book
-    → Settles p s answer o2 a → Commits p x answer b a
-commits_read b o1 o2 a p x s answer same held own but is settles =
+    → HandlesStop p s answer o2 a → Commits p x answer b a
+commits_read b o1 o2 a p x s answer same held own but is handles =
     commits_from b o1.book o2 a p x answer held own (subst (λ z. is_but_reserved z b o1.book) same but) is
-    (subst (λ z. Settles p z answer o2 a) same settles)
+    (subst (λ z. HandlesStop p z answer o2 a) same handles)
 
 -- ---- a step in place
 
@@ -289,9 +289,9 @@ module _ (quota p : ℕ) (b o0 : Book) (x : Advanced) (claimed : IsClaimed p b o
   stepped_held =
       subst (λ z. IsHeld z p) (sym is) (held_moved o0 p p x.to (claimed_is_held p b o0 claimed))
 
-  pub steps_next : (o2 a : Book) (answer : Done) → is_but_reserved x.stop o1 o2 → Settles p x.stop answer o2 a
+  pub steps_next : (o2 a : Book) (answer : Done) → is_but_reserved x.stop o1 o2 → HandlesStop p x.stop answer o2 a
       → StepsNext quota answer b a
-  steps_next o2 a answer but settles = record {
+  steps_next o2 a answer but handles = record {
     process = p;
     advance = x;
     between = o0;
@@ -299,8 +299,8 @@ module _ (quota p : ℕ) (b o0 : Book) (x : Advanced) (claimed : IsClaimed p b o
     commits = record {
       held = claimed_is_held p b o0 claimed;
       own = own;
-      settles =
-          subst (λ z. Settles p x.stop answer z a) is (settles_reserved x.stop o1 o2 but p answer a settles);
+      handles =
+          subst (λ z. HandlesStop p x.stop answer z a) is (handles_reserved x.stop o1 o2 but p answer a handles);
     };
   }
 

@@ -15,7 +15,7 @@ use Rattle.kpn_book.specs.declared.answers.Done.{Done}
 use Rattle.kpn_book.specs.declared.answers.Done.TheVariants as done
 use Rattle.kpn_book.specs.Book.{Book, counted}
 use Rattle.kpn_book.specs.Appending.{Appends, AppendsAll}
-use Rattle.kpn_book.specs.Commits.{HasToWait, IsAnswer, ready_if_paused, Settles}
+use Rattle.kpn_book.specs.Commits.{HasToWait, IsAnswer, ready_if_paused, HandlesStop}
 use Rattle.kpn_book.specs.Open.{reserved_on}
 
 channel_before : (t : Tables) (e : Event) (d : ℕ) (x y after : ChannelState) → x.journal ≡ y.journal → x.read ≡ y.read
@@ -150,9 +150,9 @@ module _ (b : Book) (c : ℕ) (below : c < length b.configuration.channels) wher
       all_unreserved events a (cons_is_some _ _ events is.appends) h
   appended_unreserved done.Paused p s events a some is h = absurd (some is.asks)
 
-  pub settles_unreserved : (p : ℕ) (s : Stop) (answer : Done) (a : Book) → (s ≡ stop.Paused → ⊥)
-      → Settles p s answer (reserved_on c b) a → Settles p s answer b a
-  settles_unreserved p s answer a some is =
+  pub handles_unreserved : (p : ℕ) (s : Stop) (answer : Done) (a : Book) → (s ≡ stop.Paused → ⊥)
+      → HandlesStop p s answer (reserved_on c b) a → HandlesStop p s answer b a
+  handles_unreserved p s answer a some is =
       let same = answer_unreserved b c below answer p s is.events is.answers in
       record {
         events = is.events;

@@ -76,7 +76,7 @@ pub record IsBlocked (b : Book) (p : ℕ) (s : Stop) (events : List Event) : Typ
   pub appends : events ≡ wait ∷ []
 
 -- it waits, and the growth of channel d, which is owed for this, follows at once
-pub record Grows (b : Book) (p : ℕ) (s : Stop) (d : ℕ) (events : List Event) : Type 0 where
+pub record WaitsAndGrows (b : Book) (p : ℕ) (s : Stop) (d : ℕ) (events : List Event) : Type 0 where
   pub wait : Event
   pub waits : HasToWait b p s wait
   pub owed : OwesGrowth b.tables (b.history ++ wait ∷ []) p d
@@ -98,7 +98,7 @@ abbrev pub IsAnswer : Book → (p : ℕ) → Stop → Done → List Event → Ty
 IsAnswer b p s (done.Got v) events = Gets b p s v events
 IsAnswer b p s done.Put events = Puts b p s events
 IsAnswer b p s done.Blocked events = IsBlocked b p s events
-IsAnswer b p s (done.Grew d) events = Grows b p s d events
+IsAnswer b p s (done.Grew d) events = WaitsAndGrows b p s d events
 IsAnswer b p s done.Ended events = Ends p s events
 IsAnswer b p s done.Paused events = Pauses s events
 
@@ -110,7 +110,7 @@ ready_if_paused p done.Paused b = put_back p b
 ready_if_paused p other b = b
 
 -- process p stands at this stop and is committed: the commit is counted, and its events are appended
-pub record Settles (p : ℕ) (s : Stop) (answer : Done) (before after : Book) : Type 0 where
+pub record HandlesStop (p : ℕ) (s : Stop) (answer : Done) (before after : Book) : Type 0 where
   pub events : List Event
   pub answers : IsAnswer before p s answer events
   pub appends : AppendsAll events (ready_if_paused p answer (counted before)) after
@@ -124,4 +124,4 @@ pub record IsOwnAdvance (b : Book) (p : ℕ) (a : Advanced) : Type 0 where
 pub record Commits (p : ℕ) (a : Advanced) (answer : Done) (before after : Book) : Type 0 where
   pub held : IsHeld before p
   pub own : IsOwnAdvance before p a
-  pub settles : Settles p a.stop answer (standing_at p a.to before) after
+  pub handles : HandlesStop p a.stop answer (standing_at p a.to before) after

@@ -104,7 +104,7 @@ pub fn what_a_commit_does()
         → Commits p a answer before after → after.tables ≡ before.tables }
     ensures history { (p : ℕ) (a : Advanced) (answer : Done) (before after : Book)
         → (commits : Commits p a answer before after)
-        → after.history ≡ before.history ++ commits.settles.events }
+        → after.history ≡ before.history ++ commits.handles.events }
     ensures commits { (p : ℕ) (a : Advanced) (answer : Done) (before after : Book)
         → Commits p a answer before after → after.commits ≡ before.commits + 1 }
 {}

@@ -44,7 +44,7 @@ use Rattle.kpn_configuration.specs.Run.{IsEndOf, StandsAfter, IsRun}
 use Rattle.kpn_configuration.specs.Due.{Stands, ReadsFrom, WritesTo, stop_of, IsDueNow}
 use Rattle.kpn_configuration.proofs.Due.{unread_same, full_same}
 use Rattle.kpn_configuration.proofs.Ports.{reads_below, reads_own}
-use Rattle.kpn_configuration.proofs.Talking.{Leaves-more}
+use Rattle.kpn_configuration.proofs.Talking.{IsRestAfter-more}
 
 -- ---- what is said on channels was said at ports
 
@@ -96,7 +96,7 @@ module _ (t : Tables) (network : IsNetwork t) (H : List Event) (legal : Legal t 
       (IsSequential-alone (program_of t p) (instance_at t p).pars) (map X (instance_at t p).ins) stand.said
       (ran_on t p n X).talk
       (talk_said (program_of t p) (instance_at t p).pars stand.said f (map X (instance_at t p).ins)
-      (map more (instance_at t p).ins) stand.after (Leaves-more t network H legal p there f stand X more is))
+      (map more (instance_at t p).ins) stand.after (IsRestAfter-more t network H legal p there f stand X more is))
       (record { turns = n; said = IsPrefix-refl (ran_on t p n X).talk })
 
   -- what it says next on a channel is what the stop says next at a port
@@ -110,7 +110,7 @@ module _ (t : Tables) (network : IsNetwork t) (H : List Event) (legal : Legal t 
         found.1,
         (next_said (program_of t p) (instance_at t p).pars stand.said f at (map X (instance_at t p).ins)
             (map more (instance_at t p).ins) found.0 stand.after stands no_pause
-            (Leaves-more t network H legal p there f stand X more is)).0
+            (IsRestAfter-more t network H legal p there f stand X more is)).0
             (record { turns = can.turns; said = found.2 }),
       )
 
@@ -126,7 +126,7 @@ module _ (t : Tables) (network : IsNetwork t) (H : List Event) (legal : Legal t 
         comes.ended,
         (end_reached (program_of t p) (instance_at t p).pars stand.said f at (map X (instance_at t p).ins)
             (map more (instance_at t p).ins) (ran_on t p comes.turns X).ending stand.after stands no_pause
-            (Leaves-more t network H legal p there f stand X more is)).0
+            (IsRestAfter-more t network H legal p there f stand X more is)).0
             (record {
               turns = comes.turns;
               ended = refl;

@@ -22,7 +22,7 @@ use Rattle.kpn_trace.specs.Legal.{Legal}
 use Rattle.kpn_trace.proofs.Events.{flat_map-same, written_on-push, read_on-push, talk_of-push, talk_of-other}
 use Rattle.kpn_trace.proofs.AfterEvent.{has_ended-next, is_closed-next, reader_lives-next, capacity_after-next}
 use Rattle.kpn_configuration.specs.Configuration.{Configuration}
-use Rattle.kpn_configuration.specs.Run.{HoldsChannel, IsEndOf, NamesInsBelow, StandsAfter, LeadsTo}
+use Rattle.kpn_configuration.specs.Run.{HoldsChannel, IsEndOf, NamesInsBelow, StandsAfter, LeadsToConfiguration}
 use Rattle.kpn_configuration.specs.Changes.{IsChannelAfter, end_then, PassesRead, PassesWrite, IsFrameAfter, Changes}
 use Rattle.kpn_trace.proofs.Waking.{wait_of-then}
 use Rattle.kpn_step.proofs.After.{IsAfter-got, IsAfter-put}
@@ -147,9 +147,10 @@ StandsAfter-next t B event p f g a h = StandsAfter-kept t B event p f g (flat_ma
 
 -- ---- all parts
 
-pub LeadsTo-next : (t : Tables) → IsNetwork t → (B : List Event) (e : Event) (before after : Configuration)
-    → Legal t (B ++ e ∷ []) → LeadsTo t B before → Changes t e before after → LeadsTo t (B ++ e ∷ []) after
-LeadsTo-next t network B e before after legal h a =
+pub LeadsToConfiguration-next : (t : Tables) → IsNetwork t → (B : List Event) (e : Event) (before after : Configuration)
+    → Legal t (B ++ e ∷ []) → LeadsToConfiguration t B before → Changes t e before after
+    → LeadsToConfiguration t (B ++ e ∷ []) after
+LeadsToConfiguration-next t network B e before after legal h a =
     record {
       channels = λ c below. HoldsChannel-next t B e c _ _ (h.channels c below) (a.channels c below);
       closed =

@@ -31,7 +31,7 @@ use Rattle.kpn_configuration.specs.Configuration.{Configuration, channel_in, wai
 use Rattle.kpn_configuration.specs.Run.{IsEndOf, IsRun}
 use Rattle.kpn_configuration.specs.Quiet.{IsQuietNow}
 use Rattle.kpn_configuration.proofs.Due.{unread_same}
-use Rattle.kpn_configuration.proofs.Talking.{Leaves-more}
+use Rattle.kpn_configuration.proofs.Talking.{IsRestAfter-more}
 use Rattle.kpn_configuration.proofs.Growing.{same_waits, same_capacity}
 
 module _ (t : Tables) (network : IsNetwork t) (H : List Event) (s : Configuration) (run : IsRun t H s) where
@@ -128,5 +128,5 @@ module _ (t : Tables) (network : IsNetwork t) (H : List Event) (s : Configuratio
         stand.said,
         stand.talk,
         stand.after.goes_on (map X (instance_at t p).ins) (map more (instance_at t p).ins)
-            (Leaves-more t network H run.legal p there (frame_in s p) stand X more is),
+            (IsRestAfter-more t network H run.legal p there (frame_in s p) stand X more is),
       )

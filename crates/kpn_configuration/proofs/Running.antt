@@ -7,10 +7,14 @@ use Rattle.kpn_trace.specs.Legal.{Legal}
 use Rattle.kpn_configuration.specs.Configuration.{Configuration, IsConfiguration}
 use Rattle.kpn_configuration.specs.Run.{IsRun}
 use Rattle.kpn_configuration.specs.Changes.{Changes}
-use Rattle.kpn_configuration.proofs.Leading.{LeadsTo-next}
+use Rattle.kpn_configuration.proofs.Leading.{LeadsToConfiguration-next}
 
 pub IsRun-next : (t : Tables) → IsNetwork t → (H : List Event) (e : Event) (before after : Configuration)
     → IsRun t H before → Legal t (H ++ e ∷ []) → Changes t e before after → IsConfiguration t after
     → IsRun t (H ++ e ∷ []) after
 IsRun-next t network H e before after run legal changes shape =
-    record { legal = legal; shape = shape; leads = LeadsTo-next t network H e before after legal run.leads changes }
+    record {
+      legal = legal;
+      shape = shape;
+      leads = LeadsToConfiguration-next t network H e before after legal run.leads changes;
+    }

@@ -21,7 +21,7 @@ use Rattle.kpn_step.specs.declared.stop.Stop.{Stop}
 use Rattle.kpn_step.specs.declared.stop.Stop.TheVariants as stop
 use Rattle.kpn_step.specs.Stops.{StandsAt}
 use Rattle.kpn_step.specs.Frame.{Frame}
-use Rattle.kpn_step.specs.After.{Leaves, SaysNext, EndsThere}
+use Rattle.kpn_step.specs.After.{IsRestAfter, SaysNext, EndsThere}
 use Rattle.kpn_step.proofs.After.{next_said, end_reached}
 use Rattle.kpn_trace.specs.declared.event.Event.{Event}
 use Rattle.kpn_trace.specs.Talks.{talk_of}
@@ -67,9 +67,9 @@ got_at-past n (said.Put q v ∷ talk) below port past = got_at-past n talk below
 module _ (t : Tables) (network : IsNetwork t) (H : List Event) (legal : Legal t H) (p : ℕ)
     (there : p < length t.instances) (f : Frame) (stand : StandsAfter t H p f) where
   -- what the process read, and then these items on each of its channels
-  pub Leaves-more : (X more : Family) → ((c : ℕ) → X c ≡ read_on H c ++ more c)
-      → Leaves stand.said (map X (instance_at t p).ins) (map more (instance_at t p).ins)
-  Leaves-more X more is = record { ports = count more ∙ sym (count X); each = each }
+  pub IsRestAfter-more : (X more : Family) → ((c : ℕ) → X c ≡ read_on H c ++ more c)
+      → IsRestAfter stand.said (map X (instance_at t p).ins) (map more (instance_at t p).ins)
+  IsRestAfter-more X more is = record { ports = count more ∙ sym (count X); each = each }
     where
       count : (Y : Family) → length (map Y (instance_at t p).ins) ≡ length (instance_at t p).ins
       count Y = length-map (instance_at t p).ins Y
@@ -113,7 +113,7 @@ module _ (t : Tables) (network : IsNetwork t) (H : List Event) (legal : Legal t 
     CanSay-next spoken next =
         let can =
         (next_said (program_of t p) (instance_at t p).pars stand.said f at (map X (instance_at t p).ins)
-        (map more (instance_at t p).ins) spoken stand.after stands no_pause (Leaves-more X more is)).1 next in
+        (map more (instance_at t p).ins) spoken stand.after stands no_pause (IsRestAfter-more X more is)).1 next in
         record {
           turns = can.turns;
           said =
@@ -130,7 +130,7 @@ module _ (t : Tables) (network : IsNetwork t) (H : List Event) (legal : Legal t 
     ComesTo-end end there whole =
         let comes =
         (end_reached (program_of t p) (instance_at t p).pars stand.said f at (map X (instance_at t p).ins)
-        (map more (instance_at t p).ins) end stand.after stands no_pause (Leaves-more X more is)).1 there in
+        (map more (instance_at t p).ins) end stand.after stands no_pause (IsRestAfter-more X more is)).1 there in
         record {
           turns = comes.turns;
           ended = ap (ends_at_channel (instance_at t p)) comes.ended;

@@ -45,7 +45,7 @@ pub record StandsAfter (t : Tables) (H : List Event) (p : ℕ) (f : Frame) : Typ
   pub after : IsAfter (program_of t p) (instance_at t p).pars said f
 
 -- the history leads to the configuration
-pub record LeadsTo (t : Tables) (H : List Event) (s : Configuration) : Type 0 where
+pub record LeadsToConfiguration (t : Tables) (H : List Event) (s : Configuration) : Type 0 where
   pub channels : (c : ℕ) → c < length t.channels → HoldsChannel t H c (channel_in s c)
   pub closed : (c : ℕ) → c < length t.channels → closed_in s c ≡ is_closed H c
   pub waits : (p : ℕ) → p < length t.instances → wait_in s p ≡ wait_of t H p
@@ -56,4 +56,4 @@ pub record LeadsTo (t : Tables) (H : List Event) (s : Configuration) : Type 0 wh
 pub record IsRun (t : Tables) (H : List Event) (s : Configuration) : Type 0 where
   pub legal : Legal t H
   pub shape : IsConfiguration t s
-  pub leads : LeadsTo t H s
+  pub leads : LeadsToConfiguration t H s

@@ -14,7 +14,7 @@ use Rattle.kpn_grammar.specs.Syntax.{Name, Statements, Process}
 use Rattle.kpn_grammar.specs.Spelling.{kinds, spell_all, spell_further, spell_name, spell_names, spell_part, spell_later_part, spell_parts, spell_block, spell_process, ProcessIsWithin}
 use Rattle.kpn_tokens.specs.Results.{and_then}
 use Rattle.kpn_grammar.specs.TokenTests.{is_mark, is_keyword, is_name}
-use Rattle.kpn_grammar.specs.Reading.{Read, next, first_is, mark, keyword, name, further, names, optional_names, block, Parts, after_outs, outs_or_pars, after_ins, parts_behind, parts, process, numbered_process}
+use Rattle.kpn_grammar.specs.Reading.{Read, next, first_is, mark, keyword, name, further, names, optional_names, block, HeadParts, after_outs, outs_or_pars, after_ins, parts_behind, parts, process, numbered_process}
 use Rattle.kpn_grammar.proofs.Steps.{bind_ok, by_test, moved, no_value, kind_of, kinds_of, front, next_takes, next_again, mark_takes, mark_again, keyword_takes, keyword_again, name_takes, name_again}
 use Rattle.kpn_grammar.proofs.ManyLaws.{TakesOne, Reads, TakesSome, begins, first_begins, is_comma, further_shortens, separated_takes, separated_again, one_shortens, Begins}
 use Rattle.kpn_grammar.proofs.StatementLaws.{statements_longer, block_laws}
@@ -93,19 +93,19 @@ abbrev pub semicolon : Token → Bool
 semicolon = is_mark mark_.Semicolon
 
 -- what stands behind out ports that were read
-record TakesAfterOuts (ins outs : List Name) (tokens : List Token) (p : Parts) (rest : List Lexeme) : Type 0 where
+record TakesAfterOuts (ins outs : List Name) (tokens : List Token) (p : HeadParts) (rest : List Lexeme) : Type 0 where
   same_ins : p.ins ≡ ins
   same_outs : p.outs ≡ outs
   spelled : tokens ≡ spell_later_part keyword_.Par p.pars (kinds rest)
 
 -- what stands behind in ports, and is not empty
-record TakesOuts (ins : List Name) (tokens : List Token) (p : Parts) (rest : List Lexeme) : Type 0 where
+record TakesOuts (ins : List Name) (tokens : List Token) (p : HeadParts) (rest : List Lexeme) : Type 0 where
   same_ins : p.ins ≡ ins
   some : 0 < length p.outs + length p.pars
   spelled : tokens ≡ spell_parts [] p.outs p.pars (kinds rest)
 
 -- the same behind its semicolon, or nothing
-record TakesAfterIns (ins : List Name) (tokens : List Token) (p : Parts) (rest : List Lexeme) : Type 0 where
+record TakesAfterIns (ins : List Name) (tokens : List Token) (p : HeadParts) (rest : List Lexeme) : Type 0 where
   same_ins : p.ins ≡ ins
   spelled : tokens ≡ spell_later_part keyword_.Out p.outs (spell_later_part keyword_.Par p.pars (kinds rest))
 
@@ -138,20 +138,20 @@ spell_ins [] outs pars more some = absurd (omega arith)
 spell_ins (x ∷ xs) outs pars more some = refl
 
 -- a head of these parts
-abbrev of_parts : (ins outs pars : List Name) → Parts
+abbrev of_parts : (ins outs pars : List Name) → HeadParts
 of_parts ins outs pars = record { ins = ins; outs = outs; pars = pars }
 
 -- behind a semicolon: the parameters, or what stands behind in ports
-abbrev pars_read : Scope → (ins outs : List Name) → List Lexeme → Read Parts
+abbrev pars_read : Scope → (ins outs : List Name) → List Lexeme → Read HeadParts
 pars_read s ins outs ls =
     and_then (mark s mark_.Semicolon ls) (λ after. and_then (keyword s keyword_.Par after)
-    (λ word. and_then {B = Parts × List Lexeme} (names s word) (λ pars. Ok (of_parts ins outs pars.0, pars.1))))
+    (λ word. and_then {B = HeadParts × List Lexeme} (names s word) (λ pars. Ok (of_parts ins outs pars.0, pars.1))))
 
-abbrev outs_read : Scope → List Name → List Lexeme → Read Parts
+abbrev outs_read : Scope → List Name → List Lexeme → Read HeadParts
 outs_read s ins ls = and_then (mark s mark_.Semicolon ls)
     (λ after. and_then (next s after) (λ x. outs_or_pars s ins x.0.token x.0.start x.1))
 
-after_outs_takes : (s : Scope) (ins outs : List Name) (ls : List Lexeme) (p : Parts) (rest : List Lexeme)
+after_outs_takes : (s : Scope) (ins outs : List Name) (ls : List Lexeme) (p : HeadParts) (rest : List Lexeme)
     → after_outs s ins outs ls ≡ Ok (p, rest) → TakesAfterOuts ins outs (kinds ls) p rest
 unfolding after_outs
 after_outs_takes s ins outs ls p rest h =
@@ -161,7 +161,7 @@ after_outs_takes s ins outs ls p rest h =
     let w = bind_ok _ _ _ m.2 in
     let n = bind_ok _ _ _ w.2 in
     let found = names_takes s w.0 n.0.0 n.0.1 n.1 in
-    moved (λ (q : Parts × List Lexeme). TakesAfterOuts ins outs (kinds ls) q.0 q.1) (of_parts ins outs n.0.0, n.0.1)
+    moved (λ (q : HeadParts × List Lexeme). TakesAfterOuts ins outs (kinds ls) q.0 q.1) (of_parts ins outs n.0.0, n.0.1)
     (p, rest) n.2 (record {
       same_ins = refl;
       same_outs = refl;
@@ -170,10 +170,10 @@ after_outs_takes s ins outs ls p rest h =
           found.spelled)
           ∙ spell_later_some keyword_.Par n.0.0 (kinds n.0.1) found.some;
     }))
-    (λ stops e. moved (λ (q : Parts × List Lexeme). TakesAfterOuts ins outs (kinds ls) q.0 q.1)
+    (λ stops e. moved (λ (q : HeadParts × List Lexeme). TakesAfterOuts ins outs (kinds ls) q.0 q.1)
     (of_parts ins outs [], ls) (p, rest) e (record { same_ins = refl; same_outs = refl; spelled = refl }))
 
-outs_or_pars_takes : (s : Scope) (ins : List Name) (t : Token) (start : ℕ) (ls : List Lexeme) (p : Parts)
+outs_or_pars_takes : (s : Scope) (ins : List Name) (t : Token) (start : ℕ) (ls : List Lexeme) (p : HeadParts)
     (rest : List Lexeme) → outs_or_pars s ins t start ls ≡ Ok (p, rest) → TakesOuts ins (t ∷ kinds ls) p rest
 unfolding outs_or_pars
 outs_or_pars_takes s ins (token.Keyword keyword_.Out) start ls p rest h =
@@ -191,7 +191,7 @@ outs_or_pars_takes s ins (token.Keyword keyword_.Out) start ls p rest h =
 outs_or_pars_takes s ins (token.Keyword keyword_.Par) start ls p rest h =
     let n = bind_ok _ _ _ h in
     let found = names_takes s ls n.0.0 n.0.1 n.1 in
-    moved (λ (q : Parts × List Lexeme). TakesOuts ins (token.Keyword keyword_.Par ∷ kinds ls) q.0 q.1)
+    moved (λ (q : HeadParts × List Lexeme). TakesOuts ins (token.Keyword keyword_.Par ∷ kinds ls) q.0 q.1)
     (of_parts ins [] n.0.0, n.0.1) (p, rest) n.2 (record {
       same_ins = refl;
       some = omega (arith, found.some);
@@ -200,7 +200,7 @@ outs_or_pars_takes s ins (token.Keyword keyword_.Par) start ls p rest h =
     })
 outs_or_pars_takes s ins _ start ls p rest h = absurd (no_value (fault.Grammar start) (p, rest) h)
 
-after_ins_takes : (s : Scope) (ins : List Name) (ls : List Lexeme) (p : Parts) (rest : List Lexeme)
+after_ins_takes : (s : Scope) (ins : List Name) (ls : List Lexeme) (p : HeadParts) (rest : List Lexeme)
     → after_ins s ins ls ≡ Ok (p, rest) → TakesAfterIns ins (kinds ls) p rest
 unfolding after_ins
 after_ins_takes s ins ls p rest h =
@@ -215,17 +215,17 @@ after_ins_takes s ins ls p rest h =
           (ap kinds (next_takes s m.0 x.0.0 x.0.1 x.1) ∙ found.spelled)
           ∙ spell_behind_ins p.outs p.pars (kinds rest) found.some;
     })
-    (λ stops e. moved (λ (q : Parts × List Lexeme). TakesAfterIns ins (kinds ls) q.0 q.1) (of_parts ins [] [], ls)
+    (λ stops e. moved (λ (q : HeadParts × List Lexeme). TakesAfterIns ins (kinds ls) q.0 q.1) (of_parts ins [] [], ls)
     (p, rest) e (record { same_ins = refl; spelled = refl }))
 
 -- without in ports
-from_outs : (s : Scope) (t : Token) (start : ℕ) (ls : List Lexeme) (p : Parts) (rest : List Lexeme)
+from_outs : (s : Scope) (t : Token) (start : ℕ) (ls : List Lexeme) (p : HeadParts) (rest : List Lexeme)
     → outs_or_pars s [] t start ls ≡ Ok (p, rest) → t ∷ kinds ls ≡ spell_parts p.ins p.outs p.pars (kinds rest)
 from_outs s t start ls p rest h =
     let found = outs_or_pars_takes s [] t start ls p rest h in
     found.spelled ∙ ap (λ (xs : List Name). spell_parts xs p.outs p.pars (kinds rest)) (sym found.same_ins)
 
-parts_behind_takes : (s : Scope) (t : Token) (start : ℕ) (ls : List Lexeme) (p : Parts) (rest : List Lexeme)
+parts_behind_takes : (s : Scope) (t : Token) (start : ℕ) (ls : List Lexeme) (p : HeadParts) (rest : List Lexeme)
     → parts_behind s t start ls ≡ Ok (p, rest) → t ∷ kinds ls ≡ spell_parts p.ins p.outs p.pars (kinds rest)
 unfolding parts_behind
 parts_behind_takes s (token.Keyword keyword_.In) start ls p rest h =
@@ -237,13 +237,13 @@ parts_behind_takes s (token.Keyword keyword_.In) start ls p rest h =
     ∙ ap (λ (xs : List Name). spell_parts xs p.outs p.pars (kinds rest)) (sym behind.same_ins)
 parts_behind_takes s t start ls p rest h = from_outs s t start ls p rest h
 
-pub parts_takes : (s : Scope) (ls : List Lexeme) (p : Parts) (rest : List Lexeme) → parts s ls ≡ Ok (p, rest)
+pub parts_takes : (s : Scope) (ls : List Lexeme) (p : HeadParts) (rest : List Lexeme) → parts s ls ≡ Ok (p, rest)
     → kinds ls ≡ spell_parts p.ins p.outs p.pars (kinds rest)
 unfolding parts
 parts_takes s ls p rest h =
     by_test (first_is (is_mark mark_.RightParen) ls) (Ok (of_parts [] [] [], ls))
     (and_then (next s ls) (λ x. parts_behind s x.0.token x.0.start x.1)) (Ok (p, rest)) h
-    (λ closes e. moved (λ (q : Parts × List Lexeme). kinds ls ≡ spell_parts q.0.ins q.0.outs q.0.pars (kinds q.1))
+    (λ closes e. moved (λ (q : HeadParts × List Lexeme). kinds ls ≡ spell_parts q.0.ins q.0.outs q.0.pars (kinds q.1))
     (of_parts [] [] [], ls) (p, rest) e refl)
     (λ goes e.
     let x = bind_ok _ _ _ e in
@@ -295,7 +295,7 @@ after_outs_again s ins outs (x ∷ xs) ls more h =
       n.2,
     )
 
-outs_at : (s : Scope) (ins outs : List Name) (t : Token) (start : ℕ) (a b : List Lexeme) (r : Read Parts)
+outs_at : (s : Scope) (ins outs : List Name) (t : Token) (start : ℕ) (a b : List Lexeme) (r : Read HeadParts)
     → t ≡ token.Keyword keyword_.Out → names s a ≡ Ok (outs, b) → after_outs s ins outs b ≡ r
     → outs_or_pars s ins t start a ≡ r
 unfolding outs_or_pars and_then
@@ -337,7 +337,7 @@ no_outs_at : (s : Scope) (ins : List Name) (ls : List Lexeme) → first_is semic
 unfolding after_ins
 no_outs_at s ins ls f = rw f refl
 
-behind_ins_at : (s : Scope) (ins : List Name) (ls a : List Lexeme) (l : Lexeme) (b : List Lexeme) (r : Read Parts)
+behind_ins_at : (s : Scope) (ins : List Name) (ls a : List Lexeme) (l : Lexeme) (b : List Lexeme) (r : Read HeadParts)
     → first_is semicolon ls ≡ true → mark s mark_.Semicolon ls ≡ Ok a → a ≡ l ∷ b
     → outs_or_pars s ins l.token l.start b ≡ r
     → after_ins s ins ls ≡ r
@@ -387,18 +387,18 @@ no_parts_at : (s : Scope) (ls : List Lexeme) → first_is closes ls ≡ true →
 unfolding parts
 no_parts_at s ls f = rw f refl
 
-some_parts_at : (s : Scope) (ls : List Lexeme) (l : Lexeme) (a : List Lexeme) (r : Read Parts)
+some_parts_at : (s : Scope) (ls : List Lexeme) (l : Lexeme) (a : List Lexeme) (r : Read HeadParts)
     → first_is closes ls ≡ false → ls ≡ l ∷ a → parts_behind s l.token l.start a ≡ r → parts s ls ≡ r
 unfolding parts and_then
 some_parts_at s ls l a r f e p = rw (f, e, next_again s l a) p
 
-ins_at : (s : Scope) (ins : List Name) (t : Token) (start : ℕ) (a b : List Lexeme) (r : Read Parts)
+ins_at : (s : Scope) (ins : List Name) (t : Token) (start : ℕ) (a b : List Lexeme) (r : Read HeadParts)
     → t ≡ token.Keyword keyword_.In → names s a ≡ Ok (ins, b) → after_ins s ins b ≡ r → parts_behind s t start a ≡ r
 unfolding parts_behind and_then
 ins_at s ins t start a b r k n e = rw (k, n) e
 
 -- without in ports
-no_ins_at : (s : Scope) (word : Keyword) (t : Token) (start : ℕ) (a : List Lexeme) (r : Read Parts)
+no_ins_at : (s : Scope) (word : Keyword) (t : Token) (start : ℕ) (a : List Lexeme) (r : Read HeadParts)
     → (word ≡ keyword_.Out) ⊎ (word ≡ keyword_.Par) → t ≡ token.Keyword word → outs_or_pars s [] t start a ≡ r
     → parts_behind s t start a ≡ r
 unfolding parts_behind

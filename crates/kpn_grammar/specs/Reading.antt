@@ -236,13 +236,13 @@ block s (suc d) ls = mark s mark_.LeftBrace ls >>= block_behind s (block s d)
 -- ---- processes
 
 -- the ports and parameters of a process
-pub record Parts : Type 0 where
+pub record HeadParts : Type 0 where
   pub ins : List Name
   pub outs : List Name
   pub pars : List Name
 
 -- [ ";" "par" names ] behind the ports
-unfoldable pub after_outs : Scope → List Name → List Name → List Lexeme → Read Parts
+unfoldable pub after_outs : Scope → List Name → List Name → List Lexeme → Read HeadParts
 after_outs s ins outs ls =
     if first_is (is_mark mark_.Semicolon) ls
     then (do
@@ -254,14 +254,14 @@ after_outs s ins outs ls =
 
 -- "out" names [ ";" "par" names ] or "par" names behind the in ports, from its first token on, which begins at this
 -- byte
-unfoldable pub outs_or_pars : Scope → List Name → Token → ℕ → List Lexeme → Read Parts
+unfoldable pub outs_or_pars : Scope → List Name → Token → ℕ → List Lexeme → Read HeadParts
 outs_or_pars s ins (token.Keyword keyword_.Out) start rest = names s rest >>= λ outs. after_outs s ins outs.0 outs.1
 outs_or_pars s ins (token.Keyword keyword_.Par) start rest =
     names s rest >>= λ pars. Ok (record { ins = ins; outs = []; pars = pars.0 }, pars.1)
 outs_or_pars s ins _ start rest = Err (fault.Grammar start)
 
 -- the same behind a semicolon, where one stands at the front
-unfoldable pub after_ins : Scope → List Name → List Lexeme → Read Parts
+unfoldable pub after_ins : Scope → List Name → List Lexeme → Read HeadParts
 after_ins s ins ls =
     if first_is (is_mark mark_.Semicolon) ls
     then (do
@@ -271,12 +271,12 @@ after_ins s ins ls =
     else Ok (record { ins = ins; outs = []; pars = [] }, ls)
 
 -- from its first token on, which begins at this byte
-unfoldable pub parts_behind : Scope → Token → ℕ → List Lexeme → Read Parts
+unfoldable pub parts_behind : Scope → Token → ℕ → List Lexeme → Read HeadParts
 parts_behind s (token.Keyword keyword_.In) start rest = names s rest >>= λ ins. after_ins s ins.0 ins.1
 parts_behind s t start rest = outs_or_pars s [] t start rest
 
 -- ports and parameters up to the closing parenthesis
-unfoldable pub parts : Scope → List Lexeme → Read Parts
+unfoldable pub parts : Scope → List Lexeme → Read HeadParts
 parts s ls =
     if first_is (is_mark mark_.RightParen) ls
     then Ok (record { ins = []; outs = []; pars = [] }, ls)

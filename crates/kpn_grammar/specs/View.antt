@@ -12,13 +12,13 @@ use Rattle.kpn_grammar.specs.declared.tree.Item.TheVariants as item
 use Rattle.kpn_grammar.specs.declared.tree.Literal.{Literal as LiteralCode}
 use Rattle.kpn_grammar.specs.declared.tree.Literal.TheVariants as literal
 use Rattle.kpn_grammar.specs.declared.tree.Network.{Network as NetworkCode}
-use Rattle.kpn_grammar.specs.declared.tree.Parts.{Parts as PartsCode}
+use Rattle.kpn_grammar.specs.declared.tree.HeadParts.{HeadParts as HeadPartsCode}
 use Rattle.kpn_grammar.specs.declared.tree.Process.{Process as ProcessCode}
 use Rattle.kpn_grammar.specs.declared.tree.Statement.{Statement as StatementCode, fold-Statement}
 use Rattle.kpn_grammar.specs.declared.tree.Statement.TheOpen.{Statement-F}
 use Rattle.kpn_grammar.specs.declared.fault.GrammarFault.{GrammarFault}
 use Rattle.kpn_grammar.specs.declared.parser.Scope.{Scope}
-use Rattle.kpn_grammar.specs.Reading.{Parts, Read, Gives}
+use Rattle.kpn_grammar.specs.Reading.{HeadParts, Read, Gives}
 use Rattle.kpn_grammar.specs.Syntax.{Name, Term, numeral, variable, minus, negation, binary, Statement, assign, receive, send, choice, loop, Statements, statements_of, Process, Literal, plain, negated, Instance, Item, channel, source, sink, instance, Network, Description}
 
 -- names as written
@@ -57,7 +57,7 @@ abbrev pub block_seen : List StatementCode → Statements
 block_seen ss = statements_of (statements_seen ss)
 
 -- ports and parameters
-abbrev pub parts_seen : PartsCode → Parts
+abbrev pub parts_seen : HeadPartsCode → HeadParts
 parts_seen p = record { ins = names_seen p.ins.items; outs = names_seen p.outs.items; pars = names_seen p.pars.items }
 
 -- the process that the code's process stands for

@@ -20,7 +20,7 @@ pub use fault::GrammarFault;
 pub use laws::{read_where_spelled, spelled_once};
 pub use operators::mark_of;
 pub use tree::{
-    Block, Description, Expression, Identifier, Instance, Item, Literal, Names, Network, Parts,
+    Block, Description, Expression, HeadParts, Identifier, Instance, Item, Literal, Names, Network,
     Process, Statement,
 };
 pub use whole::description;

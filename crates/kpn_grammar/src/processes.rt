@@ -8,7 +8,7 @@ use crate::blocks::block;
 use crate::fault::GrammarFault;
 use crate::lists::names;
 use crate::parser::{Read, Scope, Source, at_keyword, at_mark, keyword, mark, name, next};
-use crate::tree::{Names, Parts, Process};
+use crate::tree::{HeadParts, Names, Process};
 use kpn_limits::MAX_LEVELS;
 use kpn_tokens::{Keyword, Lexeme, Mark, Token};
 use std::alloc::Global;
@@ -21,19 +21,19 @@ fn after_outs<'a>(
     ins: Names<'a>,
     outs: Names<'a>,
     at: usize,
-) -> Read<Parts<'a>>
+) -> Read<HeadParts<'a>>
     ensures { Parses parts_seen
         (λ s. spec.after_outs s (names_seen ins.entry.items) (names_seen outs.entry.items))
         source.entry at result }
 {
     if !at_mark(source, Mark::Semicolon, at) {
         let pars = Vec::new(alloc);
-        return Ok((Parts { ins, outs, pars }, at));
+        return Ok((HeadParts { ins, outs, pars }, at));
     }
     let at = mark(source, Mark::Semicolon, at)?;
     let at = keyword(source, Keyword::Par, at)?;
     let (pars, at) = names(alloc, source, at)?;
-    Ok((Parts { ins, outs, pars }, at))
+    Ok((HeadParts { ins, outs, pars }, at))
 }
 
 /// The parts of a head behind the in ports, from the word that begins them on: out ports and
@@ -45,7 +45,7 @@ fn outs_or_pars<'a>(
     ins: Names<'a>,
     word: &'a Lexeme<'a>,
     at: usize,
-) -> Read<Parts<'a>>
+) -> Read<HeadParts<'a>>
     ensures { Parses parts_seen
         (λ s. spec.outs_or_pars s (names_seen ins.entry.items) word.now.token word.now.start)
         source.entry at result }
@@ -58,7 +58,7 @@ fn outs_or_pars<'a>(
         Token::Keyword(Keyword::Par) => {
             let outs = Vec::new(alloc);
             let (pars, at) = names(alloc, source, at)?;
-            Ok((Parts { ins, outs, pars }, at))
+            Ok((HeadParts { ins, outs, pars }, at))
         }
         _ => Err(GrammarFault::Grammar(word.start)),
     }
@@ -66,14 +66,19 @@ fn outs_or_pars<'a>(
 
 /// The parts of a head behind the in ports: more, where a semicolon stands.
 #[tactic(auto, unfolding(crate::specs::Reading::after_ins, kpn_tokens::specs::Results::and_then))]
-fn after_ins<'a>(alloc: Global, source: Source<'a>, ins: Names<'a>, at: usize) -> Read<Parts<'a>>
+fn after_ins<'a>(
+    alloc: Global,
+    source: Source<'a>,
+    ins: Names<'a>,
+    at: usize,
+) -> Read<HeadParts<'a>>
     ensures { Parses parts_seen
         (λ s. spec.after_ins s (names_seen ins.entry.items)) source.entry at result }
 {
     if !at_mark(source, Mark::Semicolon, at) {
         let outs = Vec::new(alloc);
         let pars = Vec::new(alloc);
-        return Ok((Parts { ins, outs, pars }, at));
+        return Ok((HeadParts { ins, outs, pars }, at));
     }
     let at = mark(source, Mark::Semicolon, at)?;
     let (word, at) = next(source, at)?;
@@ -87,7 +92,7 @@ fn parts_behind<'a>(
     source: Source<'a>,
     word: &'a Lexeme<'a>,
     at: usize,
-) -> Read<Parts<'a>>
+) -> Read<HeadParts<'a>>
     ensures { Parses parts_seen
         (λ s. spec.parts_behind s word.now.token word.now.start) source.entry at result }
 {
@@ -102,11 +107,11 @@ fn parts_behind<'a>(
 
 /// The ports and parameters up to the closing parenthesis.
 #[tactic(auto, unfolding(crate::specs::Reading::parts, kpn_tokens::specs::Results::and_then))]
-fn parts<'a>(alloc: Global, source: Source<'a>, at: usize) -> Read<Parts<'a>>
+fn parts<'a>(alloc: Global, source: Source<'a>, at: usize) -> Read<HeadParts<'a>>
     ensures { Parses parts_seen spec.parts source.entry at result }
 {
     if at_mark(source, Mark::RightParen, at) {
-        let parts = Parts {
+        let parts = HeadParts {
             ins: Vec::new(alloc),
             outs: Vec::new(alloc),
             pars: Vec::new(alloc),

@@ -62,7 +62,7 @@ pub type Names<'a> = Vec<Identifier<'a>>;
 
 /// The ports and parameters in the head of a process, each in order.
 #[derive(Debug, Drop)]
-pub struct Parts<'a> {
+pub struct HeadParts<'a> {
     pub ins: Names<'a>,
     pub outs: Names<'a>,
     pub pars: Names<'a>,
@@ -72,7 +72,7 @@ pub struct Parts<'a> {
 #[derive(Debug, Drop)]
 pub struct Process<'a> {
     pub name: Identifier<'a>,
-    pub parts: Parts<'a>,
+    pub parts: HeadParts<'a>,
     pub body: Block<'a>,
 }
 

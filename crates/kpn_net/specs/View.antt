@@ -23,7 +23,7 @@ tables_with programs instances channels limit =
     record { programs = programs; instances = instances; channels = channels; limit = limit }
 
 -- what the code keeps of a network: tables that keep the rules, and the writer and the reader of each channel
-pub record IsKept (t : Tables) (writing reading : List End) : Type 0 where
+pub record IsKeptNetwork (t : Tables) (writing reading : List End) : Type 0 where
   pub network : IsNetwork t
   pub writers : writing ≡ map (writer_of t) (channel_numbers t)
   pub readers : reading ≡ map (reader_of t) (channel_numbers t)

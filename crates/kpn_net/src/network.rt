@@ -33,7 +33,7 @@ impl Model for Network {
     ghost use Rattle.std.specs.Coded.{codes};
     ghost use Rattle.kpn_lang.specs.Codes.{parts_code};
     ghost use Rattle.kpn_net.specs.Tables.{Tables};
-    ghost use Rattle.kpn_net.specs.View.{tables_of, IsKept};
+    ghost use Rattle.kpn_net.specs.View.{tables_of, IsKeptNetwork};
 
     ghost Value = { Tables };
 
@@ -41,7 +41,7 @@ impl Model for Network {
 
     ghost view = { λ n. tables_of n.parts };
 
-    ghost invariant = { λ n. IsKept (tables_of n.parts) n.writers.items n.readers.items };
+    ghost invariant = { λ n. IsKeptNetwork (tables_of n.parts) n.writers.items n.readers.items };
 }
 
 impl Network {

@@ -10,7 +10,7 @@ use Rattle.kpn_lang.proofs.Prefixes.{same_from_prefix}
 use Rattle.kpn_net.specs.Tables.{Tables, channel_at, is_source}
 use Rattle.kpn_net.specs.Iteration.{given_by}
 use Rattle.kpn_trace.specs.declared.state.View.{View}
-use Rattle.kpn_pool.specs.Glimpse.{shown_on}
+use Rattle.kpn_pool.specs.Snapshot.{shown_on}
 use Rattle.kpn_parallel.specs.Fed.{IsFed, AreFedBelow}
 
 -- items that are found equal, one by one, begin the list

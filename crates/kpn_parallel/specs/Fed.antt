@@ -4,7 +4,7 @@ use Rattle.kpn_lang.specs.Prefix.{IsPrefix}
 use Rattle.kpn_net.specs.Tables.{Tables, channel_at, is_source}
 use Rattle.kpn_net.specs.Iteration.{given_by}
 use Rattle.kpn_trace.specs.declared.state.View.{View}
-use Rattle.kpn_pool.specs.Glimpse.{shown_on}
+use Rattle.kpn_pool.specs.Snapshot.{shown_on}
 
 -- a journal is what its list begins with, and all of it where that is asked
 pub record IsFed (wholly : Bool) (journal list : List ℤ) : Type 0 where

@@ -12,7 +12,7 @@ use Rattle.kpn_book.specs.Refusals.{AcceptsItem, RefusesFeed, RefusesClose, Refu
 use Rattle.kpn_pool.specs.declared.outside.SnapFault.{SnapFault}
 use Rattle.kpn_pool.specs.declared.outside.SnapFault.TheVariants as snap_fault
 use Rattle.kpn_pool.specs.declared.outside.SnapFault.TheVariants.{Foreign}
-use Rattle.kpn_pool.proofs.Glimpses.{source_there}
+use Rattle.kpn_pool.proofs.Snapshots.{source_there}
 use Rattle.kpn_pool.specs.Ends.{RefusesSnapshot, MayRefuseFeed, MayRefuseEnd, MayRefuseTake, MayRefuseSnapshot}
 
 -- the network and the number of commits are the same

@@ -1,4 +1,4 @@
-pub mod Glimpses
+pub mod Snapshots
 pub mod Keeping
 pub mod Recording
 pub mod Seating

@@ -36,7 +36,7 @@ halted d = record d { halts = true }
 -- ---- why a worker ends
 
 -- the run goes on: the workers are not told to end, and something can still happen
-pub record GoesOn (d : Desk) : Type 0 where
+pub record IsOngoing (d : Desk) : Type 0 where
   pub on : d.halts ≡ false
   pub unsettled : ¬ IsSettled d.book.tables d.book.history
 
@@ -45,6 +45,6 @@ pub record GoesOn (d : Desk) : Type 0 where
 abbrev pub IsReason : Desk → (most : ℕ) → Option Why → Type 0
 IsReason d most (Some Halted) = d.halts ≡ true
 IsReason d most (Some Settled) = (d.halts ≡ false) × IsSettled d.book.tables d.book.history
-IsReason d most (Some Limit) = GoesOn d × (most ≤ d.book.commits)
+IsReason d most (Some Limit) = IsOngoing d × (most ≤ d.book.commits)
 IsReason d most (Some why) = ⊥
-IsReason d most None = GoesOn d × (d.book.commits < most)
+IsReason d most None = IsOngoing d × (d.book.commits < most)

@@ -1,5 +1,5 @@
 pub mod Desk
 pub mod Seat
-pub mod Glimpse
-pub mod Headline
+pub mod Snapshot
+pub mod Invariant
 pub mod Ends

@@ -11,8 +11,8 @@ ghost use Rattle.kpn_book.specs.Kept.{IsBook};
 ghost use Rattle.kpn_book.specs.Refusals.{RefusesPutBack};
 ghost use Rattle.kpn_book.specs.Stepping.{ClaimsNobody};
 ghost use Rattle.kpn_pool.specs.Desk.{with_book, halted, IsReason};
-ghost use Rattle.kpn_pool.specs.Glimpse.{ShowsARun, ShowsJournals, IsBelowKahn, IsKahnAtRest};
-ghost use Rattle.kpn_pool.specs.Headline.{AreBelowLeast, AreReadThenQueued, AreWithinCapacity, AreBlockedCounts, AreOwedGrowths, AreLeastWhenQuiet, HasNoneLeftToGrow};
+ghost use Rattle.kpn_pool.specs.Snapshot.{ShowsARun, ShowsJournals, IsBelowKahn, IsKahnAtRest};
+ghost use Rattle.kpn_pool.specs.Invariant.{AreBelowLeast, AreReadThenQueued, AreWithinCapacity, AreBlockedCounts, AreOwedGrowths, AreLeastWhenQuiet, HasNoneLeftToGrow};
 
 use crate::crew::Crew;
 use crate::job::Job;

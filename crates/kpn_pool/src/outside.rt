@@ -4,7 +4,7 @@ ghost use Rattle.kpn_lang.specs.Prefix.{IsPrefix};
 ghost use Rattle.kpn_net.specs.Tables.{channel_at, is_source, is_sink};
 ghost use Rattle.kpn_pool.specs.declared.outside.SnapFault.TheVariants.{NoMemory};
 ghost use Rattle.kpn_pool.specs.Ends.{with_item, with_taken, FeedsUntil, MayRefuseFeed, MayRefuseEnd, MayRefuseTake, MayRefuseSnapshot};
-ghost use Rattle.kpn_pool.specs.Glimpse.{ShowsARun, shown_on, IsBelowKahn, IsKahnAtRest};
+ghost use Rattle.kpn_pool.specs.Snapshot.{ShowsARun, shown_on, IsBelowKahn, IsKahnAtRest};
 
 use crate::ends::{SinkSeat, SourceSeat};
 use crate::job::Job;

@@ -3,7 +3,7 @@ ghost use Rattle.std.specs.Prelude.{◌≡◌, ◌<◌, ◌≤◌, IfOk, IfSome,
 ghost use Rattle.kpn_step.specs.Frame.{fits};
 ghost use Rattle.kpn_net.specs.Tables.{is_source, is_sink};
 ghost use Rattle.kpn_pool.specs.Ends.{new_ends};
-ghost use Rattle.kpn_pool.specs.Glimpse.{ShowsARun, IsBelowKahn, IsKahnAtRest};
+ghost use Rattle.kpn_pool.specs.Snapshot.{ShowsARun, IsBelowKahn, IsKahnAtRest};
 ghost use Rattle.kpn_pool.specs.Seat.{AreNewSeats, ended};
 
 use crate::desk::Desk;

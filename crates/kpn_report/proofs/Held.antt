@@ -329,4 +329,4 @@ pub held_after_step : (quota : ℕ) (answer : Done) (before after : Book) → Is
     → StepsNext quota answer before after → held_count after ≡ held_count before
 held_after_step quota answer before after book steps =
     held_by_answer before book steps.process steps.between steps.steps.claimed steps.advance after steps.advance.stop
-    answer steps.commits.settles.events steps.commits.settles.answers steps.commits.settles.appends
+    answer steps.commits.handles.events steps.commits.handles.answers steps.commits.handles.appends

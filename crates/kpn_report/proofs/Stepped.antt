@@ -62,7 +62,7 @@ IsLater-events before after es tables history = record {
 
 module _ (quota : ℕ) (answer : Done) (before after : Book) (steps : StepsNext quota answer before after) where
   abbrev events : List Event
-  events = steps.commits.settles.events
+  events = steps.commits.handles.events
 
   abbrev stood : Book
   stood = standing_at steps.process steps.advance.to steps.between
@@ -160,7 +160,7 @@ stepped quota (Some answer) before after was is held some steps = (
   },
   sinks_by before after was is (step_tables quota answer before after steps)
       (stood quota answer before after steps) steps.process steps.advance.stop (events quota answer before after steps)
-      (step_history quota answer before after steps) answer steps.commits.settles.answers,
+      (step_history quota answer before after steps) answer steps.commits.handles.answers,
 )
 
 -- ---- nothing was put on a sink

@@ -20,12 +20,12 @@ use Rattle.kpn_step.specs.declared.stop.Stop.TheVariants.{WantRead, WantWrite, D
 use Rattle.kpn_step.specs.Frame.{Frame, start_frame, passed}
 use Rattle.kpn_step.specs.Residual.{residual}
 use Rattle.kpn_step.specs.Stops.{StandsAt, IsGiven, Advanced, IsAdvance}
-use Rattle.kpn_step.specs.After.{GoesOnAs, Leaves, IsAfter, SaysNext, EndsThere}
+use Rattle.kpn_step.specs.After.{GoesOnAs, IsRestAfter, IsAfter, SaysNext, EndsThere}
 use Rattle.kpn_step.proofs.Walked.{GoesOnAs-same, GoesOnAs-said, GoesOnAs-trans, SaysTheSame-start}
 
 -- ---- what the talk took from the lists
 
-same_families : (lists rest : Lists) → Leaves [] lists rest → rest ≡ lists
+same_families : (lists rest : Lists) → IsRestAfter [] lists rest → rest ≡ lists
 same_families lists rest l =
     same_lists rest lists l.ports (λ k d h. at k d h)
   where
@@ -36,9 +36,9 @@ same_families lists rest l =
         get_or-there xs k d h = get_or_default xs k d [] h
 
 -- one thing that was put takes nothing
-Leaves-put : (talk : List Said) (o : ℕ) (v : ℤ) (lists rest : Lists) → Leaves (talk ++ Put o v ∷ []) lists rest →
-    Leaves talk lists rest
-Leaves-put talk o v lists rest l =
+IsRestAfter-put : (talk : List Said) (o : ℕ) (v : ℤ) (lists rest : Lists) →
+    IsRestAfter (talk ++ Put o v ∷ []) lists rest → IsRestAfter talk lists rest
+IsRestAfter-put talk o v lists rest l =
     record {
       ports = l.ports;
       each = λ port. l.each port ∙ ap (λ xs. xs ++ list_at rest port)
@@ -65,17 +65,17 @@ nonempty : (xs ys : List ℤ) (v : ℤ) → (w : ℤ) × (items : List ℤ) × (
 nonempty [] ys v = (v, ys, refl)
 nonempty (x ∷ xs) ys v = (x, (xs ++ v ∷ []) ++ ys, refl)
 
-got_within : (talk : List Said) (port : ℕ) (v : ℤ) (lists rest : Lists) → Leaves (talk ++ Got port v ∷ []) lists rest →
-    port < length rest
+got_within : (talk : List Said) (port : ℕ) (v : ℤ) (lists rest : Lists) →
+    IsRestAfter (talk ++ Got port v ∷ []) lists rest → port < length rest
 got_within talk port v lists rest l =
     let some = nonempty (got_at talk port) (list_at rest port) v in
     let there = port_is_there lists port some.0 some.1
     (l.each port ∙ ap (λ xs. xs ++ list_at rest port) (got_there talk port v) ∙ some.2) in
     omega (arith, l.ports)
 
-Leaves-got : (talk : List Said) (port : ℕ) (v : ℤ) (lists rest : Lists) → Leaves (talk ++ Got port v ∷ []) lists rest →
-    Leaves talk lists (before_got port v rest)
-Leaves-got talk port v lists rest l =
+IsRestAfter-got : (talk : List Said) (port : ℕ) (v : ℤ) (lists rest : Lists) →
+    IsRestAfter (talk ++ Got port v ∷ []) lists rest → IsRestAfter talk lists (before_got port v rest)
+IsRestAfter-got talk port v lists rest l =
     record {
       ports = length-set rest port (v ∷ list_at rest port) ∙ l.ports;
       each = λ other. elim (cases_eq other port) [
@@ -137,7 +137,7 @@ IsAfter-got parts pars talk f g port v h at given =
           set-set rest port (v ∷ list_at rest port) (list_at rest port) ∙ set-get_or rest port [] in
           let same = given port at.0 at.1.statement in
           GoesOnAs-trans p q r lists before rest talk (Got port v ∷ [])
-          (h.goes_on lists before (Leaves-got talk port v lists rest l))
+          (h.goes_on lists before (IsRestAfter-got talk port v lists rest l))
           (GoesOnAs-said q r before rest (Got port v) (λ n.
           at.1.got n before v (list_at rest port) first
           ∙ ap (λ s. says (Got port v) (residual parts.blocks s n (set before port (list_at rest port)))) (sym same)
@@ -153,7 +153,7 @@ IsAfter-put parts pars talk f port v h at =
           let q = residual parts.blocks f in
           let r = residual parts.blocks (passed f) in
           GoesOnAs-trans (alone parts pars) q r lists rest rest talk (Put port v ∷ [])
-          (h.goes_on lists rest (Leaves-put talk port v lists rest l))
+          (h.goes_on lists rest (IsRestAfter-put talk port v lists rest l))
           (GoesOnAs-said q r rest rest (Put port v) (λ n. at.put n rest));
     }
 
@@ -313,21 +313,21 @@ module _ (blocks : List (List Statement)) (f : Frame) (rest : Lists) where
 -- ---- what the program can say and come to after its talk
 
 pub talk_said : (parts : Parts) (pars : List ℤ) (talk : List Said) (f : Frame) (lists rest : Lists) →
-    IsAfter parts pars talk f → Leaves talk lists rest → CanSay (alone parts pars) lists talk
+    IsAfter parts pars talk f → IsRestAfter talk lists rest → CanSay (alone parts pars) lists talk
 talk_said parts pars talk f lists rest h l =
     subst (CanSay (alone parts pars) lists) (append-nil talk)
     ((h.goes_on lists rest l).can [] (record { turns = 0; said = tt }))
 
 pub next_said : (parts : Parts) (pars : List ℤ) (talk : List Said) (f : Frame) (stop : Stop) (lists rest : Lists)
-    (said : Said) → IsAfter parts pars talk f → StandsAt parts.blocks f stop → stop ≢ Paused → Leaves talk lists rest →
-    (CanSay (alone parts pars) lists (talk ++ said ∷ []) ↔ SaysNext stop rest said)
+    (said : Said) → IsAfter parts pars talk f → StandsAt parts.blocks f stop → stop ≢ Paused →
+    IsRestAfter talk lists rest → (CanSay (alone parts pars) lists (talk ++ said ∷ []) ↔ SaysNext stop rest said)
 next_said parts pars talk f stop lists rest said h at whole l =
     both_ways _ _ _ ((h.goes_on lists rest l).could (said ∷ []), (h.goes_on lists rest l).can (said ∷ []))
     (says_at parts.blocks f rest stop at whole said)
 
 pub end_reached : (parts : Parts) (pars : List ℤ) (talk : List Said) (f : Frame) (stop : Stop) (lists rest : Lists)
     (end : Ending) → IsAfter parts pars talk f → StandsAt parts.blocks f stop → stop ≢ Paused →
-    Leaves talk lists rest → (ComesTo (alone parts pars) lists end talk ↔ EndsThere stop rest end)
+    IsRestAfter talk lists rest → (ComesTo (alone parts pars) lists end talk ↔ EndsThere stop rest end)
 end_reached parts pars talk f stop lists rest end h at whole l =
     subst (λ t. ComesTo (alone parts pars) lists end t ↔ EndsThere stop rest end) (append-nil talk)
     (both_ways _ _ _ ((h.goes_on lists rest l).came end [], (h.goes_on lists rest l).comes end [])

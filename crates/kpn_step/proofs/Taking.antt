@@ -3,13 +3,13 @@ use Rattle.std.proofs.Common.{◌≡◌, ℕ, ◌+◌, ℤ, List, ◌∷◌, len
 use Rattle.kpn_lang.specs.Run.{Lists, list_at}
 use Rattle.kpn_lang.specs.Plain.{remaining}
 use Rattle.kpn_lang.proofs.Remaining.{list_at-remaining, remaining-set}
-use Rattle.kpn_step.specs.Taken.{Takes}
+use Rattle.kpn_step.specs.Taken.{TakesFromList}
 use Rattle.kpn_step.proofs.Blocks.{drop_at_some, drop_at_none}
 
-Takes-some : (lists : Lists) (taken : List ℕ) (port : ℕ) (v : ℤ) → length taken ≡ length lists →
+TakesFromList-some : (lists : Lists) (taken : List ℕ) (port : ℕ) (v : ℤ) → length taken ≡ length lists →
     Some v ≡ slice_get (list_at lists port) (get_or taken port 0) →
-    Takes port (remaining lists taken) (Some v) (remaining lists (set taken port (get_or taken port 0 + 1)))
-Takes-some lists taken port v e at =
+    TakesFromList port (remaining lists taken) (Some v) (remaining lists (set taken port (get_or taken port 0 + 1)))
+TakesFromList-some lists taken port v e at =
     let n = get_or taken port 0 in
     let rest = drop (n + 1) (list_at lists port) in
     let first : list_at (remaining lists taken) port ≡ v ∷ rest =
@@ -21,16 +21,16 @@ Takes-some lists taken port v e at =
     )
 
 -- of the counts that the code reads
-pub Takes-none_read : (lists : Lists) (taken shown : List ℕ) (port : ℕ) → shown ≡ taken → length taken ≡ length lists →
-    None ≡ slice_get (list_at lists port) (get_or shown port 0) →
-    Takes port (remaining lists taken) None (remaining lists taken)
-Takes-none_read lists taken shown port same e at =
+pub TakesFromList-none_read : (lists : Lists) (taken shown : List ℕ) (port : ℕ) → shown ≡ taken →
+    length taken ≡ length lists → None ≡ slice_get (list_at lists port) (get_or shown port 0) →
+    TakesFromList port (remaining lists taken) None (remaining lists taken)
+TakesFromList-none_read lists taken shown port same e at =
     let none = at ∙ ap (λ counts. slice_get (list_at lists port) (get_or counts port 0)) same in
     (list_at-remaining lists taken port e ∙ drop_at_none (list_at lists port) (get_or taken port 0) (sym none), refl)
 
-pub Takes-some_read : (lists : Lists) (taken shown : List ℕ) (port : ℕ) (v : ℤ) → shown ≡ taken →
+pub TakesFromList-some_read : (lists : Lists) (taken shown : List ℕ) (port : ℕ) (v : ℤ) → shown ≡ taken →
     length taken ≡ length lists → Some v ≡ slice_get (list_at lists port) (get_or shown port 0) →
-    Takes port (remaining lists taken) (Some v) (remaining lists (set taken port (get_or shown port 0 + 1)))
-Takes-some_read lists taken shown port v same e at =
+    TakesFromList port (remaining lists taken) (Some v) (remaining lists (set taken port (get_or shown port 0 + 1)))
+TakesFromList-some_read lists taken shown port v same e at =
     let some = at ∙ ap (λ counts. slice_get (list_at lists port) (get_or counts port 0)) same in
-    rw same (Takes-some lists taken port v e some)
+    rw same (TakesFromList-some lists taken port v e some)

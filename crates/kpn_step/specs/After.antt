@@ -24,14 +24,14 @@ pub record GoesOnAs (process : Process) (lists : Lists) (talk : List Said) (othe
       ComesTo other rest ending more
 
 -- each list is the items that the talk got from it, and then those that remain
-pub record Leaves (talk : List Said) (lists rest : Lists) : Type 0 where
+pub record IsRestAfter (talk : List Said) (lists rest : Lists) : Type 0 where
   pub ports : length rest ≡ length lists
   pub each : (port : ℕ) → list_at lists port ≡ got_at talk port ++ list_at rest port
 
 -- the frame is where a program with these parameters stands after this talk: whatever items follow those that it got,
 -- the program goes on as the frame's residual does on them
 pub record IsAfter (parts : Parts) (pars : List ℤ) (talk : List Said) (f : Frame) : Type 0 where
-  pub goes_on : (lists rest : Lists) → Leaves talk lists rest →
+  pub goes_on : (lists rest : Lists) → IsRestAfter talk lists rest →
       GoesOnAs (alone parts pars) lists talk (residual parts.blocks f) rest
 
 -- what a process says next that stands at a stop, where this remains of its lists

@@ -8,9 +8,9 @@ use Rattle.kpn_step.specs.declared.stop.AloneStop.{AloneStop}
 use Rattle.kpn_step.specs.declared.stop.AloneStop.TheVariants.{Done, Faulted, Starved, Paused}
 
 -- the first item of a list is taken, if there is one
-abbrev pub Takes : (port : ℕ) → Lists → Option ℤ → Lists → Type 0
-Takes port lists None rest = (list_at lists port ≡ []) × (rest ≡ lists)
-Takes port lists (Some v) rest =
+abbrev pub TakesFromList : (port : ℕ) → Lists → Option ℤ → Lists → Type 0
+TakesFromList port lists None rest = (list_at lists port ≡ []) × (rest ≡ lists)
+TakesFromList port lists (Some v) rest =
     (items : List ℤ) × (list_at lists port ≡ v ∷ items) × (rest ≡ slice_set lists port items)
 
 -- how the process ends at a stop where it says nothing

@@ -32,12 +32,13 @@ Walks blocks k f lists (said ∷ talk) g rest =
 
 -- what a process alone comes to after its talk; where it was paused it can say the talk, it would go on to make a step,
 -- and the quota is used up
-abbrev pub IsOutcome : Parts → List ℤ → Lists → (used_up : Type 0) → Frame → List Said → AloneStop → Type 0
-IsOutcome parts pars lists used_up to talk Done = ComesTo (alone parts pars) lists ending.Done talk
-IsOutcome parts pars lists used_up to talk (Faulted fault) =
+abbrev pub IsAloneOutcome : Parts → List ℤ → Lists → (used_up : Type 0) → Frame → List Said → AloneStop → Type 0
+IsAloneOutcome parts pars lists used_up to talk Done = ComesTo (alone parts pars) lists ending.Done talk
+IsAloneOutcome parts pars lists used_up to talk (Faulted fault) =
     ComesTo (alone parts pars) lists (ending.Faulted fault) talk
-IsOutcome parts pars lists used_up to talk (Starved port) = ComesTo (alone parts pars) lists (ending.Starved port) talk
-IsOutcome parts pars lists used_up to talk Paused =
+IsAloneOutcome parts pars lists used_up to talk (Starved port) =
+    ComesTo (alone parts pars) lists (ending.Starved port) talk
+IsAloneOutcome parts pars lists used_up to talk Paused =
     CanSay (alone parts pars) lists talk × IsBetween (step_of parts.blocks to) × used_up
 
 -- a program stepped alone from its start: no more steps than the quota, in which this is said, and how it ends
@@ -48,4 +49,4 @@ pub record AloneGives (parts : Parts) (pars : List ℤ) (lists : Lists) (quota :
   pub to : Frame
   pub rest : Lists
   pub walk : Walks parts.blocks steps (start_frame parts pars) lists talk to rest
-  pub outcome : IsOutcome parts pars lists (steps ≡ quota) to talk stop
+  pub outcome : IsAloneOutcome parts pars lists (steps ≡ quota) to talk stop

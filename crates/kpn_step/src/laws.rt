@@ -11,7 +11,7 @@ ghost use Rattle.kpn_step.specs.declared.stop.Stop.{Stop};
 ghost use Rattle.kpn_step.specs.declared.stop.Stop.TheVariants.{WantRead, WantWrite, Paused};
 ghost use Rattle.kpn_step.specs.Frame.{Frame, start_frame, passed};
 ghost use Rattle.kpn_step.specs.Stops.{StandsAt, IsGiven, Advanced, IsAdvance};
-ghost use Rattle.kpn_step.specs.After.{Leaves, IsAfter, SaysNext, EndsThere};
+ghost use Rattle.kpn_step.specs.After.{IsRestAfter, IsAfter, SaysNext, EndsThere};
 
 /// The frame of a process after its talk: the start before it said anything, kept by an advance, and taken on by an
 /// item that it is given and by one that it wrote.
@@ -34,16 +34,16 @@ pub fn after_talk()
 /// item that remains at the port, or it starves; at a write its item; else nothing.
 pub fn says_what_stands()
     ensures talk { (parts : Parts) (pars : List ℤ) (talk : List Said) (f : Frame)
-        → (lists rest : Lists) → IsAfter parts pars talk f → Leaves talk lists rest
+        → (lists rest : Lists) → IsAfter parts pars talk f → IsRestAfter talk lists rest
         → CanSay (alone parts pars) lists talk }
     ensures said { (parts : Parts) (pars : List ℤ) (talk : List Said) (f : Frame) (stop : Stop)
         → (lists rest : Lists) (said : Said)
         → IsAfter parts pars talk f → StandsAt parts.blocks f stop → stop ≢ Paused
-        → Leaves talk lists rest
+        → IsRestAfter talk lists rest
         → (CanSay (alone parts pars) lists (talk ++ said ∷ []) ↔ SaysNext stop rest said) }
     ensures ended { (parts : Parts) (pars : List ℤ) (talk : List Said) (f : Frame) (stop : Stop)
         → (lists rest : Lists) (ending : Ending)
         → IsAfter parts pars talk f → StandsAt parts.blocks f stop → stop ≢ Paused
-        → Leaves talk lists rest
+        → IsRestAfter talk lists rest
         → (ComesTo (alone parts pars) lists ending talk ↔ EndsThere stop rest ending) }
 {}

@@ -5,7 +5,7 @@ ghost use Rattle.kpn_lang.specs.Plain.{remaining};
 ghost use Rattle.kpn_step.specs.Frame.{fits};
 ghost use Rattle.kpn_step.specs.Stops.{StandsAt};
 ghost use Rattle.kpn_step.specs.Walk.{AloneGives, Speaks};
-ghost use Rattle.kpn_step.specs.Taken.{Takes, EndsAs};
+ghost use Rattle.kpn_step.specs.Taken.{TakesFromList, EndsAs};
 
 use crate::alone_run::AloneRun;
 use crate::element::set_element;
@@ -90,7 +90,7 @@ fn next_item(
 ) -> Option<i64>
     requires port { port < length lists.now }
     requires taken { array_vec_len taken.old ≡ length lists.now }
-    ensures takes { Takes port (remaining lists.now taken.old.items) result
+    ensures takes { TakesFromList port (remaining lists.now taken.old.items) result
         (remaining lists.now taken.new.items) }
     ensures taken { array_vec_len taken.new ≡ array_vec_len taken.old }
 {

@@ -15,7 +15,7 @@ use Rattle.kpn_tokens.specs.declared.tokens.Mark.TheVariants as mark
 use Rattle.kpn_tokens.specs.declared.tokens.Token.{Token}
 use Rattle.kpn_tokens.specs.declared.tokens.Token.TheVariants as token
 use Rattle.kpn_tokens.specs.Lexing.{is_white_space, is_in, cons_lexeme, scan}
-use Rattle.kpn_tokens.specs.Laws.{Parts, WhiteSpaceParts, followed_by}
+use Rattle.kpn_tokens.specs.Laws.{Separates, WhiteSpaceSeparates, followed_by}
 use Rattle.kpn_tokens.specs.Rules.{Stops, EndsBefore, MarkEnds, BeginsNothing, Reads, done, white, comment, spelled, nothing, bad_number, long_name}
 use Rattle.kpn_tokens.specs.Spelling.{mark_bytes}
 use Rattle.kpn_tokens.proofs.Follows.{scan_rules}
@@ -82,8 +82,8 @@ nothing_before b bs w more e none = record {
 }
 
 -- what stands further on is parted too
-parts_back : (w : ℕ) (front back : List ℕ) → Parts w (front ++ back) → Parts w back
-parts_back w front back parts =
+separates_back : (w : ℕ) (front back : List ℕ) → Separates w (front ++ back) → Separates w back
+separates_back w front back parts =
     let test : ℕ → Bool = λ b. not (b == 35) in (
       parts.0,
       ⊎_elim (λ feed. inl feed) (λ plain. inr (and_parts (list_all test front) (list_all test back)
@@ -91,7 +91,7 @@ parts_back w front back parts =
     )
 
 -- a comment is ended by a line feed alone, and stands in no text without `#`
-comment_stops_before : (w : ℕ) (said rest more : List ℕ) → Parts w ((35 ∷ said) ++ rest) → Stops class.Comment rest
+comment_stops_before : (w : ℕ) (said rest more : List ℕ) → Separates w ((35 ∷ said) ++ rest) → Stops class.Comment rest
     → Stops class.Comment (rest ++ w ∷ more)
 comment_stops_before w said rest more parts stops =
     let Q : ℕ → Type 0 = λ b. is_in class.Comment b ≡ false in
@@ -116,24 +116,24 @@ regrouped {place} {r} front rest more reads = subst (λ (l : List ℕ). Reads pl
 
 -- what the rules say of a text that white space parts
 parted : {place : ℕ} {before : List ℕ} {r : Result (List Lexeme) LexFault} → Reads place before r
-    → (w q : ℕ) (rest : List ℕ) (x : Result (List Lexeme) LexFault) → Parts w before → q ≡ place + length before + 1
+    → (w q : ℕ) (rest : List ℕ) (x : Result (List Lexeme) LexFault) → Separates w before → q ≡ place + length before + 1
     → Reads q rest x → Reads place (before ++ w ∷ rest) (followed_by r x)
 parted {place} done w q rest x parts at more =
     let P : ℕ → Type 0 = λ p. Reads p rest x in
     let here : Reads place (w ∷ rest) x = white parts.0 (subst P (omega arith) more) in
     subst (λ (r : Result (List Lexeme) LexFault). Reads place (w ∷ rest) r) (followed_by-nil x) here
 parted (white {b} {rest = back} e tail) w q rest x parts at more =
-    white e (parted tail w q rest x (parts_back w (b ∷ []) back parts) (omega arith) more)
+    white e (parted tail w q rest x (separates_back w (b ∷ []) back parts) (omega arith) more)
 parted (comment said back all stops tail) w q rest x parts at more =
     regrouped (35 ∷ said) back (w ∷ rest) (comment said (back ++ w ∷ rest) all
     (comment_stops_before w said back rest parts stops)
-    (parted tail w q rest x (parts_back w (35 ∷ said) back parts) (omega (arith, length-append said back))
+    (parted tail w q rest x (separates_back w (35 ∷ said) back parts) (omega (arith, length-append said back))
     more))
 parted {place} (spelled t bytes back {r} is ends tail) w q rest x parts at more =
     let l : Lexeme = record { token = t; start = place } in
     subst (λ (r : Result (List Lexeme) LexFault). Reads place (bytes ++ back ++ w ∷ rest) r) (followed_by-cons l r x)
     (regrouped bytes back (w ∷ rest) (spelled t bytes (back ++ w ∷ rest) is (ends_before t w back rest parts.0 ends)
-    (parted tail w q rest x (parts_back w bytes back parts) (omega (arith, length-append bytes back)) more)))
+    (parted tail w q rest x (separates_back w bytes back parts) (omega (arith, length-append bytes back)) more)))
 parted (nothing {b} {bs} none) w q rest x parts at more = nothing (nothing_before b bs w rest parts.0 none)
 parted (bad_number digits back all some stops bad) w q rest x parts at more =
     regrouped digits back (w ∷ rest) (bad_number digits (back ++ w ∷ rest) all some
@@ -142,7 +142,7 @@ parted (long_name word back is stops long) w q rest x parts at more =
     regrouped word back (w ∷ rest) (long_name word (back ++ w ∷ rest) is
     (stops_before class.Word w back rest (no_word_byte w parts.0) stops) long)
 
-pub white_space_parts : WhiteSpaceParts
-white_space_parts place w before rest parts =
+pub white_space_separates : WhiteSpaceSeparates
+white_space_separates place w before rest parts =
     let q = place + length before + 1 in
     rules_scan (parted (scan_rules place before) w q rest (scan 0 q rest) parts refl (scan_rules q rest))

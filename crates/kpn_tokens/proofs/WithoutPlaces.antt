@@ -15,11 +15,11 @@ use Rattle.kpn_tokens.specs.declared.lexer.Piece.{Piece}
 use Rattle.kpn_tokens.specs.declared.lexer.Piece.TheVariants as piece
 use Rattle.kpn_tokens.specs.declared.tokens.Lexeme.{Lexeme}
 use Rattle.kpn_tokens.specs.declared.tokens.Token.{Token}
-use Rattle.kpn_tokens.specs.Laws.{DecimalIsSpelled, EmptyTextHasNoTokens, HasSpelling, ReadTokensAreSpelled, SpelledTokenIsRead, TokensKeepTheirKind, WhiteSpaceIsDropped, WhiteSpacePartsTokens, append_tokens, cons_token, followed_by, tokens_in, tokens_of}
+use Rattle.kpn_tokens.specs.Laws.{DecimalIsSpelled, EmptyTextHasNoTokens, HasSpelling, ReadTokensAreSpelled, SpelledTokenIsRead, TokensKeepTheirKind, WhiteSpaceIsDropped, WhiteSpaceSeparatesTokens, append_tokens, cons_token, followed_by, tokens_in, tokens_of}
 use Rattle.kpn_tokens.specs.Lexing.{after, cons_lexeme, piece_of, scan}
 use Rattle.kpn_tokens.specs.Rules.{AllIn, Reads, done, white, comment, spelled, nothing, bad_number, long_name}
 use Rattle.kpn_tokens.proofs.Follows.{scan_rules}
-use Rattle.kpn_tokens.proofs.Parting.{white_space_parts}
+use Rattle.kpn_tokens.proofs.Parting.{white_space_separates}
 use Rattle.kpn_tokens.proofs.TokenLaws.{scan_spelled, scan_white}
 
 tokens_in-cons : (l : Lexeme) (r : Result (List Lexeme) LexFault)
@@ -70,10 +70,10 @@ pub white_dropped : WhiteSpaceIsDropped
 unfolding tokens_of
 white_dropped w rest e = ap tokens_in (scan_white 0 w rest e) ∙ scan_kind 0 (0 + 1) 0 rest
 
-pub white_parts : WhiteSpacePartsTokens
+pub white_separates : WhiteSpaceSeparatesTokens
 unfolding tokens_of
-white_parts w before rest parts =
-    ap tokens_in (white_space_parts 0 w before rest parts)
+white_separates w before rest parts =
+    ap tokens_in (white_space_separates 0 w before rest parts)
     ∙ tokens_in-followed_by (scan 0 0 before) (scan 0 (0 + length before + 1) rest)
     ∙ ap (λ ts. append_tokens (tokens_in (scan 0 0 before)) ts) (scan_kind 0 (0 + length before + 1) 0 rest)
 

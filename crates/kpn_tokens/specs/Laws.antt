@@ -27,12 +27,12 @@ followed_by (Ok front) (Err fault) = Err fault
 followed_by (Err fault) r = Err fault
 
 -- A byte of white space ends what stands before it, where that is no comment; a line feed ends a comment too.
-abbrev pub Parts : ℕ → List ℕ → Type 0
-Parts w before = (is_white_space w ≡ true) × ((w ≡ 10) ⊎ (list_all (λ b. not (b == 35)) before ≡ true))
+abbrev pub Separates : ℕ → List ℕ → Type 0
+Separates w before = (is_white_space w ≡ true) × ((w ≡ 10) ⊎ (list_all (λ b. not (b == 35)) before ≡ true))
 
 -- What stands before such a byte is read by itself, and then what stands after it.
-abbrev pub WhiteSpaceParts : Type 0
-WhiteSpaceParts = (place w : ℕ) (before rest : List ℕ) → Parts w before
+abbrev pub WhiteSpaceSeparates : Type 0
+WhiteSpaceSeparates = (place w : ℕ) (before rest : List ℕ) → Separates w before
     → scan 0 place (before ++ w ∷ rest) ≡ followed_by (scan 0 place before) (scan 0 (place + length before + 1) rest)
 
 -- the tokens without their places; nothing where there is a fault
@@ -73,8 +73,8 @@ abbrev pub WhiteSpaceIsDropped : Type 0
 WhiteSpaceIsDropped = (w : ℕ) (rest : List ℕ) → is_white_space w ≡ true → tokens_of (w ∷ rest) ≡ tokens_of rest
 
 -- White space parts the tokens of a text.
-abbrev pub WhiteSpacePartsTokens : Type 0
-WhiteSpacePartsTokens = (w : ℕ) (before rest : List ℕ) → Parts w before
+abbrev pub WhiteSpaceSeparatesTokens : Type 0
+WhiteSpaceSeparatesTokens = (w : ℕ) (before rest : List ℕ) → Separates w before
     → tokens_of (before ++ w ∷ rest) ≡ append_tokens (tokens_of before) (tokens_of rest)
 
 -- A number in canonical decimal is spelled.

@@ -10,8 +10,8 @@ ghost use Rattle.kpn_tokens.specs.Laws.{
   SpelledTokenIsRead,
   TokensKeepTheirKind,
   WhiteSpaceIsDropped,
-  WhiteSpaceParts,
-  WhiteSpacePartsTokens,
+  WhiteSpaceSeparates,
+  WhiteSpaceSeparatesTokens,
 };
 
 /// A scan of a text gives what the rules of the format say, and they say no more than one thing.
@@ -25,9 +25,9 @@ pub fn short_text_is_scanned()
 {}
 
 /// A text that white space parts is read as its parts are, one after the other.
-pub fn white_space_parts()
-    ensures lexemes { WhiteSpaceParts }
-    ensures tokens { WhiteSpacePartsTokens }
+pub fn white_space_separates()
+    ensures lexemes { WhiteSpaceSeparates }
+    ensures tokens { WhiteSpaceSeparatesTokens }
 {}
 
 /// Where a text begins changes the places of its tokens and nothing else.

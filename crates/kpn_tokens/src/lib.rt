@@ -13,7 +13,7 @@ mod tokens;
 pub use laws::{
     decimal_is_spelled, empty_text_has_no_tokens, read_tokens_are_spelled, scan_follows_the_rules,
     short_text_is_scanned, spelled_token_is_read, tokens_keep_their_kind, white_space_is_dropped,
-    white_space_parts,
+    white_space_separates,
 };
 pub use lexer::{LexFault, lexemes};
 pub use tokens::{Keyword, Lexeme, MAX_NUMBER, Mark, Name, Number, Token};

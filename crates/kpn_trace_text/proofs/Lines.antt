@@ -13,7 +13,7 @@ use Rattle.kpn_trace.specs.declared.event.How.{How}
 use Rattle.kpn_trace.specs.declared.event.How.TheVariants as how
 use Rattle.kpn_trace_text.specs.declared.kind.Kind.{Kind}
 use Rattle.kpn_trace_text.specs.declared.kind.Kind.TheVariants as kind
-use Rattle.kpn_trace_text.specs.EventLine.{kind_word, kinds, kind_named, how_word, kind_of, parts_of, spaced, line_of, LacksByte, IsInRange, SpellsEvent}
+use Rattle.kpn_trace_text.specs.EventLine.{kind_word, kinds, kind_named, how_word, kind_of, arguments_of, spaced, line_of, LacksByte, IsInRange, SpellsEvent}
 use Rattle.kpn_trace_text.proofs.Parting.{cut, LacksByte-append, decimal_lacks, item_lacks, front, same_number, same_item}
 
 -- ---- kinds and endings
@@ -87,7 +87,7 @@ same_how a b e = absurd (cc)
 
 -- ---- a line is its kind, a space, and its parts
 
-line_is : (event : Event) → line_of event ≡ kind_word (kind_of event) ++ 32 ∷ spaced (parts_of event)
+line_is : (event : Event) → line_of event ≡ kind_word (kind_of event) ++ 32 ∷ spaced (arguments_of event)
 line_is (Get p c v) = refl
 line_is (Put p c v) = refl
 line_is (WaitEmpty p c) = refl
@@ -101,10 +101,10 @@ line_is (Grow p c) = refl
 
 -- the kind and the parts of the event that a line spells, where the line has this first word
 pub kind_and_parts : (line word parts : List ℕ) (event : Event) → line ≡ word ++ 32 ∷ parts → LacksByte 32 word
-    → SpellsEvent line event → (kind_word (kind_of event) ≡ word) × (parts ≡ spaced (parts_of event))
+    → SpellsEvent line event → (kind_word (kind_of event) ≡ word) × (parts ≡ spaced (arguments_of event))
 kind_and_parts line word parts event split lacks spells =
     let both =
-    cut 32 (kind_word (kind_of event)) word (spaced (parts_of event)) parts (kind_lacks_space (kind_of event)) lacks
+    cut 32 (kind_word (kind_of event)) word (spaced (arguments_of event)) parts (kind_lacks_space (kind_of event)) lacks
     (sym (line_is event) ∙ sym spells.whole ∙ split) in
     (both.0, sym both.1)
 
@@ -119,7 +119,7 @@ no_kind line word parts event split lacks unknown spells =
 
 -- a line spells an event of the kind that its first word names
 pub of_kind : (line word parts : List ℕ) (k : Kind) (event : Event) → line ≡ word ++ 32 ∷ parts → LacksByte 32 word
-    → kind_named word ≡ Some k → SpellsEvent line event → (kind_of event ≡ k) × (parts ≡ spaced (parts_of event))
+    → kind_named word ≡ Some k → SpellsEvent line event → (kind_of event ≡ k) × (parts ≡ spaced (arguments_of event))
 of_kind line word parts k event split lacks known spells =
     let found = kind_and_parts line word parts event split lacks spells in
     let same : Some (kind_of event) ≡ Some k =
@@ -130,8 +130,8 @@ of_kind line word parts k event split lacks known spells =
 pub read_of_kind : (line word parts : List ℕ) (k : Kind) (read : Option Event) → line ≡ word ++ 32 ∷ parts
     → LacksByte 32 word → kind_named word ≡ Some k
     → MatchOption read
-    ((event : Event) → IsInRange event → kind_of event ≡ k → parts ≡ spaced (parts_of event) → ⊥)
-    (λ event. IsInRange event × (kind_of event ≡ k) × (parts ≡ spaced (parts_of event)))
+    ((event : Event) → IsInRange event → kind_of event ≡ k → parts ≡ spaced (arguments_of event) → ⊥)
+    (λ event. IsInRange event × (kind_of event ≡ k) × (parts ≡ spaced (arguments_of event)))
     → MatchOption read ((event : Event) → SpellsEvent line event → ⊥) (SpellsEvent line)
 read_of_kind line word parts k None split lacks known none =
     λ event spells.
@@ -147,7 +147,7 @@ read_of_kind line word parts k (Some event) split lacks known is = record {
 -- ---- one event for each line
 
 same_parts : (a b : Event) → kind_of a ≡ kind_of b → IsInRange a → IsInRange b
-    → spaced (parts_of a) ≡ spaced (parts_of b) → a ≡ b
+    → spaced (arguments_of a) ≡ spaced (arguments_of b) → a ≡ b
 same_parts (Get p c v) (Get q d w) k fits also e =
     let first = front p q _ _ fits.0 also.0 e in
     let second = front c d _ _ fits.1 also.1 first.1 in
@@ -183,7 +183,7 @@ same_parts a b k fits also e = absurd (cc)
 pub line_spells_one : (line : List ℕ) (a b : Event) → SpellsEvent line a → SpellsEvent line b → a ≡ b
 line_spells_one line a b spells also =
     let found =
-    kind_and_parts line (kind_word (kind_of b)) (spaced (parts_of b)) a (also.whole ∙ line_is b)
+    kind_and_parts line (kind_word (kind_of b)) (spaced (arguments_of b)) a (also.whole ∙ line_is b)
     (kind_lacks_space (kind_of b)) spells in
     same_parts a b (same_kind (kind_of a) (kind_of b) found.0) spells.in_range also.in_range (sym found.1)
 
@@ -198,7 +198,7 @@ number_lacks n small = decimal_lacks 10 n (omega arith) (omega arith)
 value_lacks : (item : ℤ) → FitsSigned w64 item → LacksByte 10 (signed_decimal item)
 value_lacks item fits = item_lacks 10 item (omega arith) fits
 
-parts_lack : (event : Event) → IsInRange event → LacksByte 10 (spaced (parts_of event))
+parts_lack : (event : Event) → IsInRange event → LacksByte 10 (spaced (arguments_of event))
 parts_lack (Get p c v) fits =
     with_space (decimal p) _ (number_lacks p fits.0)
     (with_space (decimal c) _ (number_lacks c fits.1) (value_lacks v fits.2))

@@ -59,17 +59,17 @@ kind_of (Leave c) = kind.Leave
 kind_of (Grow p c) = kind.Grow
 
 -- the words behind the kind: numbers and items in decimal, without leading zeros
-abbrev pub parts_of : Event → List (List ℕ)
-parts_of (Get p c v) = decimal p ∷ decimal c ∷ signed_decimal v ∷ []
-parts_of (Put p c v) = decimal p ∷ decimal c ∷ signed_decimal v ∷ []
-parts_of (WaitEmpty p c) = decimal p ∷ decimal c ∷ []
-parts_of (WaitFull p c) = decimal p ∷ decimal c ∷ []
-parts_of (Ended p how) = decimal p ∷ how_word how ∷ []
-parts_of (Feed c v) = decimal c ∷ signed_decimal v ∷ []
-parts_of (Close c) = decimal c ∷ []
-parts_of (Take c v) = decimal c ∷ signed_decimal v ∷ []
-parts_of (Leave c) = decimal c ∷ []
-parts_of (Grow p c) = decimal p ∷ decimal c ∷ []
+abbrev pub arguments_of : Event → List (List ℕ)
+arguments_of (Get p c v) = decimal p ∷ decimal c ∷ signed_decimal v ∷ []
+arguments_of (Put p c v) = decimal p ∷ decimal c ∷ signed_decimal v ∷ []
+arguments_of (WaitEmpty p c) = decimal p ∷ decimal c ∷ []
+arguments_of (WaitFull p c) = decimal p ∷ decimal c ∷ []
+arguments_of (Ended p how) = decimal p ∷ how_word how ∷ []
+arguments_of (Feed c v) = decimal c ∷ signed_decimal v ∷ []
+arguments_of (Close c) = decimal c ∷ []
+arguments_of (Take c v) = decimal c ∷ signed_decimal v ∷ []
+arguments_of (Leave c) = decimal c ∷ []
+arguments_of (Grow p c) = decimal p ∷ decimal c ∷ []
 
 -- words with one space (byte 32) between them
 abbrev pub spaced : (words : List (List ℕ)) → List ℕ
@@ -79,7 +79,7 @@ spaced (word ∷ more ∷ words) = word ++ 32 ∷ spaced (more ∷ words)
 
 -- the line of an event
 abbrev pub line_of : Event → List ℕ
-line_of event = spaced (kind_word (kind_of event) ∷ parts_of event)
+line_of event = spaced (kind_word (kind_of event) ∷ arguments_of event)
 
 -- ---- what a line spells
 

@@ -1,7 +1,7 @@
 //! Events read from the lines of a trace.
 ghost use Rattle.std.specs.Prelude.{◌≡◌, ◌≢◌, List, ℕ, ◌++◌, MatchOption, MatchResult, IfOk, IfErr};
 ghost use Rattle.kpn_trace.specs.declared.event.Event.{Event};
-ghost use Rattle.kpn_trace_text.specs.EventLine.{SpellsEvent, IsInRange, kind_of, parts_of, spaced};
+ghost use Rattle.kpn_trace_text.specs.EventLine.{SpellsEvent, IsInRange, kind_of, arguments_of, spaced};
 ghost use Rattle.kpn_trace_text.specs.TraceText.{Spells, Refuses, event_text};
 
 use crate::fault::{BadEvent, TraceFault};
@@ -69,9 +69,9 @@ fn event_of(line: &[u8]) -> Option<Event>
 fn event_of_kind(kind: Kind, parts: &[u8]) -> Option<Event>
     ensures { MatchOption result
         ((event : Event) → IsInRange event → kind_of event ≡ kind
-        → parts.now ≢ spaced (parts_of event))
+        → parts.now ≢ spaced (arguments_of event))
         (λ event. IsInRange event × (kind_of event ≡ kind)
-        × (parts.now ≡ spaced (parts_of event))) }
+        × (parts.now ≡ spaced (arguments_of event))) }
 {
     match kind {
         Kind::Get => {

@@ -10,7 +10,7 @@ ghost use Rattle.kpn_configuration.specs.Configuration.{channel_in};
 ghost use Rattle.kpn_configuration.specs.Changes.{IsChannelAt};
 ghost use Rattle.kpn_configuration.specs.Due.{Stands, ReadsFrom, WritesTo, stop_of};
 ghost use Rattle.kpn_book.specs.Book.{IsHeld};
-ghost use Rattle.kpn_book.specs.Commits.{IsReadFrom, IsWriteTo, Settles};
+ghost use Rattle.kpn_book.specs.Commits.{IsReadFrom, IsWriteTo, HandlesStop};
 ghost use Rattle.kpn_book.specs.Kept.{IsInStep, IsKept};
 ghost use Rattle.kpn_book.specs.Open.{IsSound, EndsWithWait, GrowsIfOwed, Answered};
 
@@ -24,7 +24,7 @@ use std::alloc::Allocator;
 
 impl<'n, A: Allocator> OpenBook<'n, A> {
     /// Process `p`, which stands at this stop, is answered, and this commit is counted.
-    pub(super) fn settle(&mut self, p: usize, stop: Stop) -> Done
+    pub(super) fn handle_stop(&mut self, p: usize, stop: Stop) -> Done
         requires kept { IsKept self.old.book }
         requires held { IsHeld self.old.book p }
         requires room { stop ≢ Paused → 2 ≤ self.old.room }
@@ -32,7 +32,7 @@ impl<'n, A: Allocator> OpenBook<'n, A> {
         requires port { (f : Frame) × IsAtPort (program_of self.old.book.tables p) f stop }
         requires reserved { let b = self.old.book in (c : ℕ) (v : ℤ) → IsWriteTo b.tables p stop c v
             → IsTrue (channel_in b.configuration c).is_reserved }
-        ensures settles { Settles p stop result self.old.book self.new.book }
+        ensures handles { HandlesStop p stop result self.old.book self.new.book }
         ensures kept { IsKept self.new.book }
     {
         let done = self.answer(p, stop);

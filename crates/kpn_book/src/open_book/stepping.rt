@@ -98,7 +98,7 @@ impl<'n, A: Allocator> OpenBook<'n, A> {
             return Err(Refused::NoMemory);
         };
         self.step_to(p, advance);
-        let done = self.settle(p, stop);
+        let done = self.handle_stop(p, stop);
         Ok(done)
     }
 
@@ -132,7 +132,7 @@ impl<'n, A: Allocator> OpenBook<'n, A> {
             self.make_ready(p);
             return Err(error);
         }
-        let done = self.settle(p, stop);
+        let done = self.handle_stop(p, stop);
         Ok(Some(done))
     }
 

@@ -8,7 +8,7 @@ ghost use Rattle.kpn_book.specs.Book.{Book};
 ghost use Rattle.kpn_book.specs.Refusals.{AcceptsItem, RefusesFeed, RefusesClose, RefusesTake, RefusesLeave, Feeds, Closes, Takes, Leaves, IsOpenSink};
 ghost use Rattle.kpn_pool.specs.Desk.{with_book};
 ghost use Rattle.kpn_pool.specs.Ends.{HasFed, RefusesSnapshot, MayRefuseFeed, MayRefuseEnd, MayRefuseTake, MayRefuseSnapshot};
-ghost use Rattle.kpn_pool.specs.Glimpse.{ShowsARun, shown_on, IsBelowKahn, IsKahnAtRest};
+ghost use Rattle.kpn_pool.specs.Snapshot.{ShowsARun, shown_on, IsBelowKahn, IsKahnAtRest};
 
 use super::Desk;
 use crate::job::Job;

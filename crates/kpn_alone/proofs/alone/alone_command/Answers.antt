@@ -3,7 +3,7 @@ use Rattle.std.proofs.Common.{◌≡◌, Err}
 use Rattle.std.specs.Io.KnownBytes.{IsAtEnd}
 use Rattle.kpn_answers.specs.declared.refusal.Refusal.TheVariants.{UnknownProcess}
 use Rattle.kpn_answers.proofs.Answers.{answers_given, under_success}
-use Rattle.kpn_alone.specs.Alone.{IsAnswer, IsRefusalOfAlone}
+use Rattle.kpn_alone.specs.Alone.{IsAloneText, IsRefusalOfAlone}
 use Rattle.kpn_alone.proofs.alone.alone_command.Goals as goal
 
 pub returns : goal.returns
@@ -12,7 +12,7 @@ returns g c =
     let came_in = g.I.Read.remaining c.args.input.now in
     record {
       answers =
-          answers_given g.O.Write.contents (IsAnswer name came_in) (IsRefusalOfAlone name came_in) c.args.out.now
+          answers_given g.O.Write.contents (IsAloneText name came_in) (IsRefusalOfAlone name came_in) c.args.out.now
           c.give.new.out c.args.err.now c.give.new.err c.give.result
           c.answer.result (λ text. text.items) c.answer.ensures.ok c.answer.ensures.refused c.give.ensures;
       unknown = λ u. let e : c.answer.result ≡ Err UnknownProcess =

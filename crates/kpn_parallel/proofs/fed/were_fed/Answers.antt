@@ -4,7 +4,7 @@ use Rattle.std.proofs.lemmas.List.Sums.{count_by_more_yes, count_by_more_no}
 use Rattle.kpn_net.specs.Tables.{channel_at, is_source}
 use Rattle.kpn_net.specs.Iteration.{given_by}
 use Rattle.kpn_net.proofs.RoundLemmas.{source_below}
-use Rattle.kpn_pool.specs.Glimpse.{shown_on}
+use Rattle.kpn_pool.specs.Snapshot.{shown_on}
 use Rattle.kpn_parallel.specs.Fed.{IsFed}
 use Rattle.kpn_parallel.proofs.Feeding.{fed_skip, fed_more}
 use Rattle.kpn_parallel.proofs.fed.were_fed.Goals.{then-is_source+else-not-is_fed, else-is_source}

@@ -10,8 +10,8 @@ reserve-requires-clause-port g c =
     port_of c.args.self.now.book c.args.p c.args.advance.now c.stop-stop.result c.stop-stop.ensures c.requires.program
     c.known-2.ensures.port
 
-pub settle-done-requires-clause-kept : goal.settle-done-requires-clause-kept
-settle-done-requires-clause-kept g c =
+pub handle_stop-done-requires-clause-kept : goal.handle_stop-done-requires-clause-kept
+handle_stop-done-requires-clause-kept g c =
     let b = c.args.self.now.book in
     let held : IsHeld b c.args.p = c.is_held.ensures.0 (search rules) in
     let own : IsOwnAdvance b c.args.p c.args.advance.now =
@@ -20,8 +20,8 @@ settle-done-requires-clause-kept g c =
     c.args.p (held_is_there b c.requires.kept.in_step c.args.p held) c.args.advance.now c.known-2.ensures.advance own
     (ap (λ o. o.book) c.step_to.ensures.after)
 
-pub settle-done-requires-clause-port : goal.settle-done-requires-clause-port
-settle-done-requires-clause-port g c =
+pub handle_stop-done-requires-clause-port : goal.handle_stop-done-requires-clause-port
+handle_stop-done-requires-clause-port g c =
     let b = c.args.self.now.book in
     port_there b c.step_to.new.self.book c.args.p c.stop-stop.result
     (ap (λ o. o.book.tables) c.step_to.ensures.after
@@ -29,8 +29,8 @@ settle-done-requires-clause-port g c =
     (port_of b c.args.p c.args.advance.now c.stop-stop.result c.stop-stop.ensures c.requires.program
     c.known-2.ensures.port)
 
-pub settle-done-requires-clause-reserved : goal.settle-done-requires-clause-reserved
-settle-done-requires-clause-reserved g c =
+pub handle_stop-done-requires-clause-reserved : goal.handle_stop-done-requires-clause-reserved
+handle_stop-done-requires-clause-reserved g c =
     let b = c.args.self.now.book in
     item_there b.tables c.args.p c.stop-stop.result c.reserve.new.self c.step_to.new.self.book c.args.advance.now.to
     c.in-Ok.ensures.0 (ap (λ o. o.book) c.step_to.ensures.after)
@@ -42,6 +42,6 @@ returns-clause-commits g c =
     let held : IsHeld b c.args.p = c.is_held.ensures.0 (search rules) in
     let own : IsOwnAdvance b c.args.p c.args.advance.now =
     record { program = c.requires.program; from = c.is_frame.ensures.0 (search rules) } in
-    commits_read b c.reserve.new.self c.step_to.new.self.book c.settle-done.new.self.book c.args.p c.args.advance.now
-    c.stop-stop.result c.settle-done.result c.stop-stop.ensures held own c.in-Ok.ensures.1
-    (ap (λ o. o.book) c.step_to.ensures.after) c.settle-done.ensures.settles
+    commits_read b c.reserve.new.self c.step_to.new.self.book c.handle_stop-done.new.self.book c.args.p
+    c.args.advance.now c.stop-stop.result c.handle_stop-done.result c.stop-stop.ensures held own c.in-Ok.ensures.1
+    (ap (λ o. o.book) c.step_to.ensures.after) c.handle_stop-done.ensures.handles

@@ -53,8 +53,8 @@ returns-in-Err-clause-kept g c =
     c.in-Some.ensures.0 c.in-Some.ensures.1 (record { program = refl; from = refl }) c.step-steps.ensures.advance
     c.step-steps.ensures.quota c.step-steps.new.self.book (ap (λ o. o.book) c.step-steps.ensures.after)))
 
-pub settle-done-requires-clause-kept : goal.settle-done-requires-clause-kept
-settle-done-requires-clause-kept g c =
+pub handle_stop-done-requires-clause-kept : goal.handle_stop-done-requires-clause-kept
+handle_stop-done-requires-clause-kept g c =
     kept_reserved c.step-steps.new.stop c.step-steps.new.self.book c.reserve.new.self.book
     c.in_default-reserve.ensures.1
     (stepped_kept c.args.quota c.in-Some.p c.args.self.now.book c.hold_one.new.self.book
@@ -64,15 +64,15 @@ settle-done-requires-clause-kept g c =
     c.in-Some.ensures.0 c.in-Some.ensures.1 (record { program = refl; from = refl }) c.step-steps.ensures.advance
     c.step-steps.ensures.quota c.step-steps.new.self.book (ap (λ o. o.book) c.step-steps.ensures.after))
 
-pub settle-done-requires-clause-port : goal.settle-done-requires-clause-port
-settle-done-requires-clause-port g c =
+pub handle_stop-done-requires-clause-port : goal.handle_stop-done-requires-clause-port
+handle_stop-done-requires-clause-port g c =
     port_there c.hold_one.new.self.book c.reserve.new.self.book c.in-Some.p c.step-steps.new.stop
     (tables_reserved c.step-steps.new.stop c.step-steps.new.self.book c.reserve.new.self.book
     c.in_default-reserve.ensures.1 ∙ ap (λ o. o.book.tables) c.step-steps.ensures.after)
     (frame_in c.step-steps.new.self.book.configuration c.in-Some.p, c.step-steps.ensures.port)
 
-pub settle-done-requires-clause-reserved : goal.settle-done-requires-clause-reserved
-settle-done-requires-clause-reserved g c d v writes =
+pub handle_stop-done-requires-clause-reserved : goal.handle_stop-done-requires-clause-reserved
+handle_stop-done-requires-clause-reserved g c d v writes =
     c.in_default-reserve.ensures.0.item d v
     (subst (λ t. IsWriteTo t c.in-Some.p c.step-steps.new.stop d v)
     (tables_reserved c.step-steps.new.stop c.step-steps.new.self.book c.reserve.new.self.book
@@ -86,5 +86,5 @@ returns-clause-steps g c =
     (frame_in c.step-steps.new.self.book.configuration c.in-Some.p) c.step-steps.result c.step-steps.new.stop)
     c.in-Some.ensures.0 c.in-Some.ensures.1 (record { program = refl; from = refl }) c.step-steps.ensures.advance
     c.step-steps.ensures.quota c.step-steps.new.self.book (ap (λ o. o.book) c.step-steps.ensures.after)
-    c.reserve.new.self.book c.settle-done.new.self.book c.settle-done.result c.in_default-reserve.ensures.1
-    c.settle-done.ensures.settles
+    c.reserve.new.self.book c.handle_stop-done.new.self.book c.handle_stop-done.result c.in_default-reserve.ensures.1
+    c.handle_stop-done.ensures.handles

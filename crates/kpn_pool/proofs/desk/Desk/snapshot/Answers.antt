@@ -2,8 +2,8 @@ use Rattle.std.proofs.Common.{subst}
 use Rattle.std.specs.Prelude.{IfOk}
 use Rattle.std.proofs.lemmas.Result.{IfOk-weaker}
 use Rattle.kpn_pool.specs.Desk.{Desk}
-use Rattle.kpn_pool.specs.Glimpse.{ShowsJournals}
-use Rattle.kpn_pool.proofs.Glimpses.{below_of, at_rest_of, shows_journals}
+use Rattle.kpn_pool.specs.Snapshot.{ShowsJournals}
+use Rattle.kpn_pool.proofs.Snapshots.{below_of, at_rest_of, shows_journals}
 use Rattle.kpn_pool.proofs.desk.Desk.snapshot.Goals as goal
 
 pub returns-clause-below : goal.returns-clause-below

@@ -24,7 +24,7 @@ use Rattle.kpn_trace.proofs.EndsOnce.{ended_by}
 use Rattle.kpn_trace.proofs.Kahn.{below_least, least_if_quiet_given}
 use Rattle.kpn_configuration.specs.Configuration.{channel_in}
 use Rattle.kpn_book.specs.Book.{Book}
-use Rattle.kpn_pool.specs.Glimpse.{ShowsJournals, shown_on, shown_fed, IsBelowKahn, IsAtRest, IsKahnAtRest}
+use Rattle.kpn_pool.specs.Snapshot.{ShowsJournals, shown_on, shown_fed, IsBelowKahn, IsAtRest, IsKahnAtRest}
 
 -- a source is a channel of the network
 pub source_there : (t : Tables) (c : ℕ) → is_source (channel_at t c) ≡ true → c < length t.channels
