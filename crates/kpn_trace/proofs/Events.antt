@@ -1,5 +1,5 @@
 -- What one more event does to the lists of a history.
-use Rattle.std.proofs.Common.{◌≡◌, ℕ, cond, Bool, true, false, ◌||◌, List, [], ◌∷◌, ◌++◌, Option, Some, None, refl, sym, ap, ◌∙◌}
+use Rattle.std.proofs.Common.{◌≡◌, ℕ, cond, Bool, true, false, ◌||◌, List, [], ◌∷◌, ◌++◌, Option, Some, None, refl, sym, ap, ◌∙◌, ◌-◌, suc, length, slice_get, arith}
 use Rattle.std.specs.List.{filter, flat_map, last_or}
 use Rattle.std.proofs.lemmas.List.{flat_map_more, append-nil}
 use Rattle.std.proofs.lemmas.List.Elements.{filter-append}
@@ -26,6 +26,15 @@ flat_map-grows f xs x = rw (flat_map-push f xs x) (IsPrefix-append (flat_map f x
 pub flat_map-same : {X A : Type 0} (f : X → List A) (xs : List X) (x : X) → f x ≡ []
     → flat_map f (xs ++ x ∷ []) ≡ flat_map f xs
 flat_map-same f xs x e = flat_map-push f xs x ∙ ap (λ ys. flat_map f xs ++ ys) e ∙ append-nil (flat_map f xs)
+
+last_or-at-end : {A : Type 0} (x : A) (xs : List A) → slice_get (x ∷ xs) (length xs) ≡ last_or (Some x) xs
+last_or-at-end x [] = refl
+last_or-at-end x (y ∷ xs) = last_or-at-end y xs
+
+pub last_or-at : {A : Type 0} (xs : List A) → slice_get xs (length xs - 1) ≡ last_or None xs
+last_or-at [] = refl
+last_or-at (x ∷ xs) = let one : suc (length xs) - 1 ≡ length xs = omega arith in
+  ap (slice_get (x ∷ xs)) one ∙ last_or-at-end x xs
 
 pub last_or-push : {A : Type 0} (o : Option A) (xs : List A) (x : A) → last_or o (xs ++ x ∷ []) ≡ Some x
 last_or-push o [] x = refl

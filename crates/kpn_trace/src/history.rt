@@ -1,5 +1,6 @@
 //! A history as a list of events for which memory is reserved first, so that a push asks for none.
 ghost use Rattle.std.specs.Prelude.{◌≡◌, ℕ, ◌+◌, ◌<◌, ◌≤◌, [], ◌∷◌, ◌++◌, length, slice_get, OnOk, OnErr};
+ghost use Rattle.std.specs.List.{last_or};
 
 use crate::event::Event;
 use std::alloc::{AllocError, Allocator, Global};
@@ -77,5 +78,12 @@ impl<A: Allocator> History<A> {
         ensures { result ≡ slice_get self.now.events k }
     {
         self.events.get(k).copied()
+    }
+
+    /// The newest event; none where there is none.
+    pub fn last(&self) -> Option<Event>
+        ensures { result ≡ last_or None self.now.events }
+    {
+        self.events.last().copied()
     }
 }
