@@ -2,6 +2,7 @@
 use Rattle.std.proofs.Common.{◌≡◌, ℕ, ◌<◌, true, ℤ, List, [], length, get_or, Some, is_some, sym, ap, ◌∙◌, subst}
 use Rattle.kpn_net.specs.Tables.{Tables, channel_at, is_source}
 use Rattle.kpn_net.specs.Iteration.{given_by}
+use Rattle.kpn_net.proofs.Networks.{source_there}
 use Rattle.kpn_net.proofs.RoundLemmas.{list_of}
 use Rattle.kpn_trace.specs.Channels.{written_on}
 use Rattle.kpn_trace.specs.declared.state.Verdict.{Verdict}
@@ -12,7 +13,6 @@ use Rattle.kpn_report.specs.declared.outcome.Outcome.{Outcome}
 use Rattle.kpn_report.specs.declared.report.Report.{Report}
 use Rattle.kpn_report.specs.Outcomes.{IsOutcome, verdict_of}
 use Rattle.kpn_report.specs.Reports.{events_of, IsWrittenFrom, IsReport}
-use Rattle.kpn_book.proofs.Committing.{source_there}
 use Rattle.kpn_report.proofs.Told.{journals_there, told_legal, told_view, IsReport-of}
 use Rattle.kpn_parallel.specs.Fed.{IsFed, AreFedBelow}
 

@@ -8,10 +8,9 @@ ghost use Rattle.kpn_report.specs.Reports.{IsReport};
 ghost use Rattle.kpn_parallel.specs.Ending.{KeepsHeld, Releases};
 
 use crate::fault::RunFault;
-use crate::fed::{is_verdict, were_fed};
+use crate::fed::were_fed;
 use kpn_book::Book;
 use kpn_lang::Sequence;
-use kpn_net::End;
 use kpn_pool::Refused;
 use kpn_report::{Limits, Report, outcome_of, report_of};
 use std::alloc::Global;
@@ -41,7 +40,7 @@ pub(crate) fn conclude(
     book.known();
     let network = book.network();
     let report = report_of(alloc, book, outcome)?;
-    let are_fed = were_fed(network, lists, &report.view, is_verdict(outcome));
+    let are_fed = were_fed(network, lists, &report.view, outcome.is_verdict());
     if !are_fed || served.is_err() || emptied.is_err() {
         return Err(RunFault::Foreign);
     }
@@ -81,7 +80,7 @@ fn empty_sinks(book: &mut Book<'_>) -> Result<(), Refused>
     ensures { KeepsHeld book.old book.new }
 {
     'channels: for c in 0..book.network().channels() {
-        if book.network().reader_of(c) == End::Sink {
+        if book.network().is_sink(c) {
             empty_sink(book, c)?;
         }
     }

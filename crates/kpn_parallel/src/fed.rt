@@ -1,12 +1,10 @@
 //! Whether the sources of a run were fed their lists, as its report shows them.
-ghost use Rattle.std.specs.Prelude.{◌≡◌, length, IsTrue, is_some};
+ghost use Rattle.std.specs.Prelude.{◌≡◌, length, IsTrue};
 ghost use Rattle.kpn_net.specs.Iteration.{sources};
-ghost use Rattle.kpn_report.specs.Outcomes.{verdict_of};
 ghost use Rattle.kpn_parallel.specs.Fed.{IsFed, AreFedBelow};
 
 use kpn_lang::Sequence;
 use kpn_net::Network;
-use kpn_report::Outcome;
 use kpn_trace::View;
 
 /// Whether the journal of each source begins its list, and is all of it where that is asked.
@@ -40,14 +38,4 @@ fn is_fed(journal: &[i64], list: &[i64], wholly: bool) -> bool
     ensures { IsTrue result → IsFed wholly journal.now list.now }
 {
     list.starts_with(journal) && (!wholly || list.len() <= journal.len())
-}
-
-/// Whether a run with this outcome has come to a verdict.
-pub(crate) fn is_verdict(outcome: Outcome) -> bool
-    ensures { result ≡ is_some (verdict_of outcome) }
-{
-    match outcome {
-        Outcome::Ended | Outcome::Clogged | Outcome::Jammed => true,
-        Outcome::Enough | Outcome::Stopped => false,
-    }
 }

@@ -4,6 +4,7 @@ use Rattle.kpn_lang.specs.Prefix.{IsPrefix}
 use Rattle.kpn_lang.proofs.Prefixes.{IsPrefix-from_rest}
 use Rattle.kpn_net.specs.declared.tables.ChannelSpec.{ChannelSpec}
 use Rattle.kpn_net.specs.Tables.{Tables, channel_at, is_source, is_sink}
+use Rattle.kpn_net.proofs.Networks.{source_there}
 use Rattle.kpn_configuration.specs.Configuration.{channel_in}
 use Rattle.kpn_book.specs.Book.{Book}
 use Rattle.kpn_book.specs.declared.answers.Refused.{Refused}
@@ -12,7 +13,6 @@ use Rattle.kpn_book.specs.Refusals.{AcceptsItem, RefusesFeed, RefusesClose, Refu
 use Rattle.kpn_pool.specs.declared.outside.SnapFault.{SnapFault}
 use Rattle.kpn_pool.specs.declared.outside.SnapFault.TheVariants as snap_fault
 use Rattle.kpn_pool.specs.declared.outside.SnapFault.TheVariants.{Foreign}
-use Rattle.kpn_pool.proofs.Snapshots.{source_there}
 use Rattle.kpn_pool.specs.Ends.{RefusesSnapshot, MayRefuseFeed, MayRefuseEnd, MayRefuseTake, MayRefuseSnapshot}
 
 -- the network and the number of commits are the same

@@ -1,13 +1,13 @@
 -- The items that a seat feeds or takes in one call, and the events that record them in the book.
-use Rattle.std.proofs.Common.{◌≡◌, ℕ, ◌+◌, ◌<◌, Bool, true, false, ℤ, pos, List, [], ◌∷◌, ◌++◌, length, map, take, drop, get_or, Option, Some, None, is_some, refl, sym, ap, ◌∙◌, subst, inl, inr, arith, append-nil}
+use Rattle.std.proofs.Common.{◌≡◌, ℕ, ◌+◌, ◌<◌, Bool, true, false, ℤ, pos, List, [], ◌∷◌, ◌++◌, length, map, take, drop, get_or, Option, Some, None, is_some, refl, sym, ap, ◌∙◌, subst, arith, append-nil}
 use Rattle.std.specs.Prelude.{slice_get}
-use Rattle.std.proofs.lemmas.Bool.{cases_lt, false≢true}
-use Rattle.std.proofs.lemmas.List.{append_assoc, map-append, get_or_past}
+use Rattle.std.proofs.lemmas.Bool.{false≢true}
+use Rattle.std.proofs.lemmas.List.{append_assoc, map-append}
 use Rattle.std.proofs.lemmas.Option.{slice_get-get_or}
 use Rattle.kpn_lang.specs.Prefix.{IsPrefix}
 use Rattle.kpn_lang.proofs.Prefixes.{IsPrefix-from_rest}
-use Rattle.kpn_net.specs.declared.tables.ChannelSpec.TheVariants.{Inner}
-use Rattle.kpn_net.specs.Tables.{Tables, channel_at, is_source, is_sink}
+use Rattle.kpn_net.specs.Tables.{Tables, channel_at, is_source}
+use Rattle.kpn_net.proofs.Networks.{sink_there}
 use Rattle.kpn_chan.specs.Channel.{ChannelState, unread}
 use Rattle.kpn_chan.proofs.Reading.{given, drop-given}
 use Rattle.kpn_trace.specs.declared.event.Event.{Event}
@@ -88,14 +88,6 @@ module _ (items : List ℤ) (r s t : EndSeat) (k : ℕ) (v : ℤ) (cause : Refus
       same (subst (λ n. MayRefuseFeed (is_source (channel_at u n)) v cause) channel refused)
 
 -- ---- what is taken
-
--- a sink is a channel of the network
-sink_there : (t : Tables) (c : ℕ) → is_sink (channel_at t c) ≡ true → c < length t.channels
-sink_there t c is =
-    elim (cases_lt c (length t.channels)) [
-      | inl there ↦ there
-      | inr past ↦ absurd (false≢true (sym (ap is_sink (get_or_past t.channels c (Inner 0) past)) ∙ is))
-    ]
 
 -- what is taken was the first unread item
 first_unread : (c : ℕ) (v : ℤ) (a b : Book) → Takes c (Some v) a b

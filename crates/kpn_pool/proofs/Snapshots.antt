@@ -1,15 +1,13 @@
 -- What a view that agrees with a legal history shows of its journals, read by itself.
 use Rattle.std.proofs.Common.{◌≡◌, ◌⊎◌, ℕ, ◌<◌, true, cond, List, [], length, get_or, sym, ap, ◌∙◌, subst, inl, inr, arith}
-use Rattle.std.proofs.lemmas.Bool.{cases_lt, false≢true}
-use Rattle.std.proofs.lemmas.List.{get_or_past}
 use Rattle.std.proofs.lemmas.List.FromFn.{get_or-map-range_with_len}
 use Rattle.std.proofs.lemmas.List.Elements.{All-get_or}
 use Rattle.std.specs.List.{All}
-use Rattle.kpn_net.specs.declared.tables.ChannelSpec.TheVariants.{Inner}
 use Rattle.kpn_net.specs.Tables.{Tables, channel_at, is_source}
 use Rattle.kpn_net.specs.Faults.{IsNetwork}
 use Rattle.kpn_net.specs.Iteration.{IsBelowLeast, IsLeast, AgreeOnSources}
 use Rattle.kpn_net.proofs.Growth.{IsPrefixOnSources-agree}
+use Rattle.kpn_net.proofs.Networks.{source_there}
 use Rattle.kpn_trace.specs.declared.event.Event.{Event}
 use Rattle.kpn_trace.specs.declared.state.State.{State}
 use Rattle.kpn_trace.specs.declared.state.State.TheVariants.{Ready, Held, WaitsEmpty, WaitsFull, Ended}
@@ -25,14 +23,6 @@ use Rattle.kpn_trace.proofs.Kahn.{below_least, least_if_quiet_given}
 use Rattle.kpn_configuration.specs.Configuration.{channel_in}
 use Rattle.kpn_book.specs.Book.{Book}
 use Rattle.kpn_pool.specs.Snapshot.{ShowsJournals, shown_on, shown_fed, IsBelowKahn, IsAtRest, IsKahnAtRest}
-
--- a source is a channel of the network
-pub source_there : (t : Tables) (c : ℕ) → is_source (channel_at t c) ≡ true → c < length t.channels
-source_there t c is =
-    elim (cases_lt c (length t.channels)) [
-      | inl there ↦ there
-      | inr past ↦ absurd (false≢true (sym (ap is_source (get_or_past t.channels c (Inner 0) past)) ∙ is))
-    ]
 
 -- the journal that is shown is what was written
 shown-written : {A : Type 0} (t : Tables) (H : List Event) (view : View A) → Agrees t H view → (c : ℕ)

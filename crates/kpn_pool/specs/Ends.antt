@@ -17,6 +17,8 @@ use Rattle.kpn_pool.specs.declared.outside.SnapFault.TheVariants.{Foreign}
 use Rattle.kpn_book.specs.declared.answers.Refused.{Refused}
 use Rattle.kpn_book.specs.declared.answers.Refused.TheVariants.{NoMemory, NoSuchEnd, SourceClosed, Full, SinkLeft}
 
+-- ---- a seat
+
 -- the number of the channel, and the items that were fed or taken, in order
 pub record EndSeat : Type 0 where
   pub channel : ℕ
@@ -63,19 +65,6 @@ pub record TakesFirst (before after : EndSeat) (b b_after : Book) : Type 0 where
   pub first : unread (channel_in b.configuration before.channel)
       ≡ recorded.more ++ unread (channel_in b_after.configuration before.channel)
 
--- ---- a snapshot with all that a seat has fed
-
--- there is a source with this number, and its journal begins with these items
-pub record HasFed (b : Book) (c : ℕ) (items : List ℤ) : Type 0 where
-  pub there : c < length b.tables.channels
-  pub source : is_source (channel_at b.tables c) ≡ true
-  pub begins : IsPrefix items (channel_in b.configuration c).journal
-
--- why who has fed these items to a source is given no snapshot
-abbrev pub RefusesSnapshot : (c : ℕ) → (fed : List ℤ) → Book → SnapFault → Type 0
-RefusesSnapshot c fed b Foreign = ¬ HasFed b c fed
-RefusesSnapshot c fed b snap_fault.NoMemory = HasFed b c fed
-
 -- ---- why a call of the outside may be refused, whatever has happened: `is_there` tells whether the network has a
 -- source, or a sink, with its number
 
@@ -104,3 +93,16 @@ MayRefuseTake is_there other = ⊥
 abbrev pub MayRefuseSnapshot : (is_there : Bool) → (fed : List ℤ) → SnapFault → Type 0
 MayRefuseSnapshot is_there fed Foreign = is_there ≡ true → fed ≢ []
 MayRefuseSnapshot is_there fed snap_fault.NoMemory = is_there ≡ true
+
+-- ---- what a snapshot for a seat looks at. A reader of the public contracts needs none of it
+
+-- there is a source with this number, and its journal begins with these items
+pub record HasFed (b : Book) (c : ℕ) (items : List ℤ) : Type 0 where
+  pub there : c < length b.tables.channels
+  pub source : is_source (channel_at b.tables c) ≡ true
+  pub begins : IsPrefix items (channel_in b.configuration c).journal
+
+-- why who has fed these items to a source is given no snapshot
+abbrev pub RefusesSnapshot : (c : ℕ) → (fed : List ℤ) → Book → SnapFault → Type 0
+RefusesSnapshot c fed b Foreign = ¬ HasFed b c fed
+RefusesSnapshot c fed b snap_fault.NoMemory = HasFed b c fed

@@ -1,15 +1,14 @@
 //! The bell by which whoever serves the sinks is told, with no lock held, that there is something to look at. It is no
 //! `Condvar`, since who waits for it listens before it sleeps, and knows from before its look how often the bell rang.
-use std::hint::spin_loop;
 use std::sync::Wait;
 use std::sync::atomic::{AtomicU64, Ordering};
 use std::time::{Clock, Duration, Instant};
 
-// so many looks take some ten microseconds
-const LOOKS: u64 = 400;
+// for how many microseconds a thread listens before it sleeps
+const MOMENT: u64 = 10;
 
-// and so many some fifty: it costs about as much to sleep and to be woken
-const MOST_LOOKS: u64 = 4 * LOOKS;
+// and for how many at most: it costs about as much to sleep and to be woken
+const LONGEST: u64 = 4 * MOMENT;
 
 // who is woken within so many microseconds had better have listened on
 const SHORT: u64 = 100;
@@ -17,13 +16,13 @@ const SHORT: u64 = 100;
 // for how many milliseconds a thread sleeps where nobody rings
 const NAP: u64 = 5;
 
-/// How often it rang, how many threads sleep until it rings again, and for how many looks a thread listens before it
-/// sleeps.
+/// How often it rang, how many threads sleep until it rings again, and for how many microseconds a thread listens
+/// before it sleeps.
 #[derive(Debug, Drop)]
 pub(crate) struct Bell {
     rings: AtomicU64,
     sleepers: AtomicU64,
-    looks: AtomicU64,
+    listens: AtomicU64,
 }
 
 impl Bell {
@@ -31,7 +30,7 @@ impl Bell {
         Bell {
             rings: AtomicU64::new(0),
             sleepers: AtomicU64::new(0),
-            looks: AtomicU64::new(LOOKS),
+            listens: AtomicU64::new(MOMENT),
         }
     }
 
@@ -51,18 +50,18 @@ impl Bell {
     /// Listens, and then sleeps, until it has rung since there were `seen` rings, and no longer than the nap. Where it
     /// is woken soon, it listens for longer from then on, and otherwise for less long.
     pub(crate) fn wait<R: Wait + Clock>(&self, rt: &R, seen: u64) {
-        let looks = self.looks.load(Ordering::SeqCst);
-        if listen_for(&self.rings, seen, looks) {
+        let listens = self.listens.load(Ordering::SeqCst);
+        if listen_for(rt, &self.rings, seen, listens) {
             return;
         }
         let begun = Instant::now(rt).ok();
         self.sleep(rt, seen);
-        let looks = if is_short(rt, begun) {
-            looks.saturating_mul(2).min(MOST_LOOKS)
+        let listens = if begun.is_some_and(|begun| is_within(rt, begun, SHORT)) {
+            listens.saturating_mul(2).min(LONGEST)
         } else {
-            (looks / 2).max(LOOKS)
+            (listens / 2).max(MOMENT)
         };
-        self.looks.store(looks, Ordering::SeqCst);
+        self.listens.store(listens, Ordering::SeqCst);
     }
 
     /// Sleeps until it has rung since there were `seen` rings, and no longer than the nap.
@@ -76,27 +75,29 @@ impl Bell {
     }
 }
 
-/// Whether little time went by since this one.
-fn is_short<R: Clock>(rt: &R, begun: Option<Instant>) -> bool {
-    match begun {
-        Some(begun) => begun
-            .elapsed(rt)
-            .is_ok_and(|time| time < Duration::from_micros(SHORT)),
-        None => false,
-    }
+/// Whether fewer microseconds than these went by since then.
+fn is_within<R: Clock>(rt: &R, begun: Instant, micros: u64) -> bool {
+    begun
+        .elapsed(rt)
+        .is_ok_and(|time| time < Duration::from_micros(micros))
 }
 
 /// Listens for a moment to a count that rises: whether it is another one than `seen`.
-pub(crate) fn listen(count: &AtomicU64, seen: u64) -> bool {
-    listen_for(count, seen, LOOKS)
+pub(crate) fn listen<R: Wait + Clock>(rt: &R, count: &AtomicU64, seen: u64) -> bool {
+    listen_for(rt, count, seen, MOMENT)
 }
 
-fn listen_for(count: &AtomicU64, seen: u64, looks: u64) -> bool {
-    for _ in 0..looks {
+fn listen_for<R: Wait + Clock>(rt: &R, count: &AtomicU64, seen: u64, micros: u64) -> bool {
+    let Ok(begun) = Instant::now(rt) else {
+        return false;
+    };
+    for _ in rt.forever() {
         if count.load(Ordering::SeqCst) != seen {
             return true;
         }
-        spin_loop();
+        if !is_within(rt, begun, micros) {
+            return false;
+        }
     }
-    false
+    unreachable!()
 }

@@ -4,8 +4,7 @@ ghost use Rattle.kpn_net.specs.Tables.{channel_at, is_source, is_sink};
 ghost use Rattle.kpn_pool.specs.Ends.{new_end, new_ends};
 
 use crate::ends::{SinkSeat, SourceSeat};
-use kpn_net::laws::one_writer_and_one_reader;
-use kpn_net::{End, Network};
+use kpn_net::Network;
 use std::alloc::{AllocError, Allocator};
 
 /// A seat for each source of a network, in order of number. The error is that memory ran out.
@@ -64,8 +63,7 @@ fn add_sink<A: Allocator + Copy>(
     ensures { IfOk result (λ _. seats.new.items ≡ seats.old.items
         ++ (if is_sink (channel_at network.now c) then new_end c ∷ [] else [])) }
 {
-    one_writer_and_one_reader();
-    if network.reader_of(c) == End::Sink {
+    if network.is_sink(c) {
         seats.push(SinkSeat::new(alloc, c))?;
     }
     Ok(())

@@ -23,7 +23,7 @@ use std::time::Clock;
 
 mod holds;
 
-// so many tries to take the lock take some ten microseconds
+// so many tries to take the lock take some microseconds
 const TRIES: u32 = 400;
 
 /// A desk under its lock, the place where workers rest until it changes, and what is told across the lock.

@@ -36,8 +36,8 @@ impl Signals {
     }
 
     /// Listens for a moment whether the outside makes a call more than the `seen` ones.
-    pub(crate) fn listen_for_move(&self, seen: u64) {
-        let _ = listen(&self.moves, seen);
+    pub(crate) fn listen_for_move<R: Wait + Clock>(&self, rt: &R, seen: u64) {
+        let _ = listen(rt, &self.moves, seen);
     }
 
     /// Whoever serves the sinks is to look at them.

@@ -1,4 +1,8 @@
 //! Limits of a run, and what it has come to.
+ghost use Rattle.std.specs.Prelude.{◌≡◌, is_some, Some};
+ghost use Rattle.kpn_report.specs.Outcomes.{verdict_of};
+
+use kpn_trace::Verdict;
 
 /// When a run is stopped, and by how many steps a process is advanced at once.
 #[derive(Clone, Copy, Debug, PartialEq, Eq)]
@@ -25,4 +29,28 @@ pub enum Outcome {
     Enough,
     /// The commits have reached their limit.
     Stopped,
+}
+
+impl Outcome {
+    /// Whether the run has come to a verdict: nothing more can happen in it but that the outside leaves a sink.
+    pub fn is_verdict(self) -> bool
+        ensures { result ≡ is_some (verdict_of self) }
+    {
+        match self {
+            Outcome::Ended | Outcome::Clogged | Outcome::Jammed => true,
+            Outcome::Enough | Outcome::Stopped => false,
+        }
+    }
+}
+
+impl From<Verdict> for Outcome {
+    ghost from_gives = { λ verdict outcome. verdict_of outcome ≡ Some verdict };
+
+    fn from(verdict: Verdict) -> Outcome {
+        match verdict {
+            Verdict::Ended => Outcome::Ended,
+            Verdict::Clogged => Outcome::Clogged,
+            Verdict::Jammed => Outcome::Jammed,
+        }
+    }
 }

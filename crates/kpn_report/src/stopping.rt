@@ -7,7 +7,6 @@ ghost use Rattle.kpn_report.specs.Running.{ReadsOneMore};
 
 use crate::outcome::{Limits, Outcome};
 use kpn_book::Book;
-use kpn_trace::Verdict;
 
 /// What a run has come to under its limits, if it has: enough where what is wanted was read of each sink, else the
 /// verdict where there is one, else stopped where the commits have reached their limit.
@@ -26,13 +25,13 @@ pub(crate) fn outcome_unless_enough(book: &Book<'_>, limits: &Limits) -> Option<
     ensures outcome { (¬ IsEnough book.now.tables book.now.history limits.now.take)
         → IsOutcome book.now.tables book.now.history book.now.commits limits.now result }
 {
-    match book.verdict() {
-        Some(Verdict::Ended) => Some(Outcome::Ended),
-        Some(Verdict::Clogged) => Some(Outcome::Clogged),
-        Some(Verdict::Jammed) => Some(Outcome::Jammed),
-        None if limits.commits <= book.commits() => Some(Outcome::Stopped),
-        None => None,
+    if let Some(verdict) = book.verdict() {
+        return Some(Outcome::from(verdict));
     }
+    if limits.commits <= book.commits() {
+        return Some(Outcome::Stopped);
+    }
+    None
 }
 
 /// Whether what is wanted of the sinks, if anything, was read.

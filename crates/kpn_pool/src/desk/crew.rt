@@ -6,7 +6,7 @@ use super::Desk;
 use crate::job::Job;
 use crate::pace::Pace;
 use kpn_book::Event;
-use kpn_net::End;
+use kpn_net::Network;
 use std::alloc::Allocator;
 use std::mem;
 use std::time::Duration;
@@ -108,19 +108,15 @@ impl<'n, J: Job, A: Allocator> Desk<'n, J, A> {
             return false;
         };
         match history.at(last) {
-            Some(Event::WaitFull(_, c)) => self.is_sink(usize::from(c)),
-            Some(Event::Put(_, c, _)) => self.is_sink_of_one(usize::from(c)),
+            Some(Event::WaitFull(_, c)) => self.book.network().is_sink(usize::from(c)),
+            Some(Event::Put(_, c, _)) => is_sink_of_one(self.book.network(), usize::from(c)),
             _ => false,
         }
     }
+}
 
-    fn is_sink(&self, c: usize) -> bool {
-        let network = self.book.network();
-        c < network.channels() && network.reader_of(c) == End::Sink
-    }
-
-    fn is_sink_of_one(&self, c: usize) -> bool {
-        let network = self.book.network();
-        c < network.channels() && network.reader_of(c) == End::Sink && network.cap_of(c) == Some(1)
-    }
+/// Whether a channel is a sink of capacity 1.
+#[tactic(auto, using(kpn_net::proofs::Networks::sink_there))]
+fn is_sink_of_one(network: &Network, c: usize) -> bool {
+    network.is_sink(c) && network.cap_of(c) == Some(1)
 }

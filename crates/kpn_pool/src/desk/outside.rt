@@ -14,8 +14,6 @@ use super::Desk;
 use crate::job::Job;
 use crate::outside::SnapFault;
 use kpn_book::{Refused, View};
-use kpn_net::End;
-use kpn_net::laws::one_writer_and_one_reader;
 use std::alloc::Allocator;
 
 impl<'n, J: Job, A: Allocator> Desk<'n, J, A> {
@@ -105,10 +103,8 @@ impl<'n, J: Job, A: Allocator> Desk<'n, J, A> {
         ensures none { (result ≡ false) → (v : ℤ) (after : Book)
             → ¬ Takes c (Some v) self.now.book after }
     {
-        one_writer_and_one_reader();
         self.book.known();
-        let network = self.book.network();
-        c < network.channels() && network.reader_of(c) == End::Sink && self.book.has_item(c)
+        self.book.network().is_sink(c) && self.book.has_item(c)
     }
 
     /// The run as `snapshot` shows it, for who has fed these items to a source. Whether they begin its journal is
@@ -143,7 +139,6 @@ impl<'n, J: Job, A: Allocator> Desk<'n, J, A> {
         ensures fed { IsTrue result ↔ HasFed self.now.book c items.now }
         ensures source { IsTrue result → IsTrue (is_source (channel_at J.network c)) }
     {
-        let network = self.book.network();
-        c < network.channels() && network.is_source(c) && self.book.journal_begins(c, items)
+        self.book.network().is_source(c) && self.book.journal_begins(c, items)
     }
 }

@@ -127,7 +127,7 @@ impl<'n, J: Job, A: Allocator> Shared<'n, J, A> {
 
     /// The only worker that is active finds nothing to step. It rings for whoever serves the sinks, and listens for a
     /// moment whether the outside makes a call, since it costs more to sleep and to be woken.
-    fn listen<'l, R: Wait>(
+    fn listen<'l, R: Wait + Clock>(
         &'l self,
         rt: &R,
         desk: MutexGuard<'l, Desk<'n, J, A>>,
@@ -137,7 +137,7 @@ impl<'n, J: Job, A: Allocator> Shared<'n, J, A> {
         let seen = self.signals.moves();
         drop(desk);
         self.signals.ring();
-        self.signals.listen_for_move(seen);
+        self.signals.listen_for_move(rt, seen);
         self.desk.lock(rt)
     }
 
