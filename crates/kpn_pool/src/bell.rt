@@ -56,7 +56,7 @@ impl Bell {
         }
         let begun = Instant::now(rt).ok();
         self.sleep(rt, seen);
-        let listens = if begun.is_some_and(|begun| is_within(rt, begun, SHORT)) {
+        let listens = if is_short(rt, begun) {
             listens.saturating_mul(2).min(LONGEST)
         } else {
             (listens / 2).max(MOMENT)
@@ -75,11 +75,14 @@ impl Bell {
     }
 }
 
-/// Whether fewer microseconds than these went by since then.
-fn is_within<R: Clock>(rt: &R, begun: Instant, micros: u64) -> bool {
-    begun
-        .elapsed(rt)
-        .is_ok_and(|time| time < Duration::from_micros(micros))
+/// Whether little time went by since this one.
+fn is_short<R: Clock>(rt: &R, begun: Option<Instant>) -> bool {
+    match begun {
+        Some(begun) => begun
+            .elapsed(rt)
+            .is_ok_and(|time| time < Duration::from_micros(SHORT)),
+        None => false,
+    }
 }
 
 /// Listens for a moment to a count that rises: whether it is another one than `seen`.
@@ -95,7 +98,10 @@ fn listen_for<R: Wait + Clock>(rt: &R, count: &AtomicU64, seen: u64, micros: u64
         if count.load(Ordering::SeqCst) != seen {
             return true;
         }
-        if !is_within(rt, begun, micros) {
+        if !begun
+            .elapsed(rt)
+            .is_ok_and(|time| time < Duration::from_micros(micros))
+        {
             return false;
         }
     }
