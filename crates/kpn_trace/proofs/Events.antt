@@ -34,7 +34,7 @@ last_or-at-end x (y ∷ xs) = last_or-at-end y xs
 pub last_or-at : {A : Type 0} (xs : List A) → slice_get xs (length xs - 1) ≡ last_or None xs
 last_or-at [] = refl
 last_or-at (x ∷ xs) = let one : suc (length xs) - 1 ≡ length xs = omega arith in
-  ap (slice_get (x ∷ xs)) one ∙ last_or-at-end x xs
+    ap (slice_get (x ∷ xs)) one ∙ last_or-at-end x xs
 
 pub last_or-push : {A : Type 0} (o : Option A) (xs : List A) (x : A) → last_or o (xs ++ x ∷ []) ≡ Some x
 last_or-push o [] x = refl
