@@ -9,7 +9,6 @@ pub mod Reserved
 pub mod Committing
 pub mod Standing
 pub mod Outside
-pub mod Split
 pub mod Seen
 pub mod Starting
 pub mod Agreeing

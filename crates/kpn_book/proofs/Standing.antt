@@ -15,13 +15,13 @@ use Rattle.kpn_trace.specs.Waiting.{wait_of, waits_of}
 use Rattle.kpn_trace.specs.Views.{IsStateOf, AreCounts, waits_empty, waits_full}
 use Rattle.kpn_trace.proofs.Legality.{Legal-prefix}
 use Rattle.kpn_trace.proofs.OneMore.{Legal-exactly}
-use Rattle.kpn_configuration.specs.Configuration.{end_in, wait_in}
+use Rattle.kpn_configuration.specs.Configuration.{end_in, wait_in, is_empty_wait, is_full_wait}
 use Rattle.kpn_configuration.specs.Run.{IsEndOf}
 use Rattle.kpn_configuration.proofs.Growing.{same_waits}
 use Rattle.kpn_configuration.proofs.Moments.{ended_waits_for_nobody}
 use Rattle.kpn_schedule.specs.Schedule.{state_at}
 use Rattle.kpn_book.specs.Book.{Book}
-use Rattle.kpn_book.specs.Kept.{IsStateBy, IsInStep, IsBook, is_on_empty, is_on_full}
+use Rattle.kpn_book.specs.Kept.{IsStateBy, IsInStep, IsBook}
 
 -- ---- states
 
@@ -58,20 +58,20 @@ same_counts f g (x ∷ xs) (y ∷ ys) long each =
     ∙ sym (sum_by-cons (λ z. cond (g z) 1 0) y ys)
 
 on_empty : (end : Option How) (wait : Wait) (x : State) → ((how : How) → end ≡ Some how → wait ≡ Nobody)
-    → IsStateBy end wait x → waits_empty x ≡ is_on_empty wait
-on_empty end wait Ready ended is = sym (ap is_on_empty is.1)
-on_empty end wait Held ended is = sym (ap is_on_empty is.1)
-on_empty end wait (WaitsEmpty c) ended is = sym (ap is_on_empty is.1)
-on_empty end wait (WaitsFull c) ended is = sym (ap is_on_empty is.1)
-on_empty end wait (Ended how) ended is = sym (ap is_on_empty (ended how is))
+    → IsStateBy end wait x → waits_empty x ≡ is_empty_wait wait
+on_empty end wait Ready ended is = sym (ap is_empty_wait is.1)
+on_empty end wait Held ended is = sym (ap is_empty_wait is.1)
+on_empty end wait (WaitsEmpty c) ended is = sym (ap is_empty_wait is.1)
+on_empty end wait (WaitsFull c) ended is = sym (ap is_empty_wait is.1)
+on_empty end wait (Ended how) ended is = sym (ap is_empty_wait (ended how is))
 
 on_full : (end : Option How) (wait : Wait) (x : State) → ((how : How) → end ≡ Some how → wait ≡ Nobody)
-    → IsStateBy end wait x → waits_full x ≡ is_on_full wait
-on_full end wait Ready ended is = sym (ap is_on_full is.1)
-on_full end wait Held ended is = sym (ap is_on_full is.1)
-on_full end wait (WaitsEmpty c) ended is = sym (ap is_on_full is.1)
-on_full end wait (WaitsFull c) ended is = sym (ap is_on_full is.1)
-on_full end wait (Ended how) ended is = sym (ap is_on_full (ended how is))
+    → IsStateBy end wait x → waits_full x ≡ is_full_wait wait
+on_full end wait Ready ended is = sym (ap is_full_wait is.1)
+on_full end wait Held ended is = sym (ap is_full_wait is.1)
+on_full end wait (WaitsEmpty c) ended is = sym (ap is_full_wait is.1)
+on_full end wait (WaitsFull c) ended is = sym (ap is_full_wait is.1)
+on_full end wait (Ended how) ended is = sym (ap is_full_wait (ended how is))
 
 module _ (b : Book) (book : IsBook b) where
   as_long : length b.schedule.states ≡ length b.configuration.waits
@@ -83,29 +83,29 @@ module _ (b : Book) (book : IsBook b) where
       ended_waits_for_nobody b.tables book.network b.history b.configuration book.kept.in_step.run p there how is
 
   pub empty_count : (counts : Counts) → AreCounts b.schedule.states counts
-      → counts.empty ≡ count_by is_on_empty (waits_of b.tables b.history)
+      → counts.empty ≡ count_by is_empty_wait (waits_of b.tables b.history)
   empty_count counts are =
       are.empty
-      ∙ same_counts waits_empty is_on_empty b.schedule.states b.configuration.waits as_long
+      ∙ same_counts waits_empty is_empty_wait b.schedule.states b.configuration.waits as_long
       (λ p below.
       let there : p < length b.tables.instances = let long = book.kept.in_step.processes in omega
       (arith, long, below) in
       on_empty (end_in b.configuration p) (wait_in b.configuration p) (state_at b.schedule.states p)
       (nobody_at_end p there) (book.kept.in_step.states p there))
-      ∙ ap (count_by is_on_empty)
+      ∙ ap (count_by is_empty_wait)
       (same_waits b.tables book.network b.history b.configuration book.kept.in_step.run)
 
   pub full_count : (counts : Counts) → AreCounts b.schedule.states counts
-      → counts.full ≡ count_by is_on_full (waits_of b.tables b.history)
+      → counts.full ≡ count_by is_full_wait (waits_of b.tables b.history)
   full_count counts are =
       are.full
-      ∙ same_counts waits_full is_on_full b.schedule.states b.configuration.waits as_long
+      ∙ same_counts waits_full is_full_wait b.schedule.states b.configuration.waits as_long
       (λ p below.
       let there : p < length b.tables.instances = let long = book.kept.in_step.processes in omega
       (arith, long, below) in
       on_full (end_in b.configuration p) (wait_in b.configuration p) (state_at b.schedule.states p)
       (nobody_at_end p there) (book.kept.in_step.states p there))
-      ∙ ap (count_by is_on_full)
+      ∙ ap (count_by is_full_wait)
       (same_waits b.tables book.network b.history b.configuration book.kept.in_step.run)
 
 -- ---- growths

@@ -1,5 +1,5 @@
 -- What every call on a book keeps.
-use Rattle.std.specs.Prelude.{◌≡◌, ℕ, ◌+◌, ◌<◌, ◌≤◌, ◌^◌, Bool, true, false, length, Option, Some, None}
+use Rattle.std.specs.Prelude.{◌≡◌, ℕ, ◌+◌, ◌<◌, ◌≤◌, ◌^◌, length, Option, Some, None}
 use Rattle.kpn_net.specs.declared.wait.Wait.{Wait}
 use Rattle.kpn_net.specs.declared.wait.Wait.TheVariants.{Nobody, Empty, Full}
 use Rattle.kpn_net.specs.Faults.{IsNetwork}
@@ -42,15 +42,3 @@ pub record IsBook (b : Book) : Type 0 where
   pub network : IsNetwork b.tables
   pub schedule : IsSchedule b.schedule
   pub kept : IsKept b
-
--- ---- how many wait, by what each process waits for
-
--- the wait is on an empty channel
-abbrev pub is_on_empty : Wait → Bool
-is_on_empty (Empty c) = true
-is_on_empty wait = false
-
--- the wait is on a full channel
-abbrev pub is_on_full : Wait → Bool
-is_on_full (Full c) = true
-is_on_full wait = false

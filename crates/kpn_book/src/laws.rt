@@ -13,13 +13,13 @@ ghost use Rattle.kpn_trace.specs.Legal.{Legal, OwesGrowth};
 ghost use Rattle.kpn_trace.specs.Stops.{CanGrow, IsJammedAtLimit, WaitsForBlocked};
 ghost use Rattle.kpn_trace.specs.Ends.{WaitsOnFull, IsQuiet, IsSettled, IsVerdict};
 ghost use Rattle.kpn_trace.specs.Views.{IsStateOf, AreCounts};
-ghost use Rattle.kpn_configuration.specs.Configuration.{channel_in};
+ghost use Rattle.kpn_configuration.specs.Configuration.{channel_in, is_empty_wait, is_full_wait};
 ghost use Rattle.kpn_schedule.specs.Schedule.{state_at};
 ghost use Rattle.kpn_book.specs.declared.answers.Done.{Done};
 ghost use Rattle.kpn_book.specs.Book.{Book, IsHeld, IsClaimed};
 ghost use Rattle.kpn_book.specs.Appending.{AppendsAll};
 ghost use Rattle.kpn_book.specs.Commits.{Commits};
-ghost use Rattle.kpn_book.specs.Kept.{IsBook, is_on_empty, is_on_full};
+ghost use Rattle.kpn_book.specs.Kept.{IsBook};
 
 // ---- at each moment
 
@@ -47,9 +47,9 @@ pub fn the_history()
     ensures states { (b : Book) → IsBook b → (p : ℕ) → p < length b.tables.instances
         → IsStateOf b.tables b.history p (state_at b.schedule.states p) }
     ensures empty { (b : Book) → IsBook b → (counts : Counts) → AreCounts b.schedule.states counts
-        → counts.empty ≡ count_by is_on_empty (waits_of b.tables b.history) }
+        → counts.empty ≡ count_by is_empty_wait (waits_of b.tables b.history) }
     ensures full { (b : Book) → IsBook b → (counts : Counts) → AreCounts b.schedule.states counts
-        → counts.full ≡ count_by is_on_full (waits_of b.tables b.history) }
+        → counts.full ≡ count_by is_full_wait (waits_of b.tables b.history) }
 {}
 
 /// Each growth took the smallest full channel of a blocked cycle, below the limit, at the moment when it was owed; and

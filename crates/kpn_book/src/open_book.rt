@@ -14,7 +14,7 @@ use kpn_trace::{Counts, History};
 use std::alloc::Allocator;
 use std::marker::Model;
 
-mod calls;
+mod claims;
 mod commits;
 mod events;
 mod moves;

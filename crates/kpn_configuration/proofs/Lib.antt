@@ -19,3 +19,4 @@ pub mod Talking
 pub mod Woken
 pub mod Waking
 pub mod Verdicts
+pub mod Determined

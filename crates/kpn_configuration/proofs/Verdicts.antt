@@ -17,10 +17,10 @@ use Rattle.kpn_cycle.specs.Scan.{cap_in}
 use Rattle.kpn_trace.specs.declared.event.How.{How}
 use Rattle.kpn_trace.specs.declared.state.Verdict.{Verdict}
 use Rattle.kpn_trace.specs.declared.state.Verdict.TheVariants.{Ended, Clogged, Jammed}
-use Rattle.kpn_configuration.specs.Configuration.{Configuration, channel_in, closed_in, wait_in, end_in, capacities}
+use Rattle.kpn_configuration.specs.Configuration.{Configuration, channel_in, closed_in, wait_in, end_in, capacities, is_empty_wait}
 use Rattle.kpn_configuration.specs.Quiet.{IsQuietNow}
 use Rattle.kpn_configuration.specs.Settled.{IsOutsideDone, HasFullCycleNow, IsVerdictNow}
-use Rattle.kpn_configuration.specs.Stopped.{is_empty_wait, is_quiet_at, awaits_outside}
+use Rattle.kpn_configuration.specs.Stopped.{is_quiet_at, awaits_outside}
 
 -- ---- answers of tests
 

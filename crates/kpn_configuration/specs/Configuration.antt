@@ -3,7 +3,7 @@
 use Rattle.std.specs.Prelude.{◌≡◌, ℕ, ◌<◌, Bool, true, false, not, IsTrue, is_some, List, [], length, map, Option, Some, None, slice_index_or, slice_set}
 use Rattle.std.specs.Option.{unwrap_or}
 use Rattle.kpn_net.specs.declared.wait.Wait.{Wait}
-use Rattle.kpn_net.specs.declared.wait.Wait.TheVariants.{Nobody}
+use Rattle.kpn_net.specs.declared.wait.Wait.TheVariants.{Nobody, Empty, Full}
 use Rattle.kpn_net.specs.Tables.{Tables, channel_at, is_source, program_of}
 use Rattle.kpn_net.specs.Waits.{wait_at, AreWaits}
 use Rattle.kpn_step.specs.Frame.{Frame, fits}
@@ -64,6 +64,18 @@ pub record IsConfiguration (t : Tables) (s : Configuration) : Type 0 where
 pub record IsFree (s : Configuration) (p : ℕ) : Type 0 where
   pub lives : end_in s p ≡ None
   pub free : wait_in s p ≡ Nobody
+
+-- ---- tests of what a process waits for
+
+-- it waits on a channel as empty
+abbrev pub is_empty_wait : Wait → Bool
+is_empty_wait (Empty c) = true
+is_empty_wait wait = false
+
+-- it waits on a channel as full
+abbrev pub is_full_wait : Wait → Bool
+is_full_wait (Full c) = true
+is_full_wait wait = false
 
 -- ---- one part of it changed
 

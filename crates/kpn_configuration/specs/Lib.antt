@@ -8,3 +8,4 @@ pub mod EndSoFar
 pub mod Quiet
 pub mod Settled
 pub mod Stopped
+pub mod Determined

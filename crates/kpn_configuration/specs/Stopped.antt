@@ -2,18 +2,10 @@
 -- needs none of it.
 use Rattle.std.specs.Prelude.{ℕ, ◌||◌, ◌&&◌, Bool, true, false, not, is_some, if◌then◌else◌}
 use Rattle.kpn_net.specs.declared.wait.Wait.{Wait}
-use Rattle.kpn_net.specs.declared.wait.Wait.TheVariants.{Nobody, Empty, Full}
+use Rattle.kpn_net.specs.declared.wait.Wait.TheVariants.{Nobody}
 use Rattle.kpn_net.specs.Tables.{Tables, channel_at, is_source, is_sink}
 use Rattle.kpn_chan.specs.Channel.{next_item}
-use Rattle.kpn_configuration.specs.Configuration.{Configuration, channel_in, closed_in, wait_in, end_in}
-
-abbrev pub is_empty_wait : Wait → Bool
-is_empty_wait (Empty c) = true
-is_empty_wait wait = false
-
-abbrev pub is_full_wait : Wait → Bool
-is_full_wait (Full c) = true
-is_full_wait wait = false
+use Rattle.kpn_configuration.specs.Configuration.{Configuration, channel_in, closed_in, wait_in, end_in, is_empty_wait}
 
 abbrev pub is_free : Wait → Bool
 is_free Nobody = true

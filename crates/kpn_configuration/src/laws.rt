@@ -32,6 +32,7 @@ ghost use Rattle.kpn_configuration.specs.Quiet.{IsQuietNow};
 ghost use Rattle.kpn_configuration.specs.Settled.{IsSettledNow, IsVerdictNow};
 ghost use Rattle.kpn_configuration.specs.Run.{IsRun};
 ghost use Rattle.kpn_configuration.specs.Changes.{Changes};
+ghost use Rattle.kpn_configuration.specs.Determined.{AreSame};
 ghost use Rattle.kpn_configuration.specs.Due.{Stands, ReadsFrom, IsDueNow};
 
 /// Where a history leads to a configuration, and an event that may follow it changes that into another one,
@@ -40,6 +41,13 @@ pub fn one_more_event()
     ensures { (t : Tables) → IsNetwork t → (H : List Event) (event : Event)
         → (before after : Configuration) → IsRun t H before → Legal t (H ++ event ∷ [])
         → Changes t event before after → IsConfiguration t after → IsRun t (H ++ event ∷ []) after }
+{}
+
+/// An event leads from a configuration to one other, but for what is reserved: so a call whose contract says what it
+/// changes leaves nothing else of the configuration open.
+pub fn an_event_leads_to_one()
+    ensures { (t : Tables) (event : Event) (before after other : Configuration)
+        → Changes t event before after → Changes t event before other → AreSame t after other }
 {}
 
 /// After a run that owes no growth an event may follow exactly where it is due by the configuration: one of

@@ -10,9 +10,8 @@ use Rattle.kpn_trace.specs.Waiting.{waits_of}
 use Rattle.kpn_trace.specs.Legal.{OwesGrowth}
 use Rattle.kpn_trace.specs.Ends.{IsQuiet}
 use Rattle.kpn_trace.specs.Stops.{CanGrow}
-use Rattle.kpn_configuration.specs.Configuration.{channel_in}
+use Rattle.kpn_configuration.specs.Configuration.{channel_in, is_empty_wait, is_full_wait}
 use Rattle.kpn_book.specs.Book.{Book}
-use Rattle.kpn_book.specs.Kept.{is_on_empty, is_on_full}
 
 -- a channel of the run, as it is held
 abbrev pub channel_of : Book → ℕ → ChannelState
@@ -35,8 +34,8 @@ AreWithinCapacity b = (c : ℕ) → c < length b.tables.channels → (channel_of
 
 -- the counts of the processes that wait are the numbers of those that are blocked, on an empty and on a full channel
 pub record AreBlockedCounts (b : Book) (counts : Counts) : Type 0 where
-  pub empty : counts.empty ≡ count_by is_on_empty (waits_of b.tables b.history)
-  pub full : counts.full ≡ count_by is_on_full (waits_of b.tables b.history)
+  pub empty : counts.empty ≡ count_by is_empty_wait (waits_of b.tables b.history)
+  pub full : counts.full ≡ count_by is_full_wait (waits_of b.tables b.history)
 
 -- each growth took the smallest full channel of a blocked cycle, at the moment when this was owed
 abbrev pub AreOwedGrowths : Book → Type 0

@@ -53,7 +53,7 @@ impl<'n, A: Allocator> Book<'n, A> {
         ensures refused { IfErr result (λ cause. RefusesCommit p advance.now self.old cause) }
         ensures as_before { OnErr result (self.new ≡ self.old) }
     {
-        self.pages.commit(p, advance)
+        self.pages.commit_steps(p, advance)
     }
 
     /// Commits the steps of process `p` as `commit` does, for who knows that they are steps of its program, as those of
@@ -64,7 +64,7 @@ impl<'n, A: Allocator> Book<'n, A> {
         ensures refused { IfErr result (λ cause. RefusesCommit p advance.now self.old cause) }
         ensures as_before { OnErr result (self.new ≡ self.old) }
     {
-        self.pages.commit_own(p, advance)
+        self.pages.commit_own_steps(p, advance)
     }
 
     /// Puts process `p`, which is held, to the tail of the queue. It stands where it stood.
@@ -74,7 +74,7 @@ impl<'n, A: Allocator> Book<'n, A> {
         ensures refused { IfErr result (λ cause. RefusesPutBack p self.old cause) }
         ensures as_before { OnErr result (self.new ≡ self.old) }
     {
-        self.pages.put_back(p)
+        self.pages.release(p)
     }
 
     /// Claims a process, advances it by no more steps than the quota and commits this, in place: no frame is copied.
@@ -84,6 +84,6 @@ impl<'n, A: Allocator> Book<'n, A> {
         ensures step { IfOk result (λ answer. IsStep quota answer self.old self.new) }
         ensures in_vain { OnErr result (StepsInVain quota self.old self.new) }
     {
-        self.pages.step_next(quota)
+        self.pages.step_one(quota)
     }
 }

@@ -12,30 +12,28 @@ use std::alloc::Allocator;
 
 impl<'n, A: Allocator> OpenBook<'n, A> {
     /// Feeds a source.
-    pub(super) fn feed_by(&mut self, c: usize, item: i64, bound: usize) -> Result<(), Refused>
+    pub(crate) fn feed(&mut self, c: usize, item: i64, bound: usize) -> Result<(), Refused>
         requires { IsKept self.old.book }
         ensures feeds { done_or_refused (λ _. Feeds c item bound) (RefusesFeed c item bound)
             result self.old.book self.new.book }
         ensures kept { IsKept self.new.book }
     {
         self.known();
-        if let Some(cause) = self.fault_of_feed(c, item, bound) {
+        if let Some(cause) = self.feed_fault(c, item, bound) {
             return Err(cause);
         }
-        let Ok(()) = self.reserve_write(c) else {
-            return Err(Refused::NoMemory);
-        };
+        self.reserve_write(c)?;
         self.feed_source(c, item);
         Ok(())
     }
 
     /// Why a feed would be refused but for want of memory, if it would.
-    pub(super) fn fault_of_feed(&self, c: usize, item: i64, bound: usize) -> Option<Refused>
+    pub(crate) fn feed_fault(&self, c: usize, item: i64, bound: usize) -> Option<Refused>
         requires { IsKept self.now.book }
         ensures { has_feed_fault c item bound result self.now.book }
     {
         self.known();
-        if !self.is_source(c) {
+        if !self.network.is_source(c) {
             return Some(Refused::NoSuchEnd);
         }
         if self.is_closed(c) {
@@ -48,35 +46,33 @@ impl<'n, A: Allocator> OpenBook<'n, A> {
     }
 
     /// Closes a source.
-    pub(super) fn close_by(&mut self, c: usize) -> Result<(), Refused>
+    pub(crate) fn close_source(&mut self, c: usize) -> Result<(), Refused>
         requires { IsKept self.old.book }
         ensures closes { done_or_refused (λ _. Closes c) (RefusesClose c)
             result self.old.book self.new.book }
         ensures kept { IsKept self.new.book }
     {
         self.known();
-        if !self.is_source(c) {
+        if !self.network.is_source(c) {
             return Err(Refused::NoSuchEnd);
         }
         if self.is_closed(c) {
             return Ok(());
         }
-        let Ok(()) = self.reserve_events() else {
-            return Err(Refused::NoMemory);
-        };
+        self.reserve_events()?;
         self.close(c);
         Ok(())
     }
 
     /// Takes the next item of a sink.
-    pub(super) fn take_by(&mut self, c: usize) -> Result<Option<i64>, Refused>
+    pub(crate) fn take(&mut self, c: usize) -> Result<Option<i64>, Refused>
         requires { IsKept self.old.book }
         ensures takes { done_or_refused (Takes c) (RefusesTake c)
             result self.old.book self.new.book }
         ensures kept { IsKept self.new.book }
     {
         self.known();
-        if !self.is_sink(c) {
+        if !self.network.is_sink(c) {
             return Err(Refused::NoSuchEnd);
         }
         if self.is_left(c) {
@@ -85,46 +81,28 @@ impl<'n, A: Allocator> OpenBook<'n, A> {
         if !self.has_item(c) {
             return Ok(None);
         }
-        let Ok(()) = self.reserve_events() else {
-            return Err(Refused::NoMemory);
-        };
+        self.reserve_events()?;
         let item = self.take_next(c);
         Ok(Some(item))
     }
 
     /// Leaves a sink.
-    pub(super) fn leave_by(&mut self, c: usize) -> Result<(), Refused>
+    pub(crate) fn leave_sink(&mut self, c: usize) -> Result<(), Refused>
         requires { IsKept self.old.book }
         ensures leaves { done_or_refused (λ _. Leaves c) (RefusesLeave c)
             result self.old.book self.new.book }
         ensures kept { IsKept self.new.book }
     {
         self.known();
-        if !self.is_sink(c) {
+        if !self.network.is_sink(c) {
             return Err(Refused::NoSuchEnd);
         }
         if self.is_left(c) {
             return Ok(());
         }
-        let Ok(()) = self.reserve_events() else {
-            return Err(Refused::NoMemory);
-        };
+        self.reserve_events()?;
         self.leave(c);
         Ok(())
-    }
-
-    /// Whether there is a source with this number.
-    fn is_source(&self, c: usize) -> bool
-        ensures { result ≡ is_source (channel_at self.now.book.tables c) }
-    {
-        self.network.is_source(c)
-    }
-
-    /// Whether there is a sink with this number.
-    fn is_sink(&self, c: usize) -> bool
-        ensures { result ≡ is_sink (channel_at self.now.book.tables c) }
-    {
-        self.network.is_sink(c)
     }
 
     /// Whether a source is closed.

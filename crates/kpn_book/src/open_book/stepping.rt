@@ -61,7 +61,7 @@ impl<'n, A: Allocator> OpenBook<'n, A> {
     }
 
     /// Commits the steps of process `p`.
-    pub(super) fn commit_steps(&mut self, p: usize, advance: &Advance) -> Result<Done, Refused>
+    pub(crate) fn commit_steps(&mut self, p: usize, advance: &Advance) -> Result<Done, Refused>
         requires { IsKept self.old.book }
         ensures commits { done_or_refused (Commits p advance.now) (RefusesCommit p advance.now)
             result self.old.book self.new.book }
@@ -78,7 +78,7 @@ impl<'n, A: Allocator> OpenBook<'n, A> {
     }
 
     /// Commits the steps of process `p`, which are of its program.
-    pub(super) fn commit_own_steps(&mut self, p: usize, advance: &Advance) -> Result<Done, Refused>
+    pub(crate) fn commit_own_steps(&mut self, p: usize, advance: &Advance) -> Result<Done, Refused>
         requires kept { IsKept self.old.book }
         requires program { advance.now.program ≡ program_of self.old.book.tables p }
         ensures commits { done_or_refused (Commits p advance.now) (RefusesCommit p advance.now)
@@ -103,7 +103,7 @@ impl<'n, A: Allocator> OpenBook<'n, A> {
     }
 
     /// Puts process `p` to the tail of the queue.
-    pub(super) fn release(&mut self, p: usize) -> Result<(), Refused>
+    pub(crate) fn release(&mut self, p: usize) -> Result<(), Refused>
         requires { IsKept self.old.book }
         ensures back { done_or_refused (λ _. puts_back p) (RefusesPutBack p)
             result self.old.book self.new.book }
@@ -117,7 +117,7 @@ impl<'n, A: Allocator> OpenBook<'n, A> {
     }
 
     /// Claims a process, advances it in place and commits this.
-    pub(super) fn step_one(&mut self, quota: u32) -> Result<Option<Done>, AllocError>
+    pub(crate) fn step_one(&mut self, quota: u32) -> Result<Option<Done>, AllocError>
         requires { IsKept self.old.book }
         ensures steps { steps_by quota result self.old.book self.new.book }
         ensures kept { IsKept self.new.book }

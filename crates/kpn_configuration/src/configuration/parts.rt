@@ -80,7 +80,9 @@ impl<A: Allocator> Configuration<A> {
             → IsTrue (channel_in self.new d).is_reserved }
     {
         let channel = &mut self.channels[d];
-        let _grown = channel.grow();
+        let Ok(()) = channel.grow() else {
+            unreachable!();
+        };
         self.capacities[d] += 1;
     }
 

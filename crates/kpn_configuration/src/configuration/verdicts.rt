@@ -5,11 +5,11 @@ ghost use Rattle.kpn_trace.specs.declared.event.Event.{Event};
 ghost use Rattle.kpn_trace.specs.declared.event.How.{How};
 ghost use Rattle.kpn_trace.specs.declared.state.Verdict.{Verdict};
 ghost use Rattle.kpn_trace.specs.Ends.{IsQuiet, IsVerdict};
-ghost use Rattle.kpn_configuration.specs.Configuration.{wait_in, end_in, IsConfiguration};
+ghost use Rattle.kpn_configuration.specs.Configuration.{wait_in, end_in, is_full_wait, IsConfiguration};
 ghost use Rattle.kpn_configuration.specs.Quiet.{IsQuietNow};
 ghost use Rattle.kpn_configuration.specs.Run.{IsRun};
 ghost use Rattle.kpn_configuration.specs.Settled.{HaveStopped, IsOutsideDone, IsSettledNow, HasFullCycleNow, HasFullWaitNow, IsVerdictNow};
-ghost use Rattle.kpn_configuration.specs.Stopped.{is_quiet_at, has_stopped, is_full_wait, awaits_outside};
+ghost use Rattle.kpn_configuration.specs.Stopped.{is_quiet_at, has_stopped, awaits_outside};
 
 use super::Configuration;
 use kpn_net::{Found, Network, Wait};

@@ -1,18 +1,15 @@
-use Rattle.kpn_book.specs.Refusals.{Closes, RefusesClose}
-use Rattle.kpn_book.proofs.Split.{is_done, is_refused, is_as_before}
+use Rattle.std.proofs.Common.{refl}
+use Rattle.kpn_trace.specs.declared.event.Event.TheVariants as event
+use Rattle.kpn_book.proofs.Committing.{kept_outside}
+use Rattle.kpn_book.proofs.Outside.{kept_same, sound_same}
 use Rattle.kpn_book.proofs.open_book.OpenBook.close_source.Goals as goal
 
-pub returns-clause-done : goal.returns-clause-done
-returns-clause-done g c =
-    is_done (λ _. Closes c.args.c) (RefusesClose c.args.c) c.args.self.now.book c.close_by.new.self.book c.close_by.result
-    c.close_by.ensures.closes
+pub close-requires-clause-sound : goal.close-requires-clause-sound
+close-requires-clause-sound g c =
+    sound_same c.args.self.now.book c.reserve_events.new.self.book c.reserve_events.ensures.book c.requires
 
-pub returns-clause-refused : goal.returns-clause-refused
-returns-clause-refused g c =
-    is_refused (λ _. Closes c.args.c) (RefusesClose c.args.c) c.args.self.now.book c.close_by.new.self.book c.close_by.result
-    c.close_by.ensures.closes
-
-pub returns-clause-as_before : goal.returns-clause-as_before
-returns-clause-as_before g c =
-    is_as_before (λ _. Closes c.args.c) (RefusesClose c.args.c) c.args.self.now.book c.close_by.new.self.book c.close_by.result
-    c.close_by.ensures.closes
+pub returns-clause-kept : goal.returns-clause-kept
+returns-clause-kept g c =
+    kept_outside c.reserve_events.new.self.book c.close.new.self.book (event.Close c.args.c)
+    (kept_same c.args.self.now.book c.reserve_events.new.self.book c.reserve_events.ensures.book c.requires)
+    c.close.ensures.follows refl refl

@@ -1,18 +1,15 @@
-use Rattle.kpn_book.specs.Refusals.{Leaves, RefusesLeave}
-use Rattle.kpn_book.proofs.Split.{is_done, is_refused, is_as_before}
+use Rattle.std.proofs.Common.{refl}
+use Rattle.kpn_trace.specs.declared.event.Event.TheVariants as event
+use Rattle.kpn_book.proofs.Committing.{kept_outside}
+use Rattle.kpn_book.proofs.Outside.{kept_same, sound_same}
 use Rattle.kpn_book.proofs.open_book.OpenBook.leave_sink.Goals as goal
 
-pub returns-clause-done : goal.returns-clause-done
-returns-clause-done g c =
-    is_done (λ _. Leaves c.args.c) (RefusesLeave c.args.c) c.args.self.now.book c.leave_by.new.self.book c.leave_by.result
-    c.leave_by.ensures.leaves
+pub leave-requires-clause-sound : goal.leave-requires-clause-sound
+leave-requires-clause-sound g c =
+    sound_same c.args.self.now.book c.reserve_events.new.self.book c.reserve_events.ensures.book c.requires
 
-pub returns-clause-refused : goal.returns-clause-refused
-returns-clause-refused g c =
-    is_refused (λ _. Leaves c.args.c) (RefusesLeave c.args.c) c.args.self.now.book c.leave_by.new.self.book c.leave_by.result
-    c.leave_by.ensures.leaves
-
-pub returns-clause-as_before : goal.returns-clause-as_before
-returns-clause-as_before g c =
-    is_as_before (λ _. Leaves c.args.c) (RefusesLeave c.args.c) c.args.self.now.book c.leave_by.new.self.book c.leave_by.result
-    c.leave_by.ensures.leaves
+pub returns-clause-kept : goal.returns-clause-kept
+returns-clause-kept g c =
+    kept_outside c.reserve_events.new.self.book c.leave.new.self.book (event.Leave c.args.c)
+    (kept_same c.args.self.now.book c.reserve_events.new.self.book c.reserve_events.ensures.book c.requires)
+    c.leave.ensures.follows refl refl

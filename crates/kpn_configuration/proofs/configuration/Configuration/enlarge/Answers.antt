@@ -12,9 +12,9 @@ invariant_of-self g c =
     let some = some_of (λ n. n < MAX_CAPACITY) (channel_in c.args.self.now c.args.d).capacity c.requires.capacity in
     let value = c.index_mut-channel.ensures.value in
     mirror_grows c.self.inside.channels.items c.self.inside.capacities.items c.args.d c.index_mut.result.now
-    c.grow-grown.new.self c.index_mut-channel.result.now some.0 c.self.invariant there
+    c.grow.new.self c.index_mut-channel.result.now some.0 c.self.invariant there
     (ap (λ x. x.capacity)
-    (c.grow-grown.ensures.after ∙ there_is c.grow-grown.result _ _ c.grow-grown.ensures.succeeds)
+    (c.grow.ensures.after ∙ there_is c.grow.result _ _ c.grow.ensures.succeeds)
     ∙ ap (λ x. one_more x.capacity) value)
     (ap (λ x. x.capacity)
     (get_or_default c.self.inside.channels.items c.args.d c.index_mut-channel.result.now (opened None false)

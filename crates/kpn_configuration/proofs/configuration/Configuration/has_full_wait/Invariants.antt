@@ -1,6 +1,5 @@
 use Rattle.std.proofs.Common.{◌≡◌, ℕ, ◌<◌, false}
-use Rattle.kpn_configuration.specs.Configuration.{wait_in}
-use Rattle.kpn_configuration.specs.Stopped.{is_full_wait}
+use Rattle.kpn_configuration.specs.Configuration.{wait_in, is_full_wait}
 use Rattle.kpn_configuration.proofs.configuration.Configuration.has_full_wait.Given as goal
 
 abbrev pub invariant-loop-p : goal.invariant-loop-p
