@@ -1,10 +1,12 @@
 -- What remains of lists at places, and how a read moves a place on.
-use Rattle.std.proofs.Common.{◌≡◌, ℕ, zero, suc, ◌+◌, ◌<◌, ℤ, List, [], ◌∷◌, length, replicate, set, get_or, drop, None, refl, sym, ap, ◌∙◌, arith}
-use Rattle.std.proofs.lemmas.List.{drop-drop, set-get_or, get_or_read}
+use Rattle.std.proofs.Common.{◌≡◌, ℕ, zero, suc, ◌+◌, ◌≤◌, ◌<◌, ℤ, List, [], ◌∷◌, length, replicate, set, get_or, drop, Some, None, refl, sym, ap, ◌∙◌, arith}
+use Rattle.std.proofs.lemmas.List.{drop-drop, drop_all, set-get_or, get_or_read}
+use Rattle.std.proofs.lemmas.Option.{slice_get_past, slice_get_read}
 use Rattle.std.specs.Prelude.{slice_get}
 use Rattle.kpn_lang.specs.declared.talk.Said.{Said}
 use Rattle.kpn_lang.specs.Run.{Lists, list_at}
-use Rattle.kpn_lang.specs.Plain.{Standing, remaining}
+use Rattle.kpn_lang.specs.Lists.{remaining, next_at, without_next}
+use Rattle.kpn_lang.specs.Plain.{Standing}
 
 pub length-remaining : (lists : Lists) (places : List ℕ) → length places ≡ length lists →
     length (remaining lists places) ≡ length lists
@@ -22,8 +24,7 @@ list_at-remaining (items ∷ lists) (place ∷ places) zero e = refl
 list_at-remaining (items ∷ lists) (place ∷ places) (suc port) e = list_at-remaining lists places port (omega arith)
 
 pub remaining-set : (lists : Lists) (places : List ℕ) (port : ℕ) → length places ≡ length lists →
-    set (remaining lists places) port (drop 1 (list_at (remaining lists places) port))
-    ≡ remaining lists (set places port (get_or places port 0 + 1))
+    without_next (remaining lists places) port ≡ remaining lists (set places port (get_or places port 0 + 1))
 remaining-set [] [] port e = refl
 remaining-set [] (place ∷ places) port e = absurd (omega arith)
 remaining-set (items ∷ lists) [] port e = absurd (omega arith)
@@ -38,37 +39,34 @@ slice_get-drop [] (suc place) = refl
 slice_get-drop (x ∷ xs) zero = refl
 slice_get-drop (x ∷ xs) (suc place) = slice_get-drop xs place
 
--- past its end nothing of a list remains
-pub drop_from_none : {A : Type 0} (xs : List A) (place : ℕ) → slice_get xs place ≡ None → drop place xs ≡ []
-drop_from_none [] zero e = refl
-drop_from_none [] (suc place) e = refl
-drop_from_none (x ∷ xs) zero e = absurd cc
-drop_from_none (x ∷ xs) (suc place) e = drop_from_none xs place e
+-- the list of a port as it was read, at its place
+module _ (lists : Lists) (places : List ℕ) (port : ℕ) (items : List ℤ) (even : length places ≡ length lists)
+    (there : port < length lists) (read : items ≡ get_or lists port items) where
+  left_there : list_at (remaining lists places) port ≡ drop (get_or places port 0) items
+  left_there =
+      list_at-remaining lists places port even
+      ∙ ap (λ xs. drop (get_or places port 0) xs) (sym (get_or_read lists port items there read []))
 
--- the place of a port, as it was read
-module _ (lists : Lists) (places : List ℕ) (port place : ℕ) (even : length places ≡ length lists)
-    (there : port < length lists) (read : place ≡ get_or places port place) where
-  place_read : get_or places port 0 ≡ place
-  place_read = sym (get_or_read places port place (omega arith) read 0)
+  first_there : next_at (remaining lists places) port ≡ slice_get items (get_or places port 0)
+  first_there = ap (λ xs. slice_get xs 0) left_there ∙ slice_get-drop items (get_or places port 0)
 
-  pub first_of_remaining : slice_get (list_at lists port) place ≡ slice_get (list_at (remaining lists places) port) 0
-  first_of_remaining =
-      rw (list_at-remaining lists places port even, place_read) (sym (slice_get-drop (list_at lists port) place))
+  -- where the place is at the end nothing is read
+  pub no_next : length items ≤ get_or places port 0 → None ≡ next_at (remaining lists places) port
+  no_next past = sym (first_there ∙ slice_get_past items (get_or places port 0) past)
 
-  pub rest_of_remaining : set (remaining lists places) port (drop 1 (list_at (remaining lists places) port))
-      ≡ remaining lists (set places port (place + 1))
-  rest_of_remaining =
-      remaining-set lists places port even ∙ ap (λ k. remaining lists (set places port (k + 1))) place_read
+  pub without_none : length items ≤ get_or places port 0 →
+      remaining lists places ≡ without_next (remaining lists places) port
+  without_none past =
+      let nothing : list_at (remaining lists places) port ≡ [] =
+      left_there ∙ drop_all (get_or places port 0) items past in
+      sym (ap (λ xs. set (remaining lists places) port (drop 1 xs)) nothing
+      ∙ ap (λ xs. set (remaining lists places) port xs) (sym nothing)
+      ∙ set-get_or (remaining lists places) port [])
 
-  pub rest_of_nothing : slice_get (list_at lists port) place ≡ None →
-      set (remaining lists places) port (drop 1 (list_at (remaining lists places) port)) ≡ remaining lists places
-  rest_of_nothing e =
-      let nothing_left : list_at (remaining lists places) port ≡ [] =
-      list_at-remaining lists places port even ∙ ap (λ k. drop k (list_at lists port)) place_read
-      ∙ drop_from_none (list_at lists port) place e in
-      ap (λ xs. set (remaining lists places) port (drop 1 xs)) nothing_left
-      ∙ ap (λ xs. set (remaining lists places) port xs) (sym nothing_left)
-      ∙ set-get_or (remaining lists places) port []
+  -- where it is not, the item there is read
+  pub next_is : (v : ℤ) → get_or places port 0 < length items → v ≡ get_or items (get_or places port 0) v →
+      Some v ≡ next_at (remaining lists places) port
+  next_is v within at = sym (first_there ∙ slice_get_read items (length items) (get_or places port 0) v refl within at)
 
 -- a port of what remains is a port of the lists
 pub port_of_remaining : (here : Standing) (lists : Lists) (places : List ℕ) (port : ℕ) → length places ≡ length lists →

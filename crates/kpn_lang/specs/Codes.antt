@@ -1,5 +1,5 @@
--- Scaffolding: codes of terms, statements and the parts of a program. A code maps a type one to one into the stored values, which
--- are trees of numbers, so that a proof can tell two values of the type apart behind a reference.
+-- Scaffolding: codes of terms, statements and the parts of a program. A code maps a type one to one into the stored
+-- values, which are trees of numbers, so that a proof can tell two values of the type apart behind a reference.
 use Rattle.std.specs.Prelude.{◌≡◌, ℕ, zero, suc, pos, negsuc, List, [], ◌∷◌, slice_index_or, ◌⊎◌, refl}
 use Rattle.std.specs.Coded.{Coded, code_by, coded_ℕ, coded×, coded⊎, coded_list}
 use base.Stored.{Gv, gnil, gnum, gcons}

@@ -3,6 +3,7 @@ pub mod Value
 pub mod Tree
 pub mod Parts
 pub mod Run
+pub mod Lists
 pub mod Prefix
 pub mod Alone
 pub mod Laws

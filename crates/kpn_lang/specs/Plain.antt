@@ -1,6 +1,6 @@
 -- Scaffolding: where the plain program stands in a run, and what a part of it has done there. The contracts of private
 -- functions speak of it, and nobody needs it to read what a run is.
-use Rattle.std.specs.Prelude.{◌≡◌, ℕ, ℤ, List, [], ◌∷◌, ◌++◌, length, drop, Option, Some, None, Result, Ok, Err, Bool, not}
+use Rattle.std.specs.Prelude.{◌≡◌, ℤ, List, ◌++◌, length, Option, Some, None, Result, Ok, Err, Bool, not}
 use Rattle.kpn_lang.specs.declared.value.Fault.{Fault}
 use Rattle.kpn_lang.specs.declared.talk.Said.{Said}
 use Rattle.kpn_lang.specs.declared.talk.Ending.{Ending}
@@ -13,12 +13,6 @@ pub record Standing : Type 0 where
   pub variables : List ℤ
   pub lists : Lists
   pub talk : List Said
-
--- what remains of each list behind its place
-abbrev pub remaining : Lists → (places : List ℕ) → Lists
-remaining [] places = []
-remaining (items ∷ lists) [] = []
-remaining (items ∷ lists) (place ∷ places) = drop place items ∷ remaining lists places
 
 -- what was said before, in front of a run
 abbrev pub said_before : List Said → Ran → Ran

@@ -1,4 +1,4 @@
--- Scaffolding, but for `parts_with`: the parts of a program that its code holds.
+-- What the code's statements and blocks stand for: their statements as plain trees.
 use Rattle.std.specs.Prelude.{ℕ, List, map}
 use Rattle.std.specs.Global.{Vec}
 use Rattle.kpn_lang.specs.declared.syntax.Stmt.{Stmt}
@@ -14,11 +14,13 @@ statements_of block = map statement_of block
 abbrev pub blocks_of : List (Vec Stmt) → List (List Statement)
 blocks_of blocks = map (λ block. statements_of block.items) blocks
 
--- the parts
-abbrev pub parts_of : held.Parts → Parts
-parts_of p = record { ins = p.ins; outs = p.outs; pars = p.pars; vars = p.vars; blocks = blocks_of p.blocks.items }
-
 -- the parts that are handed in
 abbrev pub parts_with : (ins outs pars vars : ℕ) → List (Vec Stmt) → Parts
 parts_with ins outs pars vars blocks =
     record { ins = ins; outs = outs; pars = pars; vars = vars; blocks = blocks_of blocks }
+
+-- ---- scaffolding
+
+-- the parts that a program holds
+abbrev pub parts_of : held.Parts → Parts
+parts_of p = record { ins = p.ins; outs = p.outs; pars = p.pars; vars = p.vars; blocks = blocks_of p.blocks.items }

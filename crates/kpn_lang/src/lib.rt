@@ -21,7 +21,7 @@ pub use instruction::Instruction;
 pub use link::Link;
 pub use plain::{Run, run_alone};
 pub use program::{Program, ProgramFault, same};
-pub use sequence::{Sequence, item_at};
+pub use sequence::{Sequence, next_item};
 pub use spine::{Links, Spine};
 pub use start::Start;
 pub use syntax::{BlockId, Expr, Op, Stmt};

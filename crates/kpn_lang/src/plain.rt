@@ -1,16 +1,17 @@
 //! The plain program: it runs a program alone on whole lists by recursion over its blocks, as the
 //! definition of a run says.
-ghost use Rattle.std.specs.Prelude.{◌≡◌, ◌≤◌, ◌<◌, [], ◌∷◌, ◌++◌, length, drop, IfOk, OnSome, IsTrue, ◌+◌, ◌^◌, slice_get, slice_set};
+ghost use Rattle.std.specs.Prelude.{◌≡◌, ◌≤◌, ◌<◌, [], ◌∷◌, ◌++◌, length, drop, IfOk, IsTrue, slice_set};
 ghost use Rattle.kpn_lang.specs.Syntax.{term_of, statement_of, names_below};
 ghost use Rattle.kpn_lang.specs.Value.{value};
 ghost use Rattle.kpn_lang.specs.Parts.{names_variables_below, names_ports_below};
 ghost use Rattle.kpn_lang.specs.Tree.{tree_of, tree_over};
-ghost use Rattle.kpn_lang.specs.Run.{list_at, run, turns};
+ghost use Rattle.kpn_lang.specs.Run.{run, turns};
+ghost use Rattle.kpn_lang.specs.Lists.{remaining, next_at, without_next};
 ghost use Rattle.kpn_lang.specs.Alone.{alone, start_of};
-ghost use Rattle.kpn_lang.specs.Plain.{remaining, holds, goes_on, LeadsTo, MayRun};
+ghost use Rattle.kpn_lang.specs.Plain.{holds, goes_on, LeadsTo, MayRun};
 
 use crate::program::Program;
-use crate::sequence::{Sequence, item_at};
+use crate::sequence::{Sequence, next_item};
 use crate::syntax::{BlockId, Expr, Stmt};
 use crate::talk::{Ending, Said};
 use crate::value::{Fault, eval};
@@ -205,7 +206,8 @@ struct State<'a> {
 
 impl<'a> Model for State<'a> {
     ghost use Rattle.std.specs.Prelude.{◌≡◌, length};
-    ghost use Rattle.kpn_lang.specs.Plain.{Standing, remaining};
+    ghost use Rattle.kpn_lang.specs.Lists.{remaining};
+    ghost use Rattle.kpn_lang.specs.Plain.{Standing};
 
     ghost Value = { Standing };
 
@@ -275,14 +277,11 @@ impl<'a> State<'a> {
     // The next item of the list of a port, if there is one, which is then read.
     fn next_item(&mut self, port: usize) -> Option<i64>
         requires { port < length self.old.lists }
-        ensures first { result ≡ slice_get (list_at self.old.lists port) 0 }
-        ensures rest { let rest = drop 1 (list_at self.old.lists port) in
-            self.new ≡ record self.old { lists = slice_set self.old.lists port rest } }
+        ensures item { result ≡ next_at self.old.lists port }
+        ensures rest { let rest = without_next self.old.lists port in
+            self.new ≡ record self.old { lists = rest } }
     {
-        let place = self.places[port];
-        let item = item_at(self.lists, port, place)?;
-        self.places[port] = place + 1;
-        Some(item)
+        next_item(self.lists, &mut self.places, port)
     }
 
     // The run that ends here.

@@ -1,7 +1,7 @@
 //! A small list type over `Vec` that contracts see as a list: for fields, and for lists inside lists.
 ghost use Rattle.std.specs.Prelude.{◌≡◌, ◌+◌, ◌^◌, ◌<◌, ◌↔◌, [], ◌∷◌, ◌++◌, length, IsTrue, OnSome, slice_get, if◌then◌else◌, is_ok, IfErr};
 ghost use Rattle.std.specs.Cmp.Lexicographic.{pointwise, lists_per, lists_equiv};
-ghost use Rattle.kpn_lang.specs.Run.{list_at};
+ghost use Rattle.kpn_lang.specs.Lists.{remaining, next_at, without_next};
 
 use std::alloc::{AllocFailed, Allocator, Global};
 use std::marker::Model;
@@ -91,16 +91,17 @@ impl<T, A: Allocator> Sequence<T, A> {
     }
 }
 
-/// The item at a place of one of some lists, if there is one.
-pub fn item_at(lists: &[Sequence<i64>], port: usize, place: usize) -> Option<i64>
-    requires { port < length lists.now }
-    ensures item { result ≡ slice_get (list_at lists.now port) place }
-    ensures room { OnSome result (place + 1 < 2 ^ 64) }
+/// The next item of the list of a port, if there is one, which is then read. Each list is read up to its place.
+pub fn next_item(lists: &[Sequence<i64>], places: &mut [usize], port: usize) -> Option<i64>
+    requires port { port < length lists.now }
+    requires places { length places.old ≡ length lists.now }
+    ensures item { result ≡ next_at (remaining lists.now places.old) port }
+    ensures rest { remaining lists.now places.new
+        ≡ without_next (remaining lists.now places.old) port }
+    ensures places { length places.new ≡ length places.old }
 {
-    let items = lists[port].as_slice();
-    if place < items.len() {
-        Some(items[place])
-    } else {
-        None
-    }
+    let place = places[port];
+    let item = *lists[port].as_slice().get(place)?;
+    places[port] = place + 1;
+    Some(item)
 }

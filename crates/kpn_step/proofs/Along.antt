@@ -17,8 +17,8 @@ use Rattle.kpn_step.specs.Step.{Steps}
 use Rattle.kpn_step.specs.Stops.{StandsAt}
 use Rattle.kpn_step.specs.Walk.{Speaks, Walks, AloneGives}
 use Rattle.kpn_step.specs.Stepped.{Walked}
-use Rattle.kpn_lang.specs.Plain.{remaining}
-use Rattle.kpn_step.specs.Taken.{EndsAs}
+use Rattle.kpn_lang.specs.Lists.{remaining}
+use Rattle.kpn_step.specs.Ended.{EndsAs}
 use Rattle.kpn_step.proofs.MayStep.{write_within}
 use Rattle.kpn_step.proofs.Stands.{StandsAt-stop_at}
 use Rattle.kpn_step.proofs.Walked.{Walks-steps, Walks-said, fits-alone, AloneGives-done, AloneGives-faulted, AloneGives-starved, AloneGives-paused}

@@ -11,6 +11,6 @@ pub mod After
 pub mod Starts
 pub mod Leaving
 pub mod MayStep
-pub mod Taking
 pub mod Same
 pub mod Along
+pub mod Taking

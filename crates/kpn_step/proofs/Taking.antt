@@ -1,36 +1,32 @@
--- Items taken from the fronts of lists.
-use Rattle.std.proofs.Common.{◌≡◌, ℕ, ◌+◌, ℤ, List, ◌∷◌, length, get_or, set, drop, slice_get, Some, None, refl, sym, ap, ◌∙◌}
+-- A read says the item that is next at its port, and takes it from there.
+use Rattle.std.proofs.Common.{◌≡◌, ℕ, ℤ, List, [], ◌∷◌, ◌++◌, length, take, drop, slice_get, Some, ap, subst, ◌∙◌, arith}
+use Rattle.std.proofs.lemmas.List.{append-nil, drop_all, take_all}
+use Rattle.kpn_lang.specs.declared.talk.Said.TheVariants.{Got}
+use Rattle.kpn_lang.specs.Syntax.{Statement}
 use Rattle.kpn_lang.specs.Run.{Lists, list_at}
-use Rattle.kpn_lang.specs.Plain.{remaining}
-use Rattle.kpn_lang.proofs.Remaining.{list_at-remaining, remaining-set}
-use Rattle.kpn_step.specs.Taken.{TakesFromList}
-use Rattle.kpn_step.proofs.Blocks.{drop_at_some, drop_at_none}
+use Rattle.kpn_lang.specs.Lists.{next_at, without_next}
+use Rattle.kpn_step.specs.declared.stop.Stop.{Stop}
+use Rattle.kpn_step.specs.declared.stop.Stop.TheVariants.{WantRead}
+use Rattle.kpn_step.specs.Frame.{Frame}
+use Rattle.kpn_step.specs.Stops.{StandsAt, IsGiven}
+use Rattle.kpn_step.specs.Walk.{Speaks}
 
-TakesFromList-some : (lists : Lists) (taken : List ℕ) (port : ℕ) (v : ℤ) → length taken ≡ length lists →
-    Some v ≡ slice_get (list_at lists port) (get_or taken port 0) →
-    TakesFromList port (remaining lists taken) (Some v) (remaining lists (set taken port (get_or taken port 0 + 1)))
-TakesFromList-some lists taken port v e at =
-    let n = get_or taken port 0 in
-    let rest = drop (n + 1) (list_at lists port) in
-    let first : list_at (remaining lists taken) port ≡ v ∷ rest =
-    list_at-remaining lists taken port e ∙ drop_at_some (list_at lists port) n v (sym at) in (
-      rest,
-      first,
-      sym (remaining-set lists taken port e)
-          ∙ ap (λ xs. set (remaining lists taken) port (drop 1 xs)) first,
-    )
+front : (items : List ℤ) (v : ℤ) → Some v ≡ slice_get items 0 → items ≡ v ∷ drop 1 items
+front [] v first = absurd cc
+front (x ∷ items) v first = let same : x ≡ v = cc in ap (λ y. y ∷ items) same
 
--- of the counts that the code reads
-pub TakesFromList-none_read : (lists : Lists) (taken shown : List ℕ) (port : ℕ) → shown ≡ taken →
-    length taken ≡ length lists → None ≡ slice_get (list_at lists port) (get_or shown port 0) →
-    TakesFromList port (remaining lists taken) None (remaining lists taken)
-TakesFromList-none_read lists taken shown port same e at =
-    let none = at ∙ ap (λ counts. slice_get (list_at lists port) (get_or counts port 0)) same in
-    (list_at-remaining lists taken port e ∙ drop_at_none (list_at lists port) (get_or taken port 0) (sym none), refl)
+pub Speaks-got : (blocks : List (List Statement)) (f g : Frame) (stop : Stop) (port : ℕ) (v : ℤ) (lists rest : Lists) →
+    StandsAt blocks f stop → stop ≡ WantRead port → IsGiven blocks f v g → Some v ≡ next_at lists port →
+    rest ≡ without_next lists port → Speaks blocks f lists (Got port v) g rest
+Speaks-got blocks f g stop port v lists rest stands is given first without =
+    let s = subst (StandsAt blocks f) is stands in
+    let items = list_at lists port in
+    (s.0, drop 1 items, s.1.statement, front items v first, given port s.0 s.1.statement, without)
 
-pub TakesFromList-some_read : (lists : Lists) (taken shown : List ℕ) (port : ℕ) (v : ℤ) → shown ≡ taken →
-    length taken ≡ length lists → Some v ≡ slice_get (list_at lists port) (get_or shown port 0) →
-    TakesFromList port (remaining lists taken) (Some v) (remaining lists (set taken port (get_or shown port 0 + 1)))
-TakesFromList-some_read lists taken shown port v same e at =
-    let some = at ∙ ap (λ counts. slice_get (list_at lists port) (get_or counts port 0)) same in
-    rw same (TakesFromList-some lists taken port v e some)
+-- a slice of all elements that is given back is the elements
+pub written_back : (old new : List ℕ) → length new ≡ length old →
+    take (length old) (new ++ drop (length new) old) ≡ new
+written_back old new even =
+    ap (λ xs. take (length old) (new ++ xs)) (drop_all (length new) old (omega arith))
+    ∙ ap (λ xs. take (length old) xs) (append-nil new)
+    ∙ take_all (length old) new (omega arith)

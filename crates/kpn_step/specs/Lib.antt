@@ -6,5 +6,5 @@ pub mod Stops
 pub mod After
 pub mod Walk
 pub mod Stepped
-pub mod Taken
+pub mod Ended
 pub mod Codes

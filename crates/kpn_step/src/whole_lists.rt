@@ -1,19 +1,18 @@
 //! A process stepped alone on whole lists, without any other.
 ghost use Rattle.std.specs.Prelude.{◌≡◌, ◌<◌, ◌≤◌, length, IsTrue, IfOk, MatchResult};
 ghost use Rattle.arrayvec.specs.ArrayVec.{array_vec_len};
-ghost use Rattle.kpn_lang.specs.Plain.{remaining};
+ghost use Rattle.kpn_lang.specs.Lists.{remaining};
 ghost use Rattle.kpn_step.specs.Frame.{fits};
 ghost use Rattle.kpn_step.specs.Stops.{StandsAt};
 ghost use Rattle.kpn_step.specs.Walk.{AloneGives, Speaks};
-ghost use Rattle.kpn_step.specs.Taken.{TakesFromList, EndsAs};
+ghost use Rattle.kpn_step.specs.Ended.{EndsAs};
 
 use crate::alone_run::AloneRun;
-use crate::element::set_element;
 use crate::frame::Frame;
 use crate::stop::{AloneStop, Stop};
 use crate::walk::walk;
 use arrayvec::ArrayVec;
-use kpn_lang::{Program, Said, Sequence, item_at};
+use kpn_lang::{Program, Said, Sequence, next_item};
 use kpn_limits::MAX_PORTS;
 use std::alloc::{AllocError, Global};
 
@@ -65,7 +64,7 @@ fn say(
 {
     program.known();
     match stop {
-        Stop::WantRead(port) => match next_item(lists, taken, port) {
+        Stop::WantRead(port) => match next_item(lists, taken.as_mut_slice(), port) {
             Some(item) => {
                 frame.pass_read(program, item);
                 Ok(Said::Got(port, item))
@@ -80,24 +79,6 @@ fn say(
         Stop::Faulted(fault) => Err(AloneStop::Faulted(fault)),
         Stop::Paused => Err(AloneStop::Paused),
     }
-}
-
-/// The first item that was not yet taken at a port, which it takes.
-fn next_item(
-    lists: &[Sequence<i64>],
-    taken: &mut ArrayVec<usize, MAX_PORTS>,
-    port: usize,
-) -> Option<i64>
-    requires port { port < length lists.now }
-    requires taken { array_vec_len taken.old ≡ length lists.now }
-    ensures takes { TakesFromList port (remaining lists.now taken.old.items) result
-        (remaining lists.now taken.new.items) }
-    ensures taken { array_vec_len taken.new ≡ array_vec_len taken.old }
-{
-    let place = taken[port];
-    let item = item_at(lists, port, place)?;
-    set_element(taken, port, place + 1);
-    Some(item)
 }
 
 fn none_taken(lists: &[Sequence<i64>]) -> ArrayVec<usize, MAX_PORTS>

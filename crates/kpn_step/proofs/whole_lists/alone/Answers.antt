@@ -1,5 +1,5 @@
 -- The process goes along its way: steps, then one thing said, or the end.
-use Rattle.kpn_lang.specs.Plain.{remaining}
+use Rattle.kpn_lang.specs.Lists.{remaining}
 use Rattle.kpn_step.proofs.Places.{fits-steps}
 use Rattle.kpn_step.proofs.Along.{Along-fits, Along-stands, Along-said, Along-ends, way_left-falls}
 use Rattle.kpn_step.proofs.whole_lists.alone.Goals as goal

@@ -3,7 +3,7 @@ use Rattle.std.proofs.Common.{◌≡◌, arith}
 use Rattle.std.proofs.lemmas.List.{take_all}
 use Rattle.std.proofs.lemmas.Grind.{common_steps}
 use Rattle.kpn_lang.specs.Alone.{start_of}
-use Rattle.kpn_lang.specs.Plain.{remaining}
+use Rattle.kpn_lang.specs.Lists.{remaining}
 use Rattle.kpn_lang.proofs.Remaining.{remaining-start, Standing-same}
 use Rattle.kpn_lang.proofs.plain.State.start.Goals as goal
 
