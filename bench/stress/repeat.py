@@ -11,6 +11,8 @@ It is no part of the gate. Words:
                         by root: where one is refused the run tells it (48), else it is as on one thread
     memory [KPN]        these rows where call N of malloc and realloc is refused, or each from N on, for N from 1 on
                         until nothing is refused any more (refuse.c): the run tells it, or is as on one thread
+    commands [KPN]      the same of each row of check_examples by one thread, of any command, and of the built-in
+                        processes: the command tells it, or is as with memory
 
 KPN is the program, crates/kpn/out/kpn where none is named.
 """
@@ -36,21 +38,24 @@ MOST = 60
 # a user who has no process
 USER = 54_321
 
-# what a run answers that wants a thread more than there are, and one that wants memory, which a thread wants too
+# what a run answers that wants a thread more than there are, and a command that wants memory
 TOLD = (b'', b'kpn: 48 Threads\n', 7)
-LACKS = [TOLD, (b'', b'kpn: 28 NoMemory\n', 6), (b'', b'kpn: 42 NoMemory\n', 6)]
+NO_MEMORY = [(b'', b'kpn: %d NoMemory\n' % number, 6) for number in (28, 32, 42, 51)]
+
+# the processes of `kpn alone`, and what they read
+BUILT_IN, INPUT = ('copy', 'double', 'sum'), b'1\n2\n3\n'
 
 # a run needs no more memory where so many beginnings of a refusal in a row changed nothing
 STEADY = 20
 
 
-def rows():
-    """The words of each run of the examples, without workers and traces."""
+def rows(*commands):
+    """The words of each row of the examples with one of these commands, without workers and traces."""
     examples = ROWS.read_text().split('# The examples\n')[1].split('\n')
     found = {}
     for line in examples:
         words = line.split()
-        if words[:2] == ['kpn', 'run'] and '--workers' not in words:
+        if words[:1] == ['kpn'] and words[1] in commands and '--workers' not in words:
             end = words.index('--trace') if '--trace' in words else len(words)
             found[tuple(words[1:end])] = None
     return list(found)
@@ -129,33 +134,53 @@ def refuse_threads(program):
     print(f'{told} runs that were refused a thread told it, {ended} others were as on one thread, none hung')
 
 
-def refused_memory(words, library, wanted):
+def refused_memory(words, library, wanted, lacks):
     """One run after the other. Tells how many told that they were refused memory, and how many were as wanted."""
     told = ended = steady = first = 0
     while steady < STEADY:
         first += 1
         for last in (first, 1_000_000_000):
             refusing = {'LD_PRELOAD': library, 'FIRST': str(first), 'LAST': str(last)}
-            found = answer(words, env={**os.environ, **refusing})
-            if found not in [wanted, *LACKS]:
+            found = answer(words, env={**os.environ, **refusing}, input=INPUT)
+            if found not in [wanted, *lacks]:
                 sys.exit(f'{" ".join(words)}, {refusing}: {found}')
             told, ended = told + (found != wanted), ended + (found == wanted)
         steady = steady + 1 if found == wanted else 0
     return told, ended
 
 
-def refuse_memory(program):
-    """Of runs that come to an outcome."""
-    library = str(pathlib.Path(program).parent / 'refuse.so')
+def refusing_library(folder):
+    """The library that refuses memory, built in this folder."""
+    library = str(folder / 'refuse.so')
     source = pathlib.Path(__file__).parent / 'refuse.c'
     subprocess.run(['cc', '-O2', '-shared', '-fPIC', '-o', library, source], check=True)
+    return library
+
+
+def refuse_memory(program):
+    """Of runs by workers that come to an outcome. A thread wants memory too."""
+    library = refusing_library(pathlib.Path(program).parent)
     told = ended = 0
     for row in ROWS_OF_RUNS:
         wanted = answer([program, *row])
         for workers in WORKERS if wanted[2] == 0 else ():
-            counts = refused_memory([program, *row, '--workers', str(workers)], library, wanted)
+            words = [program, *row, '--workers', str(workers)]
+            counts = refused_memory(words, library, wanted, [TOLD, *NO_MEMORY])
             told, ended = told + counts[0], ended + counts[1]
     print(f'{told} runs that were refused memory told it, {ended} others were as on one thread, none hung')
+
+
+def refuse_commands(program):
+    """Of command lines by one thread that succeed."""
+    library = refusing_library(pathlib.Path(program).parent)
+    alone = [('alone', name) for name in BUILT_IN]
+    lines = told = ended = 0
+    for row in [*alone, *rows('check', 'print', 'rounds', 'run', 'audit')]:
+        wanted = answer([program, *row], input=INPUT)
+        if wanted[2] == 0:
+            counts = refused_memory([program, *row], library, wanted, NO_MEMORY)
+            lines, told, ended = lines + 1, told + counts[0], ended + counts[1]
+    print(f'{lines} command lines: {told} that were refused memory told it, {ended} others were as with memory')
 
 
 def main():
@@ -173,11 +198,13 @@ def main():
             refuse_threads(copy)
         elif what == 'memory':
             refuse_memory(copy)
+        elif what == 'commands':
+            refuse_commands(copy)
         else:
             sys.exit(__doc__)
 
 
-ROWS_OF_RUNS = rows()
+ROWS_OF_RUNS = rows('run')
 
 if __name__ == '__main__':
     main()
