@@ -4,7 +4,9 @@ whether each piece of code that docs/LIBRARY.md shows stands so in the file that
 not there, and ends with 1 if there is anything. It is run by hand.
 
 A name in backquotes counts as known where it stands anywhere in a source, a definition, a proof, a script or an
-example; so it finds names that are gone, and not those that stand in another place than the document says.
+example. More is asked of two documents: what a claim of docs/GUARANTEES.md stands on ("By `f`: `clause`") is to be a
+function of a crate of its section, with such a clause; a word of docs/DEFINITIONS.md is to be defined in the file that
+is named behind it.
 """
 import pathlib
 import re
@@ -19,6 +21,11 @@ NAME = re.compile(r"`((?:\w+::)*[A-Za-z_][\w']*)`")
 CODE = re.compile(r'From\s+`([^`]+)`[^`]*?```rust\n(.*?)```', re.S)
 # Parts of a path that stand for something else, or that a build makes.
 STANDS_FOR = {'CRATE', 'MODULE', 'FILE', 'NAME', 'NAME.antt', 'NAME.edit', 'FILE.antt', 'MODULE.rt', 'm', 'out', 'rlib'}
+# What a claim stands on, the head of a function, the clauses in it, and a name.
+BY = re.compile(r'\bBy (.*?)\.(?=\s|$)')
+HEAD = re.compile(r'\bfn (\w+)(.*?)(?:^\s*\{\}?$|\{\n|;\n)', re.S | re.M)
+CLAUSE = re.compile(r'\bensures\*? (\w+) \{')
+PLAIN = re.compile(r'`((?:\w+::)*\w+)`')
 # Of the kit, of std, of other programs, and names in examples.
 ELSEWHERE = set("""rt go awk clap arrayvec indexmap itoa linked_list_allocator thiserror anyhow std objdump bin/clang
     logs/ ISO/IEC nope Kinds Now check_ bench_ HANDLES""".split())
@@ -58,6 +65,53 @@ def wrong_in(line, paths, words):
     yield from (f'no name {it}' for it in NAME.findall(line) if not is_name(it, words))
 
 
+def sections_of(document):
+    """The crates that a heading names, and the points below it, each on one line."""
+    parts = re.split(r'^## (.*)$', document.read_text(), flags=re.M)
+    for heading, body in zip(parts[1::2], parts[2::2]):
+        crates = [it for it in re.findall(r'\w+', heading) if (TOP / 'crates' / it).is_dir()]
+        yield crates, [' '.join(it.split('\n\n')[0].split()) for it in re.split(r'^- ', body, flags=re.M)[1:]]
+
+
+def clauses_in(crates):
+    """The functions of some crates, each with the names of its clauses; modules, types and traits have none."""
+    found = {}
+    for file in (it for crate in crates for it in (TOP / 'crates' / crate / 'src').rglob('*.rt')):
+        text = file.read_text()
+        for name in [file.stem, *re.findall(r'\b(?:struct|enum|trait) (\w+)', text)]:
+            found.setdefault(name, set())
+        for name, head in HEAD.findall(text):
+            found.setdefault(name, set()).update(CLAUSE.findall(head))
+    return found
+
+
+def wrong_claims(document):
+    """What a claim stands on and is not there."""
+    for crates, points in sections_of(document):
+        clauses = clauses_in(crates)
+        for part in (part for point in points for by in BY.findall(point) for part in by.split(';')):
+            owners, _, named = part.partition(': ')
+            owners = [it.split('::')[-1] for it in PLAIN.findall(owners)]
+            known = set().union(*(clauses.get(it, ()) for it in owners))
+            yield from (f'no function {it} in {", ".join(crates)}' for it in owners if it not in clauses)
+            yield from (f'no clause {it} of {", ".join(owners)}' for it in PLAIN.findall(named)
+                        if owners and it not in known and it not in clauses)
+
+
+def wrong_words(document):
+    """What is explained as a word of a file and is not defined there."""
+    for crates, points in sections_of(document):
+        for point in points:
+            folders = [TOP / 'crates' / it / 'specs' for it in crates]
+            texts = [file.read_text() for name in re.findall(r'`(?:specs/)?(\w+\.antt)`', point)
+                     for folder in folders for file in folder.rglob(name)]
+            words = re.findall(r"`([\w']+)`", re.match(r"(?:`[\w']+`(?:, )?)*", point)[0])
+            for word in words if texts else ():
+                defined = re.compile(rf"^(?:  pub |(?:[a-z]+ )*){re.escape(word)}(?![\w'])", re.M)
+                if not any(map(defined.search, texts)):
+                    yield f'{word} is not defined in the file that is named'
+
+
 def main():
     files = list(files_of_project())
     paths = {str(file.relative_to(TOP)) for file in [*files, *TOP.iterdir()]}
@@ -68,6 +122,8 @@ def main():
             wrong += [f'{document.name}:{number}: {it}' for it in wrong_in(line, paths, words)]
         wrong += [f'{document.name}: {file} has no such code:\n{code}' for file, code in CODE.findall(text)
                   if code not in (TOP / file).read_text()]
+    wrong += [f'GUARANTEES.md: {it}' for it in wrong_claims(TOP / 'docs/GUARANTEES.md')]
+    wrong += [f'DEFINITIONS.md: {it}' for it in wrong_words(TOP / 'docs/DEFINITIONS.md')]
     print('\n'.join(wrong) or 'all that the documents name is there')
     return 1 if wrong else 0
 
