@@ -6,7 +6,7 @@ not there, and ends with 1 if there is anything. It is run by hand.
 A name in backquotes counts as known where it stands anywhere in a source, a definition, a proof, a script or an
 example. More is asked of two documents: what a claim of docs/GUARANTEES.md stands on ("By `f`: `clause`") is to be a
 function of a crate of its section, with such a clause; a word of docs/DEFINITIONS.md is to be defined in the file that
-is named behind it.
+is named behind it. The edits and tests of each crate are as many as the table of docs/PROVING.md tells.
 """
 import pathlib
 import re
@@ -112,6 +112,17 @@ def wrong_words(document):
                     yield f'{word} is not defined in the file that is named'
 
 
+def wrong_counts(document):
+    """Where the table of docs/PROVING.md tells another number of edits or tests of a crate than there are."""
+    rows = re.findall(r'^\| `(\w+)` \|[^|]*\| (\d*) *\|[^|]*\| (\d*) *\|', document.read_text(), re.M)
+    told = {crate: (int(edits or 0), int(tests or 0)) for crate, edits, tests in rows}
+    for folder in sorted(it for it in (TOP / 'crates').iterdir() if it.is_dir()):
+        tests = sum(len(re.findall(r'#\[test\]', it.read_text())) for it in (folder / 'src').rglob('*.rt'))
+        counts = len(list((folder / 'must-fail').glob('*.edit'))), tests
+        if told.get(folder.name) != counts:
+            yield f'{folder.name} has {counts[0]} edits and {counts[1]} tests'
+
+
 def main():
     files = list(files_of_project())
     paths = {str(file.relative_to(TOP)) for file in [*files, *TOP.iterdir()]}
@@ -124,6 +135,7 @@ def main():
                   if code not in (TOP / file).read_text()]
     wrong += [f'GUARANTEES.md: {it}' for it in wrong_claims(TOP / 'docs/GUARANTEES.md')]
     wrong += [f'DEFINITIONS.md: {it}' for it in wrong_words(TOP / 'docs/DEFINITIONS.md')]
+    wrong += [f'PROVING.md: {it}' for it in wrong_counts(TOP / 'docs/PROVING.md')]
     print('\n'.join(wrong) or 'all that the documents name is there')
     return 1 if wrong else 0
 
