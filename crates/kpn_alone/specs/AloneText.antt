@@ -1,21 +1,15 @@
 -- The text that `kpn alone` writes, as a function of the process's name, its talk and its stop.
-use Rattle.std.specs.Prelude.{ℕ, List, [], ◌++◌, codes}
-use Rattle.kpn_lang.specs.declared.value.Fault.{Fault}
-use Rattle.kpn_lang.specs.declared.value.Fault.TheVariants.{Overflow, ZeroDivisor}
+use Rattle.std.specs.Prelude.{ℕ, List, [], ◌++◌}
 use Rattle.kpn_lang.specs.declared.talk.Said.{Said}
 use Rattle.kpn_lang.specs.Alone.{put_at}
 use Rattle.kpn_step.specs.declared.stop.AloneStop.{AloneStop}
 use Rattle.kpn_step.specs.declared.stop.AloneStop.TheVariants.{Done, Faulted, Starved, Paused}
 use Rattle.kpn_items.specs.ItemFile.{item_text}
-
--- the word for a fault
-abbrev pub cause_of : Fault → List ℕ
-cause_of Overflow = codes "overflow"
-cause_of ZeroDivisor = codes "zero-divisor"
+use Rattle.kpn_answers.specs.Faulted.{faulted_line}
 
 -- the line `fault NAME CAUSE` where the process faulted, and nothing where it did not
 abbrev pub fault_text : (name : List ℕ) → AloneStop → List ℕ
-fault_text name (Faulted fault) = codes "fault " ++ name ++ codes " " ++ cause_of fault ++ codes "\n"
+fault_text name (Faulted fault) = faulted_line name fault
 fault_text name Done = []
 fault_text name (Starved port) = []
 fault_text name Paused = []

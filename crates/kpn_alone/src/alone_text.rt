@@ -1,10 +1,11 @@
 //! The text that `kpn alone` writes of a run.
 ghost use Rattle.std.specs.Prelude.{◌≡◌, ◌++◌, ◌∷◌, [], IfOk, OnOk};
 ghost use Rattle.kpn_items.specs.ItemFile.{item_line};
-ghost use Rattle.kpn_alone.specs.AloneText.{alone_text, fault_text, cause_of};
+ghost use Rattle.kpn_alone.specs.AloneText.{alone_text};
 
 use itoa::Buffer;
-use kpn_lang::{Fault, Said};
+use kpn_answers::faulted::push_faulted;
+use kpn_lang::Said;
 use kpn_step::AloneStop;
 use std::alloc::{AllocError, Global};
 
@@ -28,7 +29,7 @@ pub fn text_of(
         }
     }
     if let AloneStop::Faulted(fault) = stop {
-        push_fault(&mut text, name, fault)?;
+        push_faulted(&mut text, name.as_bytes(), fault)?;
     }
     Ok(text)
 }
@@ -41,27 +42,4 @@ fn push_item(text: &mut Vec<u8>, item: i64) -> Result<(), AllocError>
     text.extend_from_slice(buffer.format(item).as_bytes())?;
     text.push(b'\n')?;
     Ok(())
-}
-
-// The line that tells how a process faulted.
-fn push_fault(text: &mut Vec<u8>, name: &str, fault: Fault) -> Result<(), AllocError>
-    ensures { OnOk result
-        (text.new.items ≡ text.old.items ++ fault_text name.now (AloneStop.Faulted fault)) }
-{
-    text.extend_from_slice(b"fault ")?;
-    text.extend_from_slice(name.as_bytes())?;
-    text.push(b' ')?;
-    text.extend_from_slice(cause(fault).as_bytes())?;
-    text.push(b'\n')?;
-    Ok(())
-}
-
-// The word for a fault.
-fn cause(fault: Fault) -> &'static str
-    ensures { result.now ≡ cause_of fault }
-{
-    match fault {
-        Fault::Overflow => "overflow",
-        Fault::ZeroDivisor => "zero-divisor",
-    }
 }

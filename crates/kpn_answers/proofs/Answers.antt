@@ -1,41 +1,13 @@
 -- What is given for a right text, or for a refusal with its cause, is an answer; no refusal has the status of
 -- success.
-use Rattle.std.proofs.Common.{◌≡◌, ◌⊎◌, ℕ, Bool, true, false, cond, List, Option, Result, Ok, Err, IfOk, IfErr, OnOk, MatchResult, inl, inr, refl, sym, subst, ◌∙◌, arith}
-use Rattle.kpn_items.specs.declared.fault.WriteFault.{WriteFault}
+use Rattle.std.proofs.Common.{◌≡◌, ℕ, Bool, true, false, cond, List, Option, Result, Ok, Err, IfOk, IfErr, OnOk, MatchResult, refl, sym, subst, ◌∙◌, arith}
+use Rattle.std.proofs.lemmas.Result.{IfOk-weaker}
 use Rattle.kpn_answers.specs.declared.refusal.Refusal.{Refusal}
 use Rattle.kpn_items.specs.declared.fault.ItemFault.TheVariants as item
 use Rattle.kpn_trace_text.specs.declared.fault.TraceFault.TheVariants as trace
-use Rattle.kpn_answers.specs.declared.refusal.Refusal.TheVariants.{Input, Description, Output, Trace}
+use Rattle.kpn_answers.specs.declared.refusal.Refusal.TheVariants.{Input, Description, Trace}
 use Rattle.kpn_answers.specs.Refusal.{status_of, wants_memory}
-use Rattle.kpn_answers.specs.Answer.{Answers, answered, refused, unwritten, Writes, Concludes, concluded, undone, broken, GoesOut, sent, unsent}
-
-module _ {O E : Type 0} (contents : O → Option (List ℕ)) (IsRight : List ℕ → Type 0) (HasCause : Refusal → Type 0)
-    (out written : O) (err told : E) (status : ℕ) where
-  written_or_not : (text : List ℕ) → IsRight text → Writes contents text out written err told status
-      → (status ≡ 0) ⊎ ((fault : WriteFault) × (status ≡ status_of (Output fault)))
-      → Answers contents IsRight HasCause out written err told status
-  written_or_not text right writes (inl zero) = answered text right (writes.whole zero) (writes.silent zero) zero
-  written_or_not text right writes (inr failed) = unwritten text right failed.0 failed.1
-
-  pub answers_given : {A : Type 0} (answer : Result A Refusal) (items : A → List ℕ)
-      → IfOk answer (λ text. IsRight (items text)) → IfErr answer HasCause
-      → MatchResult answer (λ text. Writes contents (items text) out written err told status)
-      (λ refusal. (written ≡ out) × (status ≡ status_of refusal))
-      → Answers contents IsRight HasCause out written err told status
-  answers_given (Ok text) items right cause given = written_or_not (items text) right given given.statuses
-  answers_given (Err refusal) items right cause given = refused refusal cause given.0 given.1
-
--- a text that goes out under the status 0
-pub Writes-sent : {O E : Type 0} (contents : O → Option (List ℕ)) (text : List ℕ) (out written : O) (err told : E)
-    (status : ℕ) → GoesOut contents text 0 out written err told status
-    → Writes contents text out written err told status
-Writes-sent contents text out written err told status (sent appends silent same) =
-    record { whole = λ zero. appends; silent = λ zero. silent; statuses = inl same }
-Writes-sent contents text out written err told status (unsent fault same) = record {
-  whole = λ zero. absurd (omega (arith, same));
-  silent = λ zero. absurd (omega (arith, same));
-  statuses = inr (fault, same);
-}
+use Rattle.kpn_answers.specs.Answer.{Answers, IsSuccess, Concludes, answered, refused, unwritten, GoesOut, sent, unsent}
 
 module _ {O E : Type 0} (contents : O → Option (List ℕ)) (IsRight : List ℕ → ℕ → Type 0)
     (HasCause : Refusal → Type 0) (out written : O) (err told : E) (status : ℕ) where
@@ -43,8 +15,8 @@ module _ {O E : Type 0} (contents : O → Option (List ℕ)) (IsRight : List ℕ
       → GoesOut contents text wanted out written err told status
       → Concludes contents IsRight HasCause out written err told status
   out_or_not text wanted right (sent appends silent same) =
-      concluded text (subst (λ s. IsRight text s) (sym same) right) appends silent
-  out_or_not text wanted right (unsent fault same) = broken text wanted right fault same
+      answered text (subst (λ s. IsRight text s) (sym same) right) appends silent
+  out_or_not text wanted right (unsent fault same) = unwritten text wanted right fault same
 
   pub concludes_given : {A : Type 0} (answer : Result A Refusal) (items : A → List ℕ) (wanted : A → ℕ)
       → IfOk answer (λ a. IsRight (items a) (wanted a)) → IfErr answer HasCause
@@ -52,7 +24,18 @@ module _ {O E : Type 0} (contents : O → Option (List ℕ)) (IsRight : List ℕ
       (λ refusal. (written ≡ out) × (status ≡ status_of refusal))
       → Concludes contents IsRight HasCause out written err told status
   concludes_given (Ok a) items wanted right cause given = out_or_not (items a) (wanted a) right given
-  concludes_given (Err refusal) items wanted right cause given = undone refusal cause given.0 given.1
+  concludes_given (Err refusal) items wanted right cause given = refused refusal cause given.0 given.1
+
+module _ {O E : Type 0} (contents : O → Option (List ℕ)) (IsRight : List ℕ → Type 0) (HasCause : Refusal → Type 0)
+    (out written : O) (err told : E) (status : ℕ) where
+  pub answers_given : {A : Type 0} (answer : Result A Refusal) (items : A → List ℕ)
+      → IfOk answer (λ text. IsRight (items text)) → IfErr answer HasCause
+      → MatchResult answer (λ text. GoesOut contents (items text) 0 out written err told status)
+      (λ refusal. (written ≡ out) × (status ≡ status_of refusal))
+      → Answers contents IsRight HasCause out written err told status
+  answers_given answer items right cause given =
+      concludes_given contents (IsSuccess IsRight) HasCause out written err told status answer items (λ _. 0)
+      (IfOk-weaker answer _ _ (λ text r. (r, refl)) right) cause given
 
 six_or_one : (b : Bool) (status : ℕ) → status ≡ cond b 6 1 → status ≡ 0 → ⊥
 six_or_one true status six zero = absurd (omega arith)

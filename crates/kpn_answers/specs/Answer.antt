@@ -1,35 +1,10 @@
 -- What a command does that answers by a text.
-use Rattle.std.specs.Prelude.{◌≡◌, ◌⊎◌, ℕ, List, Option}
+use Rattle.std.specs.Prelude.{◌≡◌, ℕ, List, Option}
 use Rattle.std.specs.Io.KnownBytes.{Appends}
 use Rattle.kpn_items.specs.declared.fault.WriteFault.{WriteFault}
 use Rattle.kpn_answers.specs.declared.refusal.Refusal.{Refusal}
 use Rattle.kpn_answers.specs.declared.refusal.Refusal.TheVariants.{Output}
 use Rattle.kpn_answers.specs.Refusal.{status_of}
-
--- A command answers. It is given which texts are right and which refusals have their cause, the output and the place
--- for faults, each as it was and as it is afterwards, and the status.
-pub data Answers {O E : Type 0} (contents : O → Option (List ℕ)) (IsRight : List ℕ → Type 0)
-    (HasCause : Refusal → Type 0)
-    (out written : O) (err told : E) (status : ℕ) : Type 0 where
-  -- a right text went out whole, and nothing was told
-  answered : (text : List ℕ) → IsRight text → Appends (contents out) (contents written) text → told ≡ err → status ≡ 0
-      →
-      Answers contents IsRight HasCause out written err told status
-  -- nothing went out, and the status is that of a refusal whose cause stands
-  refused : (refusal : Refusal) → HasCause refusal → written ≡ out → status ≡ status_of refusal →
-      Answers contents IsRight HasCause out written err told status
-  -- a right text could not be written whole
-  unwritten : (text : List ℕ) → IsRight text → (fault : WriteFault) → status ≡ status_of (Output fault) →
-      Answers contents IsRight HasCause out written err told status
-
--- this text goes out whole under status 0, and nothing is told; where it can't be written the status says so
-pub record Writes {O E : Type 0} (contents : O → Option (List ℕ)) (text : List ℕ) (out written : O) (err told : E)
-    (status : ℕ) : Type 0 where
-  pub whole : status ≡ 0 → Appends (contents out) (contents written) text
-  pub silent : status ≡ 0 → told ≡ err
-  pub statuses : (status ≡ 0) ⊎ ((fault : WriteFault) × (status ≡ status_of (Output fault)))
-
--- ---- texts under other statuses than 0
 
 -- A command concludes. It is given which texts are right under which status and which refusals have their cause, the
 -- output and the place for faults, each as it was and as it is afterwards, and the status.
@@ -37,15 +12,26 @@ pub data Concludes {O E : Type 0} (contents : O → Option (List ℕ)) (IsRight 
     (HasCause : Refusal → Type 0)
     (out written : O) (err told : E) (status : ℕ) : Type 0 where
   -- a text that is right under the status went out whole, and nothing was told
-  concluded : (text : List ℕ) → IsRight text status → Appends (contents out) (contents written) text → told ≡ err →
+  answered : (text : List ℕ) → IsRight text status → Appends (contents out) (contents written) text → told ≡ err →
       Concludes contents IsRight HasCause out written err told status
   -- nothing went out, and the status is that of a refusal whose cause stands
-  undone : (refusal : Refusal) → HasCause refusal → written ≡ out → status ≡ status_of refusal →
+  refused : (refusal : Refusal) → HasCause refusal → written ≡ out → status ≡ status_of refusal →
       Concludes contents IsRight HasCause out written err told status
   -- a text that would have been right under its status could not be written whole
-  broken : (text : List ℕ) (wanted : ℕ) → IsRight text wanted → (fault : WriteFault) → status ≡ status_of
+  unwritten : (text : List ℕ) (wanted : ℕ) → IsRight text wanted → (fault : WriteFault) → status ≡ status_of
       (Output fault) →
       Concludes contents IsRight HasCause out written err told status
+
+-- a text that is right goes out under status 0
+abbrev pub IsSuccess : (IsRight : List ℕ → Type 0) → (text : List ℕ) (status : ℕ) → Type 0
+IsSuccess IsRight text status = IsRight text × (status ≡ 0)
+
+-- A command answers: it concludes, and each text that is right goes out under status 0.
+abbrev pub Answers : {O E : Type 0} → (contents : O → Option (List ℕ)) (IsRight : List ℕ → Type 0)
+    (HasCause : Refusal → Type 0)
+    (out written : O) (err told : E) (status : ℕ) → Type 0
+Answers contents IsRight HasCause out written err told status =
+    Concludes contents (IsSuccess IsRight) HasCause out written err told status
 
 -- this text goes out whole under the status that is wanted, and nothing is told; or it can't be written
 pub data GoesOut {O E : Type 0} (contents : O → Option (List ℕ)) (text : List ℕ) (wanted : ℕ) (out written : O)

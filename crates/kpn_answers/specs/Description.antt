@@ -7,18 +7,15 @@ use Rattle.kpn_text.specs.Spells.{Spells}
 use Rattle.kpn_text.specs.Phases.{Refuses}
 use Rattle.kpn_answers.specs.declared.refusal.Refusal.{Refusal}
 use Rattle.kpn_answers.specs.declared.refusal.Refusal.TheVariants.{Input, Description, NoMemory}
+use Rattle.kpn_answers.specs.Shelf.{IsLoadedAs}
 
 -- a file may give bytes that spell this document
-pub record IsDescribed (may_give : List ℕ → List ℕ → Type 0) (file : List ℕ) (d : Document) : Type 0 where
-  pub bytes : List ℕ
-  pub loaded : may_give file bytes
-  pub spelled : Spells bytes d
+abbrev pub IsDescribed : (may_give : List ℕ → List ℕ → Type 0) (file : List ℕ) → Document → Type 0
+IsDescribed may_give file d = IsLoadedAs Spells may_give file d
 
 -- a file may give bytes that are refused as a description
-pub record IsRefused (may_give : List ℕ → List ℕ → Type 0) (file : List ℕ) (fault : TextFault) : Type 0 where
-  pub bytes : List ℕ
-  pub loaded : may_give file bytes
-  pub refused : Refuses bytes fault
+abbrev pub IsRefused : (may_give : List ℕ → List ℕ → Type 0) (file : List ℕ) → TextFault → Type 0
+IsRefused may_give file fault = IsLoadedAs Refuses may_give file fault
 
 -- why a file gives no document: it can't be read, or what it may give is refused
 abbrev pub IsRefusalOfDescription : (may_give : List ℕ → List ℕ → Type 0) (file : List ℕ) → Refusal → Type 0

@@ -26,10 +26,6 @@ place_text (Some place) = codes " at " ++ decimal place
 abbrev pub fault_line : (number : ℕ) (name : List ℕ) (place : Option ℕ) → List ℕ
 fault_line number name place = codes "kpn: " ++ decimal number ++ codes " " ++ name ++ place_text place
 
--- what the program tells of a fault
-abbrev pub told : FaultLine → List ℕ
-told fault = fault_line fault.number fault.name.now fault.place
-
 -- a fault of an input
 abbrev pub input_fault_line : ItemFault → List ℕ
 input_fault_line (item.BadItem line) = fault_line 25 (codes "BadItem") (Some line)
@@ -84,3 +80,9 @@ trace_fault_line trace.NoMemory = fault_line 32 (codes "NoMemory") None
 abbrev pub source_fault_line : SourceFault → List ℕ
 source_fault_line (source.Unknown option) = fault_line 22 (codes "UnknownName") (Some option)
 source_fault_line (source.Double option) = fault_line 23 (codes "DoubleName") (Some option)
+
+-- ---- scaffolding
+
+-- what is told of a fault line that the code has made
+abbrev pub told : FaultLine → List ℕ
+told fault = fault_line fault.number fault.name.now fault.place

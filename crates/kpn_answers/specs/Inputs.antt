@@ -9,8 +9,7 @@ use Rattle.kpn_answers.specs.declared.refusal.Refusal.{Refusal}
 use Rattle.kpn_answers.specs.declared.refusal.Refusal.TheVariants.{SourceWord, Input, Description, Sources, NoMemory}
 use Rattle.kpn_answers.specs.declared.sources.SourceFault.{SourceFault}
 use Rattle.kpn_answers.specs.Description.{IsDescribed, IsRefused}
-use Rattle.kpn_answers.specs.Sources.{HasEquals, LacksEquals, name_in, file_in, sources_named, AreGiven}
-use Rattle.kpn_answers.specs.SourceRefusals.{IsFaultOfItems}
+use Rattle.kpn_answers.specs.Sources.{HasEquals, LacksEquals, name_in, file_in, sources_named, AreGiven, IsFaultOfItems}
 
 -- the file may give bytes that spell this document, and each of its sources has the items of the file that one of the
 -- words gives it, and else none

@@ -2,6 +2,7 @@ pub mod FaultLine
 pub mod Refusal
 pub mod Answer
 pub mod ListText
+pub mod Faulted
 pub mod Shelf
 pub mod MemoryShelf
 pub mod Description

@@ -1,15 +1,18 @@
 -- The `--source` options of a command line: each names a source of the network and a file with its items.
-use Rattle.std.specs.Prelude.{◌≡◌, ◌<◌, ℕ, suc, ℤ, ◌==◌, nat_eq, if◌then◌else◌, List, [], ◌∷◌, ◌++◌, length, replicate, slice_set, Option, Some, None, Result, Ok, Err}
+use Rattle.std.specs.Prelude.{◌≡◌, ◌⊎◌, ◌<◌, ℕ, suc, ℤ, ◌==◌, nat_eq, if◌then◌else◌, List, [], ◌∷◌, ◌++◌, length, replicate, slice_set, Option, Some, None, Result, Ok, Err}
 use Rattle.std.specs.List.{AllZip, list_any, position_or_len, before_first, after_first}
 use Rattle.std.specs.Str.{bytes_eq}
 use Rattle.kpn_net.specs.declared.tables.ChannelSpec.{ChannelSpec}
 use Rattle.kpn_net.specs.Tables.{is_source}
-use Rattle.kpn_items.specs.ItemFile.{Spells}
+use Rattle.kpn_items.specs.declared.fault.ItemFault.{ItemFault}
+use Rattle.kpn_items.specs.Input.{NamesNoLine}
+use Rattle.kpn_items.specs.ItemFile.{Spells, TellsFirstBadLine}
 use Rattle.kpn_tokens.specs.Results.{and_then}
 use Rattle.kpn_names.specs.Names.{name_at}
 use Rattle.kpn_text.specs.Document.{Document}
 use Rattle.kpn_answers.specs.declared.sources.SourceFault.{SourceFault}
 use Rattle.kpn_answers.specs.declared.sources.SourceFault.TheVariants.{Unknown, Double}
+use Rattle.kpn_answers.specs.Shelf.{IsLoadedAs}
 
 -- a word has an `=` (byte 61), or has none
 abbrev pub HasEquals : (word : List ℕ) → Type 0
@@ -66,10 +69,8 @@ placed (source ∷ named) [] given = given
 placed (source ∷ named) (items ∷ lists) given = placed named lists (slice_set given source items)
 
 -- a file may give bytes that spell these items
-pub record IsItemFile (may_give : List ℕ → List ℕ → Type 0) (file : List ℕ) (items : List ℤ) : Type 0 where
-  pub bytes : List ℕ
-  pub loaded : may_give file bytes
-  pub spelled : Spells bytes items
+abbrev pub IsItemFile : (may_give : List ℕ → List ℕ → Type 0) (file : List ℕ) → List ℤ → Type 0
+IsItemFile may_give file items = IsLoadedAs Spells may_give file items
 
 -- a list for each source of a network: for those that are named the items of their files, and else the empty list
 pub record AreGiven (may_give : List ℕ → List ℕ → Type 0) (sources : ℕ) (named : List ℕ) (files : List (List ℕ))
@@ -77,3 +78,20 @@ pub record AreGiven (may_give : List ℕ → List ℕ → Type 0) (sources : ℕ
   pub lists : List (List ℤ)
   pub read : AllZip (IsItemFile may_give) files lists
   pub each : given ≡ placed named lists (replicate sources [])
+
+-- ---- files that give no items
+
+-- a file can't be read, or has a line that spells no item
+abbrev pub IsFaultOfFile : (may_give : List ℕ → List ℕ → Type 0) (file : List ℕ) → ItemFault → Type 0
+IsFaultOfFile may_give file fault = NamesNoLine fault ⊎ IsLoadedAs TellsFirstBadLine may_give file fault
+
+-- of these files, those before one spell items, and that one does not
+pub record IsFaultOfItems (may_give : List ℕ → List ℕ → Type 0) (files : List (List ℕ)) (fault : ItemFault) : Type 0
+  where
+    pub before : List (List ℕ)
+    pub file : List ℕ
+    pub after : List (List ℕ)
+    pub order : files ≡ before ++ file ∷ after
+    pub lists : List (List ℤ)
+    pub read : AllZip (IsItemFile may_give) before lists
+    pub fails : IsFaultOfFile may_give file fault

@@ -1,17 +1,18 @@
 //! Answers: texts that a command makes whole in memory before it writes them.
 ghost use Rattle.std.specs.Prelude.{◌≡◌, MatchResult, OnOk};
 ghost use Rattle.std.specs.Io.KnownBytes.{Appends};
-ghost use Rattle.kpn_answers.specs.Answer.{GoesOut, Writes};
+ghost use Rattle.kpn_answers.specs.Answer.{GoesOut};
 ghost use Rattle.kpn_answers.specs.Refusal.{status_of};
 
 use crate::refusal::Refusal;
 use kpn_items::WriteFault;
 use std::io::Write;
 
-/// Writes an answer, or tells why there is none. It gives the status that the program ends with.
+/// Writes a text that goes out under status 0, or tells why there is none. It gives the status that
+/// the program ends with.
 pub fn give<O: Write, E: Write>(answer: Result<Vec<u8>, Refusal>, out: &mut O, err: &mut E) -> u8
     ensures { MatchResult answer
-        (λ text. Writes O.contents text.items out.old out.new err.old err.new result)
+        (λ text. GoesOut O.contents text.items 0 out.old out.new err.old err.new result)
         (λ refusal. (out.new ≡ out.old) × (result ≡ status_of refusal)) }
 {
     let text = match answer {

@@ -13,10 +13,7 @@ pub fn load_document<S: Shelf>(alloc: Global, shelf: &S, file: &str) -> Result<D
     ensures ok { IfOk result (IsDescribed (S.may_give shelf.now) file.now) }
     ensures refused { IfErr result (IsRefusalOfDescription (S.may_give shelf.now) file.now) }
 {
-    let bytes = match shelf.load(alloc, file) {
-        Ok(bytes) => bytes,
-        Err(fault) => return Err(Refusal::Input(fault)),
-    };
+    let bytes = shelf.load(alloc, file).map_err(Refusal::Input)?;
     match read_network(alloc, &bytes) {
         Ok(document) => Ok(document),
         Err(fault) => Err(Refusal::Description(fault)),

@@ -1,11 +1,12 @@
 //! What all commands of the program share: refusals with the lines and statuses that tell them, the
-//! shelf of files, descriptions and the lists of sources that are loaded from it, and answers, which
-//! are written whole.
+//! shelf of files, descriptions and the lists of sources that are loaded from it, lines that several
+//! of them write, and answers, which are written whole.
 #![tactic(auto)]
 
 pub mod answer;
 pub mod description;
 mod fault_line;
+pub mod faulted;
 pub mod inputs;
 pub mod list_text;
 pub mod refusal;

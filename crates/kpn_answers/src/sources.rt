@@ -185,12 +185,7 @@ fn load_items<S: Shelf>(alloc: Global, shelf: &S, file: &str) -> Result<Sequence
     ensures ok { IfOk result (IsItemFile (S.may_give shelf.now) file.now) }
     ensures refused { IfErr result (IsRefusalOfFile (S.may_give shelf.now) file.now) }
 {
-    let bytes = match shelf.load(alloc, file) {
-        Ok(bytes) => bytes,
-        Err(fault) => return Err(Refusal::Input(fault)),
-    };
-    match items_of(alloc, &bytes) {
-        Ok(items) => Ok(Sequence::from_vec(items)),
-        Err(fault) => Err(Refusal::Input(fault)),
-    }
+    let bytes = shelf.load(alloc, file).map_err(Refusal::Input)?;
+    let items = items_of(alloc, &bytes).map_err(Refusal::Input)?;
+    Ok(Sequence::from_vec(items))
 }

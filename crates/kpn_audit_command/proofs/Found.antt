@@ -1,12 +1,12 @@
 -- What an audit of the network of a document finds, as a conclusion on the document.
-use Rattle.std.proofs.Common.{◌≡◌, ℕ, ◌≤◌, true, List, length, refl, ap, ◌∙◌, subst, arith}
+use Rattle.std.proofs.Common.{◌≡◌, ℕ, ◌≤◌, true, List, codes, length, refl, ap, ◌∙◌, subst, arith}
 use Rattle.std.proofs.lemmas.List.FromFn.{length-map-range_with_len}
 use Rattle.kpn_net.specs.Tables.{Tables}
 use Rattle.kpn_trace.specs.declared.event.Event.{Event}
 use Rattle.kpn_trace.specs.Channels.{written_on}
 use Rattle.kpn_audit.specs.declared.findings.Audit.{Audit}
 use Rattle.kpn_audit.specs.Audit.{IsAudit, AreLeast, IsIllegalAt, IsBudgetAt}
-use Rattle.kpn_audit_command.specs.AuditText.{audit_text, illegal_line, budget_line}
+use Rattle.kpn_audit_command.specs.AuditText.{audit_text, finding_line}
 use Rattle.kpn_audit_command.specs.Answers.{IsConclusion, legal, illegal, budget}
 
 -- the audit has a journal for each channel
@@ -25,8 +25,10 @@ module _ (t own : Tables) (same : own ≡ t) (names : List (List ℕ)) (H : List
       legal audit (subst (λ n. IsAudit n H audit) same is)
       (λ exact. subst (λ n. AreLeast n H audit) same (least exact)) made refl
 
-  pub concludes_illegal : (k : ℕ) → IsIllegalAt own H k → text ≡ illegal_line k → IsConclusion t names H steps text 1
+  pub concludes_illegal : (k : ℕ) → IsIllegalAt own H k → text ≡ finding_line (codes "illegal") k
+      → IsConclusion t names H steps text 1
   concludes_illegal k at made = illegal k (subst (λ n. IsIllegalAt n H k) same at) made refl
 
-  pub concludes_budget : (k : ℕ) → IsBudgetAt own H steps k → text ≡ budget_line k → IsConclusion t names H steps text 5
+  pub concludes_budget : (k : ℕ) → IsBudgetAt own H steps k → text ≡ finding_line (codes "budget") k
+      → IsConclusion t names H steps text 5
   concludes_budget k at made = budget k (subst (λ n. IsBudgetAt n H steps k) same at) made refl

@@ -1,5 +1,5 @@
 -- What `kpn audit` answers, and why it gives no answer.
-use Rattle.std.specs.Prelude.{◌≡◌, ℕ, true, List, ⊤}
+use Rattle.std.specs.Prelude.{◌≡◌, ℕ, true, List, codes, ⊤}
 use Rattle.kpn_items.specs.Input.{NamesNoLine}
 use Rattle.kpn_net.specs.Tables.{Tables}
 use Rattle.kpn_text.specs.Document.{Document}
@@ -10,14 +10,17 @@ use Rattle.kpn_audit.specs.declared.findings.Audit.{Audit}
 use Rattle.kpn_audit.specs.Audit.{IsAudit, AreLeast, IsIllegalAt, IsBudgetAt}
 use Rattle.kpn_answers.specs.declared.refusal.Refusal.{Refusal}
 use Rattle.kpn_answers.specs.declared.refusal.Refusal.TheVariants.{Input, Description, Trace, NoMemoryToAudit, NoMemory}
+use Rattle.kpn_answers.specs.Shelf.{IsLoadedAs}
 use Rattle.kpn_answers.specs.Description.{IsDescribed, IsRefused}
-use Rattle.kpn_audit_command.specs.AuditText.{audit_text, illegal_line, budget_line}
+use Rattle.kpn_audit_command.specs.AuditText.{audit_text, finding_line}
 
 -- a file may give bytes that spell these events
-pub record IsTraced (may_give : List ℕ → List ℕ → Type 0) (trace : List ℕ) (H : List Event) : Type 0 where
-  pub bytes : List ℕ
-  pub loaded : may_give trace bytes
-  pub spelled : Spells bytes H
+abbrev pub IsTraced : (may_give : List ℕ → List ℕ → Type 0) (trace : List ℕ) → List Event → Type 0
+IsTraced may_give trace H = IsLoadedAs Spells may_give trace H
+
+-- a file may give bytes that are refused as a trace
+abbrev pub IsRefusedTrace : (may_give : List ℕ → List ℕ → Type 0) (trace : List ℕ) → TraceFault → Type 0
+IsRefusedTrace may_give trace fault = IsLoadedAs Refuses may_give trace fault
 
 -- the text and the status for a list of events: what stands after a legal history, 0; the first event that is not
 -- legal, 1; or the event that its process did not come to in so many steps, 5
@@ -25,8 +28,9 @@ pub data IsConclusion (t : Tables) (names : List (List ℕ)) (H : List Event) (s
     : Type 0 where
   legal : (audit : Audit) → IsAudit t H audit → (audit.exact ≡ true → AreLeast t H audit)
       → text ≡ audit_text names audit → status ≡ 0 → IsConclusion t names H steps text status
-  illegal : (k : ℕ) → IsIllegalAt t H k → text ≡ illegal_line k → status ≡ 1 → IsConclusion t names H steps text status
-  budget : (k : ℕ) → IsBudgetAt t H steps k → text ≡ budget_line k → status ≡ 5
+  illegal : (k : ℕ) → IsIllegalAt t H k → text ≡ finding_line (codes "illegal") k → status ≡ 1
+      → IsConclusion t names H steps text status
+  budget : (k : ℕ) → IsBudgetAt t H steps k → text ≡ finding_line (codes "budget") k → status ≡ 5
       → IsConclusion t names H steps text status
 
 -- the one file spells a network, the other a trace, and this is the text and the status for its events
@@ -38,12 +42,6 @@ pub record IsAudited (may_give : List ℕ → List ℕ → Type 0) (file trace :
   pub traced : IsTraced may_give trace events
   pub concluded : IsConclusion document.tables document.names.channels events steps text status
 
--- the file of the trace may give bytes that are refused
-pub record IsRefusedTrace (may_give : List ℕ → List ℕ → Type 0) (trace : List ℕ) (fault : TraceFault) : Type 0 where
-  pub bytes : List ℕ
-  pub loaded : may_give trace bytes
-  pub refused : Refuses bytes fault
-
 -- why there is nothing to tell: the description is read first, then the trace, and then memory may run out
 abbrev pub IsRefusalOfAudit : (may_give : List ℕ → List ℕ → Type 0) (file trace : List ℕ) → Refusal → Type 0
 IsRefusalOfAudit may_give file trace (Input fault) = NamesNoLine fault
@@ -54,7 +52,7 @@ IsRefusalOfAudit may_give file trace NoMemoryToAudit = ⊤
 IsRefusalOfAudit may_give file trace NoMemory = ⊤
 IsRefusalOfAudit may_give file trace other = ⊥
 
--- ---- what the code's parts answer; a reader of the public contract needs none of it
+-- ---- scaffolding: what the code's parts answer
 
 -- why a file gives no events
 abbrev pub IsRefusalOfTrace : (may_give : List ℕ → List ℕ → Type 0) (trace : List ℕ) → Refusal → Type 0

@@ -1,8 +1,8 @@
 -- The texts that `kpn audit` writes.
-use Rattle.std.specs.Prelude.{ℕ, suc, ℤ, Bool, true, false, List, [], ◌∷◌, ◌++◌, codes, Option, Some, None, slice_index_or}
+use Rattle.std.specs.Prelude.{ℕ, ℤ, Bool, true, false, List, [], ◌++◌, codes, Option, Some, None, slice_index_or}
 use Rattle.std.specs.Fmt.{decimal}
 use Rattle.kpn_names.specs.Names.{name_at}
-use Rattle.kpn_answers.specs.ListText.{items_text}
+use Rattle.kpn_answers.specs.ListText.{items_text, lines_from}
 use Rattle.kpn_audit.specs.declared.findings.Audit.{Audit}
 
 -- ` cap N`, and nothing for a source, which has no capacity
@@ -11,14 +11,12 @@ cap_text None = []
 cap_text (Some cap) = codes " cap " ++ decimal cap
 
 -- `NAME cap N:`, or `NAME:` for a source, the items of the journal, and a line feed
-abbrev pub channel_line : (name : List ℕ) → Option ℕ → List ℤ → List ℕ
-channel_line name cap items = name ++ cap_text cap ++ items_text items
+abbrev pub journal_line : (name : List ℕ) → Option ℕ → List ℤ → List ℕ
+journal_line name cap items = name ++ cap_text cap ++ items_text items
 
--- a line for each of these journals in order, where the first is that of the channel with the number c
-abbrev pub lines_from : (names : List (List ℕ)) → (caps : List (Option ℕ)) → (c : ℕ) → List (List ℤ) → List ℕ
-lines_from names caps c [] = []
-lines_from names caps c (items ∷ journals) =
-    channel_line (name_at names c) (slice_index_or caps c None) items ++ lines_from names caps (suc c) journals
+-- the line of the channel with the number c
+abbrev pub channel_line : (names : List (List ℕ)) → (caps : List (Option ℕ)) → (c : ℕ) → List ℤ → List ℕ
+channel_line names caps c items = journal_line (name_at names c) (slice_index_or caps c None) items
 
 abbrev pub exact_line : Bool → List ℕ
 exact_line true = codes "exact yes\n"
@@ -27,10 +25,8 @@ exact_line false = codes "exact no\n"
 -- `legal`, whether it is exact, and a line for each channel in order of number
 abbrev pub audit_text : (names : List (List ℕ)) → Audit → List ℕ
 audit_text names audit =
-    codes "legal\n" ++ exact_line audit.exact ++ lines_from names audit.caps 0 audit.journals
+    codes "legal\n" ++ exact_line audit.exact ++ lines_from (channel_line names audit.caps) 0 audit.journals
 
-abbrev pub illegal_line : ℕ → List ℕ
-illegal_line k = codes "illegal at " ++ decimal k ++ codes "\n"
-
-abbrev pub budget_line : ℕ → List ℕ
-budget_line k = codes "budget at " ++ decimal k ++ codes "\n"
+-- `WORD at K` of what was found at event K, and a line feed
+abbrev pub finding_line : (word : List ℕ) → ℕ → List ℕ
+finding_line word k = word ++ codes " at " ++ decimal k ++ codes "\n"

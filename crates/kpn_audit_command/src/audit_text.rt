@@ -1,7 +1,7 @@
 //! The texts that `kpn audit` writes.
 ghost use Rattle.std.specs.Prelude.{◌≡◌, ◌≤◌, ◌++◌, length, IfOk, OnOk, codes};
 ghost use Rattle.std.specs.Fmt.{decimal};
-ghost use Rattle.kpn_audit_command.specs.AuditText.{audit_text, exact_line, cap_text, channel_line, illegal_line, budget_line};
+ghost use Rattle.kpn_audit_command.specs.AuditText.{audit_text, exact_line, cap_text, journal_line, finding_line};
 
 use kpn_answers::list_text::push_items;
 use kpn_audit::Audit;
@@ -50,7 +50,7 @@ fn push_channel(
     journal: &[i64],
 ) -> Result<(), AllocError>
     ensures { OnOk result
-        (text.new.items ≡ text.old.items ++ channel_line name.now cap journal.now) }
+        (text.new.items ≡ text.old.items ++ journal_line name.now cap journal.now) }
 {
     text.extend_from_slice(name)?;
     push_cap(text, cap)?;
@@ -69,16 +69,9 @@ fn push_cap(text: &mut Vec<u8>, cap: Option<u32>) -> Result<(), AllocError>
     text.extend_from_slice(buffer.format(cap).as_bytes())
 }
 
-/// `illegal at K`, and a line feed.
-pub(crate) fn illegal_text(alloc: Global, k: usize) -> Result<Vec<u8>, AllocError>
-    ensures { IfOk result (λ text. text.items ≡ illegal_line k) }
+/// `WORD at K` of what was found at event K, and a line feed.
+pub(crate) fn finding_text(alloc: Global, word: &str, k: usize) -> Result<Vec<u8>, AllocError>
+    ensures { IfOk result (λ text. text.items ≡ finding_line word.now k) }
 {
-    Ok(format!(in alloc; "illegal at {k}\n")?.into_bytes())
-}
-
-/// `budget at K`, and a line feed.
-pub(crate) fn budget_text(alloc: Global, k: usize) -> Result<Vec<u8>, AllocError>
-    ensures { IfOk result (λ text. text.items ≡ budget_line k) }
-{
-    Ok(format!(in alloc; "budget at {k}\n")?.into_bytes())
+    Ok(format!(in alloc; "{word} at {k}\n")?.into_bytes())
 }

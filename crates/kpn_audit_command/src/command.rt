@@ -3,7 +3,7 @@ ghost use Rattle.std.specs.Prelude.{IfOk, IfErr};
 ghost use Rattle.kpn_answers.specs.Answer.{Concludes};
 ghost use Rattle.kpn_audit_command.specs.Answers.{IsTraced, IsRefusalOfTrace, IsAudited, IsRefusalOfAudit, IsConclusion, IsWantOfMemory};
 
-use crate::audit_text::{budget_text, illegal_text, text_of};
+use crate::audit_text::{finding_text, text_of};
 use kpn_answers::answer::{Conclusion, conclude};
 use kpn_answers::description::load_document;
 use kpn_answers::refusal::Refusal;
@@ -58,14 +58,9 @@ fn load_trace<S: Shelf>(alloc: Global, shelf: &S, trace: &str) -> Result<Vec<Eve
         IsTraced (S.may_give shelf.now) trace.now events.items) }
     ensures refused { IfErr result (IsRefusalOfTrace (S.may_give shelf.now) trace.now) }
 {
-    let bytes = match shelf.load(alloc, trace) {
-        Ok(bytes) => bytes,
-        Err(fault) => return Err(Refusal::Input(fault)),
-    };
-    match read_trace(alloc, &bytes) {
-        Ok(events) => Ok(events),
-        Err(fault) => Err(Refusal::Trace(fault)),
-    }
+    let bytes = shelf.load(alloc, trace).map_err(Refusal::Input)?;
+    let events = read_trace(alloc, &bytes).map_err(Refusal::Trace)?;
+    Ok(events)
 }
 
 // What is found of the events of a network.
@@ -86,11 +81,11 @@ fn conclusion(
             status: 0,
         }),
         Err(AuditFault::Illegal(k)) => Ok(Conclusion {
-            text: illegal_text(alloc, k)?,
+            text: finding_text(alloc, "illegal", k)?,
             status: 1,
         }),
         Err(AuditFault::Budget(k)) => Ok(Conclusion {
-            text: budget_text(alloc, k)?,
+            text: finding_text(alloc, "budget", k)?,
             status: 5,
         }),
         Err(AuditFault::NoMemory) => Err(Refusal::NoMemoryToAudit),

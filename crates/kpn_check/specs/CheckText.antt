@@ -1,7 +1,7 @@
--- The line that `kpn check` writes of a network.
+-- The line that `kpn check` writes of a description.
 use Rattle.std.specs.Prelude.{ℕ, List, ◌++◌, length, codes}
 use Rattle.std.specs.Fmt.{decimal}
-use Rattle.kpn_net.specs.Tables.{Tables}
+use Rattle.kpn_text.specs.Document.{Document}
 
 -- `ok: P processes, I instances, C channels`
 abbrev pub counts_text : (processes instances channels : ℕ) → List ℕ
@@ -10,5 +10,5 @@ counts_text processes instances channels =
     ++ decimal channels ++ codes " channels\n"
 
 -- the texts of processes are counted, whether or not an instance runs them
-abbrev pub check_text : Tables → List ℕ
-check_text t = counts_text (length t.programs) (length t.instances) (length t.channels)
+abbrev pub check_text : Document → List ℕ
+check_text d = counts_text (length d.tables.programs) (length d.tables.instances) (length d.tables.channels)

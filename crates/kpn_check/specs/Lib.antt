@@ -1,3 +1,2 @@
 pub mod CheckText
-pub mod Check
-pub mod Print
+pub mod TextOf

@@ -2,7 +2,8 @@
 ghost use Rattle.std.specs.Prelude.{IfOk, IfErr};
 ghost use Rattle.kpn_answers.specs.Answer.{Answers};
 ghost use Rattle.kpn_answers.specs.Description.{IsRefusalOfCommand};
-ghost use Rattle.kpn_check.specs.Check.{IsCheck};
+ghost use Rattle.kpn_check.specs.CheckText.{check_text};
+ghost use Rattle.kpn_check.specs.TextOf.{IsTextOf};
 
 use crate::check_text::text_of;
 use kpn_answers::answer::give;
@@ -22,18 +23,19 @@ pub fn check_command<S: Shelf, O: Write, E: Write>(
     err: &mut E,
 ) -> u8
     ensures { let may_give = S.may_give shelf.now in
-        Answers O.contents (IsCheck may_give file.now) (IsRefusalOfCommand may_give file.now)
-        out.old out.new err.old err.new result }
+        Answers O.contents (IsTextOf check_text may_give file.now)
+        (IsRefusalOfCommand may_give file.now) out.old out.new err.old err.new result }
 {
     give(answer(alloc, file, shelf), out, err)
 }
 
 // The line that counts the parts of the network that a file spells.
 fn answer<S: Shelf>(alloc: Global, file: &str, shelf: &S) -> Result<Vec<u8>, Refusal>
-    ensures ok { IfOk result (λ text. IsCheck (S.may_give shelf.now) file.now text.items) }
+    ensures ok { IfOk result (λ text.
+        IsTextOf check_text (S.may_give shelf.now) file.now text.items) }
     ensures refused { IfErr result (IsRefusalOfCommand (S.may_give shelf.now) file.now) }
 {
     let document = load_document(alloc, shelf, file)?;
-    let text = text_of(alloc, document.network())?;
+    let text = text_of(alloc, &document)?;
     Ok(text)
 }

@@ -2,7 +2,8 @@
 ghost use Rattle.std.specs.Prelude.{IfOk, IfErr};
 ghost use Rattle.kpn_answers.specs.Answer.{Answers};
 ghost use Rattle.kpn_answers.specs.Description.{IsRefusalOfCommand};
-ghost use Rattle.kpn_check.specs.Print.{IsPrint};
+ghost use Rattle.kpn_text.specs.Document.{canonical_text};
+ghost use Rattle.kpn_check.specs.TextOf.{IsTextOf};
 
 use kpn_answers::answer::give;
 use kpn_answers::description::load_document;
@@ -22,15 +23,16 @@ pub fn print_command<S: Shelf, O: Write, E: Write>(
     err: &mut E,
 ) -> u8
     ensures { let may_give = S.may_give shelf.now in
-        Answers O.contents (IsPrint may_give file.now) (IsRefusalOfCommand may_give file.now)
-        out.old out.new err.old err.new result }
+        Answers O.contents (IsTextOf canonical_text may_give file.now)
+        (IsRefusalOfCommand may_give file.now) out.old out.new err.old err.new result }
 {
     give(answer(alloc, file, shelf), out, err)
 }
 
 // The canonical text of what a file spells.
 fn answer<S: Shelf>(alloc: Global, file: &str, shelf: &S) -> Result<Vec<u8>, Refusal>
-    ensures ok { IfOk result (λ text. IsPrint (S.may_give shelf.now) file.now text.items) }
+    ensures ok { IfOk result (λ text.
+        IsTextOf canonical_text (S.may_give shelf.now) file.now text.items) }
     ensures refused { IfErr result (IsRefusalOfCommand (S.may_give shelf.now) file.now) }
 {
     let document = load_document(alloc, shelf, file)?;

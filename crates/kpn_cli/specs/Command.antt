@@ -1,13 +1,14 @@
 -- What the program does on a command line: it runs one of its commands, or tells what `clap` has to say.
 use Rattle.std.specs.Prelude.{◌≡◌, ℕ, List, Option, ⊤}
+use Rattle.kpn_text.specs.Document.{canonical_text}
 use Rattle.kpn_report.specs.declared.outcome.Limits.{Limits}
 use Rattle.kpn_answers.specs.declared.refusal.Refusal.TheVariants.{NoMemory}
 use Rattle.kpn_answers.specs.Answer.{Answers, Concludes}
 use Rattle.kpn_answers.specs.Description.{IsRefusalOfCommand}
 use Rattle.kpn_answers.specs.Inputs.{IsRefusalOfInputs}
 use Rattle.kpn_alone.specs.Alone.{RunsAlone}
-use Rattle.kpn_check.specs.Check.{IsCheck}
-use Rattle.kpn_check.specs.Print.{IsPrint}
+use Rattle.kpn_check.specs.CheckText.{check_text}
+use Rattle.kpn_check.specs.TextOf.{IsTextOf}
 use Rattle.kpn_rounds.specs.Rounds.{IsRounds}
 use Rattle.kpn_run.specs.Run.{AnswersRun}
 use Rattle.kpn_audit_command.specs.Answers.{IsAudited, IsRefusalOfAudit}
@@ -30,12 +31,12 @@ pub data Runs {S I O E : Type 0} (may_give : S → List ℕ → List ℕ → Typ
   alone : (name : List ℕ) → kept ≡ shelf → RunsAlone remaining contents name input read out written err told status →
       Runs may_give remaining contents shelf kept input read out written err told status
   check : (file : List ℕ) → kept ≡ shelf → read ≡ input →
-      Answers contents (IsCheck (may_give shelf) file) (IsRefusalOfCommand (may_give shelf) file) out written err told
-      status →
+      Answers contents (IsTextOf check_text (may_give shelf) file) (IsRefusalOfCommand (may_give shelf) file) out
+      written err told status →
       Runs may_give remaining contents shelf kept input read out written err told status
   print : (file : List ℕ) → kept ≡ shelf → read ≡ input →
-      Answers contents (IsPrint (may_give shelf) file) (IsRefusalOfCommand (may_give shelf) file) out written err told
-      status →
+      Answers contents (IsTextOf canonical_text (may_give shelf) file) (IsRefusalOfCommand (may_give shelf) file) out
+      written err told status →
       Runs may_give remaining contents shelf kept input read out written err told status
   rounds : (file : List ℕ) (n : ℕ) (words : List (List ℕ)) → kept ≡ shelf → read ≡ input →
       Answers contents (IsRounds (may_give shelf) file n words) (IsRefusalOfInputs (may_give shelf) file words) out

@@ -1,5 +1,5 @@
-//! The limits of descriptions, networks and inputs, each with its one name. Code and definitions of all other crates
-//! cite them.
+//! The limits of descriptions, networks, inputs and the options of a command line, each with its one name. Code and
+//! definitions of all other crates cite them.
 #![tactic(auto)]
 
 /// The most variables that a process may have, parameters included.
@@ -38,3 +38,12 @@ pub const MAX_DIGITS: usize = 19;
 
 /// The most threads that a run is given.
 pub const MAX_WORKERS: usize = 16;
+
+/// The most rounds of Kahn's iteration that may be asked for.
+pub const MAX_ROUNDS: u32 = 1_000;
+
+/// The most items of each sink, commits of a run, or steps before an event that may be asked for.
+pub const MAX_COUNT: u64 = 1_000_000_000;
+
+/// The most commits of a run, and the most steps before an event, where nothing else is asked for.
+pub const USUAL_COUNT: u64 = 10_000_000;

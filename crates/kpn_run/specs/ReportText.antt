@@ -1,6 +1,7 @@
 -- The text that `kpn run` writes of a report: what was taken from the sinks, which processes have faulted, which wait,
 -- and the outcome.
 use Rattle.std.specs.Prelude.{ℕ, suc, ℤ, Bool, true, false, if◌then◌else◌, List, [], ◌∷◌, ◌++◌, take, slice_index_or, codes, Option, Some, None}
+use Rattle.kpn_lang.specs.declared.value.Fault.TheVariants as fault
 use Rattle.kpn_net.specs.declared.tables.ChannelSpec.{ChannelSpec}
 use Rattle.kpn_net.specs.Tables.{is_sink}
 use Rattle.kpn_names.specs.Names.{name_at}
@@ -12,7 +13,8 @@ use Rattle.kpn_trace.specs.declared.state.State.TheVariants as state
 use Rattle.kpn_report.specs.declared.outcome.Outcome.{Outcome}
 use Rattle.kpn_report.specs.declared.outcome.Outcome.TheVariants.{Ended, Clogged, Jammed, Enough, Stopped}
 use Rattle.kpn_report.specs.declared.report.Report.{Report}
-use Rattle.kpn_answers.specs.ListText.{list_line}
+use Rattle.kpn_answers.specs.ListText.{list_line, lines_from}
+use Rattle.kpn_answers.specs.Faulted.{faulted_line}
 
 -- ---- sinks
 
@@ -40,8 +42,8 @@ sink_lines names wanted taken k c (channel ∷ channels) =
 
 -- `fault NAME CAUSE` of a process that ended by a fault
 abbrev pub fault_text : (name : List ℕ) → State → List ℕ
-fault_text name (state.Ended how.Overflow) = codes "fault " ++ name ++ codes " overflow\n"
-fault_text name (state.Ended how.ZeroDivisor) = codes "fault " ++ name ++ codes " zero-divisor\n"
+fault_text name (state.Ended how.Overflow) = faulted_line name fault.Overflow
+fault_text name (state.Ended how.ZeroDivisor) = faulted_line name fault.ZeroDivisor
 fault_text name other = []
 
 -- `waits NAME CHANNEL` of a process that waits, and ` full` where it waits on a full channel
@@ -52,8 +54,7 @@ wait_text channels name other = []
 
 -- what is written of each of these processes in order, of which the first has the number p
 abbrev pub state_lines : (line : List ℕ → State → List ℕ) (names : List (List ℕ)) → (p : ℕ) → List State → List ℕ
-state_lines line names p [] = []
-state_lines line names p (state ∷ states) = line (name_at names p) state ++ state_lines line names (suc p) states
+state_lines line names p states = lines_from (λ q. line (name_at names q)) p states
 
 -- ---- outcomes
 

@@ -1,4 +1,4 @@
--- States of processes whose channels a network has, as the functions ask for them that write a report.
+-- Scaffolding: states of processes whose channels a network has, as the functions ask for them that write a report.
 use Rattle.std.specs.Prelude.{◌<◌, length, ⊤}
 use Rattle.kpn_net.specs.Tables.{Tables}
 use Rattle.kpn_trace.specs.declared.state.State.{State}

@@ -1,12 +1,11 @@
 //! The text of a report.
-ghost use Rattle.std.specs.Prelude.{◌≡◌, ◌≤◌, ◌++◌, ◌<◌, [], All, length, slice_index_or, OnOk, IfOk};
-ghost use Rattle.kpn_net.specs.Tables.{channel_at, is_sink};
+ghost use Rattle.std.specs.Prelude.{◌≡◌, ◌≤◌, ◌++◌, [], All, length, slice_index_or, OnOk, IfOk};
 ghost use Rattle.kpn_run.specs.ReportText.{fault_text, outcome_status, outcome_word, processes_text, report_text, shows_processes, shows_sinks, sink_line, sink_lines, sinks_text, state_lines, wait_text, wanted_of};
 ghost use Rattle.kpn_run.specs.States.{WaitsWithin};
 
+use kpn_answers::faulted::push_faulted;
 use kpn_answers::list_text::push_list;
-use kpn_lang::Sequence;
-use kpn_net::{End, Network};
+use kpn_lang::{Fault, Sequence};
 use kpn_report::{Outcome, Report};
 use kpn_text::Document;
 use kpn_trace::{How, State};
@@ -89,21 +88,13 @@ fn push_taken(
     let network = document.network();
     let mut sink = 0;
     for channel in 0..network.channels() {
-        if is_sink(network, channel) {
+        if network.is_sink(channel) {
             let items = wanted_of(items_of(taken, sink), wanted);
             push_sink(text, document.channel_name(channel), items)?;
             sink += 1;
         }
     }
     Ok(())
-}
-
-// Whether the outside reads a channel.
-fn is_sink(network: &Network, channel: usize) -> bool
-    requires { channel < length network.now.channels }
-    ensures { result ≡ is_sink (channel_at network.now channel) }
-{
-    matches!(network.reader_of(channel), End::Sink)
 }
 
 // The list of a sink; none where there is no such sink.
@@ -172,8 +163,8 @@ fn push_fault(text: &mut Vec<u8>, name: &[u8], state: State) -> Result<(), Alloc
     ensures { OnOk result (text.new.items ≡ text.old.items ++ fault_text name.now state) }
 {
     match state {
-        State::Ended(How::Overflow) => push_pieces(text, b"fault ", name, b" overflow\n"),
-        State::Ended(How::ZeroDivisor) => push_pieces(text, b"fault ", name, b" zero-divisor\n"),
+        State::Ended(How::Overflow) => push_faulted(text, name, Fault::Overflow),
+        State::Ended(How::ZeroDivisor) => push_faulted(text, name, Fault::ZeroDivisor),
         _ => Ok(()),
     }
 }

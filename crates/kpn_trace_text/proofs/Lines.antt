@@ -50,29 +50,18 @@ unfolding kind_named
 word_of_kind word k known =
     (bytes_eq-Decides (kind_word k) word).0 (find_passes (λ j. bytes_eq (kind_word j) word) kinds k known)
 
-kind_lacks_space : (k : Kind) → LacksByte 32 (kind_word k)
-kind_lacks_space kind.Get = refl
-kind_lacks_space kind.Put = refl
-kind_lacks_space kind.WaitEmpty = refl
-kind_lacks_space kind.WaitFull = refl
-kind_lacks_space kind.Ended = refl
-kind_lacks_space kind.Feed = refl
-kind_lacks_space kind.Close = refl
-kind_lacks_space kind.Take = refl
-kind_lacks_space kind.Leave = refl
-kind_lacks_space kind.Grow = refl
-
-kind_lacks_feed : (k : Kind) → LacksByte 10 (kind_word k)
-kind_lacks_feed kind.Get = refl
-kind_lacks_feed kind.Put = refl
-kind_lacks_feed kind.WaitEmpty = refl
-kind_lacks_feed kind.WaitFull = refl
-kind_lacks_feed kind.Ended = refl
-kind_lacks_feed kind.Feed = refl
-kind_lacks_feed kind.Close = refl
-kind_lacks_feed kind.Take = refl
-kind_lacks_feed kind.Leave = refl
-kind_lacks_feed kind.Grow = refl
+-- no word of a kind has a space or a line feed
+kind_lacks : (k : Kind) → LacksByte 32 (kind_word k) × LacksByte 10 (kind_word k)
+kind_lacks kind.Get = (refl, refl)
+kind_lacks kind.Put = (refl, refl)
+kind_lacks kind.WaitEmpty = (refl, refl)
+kind_lacks kind.WaitFull = (refl, refl)
+kind_lacks kind.Ended = (refl, refl)
+kind_lacks kind.Feed = (refl, refl)
+kind_lacks kind.Close = (refl, refl)
+kind_lacks kind.Take = (refl, refl)
+kind_lacks kind.Leave = (refl, refl)
+kind_lacks kind.Grow = (refl, refl)
 
 how_lacks_feed : (how : How) → LacksByte 10 (how_word how)
 how_lacks_feed how.Done = refl
@@ -104,7 +93,7 @@ pub kind_and_parts : (line word parts : List ℕ) (event : Event) → line ≡ w
     → SpellsEvent line event → (kind_word (kind_of event) ≡ word) × (parts ≡ spaced (arguments_of event))
 kind_and_parts line word parts event split lacks spells =
     let both =
-    cut 32 (kind_word (kind_of event)) word (spaced (arguments_of event)) parts (kind_lacks_space (kind_of event)) lacks
+    cut 32 (kind_word (kind_of event)) word (spaced (arguments_of event)) parts (kind_lacks (kind_of event)).0 lacks
     (sym (line_is event) ∙ sym spells.whole ∙ split) in
     (both.0, sym both.1)
 
@@ -184,7 +173,7 @@ pub line_spells_one : (line : List ℕ) (a b : Event) → SpellsEvent line a →
 line_spells_one line a b spells also =
     let found =
     kind_and_parts line (kind_word (kind_of b)) (spaced (arguments_of b)) a (also.whole ∙ line_is b)
-    (kind_lacks_space (kind_of b)) spells in
+    (kind_lacks (kind_of b)).0 spells in
     same_parts a b (same_kind (kind_of a) (kind_of b) found.0) spells.in_range also.in_range (sym found.1)
 
 -- ---- no line feed stands in a line
@@ -217,4 +206,4 @@ parts_lack (Grow p c) fits = with_space (decimal p) _ (number_lacks p fits.0) (n
 pub line_lacks_feed : (event : Event) → IsInRange event → LacksByte 10 (line_of event)
 line_lacks_feed event fits =
     subst (λ l. LacksByte 10 l) (sym (line_is event))
-    (with_space (kind_word (kind_of event)) _ (kind_lacks_feed (kind_of event)) (parts_lack event fits))
+    (with_space (kind_word (kind_of event)) _ (kind_lacks (kind_of event)).1 (parts_lack event fits))

@@ -76,7 +76,7 @@ pub fn how_named(word: &[u8]) -> Option<How>
 }
 
 /// The word for how a process ended.
-pub fn word_of(how: How) -> &'static str
+pub fn how_word(how: How) -> &'static str
     ensures { result.now ≡ how_word how }
 {
     match how {

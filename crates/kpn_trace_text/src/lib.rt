@@ -12,5 +12,6 @@ mod words;
 mod writing;
 
 pub use fault::{BadEvent, TraceFault};
+pub use kind::how_word;
 pub use reading::{read_event, read_trace};
 pub use writing::{event_line, write_trace};

@@ -3,7 +3,7 @@ ghost use Rattle.std.specs.Prelude.{OnOk};
 ghost use Rattle.std.specs.Io.KnownBytes.{Appends};
 ghost use Rattle.kpn_trace_text.specs.TraceText.{event_text, trace_text};
 
-use crate::kind::word_of;
+use crate::kind::how_word;
 use kpn_items::WriteFault;
 use kpn_trace::{Event, History};
 use std::alloc::Allocator;
@@ -30,7 +30,7 @@ fn print<W: Write>(writer: &mut W, event: Event) -> io::Result<()>
         Event::Put(process, channel, item) => writeln!(writer, "put {process} {channel} {item}"),
         Event::WaitEmpty(process, channel) => writeln!(writer, "wait-empty {process} {channel}"),
         Event::WaitFull(process, channel) => writeln!(writer, "wait-full {process} {channel}"),
-        Event::Ended(process, how) => writeln!(writer, "end {process} {}", word_of(how)),
+        Event::Ended(process, how) => writeln!(writer, "end {process} {}", how_word(how)),
         Event::Feed(channel, item) => writeln!(writer, "feed {channel} {item}"),
         Event::Close(channel) => writeln!(writer, "close {channel}"),
         Event::Take(channel, item) => writeln!(writer, "take {channel} {item}"),

@@ -5,23 +5,11 @@ use crate::help::{
 };
 use clap::error::ErrorKind;
 use clap::{Arg, ArgAction, ArgMatches, Command, Error, value_parser};
-use kpn_limits::MAX_WORKERS;
+use kpn_limits::{MAX_COUNT, MAX_ROUNDS, MAX_WORKERS, USUAL_COUNT};
 use std::alloc::{AllocError, Global};
 
 /// The version that `--version` tells.
 const VERSION: &str = "0.1.0";
-
-// The most rounds that may be asked for.
-const MAX_ROUNDS: i64 = 1000;
-
-// The most items, commits or steps that may be asked for.
-const MAX_COUNT: i64 = 1_000_000_000;
-
-// The most workers that may be asked for.
-const MOST_WORKERS: i64 = MAX_WORKERS as i64;
-
-// How many commits, or steps, there are at most where the words do not say.
-const USUAL_COUNT: u64 = 10_000_000;
 
 // The names of what words stand for.
 const NAME: &str = "NAME";
@@ -155,14 +143,10 @@ fn program<'a>(alloc: Global) -> Result<Command<'a>, AllocError> {
 
 // The words of `kpn alone`.
 fn alone_words<'a>(alloc: Global) -> Result<Command<'a>, AllocError> {
-    let name = Arg::new(alloc, NAME)
-        .help("The process: copy, double or sum")
-        .required(true)
-        .action(ArgAction::Set);
     Command::new(alloc, "alone")
         .about("Runs a process alone on the items of standard input")
         .after_help(ALONE_HELP)
-        .arg(name)
+        .arg(word(alloc, NAME, "The process: copy, double or sum"))
 }
 
 // The words of `kpn check`.
@@ -216,87 +200,91 @@ fn audit_words<'a>(alloc: Global) -> Result<Command<'a>, AllocError> {
 
 // The word for the number of rounds.
 fn rounds_word<'a>(alloc: Global) -> Arg<'a> {
-    Arg::new(alloc, ROUNDS)
-        .help("How many rounds, and how many turns each loop has: 0 to 1000")
-        .required(true)
-        .action(ArgAction::Set)
-        .value_parser(value_parser!(u32).range(0..=MAX_ROUNDS))
+    let help = "How many rounds, and how many turns each loop has: 0 to 1000";
+    let counts = value_parser!(u32).range(0..=MAX_ROUNDS as i64);
+    word(alloc, ROUNDS, help).value_parser(counts)
 }
 
 // The `--workers` option.
 fn workers_word<'a>(alloc: Global) -> Arg<'a> {
-    Arg::new(alloc, WORKERS)
-        .long("workers")
-        .value_name("N")
-        .help("Runs the processes on N threads side by side: 1 to 16; on one thread without it")
-        .action(ArgAction::Set)
-        .value_parser(value_parser!(u32).range(1..=MOST_WORKERS))
+    let help = "Runs the processes on N threads side by side: 1 to 16; on one thread without it";
+    let counts = value_parser!(u32).range(1..=MAX_WORKERS as i64);
+    option(alloc, WORKERS, "workers", "N", help).value_parser(counts)
 }
 
 // The `--take` option.
 fn take_word<'a>(alloc: Global) -> Arg<'a> {
-    Arg::new(alloc, TAKE)
-        .long("take")
-        .value_name("K")
-        .help("Stops once K items were read of each sink, and writes K at most: 1 to 1000000000")
-        .action(ArgAction::Set)
-        .value_parser(value_parser!(u64).range(1..=MAX_COUNT))
+    let help = "Stops once K items were read of each sink, and writes K at most: 1 to 1000000000";
+    count(alloc, TAKE, "take", "K", help)
 }
 
 // The `--max-commits` option.
 fn commits_word<'a>(alloc: Global) -> Arg<'a> {
-    Arg::new(alloc, MAX_COMMITS)
-        .long("max-commits")
-        .value_name("N")
-        .help("Stops after N commits: 1 to 1000000000, and 10000000 without it")
-        .action(ArgAction::Set)
-        .value_parser(value_parser!(u64).range(1..=MAX_COUNT))
+    let help = "Stops after N commits: 1 to 1000000000, and 10000000 without it";
+    count(alloc, MAX_COMMITS, "max-commits", "N", help)
 }
 
 // The `--trace` option.
 fn stored_trace_word<'a>(alloc: Global) -> Arg<'a> {
-    Arg::new(alloc, TRACE)
-        .long("trace")
-        .value_name("OUT")
-        .help("Stores all events of the run in the file OUT, before the report is written")
-        .action(ArgAction::Set)
+    let help = "Stores all events of the run in the file OUT, before the report is written";
+    option(alloc, TRACE, "trace", "OUT", help)
 }
 
 // The word for the file of a trace.
 fn trace_word<'a>(alloc: Global) -> Arg<'a> {
-    Arg::new(alloc, TRACE)
-        .help("The file of the trace")
-        .required(true)
-        .action(ArgAction::Set)
+    word(alloc, TRACE, "The file of the trace")
 }
 
 // The `--steps` option.
 fn steps_word<'a>(alloc: Global) -> Arg<'a> {
-    Arg::new(alloc, STEPS)
-        .long("steps")
-        .value_name("N")
-        .help(
-            "The most steps of a process before an event: 1 to 1000000000, and 10000000 without it",
-        )
-        .action(ArgAction::Set)
-        .value_parser(value_parser!(u64).range(1..=MAX_COUNT))
+    let help =
+        "The most steps of a process before an event: 1 to 1000000000, and 10000000 without it";
+    count(alloc, STEPS, "steps", "N", help)
 }
 
 // The `--source` options of a command.
 fn source_word<'a>(alloc: Global) -> Arg<'a> {
-    Arg::new(alloc, SOURCE)
-        .long("source")
-        .value_name("NAME=FILE")
-        .help(
-            "Gives a source the items of a file, and may be repeated; a source without it has none",
-        )
-        .action(ArgAction::Append)
+    let help =
+        "Gives a source the items of a file, and may be repeated; a source without it has none";
+    option(alloc, SOURCE, "source", "NAME=FILE", help).action(ArgAction::Append)
 }
 
 // The word for the file of a description.
 fn file_word<'a>(alloc: Global) -> Arg<'a> {
-    Arg::new(alloc, FILE)
-        .help("The file of the description")
+    word(alloc, FILE, "The file of the description")
+}
+
+// A word that has to be there.
+fn word<'a>(alloc: Global, id: &'static str, help: &'static str) -> Arg<'a> {
+    Arg::new(alloc, id)
+        .help(help)
         .required(true)
         .action(ArgAction::Set)
+}
+
+// An option with a value, which is called so in help.
+fn option<'a>(
+    alloc: Global,
+    id: &'static str,
+    long: &'static str,
+    value: &'static str,
+    help: &'static str,
+) -> Arg<'a> {
+    Arg::new(alloc, id)
+        .long(long)
+        .value_name(value)
+        .help(help)
+        .action(ArgAction::Set)
+}
+
+// An option whose value is a count of items, commits or steps.
+fn count<'a>(
+    alloc: Global,
+    id: &'static str,
+    long: &'static str,
+    value: &'static str,
+    help: &'static str,
+) -> Arg<'a> {
+    let counts = value_parser!(u64).range(1..=MAX_COUNT as i64);
+    option(alloc, id, long, value, help).value_parser(counts)
 }

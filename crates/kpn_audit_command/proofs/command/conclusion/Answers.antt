@@ -14,16 +14,16 @@ returns-in_ok-text_of-in-Ok-clause-ok c =
     c.in_ok-text_of-in-Ok.field-0.items c.in-Ok.audit c.in-Ok.ensures.legal c.in-Ok.ensures.least
     c.in_ok-text_of-in-Ok.ensures
 
-pub returns-in_ok-illegal_text-in-Err-Illegal-clause-ok : goal.returns-in_ok-illegal_text-in-Err-Illegal-clause-ok
-returns-in_ok-illegal_text-in-Err-Illegal-clause-ok c =
+pub returns-in_ok-finding_text-in-Err-Illegal-clause-ok : goal.returns-in_ok-finding_text-in-Err-Illegal-clause-ok
+returns-in_ok-finding_text-in-Err-Illegal-clause-ok c =
     let d = c.args.document.now in
     concludes_illegal d.tables c.network.result.now c.network.ensures d.names.channels c.args.events.now c.args.steps
-    c.in_ok-illegal_text-in-Err-Illegal.field-0.items c.in-Err-Illegal.k
-    (rw c.in-Err-Illegal.field-0-is at c.in-Err-Illegal.ensures.refused) c.in_ok-illegal_text-in-Err-Illegal.ensures
+    c.in_ok-finding_text-in-Err-Illegal.field-0.items c.in-Err-Illegal.k
+    (rw c.in-Err-Illegal.field-0-is at c.in-Err-Illegal.ensures.refused) c.in_ok-finding_text-in-Err-Illegal.ensures
 
-pub returns-in_ok-budget_text-in-Err-Budget-clause-ok : goal.returns-in_ok-budget_text-in-Err-Budget-clause-ok
-returns-in_ok-budget_text-in-Err-Budget-clause-ok c =
+pub returns-in_ok-finding_text-in-Err-Budget-clause-ok : goal.returns-in_ok-finding_text-in-Err-Budget-clause-ok
+returns-in_ok-finding_text-in-Err-Budget-clause-ok c =
     let d = c.args.document.now in
     concludes_budget d.tables c.network.result.now c.network.ensures d.names.channels c.args.events.now c.args.steps
-    c.in_ok-budget_text-in-Err-Budget.field-0.items c.in-Err-Budget.k
-    (rw c.in-Err-Budget.field-0-is at c.in-Err-Budget.ensures.refused) c.in_ok-budget_text-in-Err-Budget.ensures
+    c.in_ok-finding_text-in-Err-Budget.field-0.items c.in-Err-Budget.k
+    (rw c.in-Err-Budget.field-0-is at c.in-Err-Budget.ensures.refused) c.in_ok-finding_text-in-Err-Budget.ensures
