@@ -1,5 +1,6 @@
 #!/usr/bin/env python3
-"""The tests of workers, and runs by workers, over and over: none may hang, and none come to something else.
+"""The tests of workers, runs by workers, and commands that are refused memory, over and over: none may hang, and none
+come to something else.
 
 It is no part of the gate. Words:
 
