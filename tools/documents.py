@@ -4,9 +4,10 @@ whether each piece of code that docs/LIBRARY.md shows stands so in the file that
 not there, and ends with 1 if there is anything. It is run by hand.
 
 A name in backquotes counts as known where it stands anywhere in a source, a definition, a proof, a script or an
-example. More is asked of two documents: what a claim of docs/GUARANTEES.md stands on ("By `f`: `clause`") is to be a
-function of a crate of its section, with such a clause; a word of docs/DEFINITIONS.md is to be defined in the file that
-is named behind it. The edits and tests of each crate are as many as the table of docs/PROVING.md tells.
+example. What has a file in brackets behind it is to stand in that file. More is asked of two documents: what a claim of
+docs/GUARANTEES.md stands on ("By `f`: `clause`") is to be a function of a crate of its section, with such a clause; a
+word of docs/DEFINITIONS.md is to be defined in the file that is named behind it. The edits and tests of each crate are
+as many as the table of docs/PROVING.md tells.
 """
 import pathlib
 import re
@@ -26,6 +27,7 @@ BY = re.compile(r'\bBy (.*?)\.(?=\s|$)')
 HEAD = re.compile(r'\bfn (\w+)(.*?)(?:^\s*\{\}?$|\{\n|;\n)', re.S | re.M)
 CLAUSE = re.compile(r'\bensures\*? (\w+) \{')
 PLAIN = re.compile(r'`((?:\w+::)*\w+)`')
+PLACE = re.compile(r'`([\w:]+)` \(`([\w/]+\.(?:rt|py))`\)')
 # Of the kit, of std, of other programs, and names in examples.
 ELSEWHERE = set("""rt go awk clap arrayvec indexmap itoa linked_list_allocator thiserror anyhow std objdump bin/clang
     logs/ ISO/IEC nope Kinds Now check_ bench_ HANDLES""".split())
@@ -63,6 +65,14 @@ def wrong_in(line, paths, words):
     yield from (f'no file {it}' for it in PATH.findall(line) if not is_path(it, paths))
     yield from (f'no crate {it}' for it in CRATE.findall(line) if it not in words)
     yield from (f'no name {it}' for it in NAME.findall(line) if not is_name(it, words))
+
+
+def wrong_places(text, paths):
+    """What is named with a file in brackets behind it that does not have it."""
+    for name, path in PLACE.findall(' '.join(text.split())):
+        files = [TOP / it for it in paths if f'/{it}'.endswith(f'/{path}')]
+        if files and not any(re.search(rf'\b{name.split("::")[-1]}\b', it.read_text()) for it in files):
+            yield f'{name} is not in {path}'
 
 
 def sections_of(document):
@@ -131,6 +141,7 @@ def main():
         text = document.read_text()
         for number, line in enumerate(text.splitlines(), 1):
             wrong += [f'{document.name}:{number}: {it}' for it in wrong_in(line, paths, words)]
+        wrong += [f'{document.name}: {it}' for it in wrong_places(text, paths)]
         wrong += [f'{document.name}: {file} has no such code:\n{code}' for file, code in CODE.findall(text)
                   if code not in (TOP / file).read_text()]
     wrong += [f'GUARANTEES.md: {it}' for it in wrong_claims(TOP / 'docs/GUARANTEES.md')]
