@@ -7,7 +7,7 @@ A name in backquotes counts as known where it stands anywhere in a source, a def
 example. What has a file in brackets behind it is to stand in that file. More is asked of two documents: what a claim of
 docs/GUARANTEES.md stands on ("By `f`: `clause`") is to be a function of a crate of its section, with such a clause; a
 word of docs/DEFINITIONS.md is to be defined in the file that is named behind it. The edits and tests of each crate are
-as many as the table of docs/PROVING.md tells.
+as many as the table of docs/PROVING.md tells. No line is longer than 120 columns.
 """
 import pathlib
 import re
@@ -15,6 +15,7 @@ import sys
 
 TOP = pathlib.Path(__file__).resolve().parent.parent
 DOCUMENTS = [TOP / 'README.md', *sorted((TOP / 'docs').glob('*.md'))]
+COLUMNS = 120
 KINDS = ('.rt', '.antt', '.py', '.rs', '.kpn', '.edit')
 PATH = re.compile(r'(?<![\w./-])((?:\w[\w.-]*/)+(?:[\w.-]*\w)?|\w+\.(?:rt|antt|py|md|kpn|edit)\b)')
 CRATE = re.compile(r'\b(?:kpn|check|bench)_[a-z_]*[a-z]\b')
@@ -61,7 +62,9 @@ def is_name(name, words):
 
 
 def wrong_in(line, paths, words):
-    """What a line names that is not there."""
+    """What a line names that is not there, and whether it is too long."""
+    if len(line) > COLUMNS:
+        yield f'more than {COLUMNS} columns'
     yield from (f'no file {it}' for it in PATH.findall(line) if not is_path(it, paths))
     yield from (f'no crate {it}' for it in CRATE.findall(line) if it not in words)
     yield from (f'no name {it}' for it in NAME.findall(line) if not is_name(it, words))
