@@ -1,7 +1,7 @@
 //! A gate that lets its workers dawdle at random.
 use kpn_parallel::{Gate, Go};
 use std::sync::atomic::{AtomicU64, Ordering};
-use std::{hint, thread};
+use std::thread;
 
 /// Random numbers that all workers draw from.
 #[derive(Drop)]
@@ -27,16 +27,21 @@ impl Dawdling {
         let number = (number ^ (number >> 27)).wrapping_mul(0x94d0_49bb_1331_11eb);
         number ^ (number >> 31)
     }
+
+    /// Spins for so many turns. Each loads a number, since a loop of hints alone is left out of the machine code.
+    fn spin(&self, turns: u64) {
+        for _ in 0..turns {
+            let _ = self.drawn.load(Ordering::SeqCst);
+        }
+    }
 }
 
-/// One call in eight spins for up to 4,096 turns, and one in 64 lets another thread run.
+/// One call in eight spins for up to 16,384 turns, and one in 64 lets another thread run.
 impl Gate for Dawdling {
     fn between(&self, _worker: usize, _process: usize) -> Go {
         let number = self.draw();
         if number % 8 == 0 {
-            for _ in 0..(number >> 32) % 4_096 {
-                hint::spin_loop();
-            }
+            self.spin((number >> 32) % 16_384);
         }
         if number % 64 == 1 {
             thread::yield_now();
