@@ -14,6 +14,7 @@ use Rattle.kpn_trace.specs.declared.state.State.TheVariants.{Ready, Held, WaitsE
 use Rattle.kpn_trace.specs.declared.state.View.{View}
 use Rattle.kpn_trace.specs.Channels.{written_on, fed}
 use Rattle.kpn_trace.specs.Legal.{Legal}
+use Rattle.kpn_trace.specs.Stops.{OwesNothing}
 use Rattle.kpn_trace.specs.Talks.{has_ended}
 use Rattle.kpn_trace.specs.Ends.{IsQuiet, WaitsOnEmpty}
 use Rattle.kpn_trace.specs.Views.{Agrees, IsStateOf}
@@ -22,7 +23,7 @@ use Rattle.kpn_trace.proofs.EndsOnce.{ended_by}
 use Rattle.kpn_trace.proofs.Kahn.{below_least, least_if_quiet_given}
 use Rattle.kpn_configuration.specs.Configuration.{channel_in}
 use Rattle.kpn_book.specs.Book.{Book}
-use Rattle.kpn_pool.specs.Snapshot.{ShowsJournals, shown_on, shown_fed, IsBelowKahn, IsAtRest, IsKahnAtRest}
+use Rattle.kpn_pool.specs.Snapshot.{ShowsARun, ShowsJournals, shown_on, shown_fed, IsBelowKahn, IsAtRest, IsKahnAtRest}
 
 -- the journal that is shown is what was written
 shown-written : {A : Type 0} (t : Tables) (H : List Event) (view : View A) → Agrees t H view → (c : ℕ)
@@ -84,6 +85,12 @@ shows_journals b written view agrees c there =
     shown-written b.tables b.history view agrees c there ∙ sym (written c there)
 
 -- the same where the tables are those of a book
+pub run_of : {A : Type 0} (t : Tables) (b : Book) → b.tables ≡ t → OwesNothing b.tables b.history
+    → Legal b.tables b.history → (view : View A) → Agrees b.tables b.history view → ShowsARun t view
+run_of t b same nothing_owed legal view agrees =
+    subst (λ u. ShowsARun u view) same
+    (record { history = b.history; legal = legal; nothing_owed = nothing_owed; agrees = agrees })
+
 pub below_of : {A : Type 0} (t : Tables) (b : Book) → b.tables ≡ t → IsNetwork b.tables → Legal b.tables b.history
     → (view : View A) → Agrees b.tables b.history view → IsBelowKahn t view
 below_of t b same network legal view agrees =

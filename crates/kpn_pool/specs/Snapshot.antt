@@ -8,14 +8,16 @@ use Rattle.kpn_trace.specs.declared.state.State.{State}
 use Rattle.kpn_trace.specs.declared.state.State.TheVariants.{WaitsEmpty, Ended}
 use Rattle.kpn_trace.specs.declared.state.View.{View}
 use Rattle.kpn_trace.specs.Legal.{Legal}
+use Rattle.kpn_trace.specs.Stops.{OwesNothing}
 use Rattle.kpn_trace.specs.Views.{Agrees}
 use Rattle.kpn_configuration.specs.Configuration.{channel_in}
 use Rattle.kpn_book.specs.Book.{Book}
 
--- the view shows a moment of some run of the network: it agrees with a legal history
+-- the view shows a moment of some run of the network: it agrees with a legal history that owes no growth
 pub record ShowsARun {A : Type 0} (t : Tables) (view : View A) : Type 0 where
   pub history : List Event
   pub legal : Legal t history
+  pub nothing_owed : OwesNothing t history
   pub agrees : Agrees t history view
 
 -- the journal of a channel in a view

@@ -56,7 +56,7 @@ impl Bell {
         }
         let begun = Instant::now(rt).ok();
         self.sleep(rt, seen);
-        let listens = if is_short(rt, begun) {
+        let listens = if begun.is_some_and(|begun| is_within(rt, begun, SHORT)) {
             listens.saturating_mul(2).min(LONGEST)
         } else {
             (listens / 2).max(MOMENT)
@@ -75,14 +75,11 @@ impl Bell {
     }
 }
 
-/// Whether little time went by since this one.
-fn is_short<R: Clock>(rt: &R, begun: Option<Instant>) -> bool {
-    match begun {
-        Some(begun) => begun
-            .elapsed(rt)
-            .is_ok_and(|time| time < Duration::from_micros(SHORT)),
-        None => false,
-    }
+/// Whether fewer microseconds than these went by since then.
+fn is_within<R: Clock>(rt: &R, begun: Instant, micros: u64) -> bool {
+    begun
+        .elapsed(rt)
+        .is_ok_and(|time| time < Duration::from_micros(micros))
 }
 
 /// Listens for a moment to a count that rises: whether it is another one than `seen`.
@@ -98,10 +95,7 @@ fn listen_for<R: Wait + Clock>(rt: &R, count: &AtomicU64, seen: u64, micros: u64
         if count.load(Ordering::SeqCst) != seen {
             return true;
         }
-        if !begun
-            .elapsed(rt)
-            .is_ok_and(|time| time < Duration::from_micros(micros))
-        {
+        if !is_within(rt, begun, micros) {
             return false;
         }
     }

@@ -115,8 +115,9 @@ impl<'n, J: Job, A: Allocator> Desk<'n, J, A> {
         self.book.counts()
     }
 
-    /// The run as it is seen at this moment: each journal is a prefix of the least solution for what was fed, and is
-    /// that solution where each process has ended or waits on an empty channel. The error is that memory ran out.
+    /// The run as it is seen at this moment: a legal history that owes no growth agrees with it; each journal is a
+    /// prefix of the least solution for what was fed, and is that solution where each process has ended or waits on an
+    /// empty channel. The error is that memory ran out.
     pub fn snapshot<B: Allocator + Copy>(&self, alloc: B) -> Result<View<B>, AllocError>
         ensures agrees { IfOk result (λ view.
             Agrees self.now.book.tables self.now.book.history view) }

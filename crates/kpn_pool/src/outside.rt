@@ -149,9 +149,9 @@ pub fn leave<J: Job, A: Allocator, B: Allocator, R: Wait>(
     left
 }
 
-/// The run as it is seen at one moment, with all that the seat has fed: a legal history of the run's network agrees
-/// with it; each journal is a prefix of the least solution for what was fed, and is that solution where each process
-/// has ended or waits on an empty channel.
+/// The run as it is seen at one moment, with all that the seat has fed: a legal history of the run's network that owes
+/// no growth agrees with it; each journal is a prefix of the least solution for what was fed, and is that solution where
+/// each process has ended or waits on an empty channel.
 pub fn snapshot<J: Job, A: Allocator, B: Allocator, C: Allocator + Copy, R: Wait>(
     rt: &R,
     alloc: C,

@@ -122,6 +122,7 @@ impl<J: Job> WorkerSeat<J> {
         ensures none { (¬ IsHeld desk.old.book p) → desk.new ≡ halted desk.old }
         ensures why { self.new ≡ ended Why.NoMemory self.old }
     {
+        // refused only where nobody holds it: then it stands where it belongs
         let _ = desk.put_back(p);
         desk.halt();
         self.end(Why::NoMemory);
@@ -134,6 +135,7 @@ impl<J: Job> WorkerSeat<J> {
         ensures none { (¬ IsHeld desk.old.book p) → desk.new ≡ desk.old }
         ensures why { self.new ≡ ended Why.Abandoned self.old }
     {
+        // refused only where nobody holds it: then it stands where it belongs
         let _ = desk.put_back(p);
         self.end(Why::Abandoned);
     }

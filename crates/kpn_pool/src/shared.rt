@@ -9,6 +9,7 @@ ghost use Rattle.kpn_pool.specs.Seat.{AreNewSeats, ended};
 use crate::desk::Desk;
 use crate::ends::{SinkSeat, SourceSeat};
 use crate::job::Job;
+use crate::look::Look;
 use crate::opening::{sink_seats, source_seats};
 use crate::seat::WorkerSeat;
 use crate::signals::Signals;
@@ -114,9 +115,15 @@ impl<'n, J: Job, A: Allocator> Shared<'n, J, A> {
         self.signals.ended() >= self.workers as u64
     }
 
-    /// The run as it is seen at one moment, or `None` where the lock is taken: a legal history of the network that was
-    /// handed to `new` agrees with it; each journal is a prefix of the least solution for what was fed, and is that
-    /// solution where each process has ended or waits on an empty channel. The error is that memory ran out.
+    /// A look at the desk, once nobody else has it.
+    pub fn look<R: Wait>(&self, rt: &R) -> Look<'_, 'n, J, A> {
+        Look::new(self.lock(rt))
+    }
+
+    /// The run as it is seen at one moment, or `None` where the lock is taken: a legal history, of the network that was
+    /// handed to `new`, that owes no growth agrees with it; each journal is a prefix of the least solution for what was
+    /// fed, and is that solution where each process has ended or waits on an empty channel. The error is that memory
+    /// ran out.
     pub fn try_snapshot<B: Allocator + Copy>(&self, alloc: B) -> Result<Option<View<B>>, AllocError>
         ensures run { IfOk result (λ found. IfSome found (λ view. ShowsARun J.network view)) }
         ensures below { IfOk result (λ found.

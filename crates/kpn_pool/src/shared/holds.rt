@@ -69,8 +69,8 @@ impl<'n, J: Job, A: Allocator> Shared<'n, J, A> {
             }
             Ok(Done::Blocked | Done::Put) => desk.note_taker(),
             Ok(Done::Got(_) | Done::Grew(_) | Done::Ended | Done::Paused) => {}
-            // the process is not held, or the steps are of another one, which nothing known behind a lock rules out:
-            // the steps are dropped, nothing is counted, and the worker goes on
+            // `NotHeld` or `Stranger`: the process is not held, or the steps are of another one, which nothing known
+            // behind a lock rules out. The steps are dropped, nothing is counted, and the worker goes on
             Err(_) => {}
         }
         let Some(mut desk) = self.wait_for_work(rt, seat, pace, desk) else {
