@@ -7,6 +7,8 @@ mod endings;
 #[cfg(test)]
 mod gates;
 #[cfg(test)]
+mod looking;
+#[cfg(test)]
 mod meeting;
 #[cfg(test)]
 mod networks;

@@ -10,10 +10,10 @@ use Rattle.kpn_book.specs.Book.{Book}
 use Rattle.kpn_book.specs.declared.answers.Refused.{Refused}
 use Rattle.kpn_book.specs.declared.answers.Refused.TheVariants.{NotHeld, Stranger, NoMemory, NoSuchEnd, SourceClosed, Full, SinkLeft}
 use Rattle.kpn_book.specs.Refusals.{AcceptsItem, RefusesFeed, RefusesClose, RefusesTake, RefusesLeave, Feeds, Closes, Takes, Leaves, closes_by, takes_item, leaves_by}
-use Rattle.kpn_pool.specs.declared.outside.SnapFault.{SnapFault}
-use Rattle.kpn_pool.specs.declared.outside.SnapFault.TheVariants as snap_fault
-use Rattle.kpn_pool.specs.declared.outside.SnapFault.TheVariants.{Foreign}
-use Rattle.kpn_pool.specs.Ends.{RefusesSnapshot, MayRefuseFeed, MayRefuseEnd, MayRefuseTake, MayRefuseSnapshot}
+use Rattle.kpn_pool.specs.declared.outside_calls.SnapFault.{SnapFault}
+use Rattle.kpn_pool.specs.declared.outside_calls.SnapFault.TheVariants as snap_fault
+use Rattle.kpn_pool.specs.declared.outside_calls.SnapFault.TheVariants.{Foreign}
+use Rattle.kpn_pool.specs.OutsideSeats.{RefusesSnapshot, MayRefuseFeed, MayRefuseEnd, MayRefuseTake, MayRefuseSnapshot}
 
 -- the network and the number of commits are the same
 pub record KeepsCount (before after : Book) : Type 0 where

@@ -19,7 +19,7 @@ use Rattle.kpn_book.specs.Appending.{Appends, AppendsAll}
 use Rattle.kpn_book.specs.declared.answers.Refused.{Refused}
 use Rattle.kpn_book.specs.Refusals.{Takes, RefusesFeed, RefusesTake}
 use Rattle.kpn_pool.specs.Desk.{Desk}
-use Rattle.kpn_pool.specs.Ends.{EndSeat, with_item, with_taken, AreRecorded, FeedsUntil, TakesFirst, MayRefuseFeed}
+use Rattle.kpn_pool.specs.OutsideSeats.{EndSeat, with_item, with_taken, AreRecorded, FeedsUntil, TakesFirst, MayRefuseFeed}
 
 -- ---- some items, and then more
 

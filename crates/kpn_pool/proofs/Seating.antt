@@ -4,7 +4,7 @@ use Rattle.std.proofs.lemmas.List.{take_more, append_assoc}
 use Rattle.std.specs.List.{filter, range_with_len}
 use Rattle.std.proofs.lemmas.List.FromFn.{filter_of_map_range_with_len_more}
 use Rattle.kpn_pool.specs.Desk.{Desk, with_book}
-use Rattle.kpn_pool.specs.Ends.{EndSeat, new_end, with_item}
+use Rattle.kpn_pool.specs.OutsideSeats.{EndSeat, new_end, with_item}
 
 -- one channel more is looked at
 pub one_more : (p : EndSeat → Bool) (c : ℕ) (seats now : List EndSeat)

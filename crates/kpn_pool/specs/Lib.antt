@@ -2,4 +2,4 @@ pub mod Desk
 pub mod Seat
 pub mod Snapshot
 pub mod Invariant
-pub mod Ends
+pub mod OutsideSeats

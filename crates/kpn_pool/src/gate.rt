@@ -15,3 +15,13 @@ pub trait Gate: Sync {
     /// takes, other workers go on with other processes.
     fn between(&self, worker: usize, process: usize) -> Go;
 }
+
+/// The gate through which all steps come to their commit.
+#[derive(Clone, Copy, Debug)]
+pub struct CommitsAll;
+
+impl Gate for CommitsAll {
+    fn between(&self, _worker: usize, _process: usize) -> Go {
+        Go::On
+    }
+}

@@ -4,8 +4,8 @@ use crate::job::Job;
 use std::alloc::{Allocator, Global};
 use std::sync::MutexGuard;
 
-/// The desk of a run under its lock, which is free again once the look is dropped. Meanwhile every other call on the run
-/// waits, also one of who has the look.
+/// The desk of a run under its lock, which is free again once the look is dropped. Meanwhile all other calls on the run
+/// wait, also those of who has the look.
 #[derive(Drop)]
 pub struct Look<'l, 'n, J: Job, A: Allocator = Global> {
     desk: MutexGuard<'l, Desk<'n, J, A>>,

@@ -1,9 +1,9 @@
 //! The seats of the outside, as a run is opened.
 ghost use Rattle.std.specs.Prelude.{◌≡◌, ◌<◌, ◌∷◌, [], ◌++◌, length, IfOk, if◌then◌else◌};
 ghost use Rattle.kpn_net.specs.Tables.{channel_at, is_source, is_sink};
-ghost use Rattle.kpn_pool.specs.Ends.{new_end, new_ends};
+ghost use Rattle.kpn_pool.specs.OutsideSeats.{new_end, new_ends};
 
-use crate::ends::{SinkSeat, SourceSeat};
+use crate::outside_seats::{SinkSeat, SourceSeat};
 use kpn_net::Network;
 use std::alloc::{AllocError, Allocator};
 

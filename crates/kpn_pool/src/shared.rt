@@ -2,15 +2,15 @@
 ghost use Rattle.std.specs.Prelude.{◌≡◌, ◌<◌, ◌≤◌, IfOk, IfSome, IfNone, IsSome, IsTrue, Some, None};
 ghost use Rattle.kpn_step.specs.Frame.{fits};
 ghost use Rattle.kpn_net.specs.Tables.{is_source, is_sink};
-ghost use Rattle.kpn_pool.specs.Ends.{new_ends};
+ghost use Rattle.kpn_pool.specs.OutsideSeats.{new_ends};
 ghost use Rattle.kpn_pool.specs.Snapshot.{ShowsARun, IsBelowKahn, IsKahnAtRest};
 ghost use Rattle.kpn_pool.specs.Seat.{AreNewSeats, ended};
 
 use crate::desk::Desk;
-use crate::ends::{SinkSeat, SourceSeat};
 use crate::job::Job;
 use crate::look::Look;
 use crate::opening::{sink_seats, source_seats};
+use crate::outside_seats::{SinkSeat, SourceSeat};
 use crate::seat::WorkerSeat;
 use crate::signals::Signals;
 use kpn_book::View;

@@ -11,7 +11,8 @@ use kpn_answers::shelf::Shelf;
 use kpn_lang::Sequence;
 use kpn_limits::MAX_WORKERS;
 use kpn_net::Network;
-use kpn_parallel::{Gate, Go, RunFault, run};
+use kpn_parallel::{RunFault, run};
+use kpn_pool::CommitsAll;
 use kpn_report::{Limits, Report, run_here};
 use std::alloc::Global;
 use std::sync::Wait;
@@ -81,14 +82,5 @@ fn run_by_workers<R: Threads + Wait + Clock + Sync>(
         Err(RunFault::NoMemory) => Err(Refusal::NoMemory),
         Err(RunFault::Abandoned) => Err(Refusal::Abandoned),
         Err(RunFault::Foreign) => Err(Refusal::Foreign),
-    }
-}
-
-// The gate of the program: all steps are committed.
-struct CommitsAll;
-
-impl Gate for CommitsAll {
-    fn between(&self, _worker: usize, _process: usize) -> Go {
-        Go::On
     }
 }

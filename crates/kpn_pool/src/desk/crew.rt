@@ -103,11 +103,7 @@ impl<'n, J: Job, A: Allocator> Desk<'n, J, A> {
     }
 
     fn wants_taker(&self) -> bool {
-        let history = self.book.history();
-        let Some(last) = history.len().checked_sub(1) else {
-            return false;
-        };
-        match history.at(last) {
+        match self.book.history().last() {
             Some(Event::WaitFull(_, c)) => self.book.network().is_sink(usize::from(c)),
             Some(Event::Put(_, c, _)) => is_sink_of_one(self.book.network(), usize::from(c)),
             _ => false,

@@ -7,12 +7,12 @@ ghost use Rattle.kpn_configuration.specs.Configuration.{channel_in};
 ghost use Rattle.kpn_book.specs.Book.{Book};
 ghost use Rattle.kpn_book.specs.Refusals.{AcceptsItem, RefusesFeed, RefusesClose, RefusesTake, RefusesLeave, Feeds, Closes, Takes, Leaves, IsOpenSink};
 ghost use Rattle.kpn_pool.specs.Desk.{with_book};
-ghost use Rattle.kpn_pool.specs.Ends.{HasFed, RefusesSnapshot, MayRefuseFeed, MayRefuseEnd, MayRefuseTake, MayRefuseSnapshot};
+ghost use Rattle.kpn_pool.specs.OutsideSeats.{HasFed, RefusesSnapshot, MayRefuseFeed, MayRefuseEnd, MayRefuseTake, MayRefuseSnapshot};
 ghost use Rattle.kpn_pool.specs.Snapshot.{ShowsARun, shown_on, IsBelowKahn, IsKahnAtRest};
 
 use super::Desk;
 use crate::job::Job;
-use crate::outside::SnapFault;
+use crate::outside_calls::SnapFault;
 use kpn_book::{Refused, View};
 use std::alloc::Allocator;
 

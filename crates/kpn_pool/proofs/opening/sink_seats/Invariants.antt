@@ -1,7 +1,7 @@
 use Rattle.std.proofs.Common.{◌≡◌, map}
 use Rattle.std.specs.List.{filter, range_with_len}
 use Rattle.kpn_net.specs.Tables.{channel_at, is_sink}
-use Rattle.kpn_pool.specs.Ends.{EndSeat, new_end}
+use Rattle.kpn_pool.specs.OutsideSeats.{EndSeat, new_end}
 use Rattle.kpn_pool.proofs.opening.sink_seats.Given as goal
 
 abbrev pub invariant-loop-c : goal.invariant-loop-c

@@ -1,5 +1,5 @@
 use Rattle.kpn_net.specs.Tables.{channel_at, is_source}
-use Rattle.kpn_pool.specs.Ends.{EndSeat}
+use Rattle.kpn_pool.specs.OutsideSeats.{EndSeat}
 use Rattle.kpn_pool.proofs.Seating.{one_more}
 use Rattle.kpn_pool.proofs.opening.source_seats.Goals as goal
 

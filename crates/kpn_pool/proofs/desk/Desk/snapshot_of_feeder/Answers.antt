@@ -1,5 +1,5 @@
 use Rattle.std.proofs.lemmas.Bool.{both_ways}
-use Rattle.kpn_pool.specs.declared.outside.SnapFault.TheVariants.{Foreign}
+use Rattle.kpn_pool.specs.declared.outside_calls.SnapFault.TheVariants.{Foreign}
 use Rattle.kpn_pool.proofs.Keeping.{snapshot_refused}
 use Rattle.kpn_pool.proofs.desk.Desk.snapshot_of_feeder.Goals as goal
 

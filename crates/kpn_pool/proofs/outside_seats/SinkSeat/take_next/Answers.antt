@@ -1,6 +1,6 @@
 use Rattle.std.proofs.lemmas.Result.{err_from_is_err_and}
 use Rattle.kpn_pool.proofs.Recording.{taken_once, taken_not, taken_less, taken_last, refused_still}
-use Rattle.kpn_pool.proofs.ends.SinkSeat.take_next.Goals as goal
+use Rattle.kpn_pool.proofs.outside_seats.SinkSeat.take_next.Goals as goal
 
 pub returns-in_err-item-clause-first : goal.returns-in_err-item-clause-first
 returns-in_err-item-clause-first g c =

@@ -7,7 +7,7 @@ ghost use Rattle.kpn_trace.specs.declared.event.Event.TheVariants as event;
 ghost use Rattle.kpn_configuration.specs.Configuration.{channel_in};
 ghost use Rattle.kpn_book.specs.Refusals.{RefusesFeed, RefusesClose, RefusesTake, RefusesLeave, Feeds, Closes, Takes, Leaves};
 ghost use Rattle.kpn_pool.specs.Desk.{with_book};
-ghost use Rattle.kpn_pool.specs.Ends.{with_item, with_taken, new_end, AreRecorded, FeedsUntil, TakesFirst, MayRefuseFeed, MayRefuseEnd, MayRefuseTake};
+ghost use Rattle.kpn_pool.specs.OutsideSeats.{with_item, with_taken, new_end, AreRecorded, FeedsUntil, TakesFirst, MayRefuseFeed, MayRefuseEnd, MayRefuseTake};
 
 use crate::desk::Desk;
 use crate::job::Job;
@@ -24,7 +24,7 @@ pub struct SourceSeat<A: Allocator = Global> {
 }
 
 impl<A: Allocator> Model for SourceSeat<A> {
-    ghost use Rattle.kpn_pool.specs.Ends.{EndSeat};
+    ghost use Rattle.kpn_pool.specs.OutsideSeats.{EndSeat};
 
     ghost Value = { EndSeat };
 
@@ -135,7 +135,7 @@ pub struct SinkSeat<A: Allocator = Global> {
 }
 
 impl<A: Allocator> Model for SinkSeat<A> {
-    ghost use Rattle.kpn_pool.specs.Ends.{EndSeat};
+    ghost use Rattle.kpn_pool.specs.OutsideSeats.{EndSeat};
 
     ghost Value = { EndSeat };
 

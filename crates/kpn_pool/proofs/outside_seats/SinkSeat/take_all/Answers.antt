@@ -4,10 +4,10 @@ use Rattle.kpn_net.specs.Tables.{channel_at, is_sink}
 use Rattle.kpn_chan.specs.Channel.{unread}
 use Rattle.kpn_configuration.specs.Configuration.{channel_in}
 use Rattle.kpn_book.specs.Refusals.{RefusesTake}
-use Rattle.kpn_pool.specs.Ends.{MayRefuseTake}
+use Rattle.kpn_pool.specs.OutsideSeats.{MayRefuseTake}
 use Rattle.kpn_pool.proofs.Recording.{none_taken, taken_then, took_all, begins_taken, less_left}
 use Rattle.kpn_pool.proofs.Seating.{still_with_book}
-use Rattle.kpn_pool.proofs.ends.SinkSeat.take_all.Goals as goal
+use Rattle.kpn_pool.proofs.outside_seats.SinkSeat.take_all.Goals as goal
 
 pub items-init : goal.items-init
 items-init g c = record { desk = refl; first = none_taken c.args.self.now c.args.desk.now.book }

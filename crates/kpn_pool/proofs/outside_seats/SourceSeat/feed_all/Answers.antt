@@ -5,7 +5,7 @@ use Rattle.kpn_net.specs.Tables.{channel_at, is_source}
 use Rattle.kpn_trace.specs.declared.event.Event.TheVariants as event
 use Rattle.kpn_pool.proofs.Recording.{fed_then, still_recorded, refused_there, may_refuse_there}
 use Rattle.kpn_pool.proofs.Seating.{fed_more, still_with_book}
-use Rattle.kpn_pool.proofs.ends.SourceSeat.feed_all.Goals as goal
+use Rattle.kpn_pool.proofs.outside_seats.SourceSeat.feed_all.Goals as goal
 
 pub items-preserved : goal.items-preserved
 items-preserved g c =

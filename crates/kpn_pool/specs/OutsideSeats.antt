@@ -11,9 +11,9 @@ use Rattle.kpn_trace.specs.declared.event.Event.TheVariants as event
 use Rattle.kpn_configuration.specs.Configuration.{channel_in}
 use Rattle.kpn_book.specs.Book.{Book}
 use Rattle.kpn_book.specs.Appending.{AppendsAll}
-use Rattle.kpn_pool.specs.declared.outside.SnapFault.{SnapFault}
-use Rattle.kpn_pool.specs.declared.outside.SnapFault.TheVariants as snap_fault
-use Rattle.kpn_pool.specs.declared.outside.SnapFault.TheVariants.{Foreign}
+use Rattle.kpn_pool.specs.declared.outside_calls.SnapFault.{SnapFault}
+use Rattle.kpn_pool.specs.declared.outside_calls.SnapFault.TheVariants as snap_fault
+use Rattle.kpn_pool.specs.declared.outside_calls.SnapFault.TheVariants.{Foreign}
 use Rattle.kpn_book.specs.declared.answers.Refused.{Refused}
 use Rattle.kpn_book.specs.declared.answers.Refused.TheVariants.{NoMemory, NoSuchEnd, SourceClosed, Full, SinkLeft}
 

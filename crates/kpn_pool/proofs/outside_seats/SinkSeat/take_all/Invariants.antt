@@ -2,8 +2,8 @@ use Rattle.std.proofs.Common.{◌≡◌, length}
 use Rattle.kpn_chan.specs.Channel.{unread}
 use Rattle.kpn_configuration.specs.Configuration.{channel_in}
 use Rattle.kpn_pool.specs.Desk.{with_book}
-use Rattle.kpn_pool.specs.Ends.{TakesFirst}
-use Rattle.kpn_pool.proofs.ends.SinkSeat.take_all.Given as goal
+use Rattle.kpn_pool.specs.OutsideSeats.{TakesFirst}
+use Rattle.kpn_pool.proofs.outside_seats.SinkSeat.take_all.Given as goal
 
 abbrev pub invariant-items : goal.invariant-items
 invariant-items g l = record {

@@ -2,8 +2,8 @@ use Rattle.std.proofs.Common.{◌≡◌, ◌<◌, true, ◌++◌, take}
 use Rattle.kpn_net.specs.Tables.{channel_at, is_source}
 use Rattle.kpn_trace.specs.declared.event.Event.TheVariants as event
 use Rattle.kpn_pool.specs.Desk.{with_book}
-use Rattle.kpn_pool.specs.Ends.{AreRecorded}
-use Rattle.kpn_pool.proofs.ends.SourceSeat.feed_all.Given as goal
+use Rattle.kpn_pool.specs.OutsideSeats.{AreRecorded}
+use Rattle.kpn_pool.proofs.outside_seats.SourceSeat.feed_all.Given as goal
 
 abbrev pub invariant-items : goal.invariant-items
 invariant-items g l = record {

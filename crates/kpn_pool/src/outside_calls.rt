@@ -2,12 +2,12 @@
 ghost use Rattle.std.specs.Prelude.{◌≡◌, ◌<◌, ◌++◌, length, IfOk, IfErr, OnErr, OnOk, IsTrue, true};
 ghost use Rattle.kpn_lang.specs.Prefix.{IsPrefix};
 ghost use Rattle.kpn_net.specs.Tables.{channel_at, is_source, is_sink};
-ghost use Rattle.kpn_pool.specs.declared.outside.SnapFault.TheVariants.{NoMemory};
-ghost use Rattle.kpn_pool.specs.Ends.{with_item, with_taken, FeedsUntil, MayRefuseFeed, MayRefuseEnd, MayRefuseTake, MayRefuseSnapshot};
+ghost use Rattle.kpn_pool.specs.declared.outside_calls.SnapFault.TheVariants.{NoMemory};
+ghost use Rattle.kpn_pool.specs.OutsideSeats.{with_item, with_taken, FeedsUntil, MayRefuseFeed, MayRefuseEnd, MayRefuseTake, MayRefuseSnapshot};
 ghost use Rattle.kpn_pool.specs.Snapshot.{ShowsARun, shown_on, IsBelowKahn, IsKahnAtRest};
 
-use crate::ends::{SinkSeat, SourceSeat};
 use crate::job::Job;
+use crate::outside_seats::{SinkSeat, SourceSeat};
 use crate::shared::Shared;
 use kpn_book::{Refused, View};
 use std::alloc::{AllocError, Allocator};
@@ -150,8 +150,8 @@ pub fn leave<J: Job, A: Allocator, B: Allocator, R: Wait>(
 }
 
 /// The run as it is seen at one moment, with all that the seat has fed: a legal history of the run's network that owes
-/// no growth agrees with it; each journal is a prefix of the least solution for what was fed, and is that solution where
-/// each process has ended or waits on an empty channel.
+/// no growth agrees with it; each journal is a prefix of the least solution for what was fed, and is that solution
+/// where each process has ended or waits on an empty channel.
 pub fn snapshot<J: Job, A: Allocator, B: Allocator, C: Allocator + Copy, R: Wait>(
     rt: &R,
     alloc: C,
