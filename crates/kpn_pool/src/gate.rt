@@ -16,8 +16,8 @@ pub trait Gate: Sync {
     fn between(&self, worker: usize, process: usize) -> Go;
 }
 
-/// The gate through which all steps come to their commit.
-#[derive(Clone, Copy, Debug)]
+/// The commit gate that lets every commit through.
+#[derive(Clone, Copy, Debug, PartialEq, Eq)]
 pub struct CommitsAll;
 
 impl Gate for CommitsAll {
