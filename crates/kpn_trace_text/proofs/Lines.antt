@@ -135,38 +135,45 @@ read_of_kind line word parts k (Some event) split lacks known is = record {
 
 -- ---- one event for each line
 
+two_numbers : (p c q d : ℕ) → (p < 2 ^ 16) × (c < 2 ^ 16) → (q < 2 ^ 16) × (d < 2 ^ 16)
+    → spaced (decimal p ∷ decimal c ∷ []) ≡ spaced (decimal q ∷ decimal d ∷ []) → (p ≡ q) × (c ≡ d)
+two_numbers p c q d fits also e =
+    let first = front p q _ _ fits.0 also.0 e in (first.0, same_number c d fits.1 also.1 first.1)
+
+number_and_item : (c d : ℕ) (v w : ℤ) → (c < 2 ^ 16) × FitsSigned w64 v → (d < 2 ^ 16) × FitsSigned w64 w
+    → spaced (decimal c ∷ signed_decimal v ∷ []) ≡ spaced (decimal d ∷ signed_decimal w ∷ []) → (c ≡ d) × (v ≡ w)
+number_and_item c d v w fits also e =
+    let first = front c d _ _ fits.0 also.0 e in (first.0, same_item v w fits.1 also.1 first.1)
+
+two_numbers_and_item : (p c q d : ℕ) (v w : ℤ) → (p < 2 ^ 16) × (c < 2 ^ 16) × FitsSigned w64 v
+    → (q < 2 ^ 16) × (d < 2 ^ 16) × FitsSigned w64 w
+    → spaced (decimal p ∷ decimal c ∷ signed_decimal v ∷ []) ≡ spaced (decimal q ∷ decimal d ∷ signed_decimal w ∷ [])
+    → (p ≡ q) × (c ≡ d) × (v ≡ w)
+two_numbers_and_item p c q d v w fits also e =
+    let first = front p q _ _ fits.0 also.0 e in
+    let rest = number_and_item c d v w (fits.1, fits.2) (also.1, also.2) first.1 in (first.0, rest.0, rest.1)
+
 same_parts : (a b : Event) → kind_of a ≡ kind_of b → IsInRange a → IsInRange b
     → spaced (arguments_of a) ≡ spaced (arguments_of b) → a ≡ b
 same_parts (Get p c v) (Get q d w) k fits also e =
-    let first = front p q _ _ fits.0 also.0 e in
-    let second = front c d _ _ fits.1 also.1 first.1 in
-    let item = same_item v w fits.2 also.2 second.1 in
-    cc (first.0, second.0, item)
+    let same = two_numbers_and_item p c q d v w fits also e in cc (same.0, same.1, same.2)
 same_parts (Put p c v) (Put q d w) k fits also e =
-    let first = front p q _ _ fits.0 also.0 e in
-    let second = front c d _ _ fits.1 also.1 first.1 in
-    let item = same_item v w fits.2 also.2 second.1 in
-    cc (first.0, second.0, item)
+    let same = two_numbers_and_item p c q d v w fits also e in cc (same.0, same.1, same.2)
 same_parts (WaitEmpty p c) (WaitEmpty q d) k fits also e =
-    let first = front p q _ _ fits.0 also.0 e in
-    cc (first.0, same_number c d fits.1 also.1 first.1)
+    let same = two_numbers p c q d fits also e in cc (same.0, same.1)
 same_parts (WaitFull p c) (WaitFull q d) k fits also e =
-    let first = front p q _ _ fits.0 also.0 e in
-    cc (first.0, same_number c d fits.1 also.1 first.1)
+    let same = two_numbers p c q d fits also e in cc (same.0, same.1)
 same_parts (Ended p how) (Ended q other) k fits also e =
     let first = front p q _ _ fits also e in
     cc (first.0, same_how how other first.1)
 same_parts (Feed c v) (Feed d w) k fits also e =
-    let first = front c d _ _ fits.0 also.0 e in
-    cc (first.0, same_item v w fits.1 also.1 first.1)
+    let same = number_and_item c d v w fits also e in cc (same.0, same.1)
 same_parts (Close c) (Close d) k fits also e = cc (same_number c d fits also e)
 same_parts (Take c v) (Take d w) k fits also e =
-    let first = front c d _ _ fits.0 also.0 e in
-    cc (first.0, same_item v w fits.1 also.1 first.1)
+    let same = number_and_item c d v w fits also e in cc (same.0, same.1)
 same_parts (Leave c) (Leave d) k fits also e = cc (same_number c d fits also e)
 same_parts (Grow p c) (Grow q d) k fits also e =
-    let first = front p q _ _ fits.0 also.0 e in
-    cc (first.0, same_number c d fits.1 also.1 first.1)
+    let same = two_numbers p c q d fits also e in cc (same.0, same.1)
 same_parts a b k fits also e = absurd (cc)
 
 pub line_spells_one : (line : List ℕ) (a b : Event) → SpellsEvent line a → SpellsEvent line b → a ≡ b
