@@ -1,18 +1,19 @@
--- Whether the sources of a run were fed their lists. A reader of the public contracts needs none of it.
-use Rattle.std.specs.Prelude.{◌≡◌, ℕ, ◌<◌, Bool, true, ℤ, List}
-use Rattle.kpn_lang.specs.Prefix.{IsPrefix}
+-- That the sources of a run were fed their whole lists.
+use Rattle.std.specs.Prelude.{◌≡◌, ℕ, ◌<◌, true, ℤ, List}
 use Rattle.kpn_net.specs.Tables.{Tables, channel_at, is_source}
-use Rattle.kpn_net.specs.Iteration.{given_by}
+use Rattle.kpn_net.specs.Iteration.{AgreeOnSources, given_by}
 use Rattle.kpn_trace.specs.declared.state.View.{View}
+use Rattle.kpn_trace.specs.Channels.{written_on}
 use Rattle.kpn_pool.specs.Snapshot.{shown_on}
+use Rattle.kpn_report.specs.declared.report.Report.{Report}
+use Rattle.kpn_report.specs.Reports.{events_of}
 
--- a journal is what its list begins with, and all of it where that is asked
-pub record IsFed (wholly : Bool) (journal list : List ℤ) : Type 0 where
-  pub begins : IsPrefix journal list
-  pub whole : wholly ≡ true → journal ≡ list
+-- what was written on each source is its list, the whole of it
+abbrev pub AreFed : Tables → (lists : List (List ℤ)) → Report → Type 0
+AreFed t lists report = AgreeOnSources t (written_on (events_of report)) (given_by t lists)
 
--- the journal of each source with a number below k, as a view shows it, is such a beginning of its list
-abbrev pub AreFedBelow : {A : Type 0} → Tables → (lists : List (List ℤ)) → View A → (wholly : Bool) → (k : ℕ)
-    → Type 0
-AreFedBelow t lists view wholly k = (c : ℕ) → c < k → is_source (channel_at t c) ≡ true
-    → IsFed wholly (shown_on view c) (given_by t lists c)
+-- ---- what a reader of the public contracts does not need
+
+-- the journal of each source with a number below k, as a view shows it, is its list
+abbrev pub AreFedBelow : {A : Type 0} → Tables → (lists : List (List ℤ)) → View A → (k : ℕ) → Type 0
+AreFedBelow t lists view k = (c : ℕ) → c < k → is_source (channel_at t c) ≡ true → shown_on view c ≡ given_by t lists c

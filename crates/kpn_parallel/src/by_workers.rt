@@ -1,7 +1,8 @@
 //! A run by several workers.
-ghost use Rattle.std.specs.Prelude.{◌≡◌, ◌<◌, ◌≤◌, length, IfOk};
+ghost use Rattle.std.specs.Prelude.{◌≡◌, ◌<◌, ◌≤◌, length, vec_len, IfOk};
 ghost use Rattle.kpn_net.specs.Iteration.{sources};
 ghost use Rattle.kpn_report.specs.Reports.{IsReport};
+ghost use Rattle.kpn_parallel.specs.Fed.{AreFed};
 
 use crate::ending::conclude;
 use crate::fault::RunFault;
@@ -22,10 +23,11 @@ use std::time::Clock;
 /// Runs a network on these lists, one for each source in order of channel number, until there is an outcome under the
 /// limits. The processes are stepped by 1 to `MAX_WORKERS` workers, each on a thread of its own.
 ///
-/// The calling thread feeds each source its list, closes it, and takes from the sinks what is put on them, while the
-/// workers run. The gate is asked before each commit. The report keeps the promise of `kpn_report::run_here`. Which
-/// capacities and which prefixes of the journals it shows depends on the schedule. The workers may make more commits
-/// than the limit, by one for each worker but the first. A quota of 0 counts as 1.
+/// The calling thread feeds each source its whole list, closes it, and takes from the sinks what is put on them, while
+/// the workers run. The gate is asked before each commit. The report keeps the promise of `kpn_report::run_here`, and
+/// tells that the lists were fed whole, under every outcome. Which capacities and which prefixes of the journals of
+/// other channels it shows depends on the schedule. The workers may make more commits than the limit, by one for each
+/// worker but the first. A quota of 0 counts as 1.
 ///
 /// The error is the first of these: a thread could not be started; memory ran out; the gate made every worker end
 /// before there was an outcome; a source was fed something else than its list, or a call of the outside was refused.
@@ -40,10 +42,28 @@ pub fn run<R: Threads + Wait + Clock + Sync, G: Gate>(
 ) -> Result<Report, RunFault>
     requires lists { length lists.now ≡ sources network.now }
     requires workers { (0 < workers) × (workers ≤ MAX_WORKERS) }
-    ensures { IfOk result (λ report. IsReport network.now lists.now limits.now report) }
+    ensures report { IfOk result (λ report. IsReport network.now lists.now limits.now report) }
+    ensures fed { IfOk result (λ report. AreFed network.now lists.now report) }
 {
     let blank = Blank::new(workers as u64);
-    run_job::<Brand, R, G>(rt, alloc, blank, network, lists, workers, gate, limits)
+    let task = Task {
+        network,
+        lists,
+        workers,
+        gate,
+        limits,
+    };
+    run_job::<Brand, R, G>(rt, alloc, blank, task)
+}
+
+/// What is run: a network on lists, by so many workers.
+#[derive(Drop)]
+struct Task<'a, G> {
+    network: &'a Network,
+    lists: &'a [Sequence<i64>],
+    workers: usize,
+    gate: &'a G,
+    limits: &'a Limits,
 }
 
 /// Runs the network, whose commits are counted in the ledger that the blank makes.
@@ -51,18 +71,23 @@ fn run_job<J: Job + Send + Sync, R: Threads + Wait + Clock + Sync, G: Gate>(
     rt: &R,
     alloc: Global,
     blank: Blank,
-    network: &Network,
-    lists: &[Sequence<i64>],
-    workers: usize,
-    gate: &G,
-    limits: &Limits,
+    task: Task<'_, G>,
 ) -> Result<Report, RunFault>
     requires ledger { (blank.name ≡ J.name) × (blank.parts ≡ J.parts) }
-    requires network { network.now ≡ J.network }
-    requires lists { length lists.now ≡ sources network.now }
-    requires workers { (workers ≡ J.parts) × (0 < workers) × (workers ≤ MAX_WORKERS) }
-    ensures { IfOk result (λ report. IsReport network.now lists.now limits.now report) }
+    requires network { task.network.now ≡ J.network }
+    requires lists { length task.lists.now ≡ sources J.network }
+    requires workers { (task.workers ≡ J.parts) × (0 < task.workers) × (task.workers ≤ MAX_WORKERS) }
+    ensures report { IfOk result (λ report.
+        IsReport J.network task.entry.lists.now task.entry.limits.now report) }
+    ensures fed { IfOk result (λ report. AreFed J.network task.entry.lists.now report) }
 {
+    let Task {
+        network,
+        lists,
+        workers,
+        gate,
+        limits,
+    } = task;
     let Opened {
         shared,
         workers: seats,
@@ -77,7 +102,7 @@ fn run_job<J: Job + Send + Sync, R: Threads + Wait + Clock + Sync, G: Gate>(
     };
     let quota = limits.quota.max(1);
     let ended = work_side_by_side(rt, alloc, &shared, seats, gate, quota, outside)?;
-    report_or_fault(alloc, shared, ended, workers, lists, limits)
+    report_or_fault(alloc, shared, ended, lists, limits)
 }
 
 /// The report of a run whose workers have ended, or the first of its faults.
@@ -85,18 +110,18 @@ fn report_or_fault<J: Job>(
     alloc: Global,
     shared: Shared<'_, J>,
     ended: Ended<J>,
-    workers: usize,
     lists: &[Sequence<i64>],
     limits: &Limits,
 ) -> Result<Report, RunFault>
     requires lists { length lists.now ≡ sources J.network }
-    requires workers { (workers ≡ J.parts) × (0 < workers) }
-    ensures { IfOk result (λ report. IsReport J.network lists.now limits.now report) }
+    requires seats { (vec_len ended.seats ≡ J.parts) × (0 < J.parts) }
+    ensures report { IfOk result (λ report. IsReport J.network lists.now limits.now report) }
+    ensures fed { IfOk result (λ report. AreFed J.network lists.now report) }
 {
     if !ended.had_threads {
         return Err(RunFault::Threads);
     }
-    if lack_memory(&ended) || ended.seats.len() != workers {
+    if lack_memory(&ended) {
         return Err(RunFault::NoMemory);
     }
     let abandoned = have_abandoned(ended.seats.as_slice());

@@ -6,6 +6,7 @@ ghost use Rattle.kpn_trace.specs.Channels.{unread_on};
 ghost use Rattle.kpn_book.specs.Book.{held_count};
 ghost use Rattle.kpn_report.specs.Reports.{IsReport};
 ghost use Rattle.kpn_parallel.specs.Ending.{KeepsHeld, Releases};
+ghost use Rattle.kpn_parallel.specs.Fed.{AreFed};
 
 use crate::fault::RunFault;
 use crate::fed::were_fed;
@@ -26,7 +27,9 @@ pub(crate) fn conclude(
     served: Result<(), Refused>,
 ) -> Result<Report, RunFault>
     requires { length lists.now ≡ sources book.tables }
-    ensures { IfOk result (λ report. IsReport book.entry.tables lists.now limits.now report) }
+    ensures report { IfOk result (λ report.
+        IsReport book.entry.tables lists.now limits.now report) }
+    ensures fed { IfOk result (λ report. AreFed book.entry.tables lists.now report) }
 {
     let mut book = book;
     put_back_held(&mut book);
@@ -40,7 +43,7 @@ pub(crate) fn conclude(
     book.known();
     let network = book.network();
     let report = report_of(alloc, book, outcome)?;
-    let are_fed = were_fed(network, lists, &report.view, outcome.is_verdict());
+    let are_fed = were_fed(network, lists, &report.view);
     if !are_fed || served.is_err() || emptied.is_err() {
         return Err(RunFault::Foreign);
     }
@@ -72,6 +75,7 @@ fn put_back_held(book: &mut Book<'_>)
 fn release(book: &mut Book<'_>, p: usize)
     ensures { Releases p book.old book.new }
 {
+    // where it is not held this is refused, and nothing changes
     let _ = book.put_back(p);
 }
 

@@ -37,8 +37,8 @@ impl Sinks<'_> {
     }
 }
 
-/// Feeds each source its list and closes it, and takes from the sinks, until all workers have ended or what is wanted
-/// of the sinks was taken. Then, and where something is refused, the workers are told to end.
+/// Feeds each source its whole list and closes it, as on one thread, and takes from the sinks until all workers have
+/// ended or what is wanted of the sinks was taken. Then, and where something is refused, the workers are told to end.
 pub(crate) fn serve<J: Job, R: Wait + Clock>(
     rt: &R,
     shared: &Shared<'_, J>,
@@ -50,7 +50,7 @@ pub(crate) fn serve<J: Job, R: Wait + Clock>(
     served
 }
 
-/// Feeds the sources and takes from the sinks until the run is over.
+/// Feeds the sources, and then takes from the sinks until the run is over.
 fn feed_and_take<J: Job, R: Wait + Clock>(
     rt: &R,
     shared: &Shared<'_, J>,
@@ -67,33 +67,28 @@ fn feed_and_take<J: Job, R: Wait + Clock>(
         wanted: *wanted,
     };
     for (seat, list) in sources.iter_mut().zip(*lists) {
-        if feed_list(rt, shared, seat, list.as_slice(), &mut sinks)? {
-            return Ok(());
-        }
+        feed_list(rt, shared, seat, list.as_slice(), &mut sinks)?;
     }
     take_items(rt, shared, &mut sinks)
 }
 
-/// Feeds a source its list and closes it. After each batch it is taken what is there, so that no full sink holds the
-/// workers up meanwhile. Tells whether the run is over before that.
+/// Feeds a source its whole list and closes it. After each batch it is taken what is there, so that no full sink holds
+/// the workers up meanwhile.
 fn feed_list<J: Job, R: Wait>(
     rt: &R,
     shared: &Shared<'_, J>,
     seat: &mut SourceSeat,
     list: &[i64],
     sinks: &mut Sinks<'_>,
-) -> Result<bool, Refused> {
+) -> Result<(), Refused> {
     for items in list.chunks(BATCH) {
         feed_all(rt, shared, seat, items, usize::MAX)?;
-        if take_what_is_there(rt, shared, sinks)? {
-            return Ok(true);
-        }
+        take_unread(rt, shared, sinks)?;
     }
-    close(rt, shared, seat)?;
-    Ok(false)
+    close(rt, shared, seat)
 }
 
-/// Takes from the sinks until the run is over.
+/// Takes from the sinks until the run is over: all workers have ended, or what is wanted was taken.
 fn take_items<J: Job, R: Wait + Clock>(
     rt: &R,
     shared: &Shared<'_, J>,
@@ -101,7 +96,11 @@ fn take_items<J: Job, R: Wait + Clock>(
 ) -> Result<(), Refused> {
     for _ in rt.forever() {
         let rings = shared.rings();
-        if take_what_is_there(rt, shared, sinks)? {
+        if shared.has_ended() {
+            return Ok(());
+        }
+        take_unread(rt, shared, sinks)?;
+        if sinks.have_enough() {
             return Ok(());
         }
         shared.await_ring(rt, rings);
@@ -109,18 +108,14 @@ fn take_items<J: Job, R: Wait + Clock>(
     unreachable!()
 }
 
-/// Takes all that is unread at the sinks. Tells whether the run is over: all workers have ended, or what is wanted was
-/// taken.
-fn take_what_is_there<J: Job, R: Wait>(
+/// Takes all that is unread at the sinks.
+fn take_unread<J: Job, R: Wait>(
     rt: &R,
     shared: &Shared<'_, J>,
     sinks: &mut Sinks<'_>,
-) -> Result<bool, Refused> {
-    if shared.has_ended() {
-        return Ok(true);
-    }
+) -> Result<(), Refused> {
     for seat in sinks.seats.iter_mut() {
         take_all(rt, shared, seat)?;
     }
-    Ok(sinks.have_enough())
+    Ok(())
 }

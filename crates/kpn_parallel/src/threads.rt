@@ -1,5 +1,5 @@
 //! The threads of a run: one for each worker, beside the calling thread, which serves the outside.
-ghost use Rattle.std.specs.Prelude.{◌<◌};
+ghost use Rattle.std.specs.Prelude.{◌≡◌, ◌+◌, ◌<◌, ◌≤◌, IfOk, vec_len, vec_capacity};
 
 use crate::serving::{Outside, serve};
 use kpn_pool::{Gate, Job, Refused, Shared, Why, WorkerSeat, work};
@@ -12,7 +12,7 @@ use std::time::Clock;
 /// What a run has come to once its workers have ended.
 #[derive(Drop)]
 pub(crate) struct Ended<J: Job> {
-    /// The seats of the workers. None is missing, which the type cannot say.
+    /// The seats of all workers.
     pub seats: Vec<WorkerSeat<J>>,
     /// Whether each worker had a thread of its own.
     pub had_threads: bool,
@@ -20,7 +20,8 @@ pub(crate) struct Ended<J: Job> {
     pub served: Result<(), Refused>,
 }
 
-/// The workers of a run: those that are on threads of their own, and those that have ended for want of one.
+/// The workers of a run: those that are on threads of their own, and those that have ended for want of one. The list of
+/// those that have ended has room for all.
 #[derive(Drop)]
 struct Started<J: Job> {
     threads: Vec<JoinHandle<WorkerSeat<J>>>,
@@ -38,51 +39,49 @@ pub(crate) fn work_side_by_side<J: Job + Send + Sync, R: Threads + Wait + Clock 
     quota: u32,
     outside: Outside<'_>,
 ) -> Result<Ended<J>, AllocError>
-    requires { 0 < quota }
+    requires quota { 0 < quota }
+    requires seats { vec_len seats ≡ J.parts }
+    ensures { IfOk result (λ ended. vec_len ended.seats ≡ J.parts) }
 {
-    let started = Started {
-        threads: Vec::with_capacity(alloc, seats.len())?,
-        ended: Vec::with_capacity(alloc, seats.len())?,
-    };
-    let ended = thread::scope(
+    thread::scope(
         thread::scope_env(),
         rt,
-        |scope| -> Ended<J>
-            requires { 0 < quota }
+        |scope| -> Result<Ended<J>, AllocError>
+            requires quota { 0 < quota }
+            requires seats { vec_len seats ≡ J.parts }
+            ensures { IfOk result (λ ended. vec_len ended.seats ≡ J.parts) }
         {
-            let started = start_all(rt, scope, shared, gate, seats, quota, started);
+            let started = start_all(rt, alloc, scope, shared, gate, seats, quota)?;
             let served = serve(rt, shared, outside);
-            join_all(rt, started, served)
+            Ok(join_all(rt, started, served))
         },
-    );
-    Ok(ended)
+    )
 }
 
-/// Starts a worker for each seat.
+/// Starts a worker for each seat. The error is that memory ran out before a thread was started.
 fn start_all<'s, E, J: Job + Send + Sync, R: Wait + Clock + Sync, G: Gate>(
     rt: &'s R,
+    alloc: Global,
     scope: &Scope<'s, E>,
     shared: &'s Shared<'_, J>,
     gate: &'s G,
     seats: Vec<WorkerSeat<J>>,
     quota: u32,
-    started: Started<J>,
-) -> Started<J>
+) -> Result<Started<J>, AllocError>
     requires { 0 < quota }
+    ensures seats { IfOk result (λ started.
+        vec_len started.threads + vec_len started.ended ≡ vec_len seats) }
+    ensures room { IfOk result (λ started. vec_capacity started.ended ≡ vec_len seats) }
 {
-    let mut started = started;
-    // there is room for each
-    for seat in seats {
+    let mut threads = Vec::with_capacity(alloc, seats.len())?;
+    let mut ended = Vec::with_capacity(alloc, seats.len())?;
+    'seats: for seat in seats {
         match start(rt, scope, shared, gate, seat, quota) {
-            Ok(thread) => {
-                let _ = started.threads.push(thread);
-            }
-            Err(seat) => {
-                let _ = started.ended.push(seat);
-            }
+            Ok(thread) => threads.push_reserved(thread),
+            Err(seat) => ended.push_reserved(seat),
         }
     }
-    started
+    Ok(Started { threads, ended })
 }
 
 /// Starts a worker on a thread of its own. Where this cannot be started all workers are told to end, this one too.
@@ -113,13 +112,15 @@ fn join_all<J: Job, R: Threads>(
     rt: &R,
     started: Started<J>,
     served: Result<(), Refused>,
-) -> Ended<J> {
+) -> Ended<J>
+    requires { vec_len started.threads + vec_len started.ended ≤ vec_capacity started.ended }
+    ensures { vec_len result.seats ≡ vec_len started.threads + vec_len started.ended }
+{
     let Started { threads, ended } = started;
     let had_threads = ended.is_empty();
     let mut seats = ended;
-    // there is room for all of them
-    for thread in threads {
-        let _ = seats.push(thread.join(rt));
+    'threads: for thread in threads {
+        seats.push_reserved(thread.join(rt));
     }
     Ended {
         seats,

@@ -1,8 +1,7 @@
-use Rattle.std.proofs.Common.{◌≡◌, length, is_some, sym, ◌∙◌, subst}
+use Rattle.std.proofs.Common.{◌≡◌, length, sym, ◌∙◌, subst}
 use Rattle.kpn_net.specs.Tables.{Tables}
-use Rattle.kpn_report.specs.Outcomes.{verdict_of}
 use Rattle.kpn_parallel.specs.Fed.{AreFedBelow}
-use Rattle.kpn_parallel.proofs.Concluding.{journals_shown, IsReport-concluded}
+use Rattle.kpn_parallel.proofs.Concluding.{journals_shown, are_fed, IsReport-concluded}
 use Rattle.kpn_parallel.proofs.ending.conclude.Goals as goal
 
 pub were_fed-are_fed-requires-clause-journals : goal.were_fed-are_fed-requires-clause-journals
@@ -17,11 +16,15 @@ returns c =
     c.empty_sinks-emptied.ensures.tables ∙ c.put_back_held.ensures.tables in
     let network : c.network-network.result.now ≡ t = c.network-network.ensures ∙ same in
     let report = c.in_ok-report.report in
-    IsReport-concluded t c.empty_sinks-emptied.new.book same c.known.ensures c.in-Some.outcome report
-    c.in_ok-report.ensures c.args.lists.now c.args.limits.now
-    (c.empty_sinks-emptied.ensures.held ∙ c.put_back_held.ensures.none) c.in-Some.ensures
-    (subst (λ (u : Tables). AreFedBelow u c.args.lists.now report.view
-    (is_some (verdict_of c.in-Some.outcome)) (length u.channels)) network
-    (subst (λ b. AreFedBelow c.network-network.result.now c.args.lists.now report.view b
-    (length c.network-network.result.now.channels)) c.is_verdict.ensures
-    (c.were_fed-are_fed.ensures c.if-not-are_fed.false)))
+    let fed =
+    subst (λ (u : Tables). AreFedBelow u c.args.lists.now report.view (length u.channels)) network
+    (c.were_fed-are_fed.ensures c.if-not-are_fed.false) in
+    record {
+      report =
+          IsReport-concluded t c.empty_sinks-emptied.new.book same c.known.ensures c.in-Some.outcome report
+          c.in_ok-report.ensures c.args.lists.now fed c.args.limits.now
+          (c.empty_sinks-emptied.ensures.held ∙ c.put_back_held.ensures.none) c.in-Some.ensures;
+      fed =
+          are_fed t c.empty_sinks-emptied.new.book same c.known.ensures c.in-Some.outcome report
+          c.in_ok-report.ensures c.args.lists.now fed;
+    }

@@ -1,11 +1,10 @@
-use Rattle.std.proofs.Common.{◌≡◌, ◌<◌, true, [], length, get_or, sym, ap, ◌∙◌, subst, arith}
+use Rattle.std.proofs.Common.{◌≡◌, ◌<◌, true, [], length, get_or, sym, ap, ◌∙◌, arith}
 use Rattle.std.proofs.lemmas.List.{get_or_default}
 use Rattle.std.proofs.lemmas.List.Sums.{count_by_more_yes, count_by_more_no}
 use Rattle.kpn_net.specs.Tables.{channel_at, is_source}
 use Rattle.kpn_net.specs.Iteration.{given_by}
 use Rattle.kpn_net.proofs.RoundLemmas.{source_below}
 use Rattle.kpn_pool.specs.Snapshot.{shown_on}
-use Rattle.kpn_parallel.specs.Fed.{IsFed}
 use Rattle.kpn_parallel.proofs.Feeding.{fed_skip, fed_more}
 use Rattle.kpn_parallel.proofs.fed.were_fed.Goals.{then-is_source+else-not-is_fed, else-is_source}
 use Rattle.kpn_parallel.proofs.fed.were_fed.Goals as goal
@@ -45,14 +44,11 @@ channels-preserved c =
           record {
             source = w.source-is ∙ omega (arith, so_far.source);
             so_far =
-                fed_more t lists view c.args.wholly k
-                (subst (λ xs. IsFed c.args.wholly xs (given_by t lists k)) journal
-                (subst (IsFed c.args.wholly w.as_slice.result.now) list (w.is_fed.ensures w.if-not-is_fed.false)))
-                so_far.so_far;
+                fed_more t lists view k (sym journal ∙ w.is_fed.ensures.0 w.if-not-is_fed.false ∙ list) so_far.so_far;
           }
       | else-is_source w ↦
           let none = sym c.is_source.ensures ∙ w.if-is_source.false in record {
             source = w.source-is ∙ so_far.source ∙ sym (count_by_more_no is_source t.channels k _ there none);
-            so_far = fed_skip t lists view c.args.wholly k none so_far.so_far;
+            so_far = fed_skip t lists view k none so_far.so_far;
           }
     ]
