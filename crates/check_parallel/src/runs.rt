@@ -5,9 +5,10 @@ use kpn_limits::MAX_WORKERS;
 use kpn_parallel::{Gate, Go, Limits, Outcome, Report, RunFault, run};
 use kpn_report::run_here;
 use kpn_text::read_network;
-use kpn_trace::Event;
+use kpn_trace::{Event, History};
 use std::alloc::Global;
 use std::sync::Wait;
+use std::sync::atomic::{AtomicU64, Ordering};
 use std::test::Fail;
 use std::thread::Threads;
 use std::time::Clock;
@@ -20,10 +21,26 @@ const SEVENS: &str = "process one(out z) { write z 7; }
 network { sink a cap 1; sink b cap 1; p = one(; a); q = one(; b); }
 ";
 
-/// `TWO` beside a process that steps for ever.
+/// A process that steps for ever.
+const SPINNER: &str = "process spin() { while 1 { } }
+network { s = spin(;); }
+";
+
+/// A process that writes an item to a sink, beside one that steps for ever.
 const SPIN: &str = "process w(out z) { write z 312; }
 process spin() { while 1 { } }
 network { sink z cap 1; w = w(; z); s = spin(;); }
+";
+
+/// Two sources, whose items are read and dropped.
+const DROPPED: &str = "process drop(in i) { while 1 { read i x; } }
+network { source r; source s; d = drop(r;); e = drop(s;); }
+";
+
+/// Two sources: the items of the first are read and dropped, those of the second come to a sink.
+const HALF: &str = "process drop(in i) { while 1 { read i x; } }
+process copy(in i; out o) { while 1 { read i x; write o x; } }
+network { source r; source s; sink z cap 1; d = drop(r;); c = copy(s; z); }
 ";
 
 /// Until a verdict.
@@ -53,6 +70,32 @@ const STILL: Limits = Limits {
     take: None,
     quota: 0,
 };
+
+/// A gate that abandons at one call, counted from 0.
+#[derive(Drop)]
+struct AbandonsAt {
+    call: u64,
+    calls: AtomicU64,
+}
+
+impl AbandonsAt {
+    fn new(call: u64) -> AbandonsAt {
+        AbandonsAt {
+            call,
+            calls: AtomicU64::new(0),
+        }
+    }
+}
+
+impl Gate for AbandonsAt {
+    fn between(&self, _worker: usize, _process: usize) -> Go {
+        if self.calls.fetch_add(1, Ordering::SeqCst) == self.call {
+            Go::Abandon
+        } else {
+            Go::On
+        }
+    }
+}
 
 /// What a run by so many workers answers, where there is a list for each source.
 fn answer<R: Threads + Wait + Clock + Sync, G: Gate>(
@@ -89,16 +132,16 @@ fn here(
 
 /// Whether a run by so many workers comes to the outcome and the items of a run on one thread, and passes the limit of
 /// commits, where that stops it, by one for each other worker at most.
-fn runs_as_here<R: Threads + Wait + Clock + Sync>(
+fn runs_as_here<R: Threads + Wait + Clock + Sync, G: Gate>(
     rt: &R,
     alloc: Global,
     text: &str,
     lists: &[Sequence<i64>],
     workers: usize,
+    gate: &G,
     limits: &Limits,
 ) -> Result<bool, Fail> {
-    let gate = Always(Go::On);
-    let Some(Ok(report)) = answer(rt, alloc, text, lists, workers, &gate, limits)? else {
+    let Some(Ok(report)) = answer(rt, alloc, text, lists, workers, gate, limits)? else {
         return Ok(false);
     };
     let Some(wanted) = here(alloc, text, lists, limits)? else {
@@ -116,9 +159,10 @@ fn run_always_refuses(rt: HostRuntime) -> Result<(), Fail> {
     let alloc = rt.alloc();
     let items = Sequence::from_vec(vec![in alloc; 1, 2, 3]?);
     let lists = vec![in alloc; items]?;
+    let gate = Always(Go::On);
     for workers in [1, 2, 16] {
         assert!(rt;
-            runs_as_here(&rt, alloc, COPY, &lists, workers, &ALL)?,
+            runs_as_here(&rt, alloc, COPY, &lists, workers, &gate, &ALL)?,
             "copy, {workers}"
         );
         for (name, text, limits) in [
@@ -128,7 +172,7 @@ fn run_always_refuses(rt: HostRuntime) -> Result<(), Fail> {
             ("stops", SPIN, FEW),
         ] {
             assert!(rt;
-                runs_as_here(&rt, alloc, text, &[], workers, &limits)?,
+                runs_as_here(&rt, alloc, text, &[], workers, &gate, &limits)?,
                 "{name}, {workers}"
             );
         }
@@ -136,27 +180,90 @@ fn run_always_refuses(rt: HostRuntime) -> Result<(), Fail> {
     Ok(())
 }
 
-/// What a run by two workers through a gate that always abandons comes to.
-fn abandoned<R: Threads + Wait + Clock + Sync>(
+/// How many events feed an item to a source or close one.
+fn feeds(history: &History) -> usize {
+    (0..history.len())
+        .filter(|k| matches!(history.at(*k), Some(Event::Feed(..) | Event::Close(_))))
+        .count()
+}
+
+/// Whether a run by so many workers that stops at one item of each sink has fed and closed the sources as a run on one
+/// thread does, which comes to the same outcome.
+fn feeds_as_here<R: Threads + Wait + Clock + Sync>(
     rt: &R,
     alloc: Global,
     text: &str,
+    lists: &[Sequence<i64>],
+    workers: usize,
+) -> Result<bool, Fail> {
+    let gate = Always(Go::On);
+    let Some(Ok(report)) = answer(rt, alloc, text, lists, workers, &gate, &ONE)? else {
+        return Ok(false);
+    };
+    let Some(wanted) = here(alloc, text, lists, &ONE)? else {
+        return Ok(false);
+    };
+    let is_same = feeds(&report.history) == feeds(&wanted.history);
+    Ok(is_same && report.outcome == wanted.outcome)
+}
+
+/// What is wanted of the sinks ends the taking alone: by then each list was fed whole, and its source closed.
+#[test]
+fn lists_are_fed_whole(rt: HostRuntime) -> Result<(), Fail> {
+    let alloc = rt.alloc();
+    let dropped = Sequence::from_vec(vec![in alloc; 7; 600]?);
+    let copied = Sequence::from_vec(vec![in alloc; 8; 600]?);
+    let lists = vec![in alloc; dropped, copied]?;
+    for workers in [1, 2] {
+        for (name, text) in [("no sink", DROPPED), ("one sink", HALF)] {
+            assert!(rt;
+                feeds_as_here(&rt, alloc, text, &lists, workers)?,
+                "{name}, {workers}"
+            );
+        }
+    }
+    Ok(())
+}
+
+/// What a run by so many workers through this gate comes to.
+fn comes_to<R: Threads + Wait + Clock + Sync, G: Gate>(
+    rt: &R,
+    alloc: Global,
+    text: &str,
+    workers: usize,
+    gate: &G,
 ) -> Result<Option<Result<Outcome, RunFault>>, Fail> {
-    let gate = Always(Go::Abandon);
-    let answer = answer(rt, alloc, text, &[], 2, &gate, &ALL)?;
+    let answer = answer(rt, alloc, text, &[], workers, gate, &ALL)?;
     Ok(answer.map(|answer| answer.map(|report| report.outcome)))
 }
 
 #[test]
 fn a_gate_that_always_abandons(rt: HostRuntime) -> Result<(), Fail> {
-    assert_eq!(rt;
-        abandoned(&rt, rt.alloc(), EMPTY)?,
-        Some(Ok(Outcome::Ended))
-    );
-    assert_eq!(rt;
-        abandoned(&rt, rt.alloc(), TWO)?,
-        Some(Err(RunFault::Abandoned))
-    );
+    let gate = Always(Go::Abandon);
+    for (text, workers, outcome) in [
+        (EMPTY, 2, Ok(Outcome::Ended)),
+        (TWO, 2, Err(RunFault::Abandoned)),
+        (SPINNER, 1, Err(RunFault::Abandoned)),
+    ] {
+        assert_eq!(rt;
+            comes_to(&rt, rt.alloc(), text, workers, &gate)?,
+            Some(outcome)
+        );
+    }
+    Ok(())
+}
+
+/// One worker makes the 11 commits of `TWO`, and the gate is asked before each.
+#[test]
+fn a_gate_that_abandons_at_one_call(rt: HostRuntime) -> Result<(), Fail> {
+    let alloc = rt.alloc();
+    for call in 0..11 {
+        assert_eq!(rt;
+            comes_to(&rt, alloc, TWO, 1, &AbandonsAt::new(call))?,
+            Some(Err(RunFault::Abandoned))
+        );
+    }
+    assert!(rt; runs_as_here(&rt, alloc, TWO, &[], 1, &AbandonsAt::new(11), &ALL)?);
     Ok(())
 }
 
