@@ -27,7 +27,7 @@ mod processes;
 /// was.
 #[derive(Debug, Drop)]
 pub struct Book<'n, A: Allocator = Global> {
-    pages: OpenBook<'n, A>,
+    parts: OpenBook<'n, A>,
 }
 
 impl<'n, A: Allocator> Model for Book<'n, A> {
@@ -40,9 +40,9 @@ impl<'n, A: Allocator> Model for Book<'n, A> {
 
     ghost coded = { Prim.hlevel (codes, parts_code) };
 
-    ghost view = { λ b. b.pages.book };
+    ghost view = { λ b. b.parts.book };
 
-    ghost invariant = { λ b. IsKept b.pages.book };
+    ghost invariant = { λ b. IsKept b.parts.book };
 }
 
 impl<'n, A: Allocator + Copy> Book<'n, A> {
@@ -59,8 +59,8 @@ impl<'n, A: Allocator + Copy> Book<'n, A> {
     {
         let configuration = Configuration::new(alloc, network)?;
         let schedule = Schedule::new(alloc, network.instances())?;
-        let pages = OpenBook::opened(network, configuration, schedule, History::new(alloc));
-        Ok(Book { pages })
+        let parts = OpenBook::opened(network, configuration, schedule, History::new(alloc));
+        Ok(Book { parts })
     }
 }
 
@@ -69,43 +69,43 @@ impl<'n, A: Allocator> Book<'n, A> {
     pub fn known(&self)
         ensures { IsBook self.now }
     {
-        self.pages.known_whole();
+        self.parts.known_whole();
     }
 
     /// The network.
     pub fn network(&self) -> &'n Network
         ensures { result.now ≡ self.now.tables }
     {
-        self.pages.network()
+        self.parts.network()
     }
 
     /// How many processes are in each state.
     pub fn counts(&self) -> Counts
         ensures { AreCounts self.now.schedule.states result }
     {
-        self.pages.counts()
+        self.parts.counts()
     }
 
     /// How many commits were made.
     pub fn commits(&self) -> u64
         ensures { result ≡ self.now.commits }
     {
-        self.pages.commits()
+        self.parts.commits()
     }
 
     /// The events so far.
     pub fn history(&self) -> &History<A>
         ensures { result.now.events ≡ self.now.history }
     {
-        self.pages.history()
+        self.parts.history()
     }
 
     /// The events so far, moved out.
     pub fn into_history(self) -> History<A>
         ensures { result.events ≡ self.entry.history }
     {
-        let Book { pages } = self;
-        pages.into_history()
+        let Book { parts } = self;
+        parts.into_history()
     }
 
     /// Whether a take from this sink, or a get from this channel, would give an item.
@@ -113,7 +113,7 @@ impl<'n, A: Allocator> Book<'n, A> {
         requires { c < length self.now.tables.channels }
         ensures { result ≡ is_some (next_item (channel_in self.now.configuration c)) }
     {
-        self.pages.offers(c)
+        self.parts.offers(c)
     }
 
     /// How many items were read from a channel.
@@ -121,7 +121,7 @@ impl<'n, A: Allocator> Book<'n, A> {
         requires { c < length self.now.tables.channels }
         ensures { result ≡ length (read_on self.now.history c) }
     {
-        self.pages.read_count(c)
+        self.parts.read_count(c)
     }
 
     /// Whether the journal of a channel, all that was ever put on it, begins with these items.
@@ -129,7 +129,7 @@ impl<'n, A: Allocator> Book<'n, A> {
         requires { c < length self.now.tables.channels }
         ensures { IsTrue result ↔ IsPrefix items.now (channel_in self.now.configuration c).journal }
     {
-        self.pages.journal_begins(c, items)
+        self.parts.journal_begins(c, items)
     }
 
     /// How the run has come to a stop, if it has: each process has ended or waits, each source is closed and each sink
@@ -137,7 +137,7 @@ impl<'n, A: Allocator> Book<'n, A> {
     pub fn verdict(&self) -> Option<Verdict>
         ensures { IsVerdict self.now.tables self.now.history result }
     {
-        self.pages.verdict()
+        self.parts.verdict()
     }
 
     /// The run as it is seen at this moment, in lists of an allocator that the caller names. The error is that memory
@@ -146,7 +146,7 @@ impl<'n, A: Allocator> Book<'n, A> {
         ensures agrees { IfOk result (λ view. Agrees self.now.tables self.now.history view) }
         ensures states { IfOk result (λ view. view.states ≡ self.now.schedule.states) }
     {
-        self.pages.snapshot(alloc)
+        self.parts.snapshot(alloc)
     }
 }
 
@@ -158,7 +158,7 @@ impl<'n> Book<'n> {
         ensures states { IfOk result (λ told. told.0.states ≡ self.entry.schedule.states) }
         ensures history { IfOk result (λ told. told.1.events ≡ self.entry.history) }
     {
-        let Book { pages } = self;
-        pages.into_view(alloc)
+        let Book { parts } = self;
+        parts.into_view(alloc)
     }
 }

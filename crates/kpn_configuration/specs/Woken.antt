@@ -31,7 +31,8 @@ waiting_writer t waits c = waiting_at (is_wait_on_full c) waits (writer_of t c)
 abbrev pub waiting_reader : Tables → List Wait → (c : ℕ) → Option ℕ
 waiting_reader t waits c = waiting_at (is_wait_on_empty c) waits (reader_of t c)
 
--- ---- the wait table once they are woken, as the code's parts say it; a reader of the public contracts needs none of it
+-- ---- the wait table once they are woken, as the code's parts say it; a reader of the public contracts needs
+-- none of it
 
 -- who had a wait of this kind waits for nobody, all others for what they did
 pub record AreWoken (kind : Wait → Bool) (before after : List Wait) : Type 0 where

@@ -15,7 +15,7 @@ impl<'n, A: Allocator> Book<'n, A> {
         ensures lasts { IfSome result (λ cause. cause ≢ Refused.NoMemory) }
         ensures none { IfNone result (AcceptsItem source bound self.now) }
     {
-        self.pages.feed_fault(source, item, bound)
+        self.parts.feed_fault(source, item, bound)
     }
 
     /// Puts an item on a source that is not closed and on which fewer items than the bound are unread, or whose reader
@@ -25,7 +25,7 @@ impl<'n, A: Allocator> Book<'n, A> {
         ensures refused { IfErr result (λ cause. RefusesFeed source item bound self.old cause) }
         ensures as_before { OnErr result (self.new ≡ self.old) }
     {
-        self.pages.feed(source, item, bound)
+        self.parts.feed(source, item, bound)
     }
 
     /// Closes a source. A second time it changes nothing and takes no memory.
@@ -34,7 +34,7 @@ impl<'n, A: Allocator> Book<'n, A> {
         ensures refused { IfErr result (λ cause. RefusesClose source self.old cause) }
         ensures as_before { OnErr result (self.new ≡ self.old) }
     {
-        self.pages.close_source(source)
+        self.parts.close_source(source)
     }
 
     /// The next item of a sink that was not left, which is then read. `None` where nothing is unread: that takes no
@@ -44,7 +44,7 @@ impl<'n, A: Allocator> Book<'n, A> {
         ensures refused { IfErr result (λ cause. RefusesTake sink self.old cause) }
         ensures as_before { OnErr result (self.new ≡ self.old) }
     {
-        self.pages.take(sink)
+        self.parts.take(sink)
     }
 
     /// Leaves a sink: nothing is taken from it any more, and it is never full. A second time it changes nothing and
@@ -54,6 +54,6 @@ impl<'n, A: Allocator> Book<'n, A> {
         ensures refused { IfErr result (λ cause. RefusesLeave sink self.old cause) }
         ensures as_before { OnErr result (self.new ≡ self.old) }
     {
-        self.pages.leave_sink(sink)
+        self.parts.leave_sink(sink)
     }
 }

@@ -29,7 +29,7 @@ impl<'n, A: Allocator> Book<'n, A> {
         ensures nobody { IfNone result (ClaimsNobody self.old) }
         ensures as_before { IfNone result (self.new ≡ self.old) }
     {
-        self.pages.claim()
+        self.parts.claim()
     }
 
     /// Claims the first process of the queue as `claim` does, and begins the advance at its frame, by no step and in
@@ -42,7 +42,7 @@ impl<'n, A: Allocator> Book<'n, A> {
         ensures nobody { IfNone result (ClaimsNobody self.old) }
         ensures as_before { IfNone result ((self.new ≡ self.old) × (steps.new ≡ steps.old)) }
     {
-        self.pages.claim_into(steps)
+        self.parts.claim_into(steps)
     }
 
     /// Commits the steps of process `p`, which is held: they are steps of its program from its frame. It gets or puts
@@ -53,7 +53,7 @@ impl<'n, A: Allocator> Book<'n, A> {
         ensures refused { IfErr result (λ cause. RefusesCommit p advance.now self.old cause) }
         ensures as_before { OnErr result (self.new ≡ self.old) }
     {
-        self.pages.commit_steps(p, advance)
+        self.parts.commit_steps(p, advance)
     }
 
     /// Commits the steps of process `p` as `commit` does, for who knows that they are steps of its program, as those of
@@ -64,7 +64,7 @@ impl<'n, A: Allocator> Book<'n, A> {
         ensures refused { IfErr result (λ cause. RefusesCommit p advance.now self.old cause) }
         ensures as_before { OnErr result (self.new ≡ self.old) }
     {
-        self.pages.commit_own_steps(p, advance)
+        self.parts.commit_own_steps(p, advance)
     }
 
     /// Puts process `p`, which is held, to the tail of the queue. It stands where it stood.
@@ -74,7 +74,7 @@ impl<'n, A: Allocator> Book<'n, A> {
         ensures refused { IfErr result (λ cause. RefusesPutBack p self.old cause) }
         ensures as_before { OnErr result (self.new ≡ self.old) }
     {
-        self.pages.release(p)
+        self.parts.release(p)
     }
 
     /// Claims a process, advances it by no more steps than the quota and commits this, in place: no frame is copied.
@@ -84,6 +84,6 @@ impl<'n, A: Allocator> Book<'n, A> {
         ensures step { IfOk result (λ answer. IsStep quota answer self.old self.new) }
         ensures in_vain { OnErr result (StepsInVain quota self.old self.new) }
     {
-        self.pages.step_one(quota)
+        self.parts.step_one(quota)
     }
 }

@@ -1,5 +1,6 @@
 //! What is seen of a book.
-ghost use Rattle.std.specs.Prelude.{◌≡◌, ◌↔◌, ◌<◌, true, length, map, Option, IfOk, IsTrue};
+ghost use Rattle.std.specs.Prelude.{◌≡◌, ◌↔◌, ◌<◌, true, length, map, Option, IfOk, IsTrue, is_some};
+ghost use Rattle.kpn_chan.specs.Channel.{next_item};
 ghost use Rattle.std.specs.List.{range_with_len};
 ghost use Rattle.kpn_lang.specs.Prefix.{IsPrefix};
 ghost use Rattle.kpn_trace.specs.declared.state.Verdict.{Verdict as Told};
@@ -18,6 +19,15 @@ use kpn_trace::{History, Verdict, View};
 use std::alloc::{AllocError, Allocator, Global};
 
 impl<'n, A: Allocator> OpenBook<'n, A> {
+    /// Whether a get or a take would give an item of a channel of the network.
+    pub(crate) fn offers(&self, c: usize) -> bool
+        requires kept { IsKept self.now.book }
+        requires channel { c < length self.now.book.tables.channels }
+        ensures { result ≡ is_some (next_item (channel_in self.now.book.configuration c)) }
+    {
+        self.has_item(c)
+    }
+
     /// How many items were read from a channel.
     pub(crate) fn read_count(&self, c: usize) -> usize
         requires kept { IsKept self.now.book }

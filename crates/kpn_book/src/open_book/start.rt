@@ -1,7 +1,5 @@
 //! A book at the start, and what holds of every book.
-ghost use Rattle.std.specs.Prelude.{◌≡◌, ◌<◌, [], length, is_some};
-ghost use Rattle.kpn_chan.specs.Channel.{next_item};
-ghost use Rattle.kpn_configuration.specs.Configuration.{channel_in};
+ghost use Rattle.std.specs.Prelude.{◌≡◌, [], length};
 ghost use Rattle.kpn_configuration.specs.Run.{IsRun};
 ghost use Rattle.kpn_schedule.specs.Schedule.{all_ready};
 ghost use Rattle.kpn_book.specs.Kept.{IsKept, IsBook};
@@ -63,14 +61,5 @@ impl<'n, A: Allocator> OpenBook<'n, A> {
         ensures { IsBook self.now.book }
     {
         self.known();
-    }
-
-    /// Whether a get or a take would give an item of a channel of the network.
-    pub(crate) fn offers(&self, c: usize) -> bool
-        requires kept { IsKept self.now.book }
-        requires channel { c < length self.now.book.tables.channels }
-        ensures { result ≡ is_some (next_item (channel_in self.now.book.configuration c)) }
-    {
-        self.has_item(c)
     }
 }

@@ -14,7 +14,8 @@ feed_source-requires-clause-sound g c =
     let there = source_there b.tables c.args.c may.0.source in
     let long = c.requires.in_step.run.shape.channels in
     let below : c.args.c < length b.configuration.channels = omega (arith, there, long) in
-    let kept = kept_with_item b c.reserve_write.new.self.book c.args.c below c.in_ok-reserve_write.ensures.1 c.requires in
+    let kept =
+    kept_with_item b c.reserve_write.new.self.book c.args.c below c.in_ok-reserve_write.ensures.1 c.requires in
     record { in_step = kept.in_step; nothing_owed = kept.nothing_owed }
 
 pub returns-in-Some-clause-feeds : goal.returns-in-Some-clause-feeds

@@ -7,7 +7,8 @@ pub returns : goal.returns
 returns g c =
     let t = c.args.network.now in
     let s = c.args.self.now in
-    let made = Made-closed t s c.requires.shape c.set_closed.new.self c.args.c c.requires.channel c.set_closed.ensures in
+    let made =
+    Made-closed t s c.requires.shape c.set_closed.new.self c.args.c c.requires.channel c.set_closed.ensures in
     record {
       changes = made.changes;
       shape = made.shape;
