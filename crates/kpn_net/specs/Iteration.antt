@@ -78,7 +78,7 @@ given_by t lists c = slice_index_or lists (count_by is_source (take c t.channels
 abbrev pub lists_of : Tables → Family → List (List ℤ)
 lists_of t X = map X (channel_numbers t)
 
--- ---- what the code's loop over a talk keeps; a reader of the public contracts needs none of it
+-- ---- scaffolding: what the code's loop over a talk keeps
 
 -- the items that a talk puts on a channel, where these are the channels at its out ports
 abbrev pub put_on : (outs : List ℕ) → List Said → (c : ℕ) → List ℤ

@@ -1,5 +1,5 @@
--- What the code's tables keep of the ends at one side of a channel: which it is if there is one. A reader of the
--- public contracts needs none of it.
+-- Scaffolding: what the code's tables keep of the ends at one side of a channel: which it is if there is one. The
+-- contracts of private functions speak of it.
 use Rattle.std.specs.Prelude.{◌≡◌, ℕ, Bool, true, false, List, [], ◌∷◌, length, map}
 use Rattle.std.specs.List.{range_with_len}
 use Rattle.kpn_net.specs.declared.tables.End.{End}

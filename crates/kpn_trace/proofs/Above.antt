@@ -23,7 +23,7 @@ use Rattle.kpn_trace.specs.Channels.{written_on, read_on, unread_on, fed, is_emp
 use Rattle.kpn_trace.specs.Waiting.{wait_of_last}
 use Rattle.kpn_trace.specs.Legal.{Legal, ending_of}
 use Rattle.kpn_trace.specs.Ends.{IsQuiet}
-use Rattle.kpn_trace.proofs.Events.{last_event-own, last_event-other, talk_of-grows, has_ended-push, read_on-grows, read_on-same}
+use Rattle.kpn_trace.proofs.Events.{Some-event, last_event-own, last_event-other, talk_of-grows, has_ended-push, read_on-grows, read_on-same}
 use Rattle.kpn_trace.proofs.Legality.{Legal-last, by_events}
 use Rattle.kpn_trace.proofs.Running.{IsLast, talk_settled-last, talk_settled-starved}
 use Rattle.kpn_trace.proofs.Ownership.{Owns-last}
@@ -127,9 +127,6 @@ own_wait t network B e legal p q c own is =
     subst (λ x. IsStarved t (B ++ x ∷ []) p c) (sym same)
     (IsStarved-waits t network B p c (subst (λ x. Legal t (B ++ x ∷ [])) same legal))
 
-Some-injective : (a b : Event) → ◌≡◌ {A = Option Event} (Some a) (Some b) → a ≡ b
-Some-injective a b e = cc
-
 pub IsStarved-last : (t : Tables) → IsNetwork t → (p : ℕ) (H : List Event) → Legal t H → (q c : ℕ)
     → last_event H p ≡ Some (WaitEmpty q c) → IsStarved t H p c
 IsStarved-last t network p =
@@ -138,7 +135,7 @@ IsStarved-last t network p =
     (λ B e legal h q c is. elim (cases_Bool (is_of p e)) [
       | inl own ↦
           own_wait t network B e legal p q c own
-          (Some-injective e (WaitEmpty q c) (sym (last_event-own B e p own) ∙ is))
+          (Some-event e (WaitEmpty q c) (sym (last_event-own B e p own) ∙ is))
       | inr other ↦
           IsStarved-other t network B e legal p c other (h q c (sym (last_event-other B e p other) ∙ is))
     ])

@@ -12,6 +12,9 @@ use Rattle.kpn_trace.specs.declared.event.Event.TheVariants.{Get, Put}
 use Rattle.kpn_trace.specs.Talks.{is_of, last_event, said_in, talk_of, is_end_of, has_ended}
 use Rattle.kpn_trace.specs.Channels.{written_in, read_in, written_on, read_on}
 
+pub Some-event : (a b : Event) → ◌≡◌ {A = Option Event} (Some a) (Some b) → a ≡ b
+Some-event a b e = cc
+
 -- ---- any lists
 
 pub flat_map-push : {X A : Type 0} (f : X → List A) (xs : List X) (x : X)

@@ -16,7 +16,7 @@ use Rattle.kpn_trace.specs.Channels.{written_in, read_in, written_on, read_on, u
 use Rattle.kpn_trace.specs.Waiting.{wait_in, wait_of_last, wait_of}
 use Rattle.kpn_trace.specs.WaitsAfter.{wait_made, wait_kept, wait_after}
 use Rattle.kpn_trace.specs.Legal.{Legal}
-use Rattle.kpn_trace.proofs.Events.{last_event-own, last_event-other, has_ended-push, written_on-same, read_on-same}
+use Rattle.kpn_trace.proofs.Events.{Some-event, last_event-own, last_event-other, has_ended-push, written_on-same, read_on-same}
 use Rattle.kpn_trace.proofs.Legality.{Legal-before, Legal-last, by_events}
 use Rattle.kpn_trace.proofs.Ownership.{Owns, Owns-last}
 use Rattle.kpn_trace.proofs.Journals.{none_elsewhere, writer_is, no_source, read_in-other}
@@ -25,9 +25,6 @@ use Rattle.kpn_trace.proofs.AfterEvent.{keeps_reader, reader_lives-kept}
 use Rattle.kpn_trace.proofs.OneMore.{capacity_after-same, reader_lives-before, smaller_before, unread_length, unread_length-push}
 
 -- ---- the last event of a process
-
-Some-event : (a b : Event) → ◌≡◌ {A = Option Event} (Some a) (Some b) → a ≡ b
-Some-event a b e = cc
 
 -- an event of this process, on a channel of its own
 pub record IsOwnEvent (t : Tables) (p : ℕ) (e : Event) : Type 0 where
