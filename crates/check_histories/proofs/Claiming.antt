@@ -1,11 +1,10 @@
--- What the plain tests tell of worked histories, and what is known of the last event of a legal list.
+-- What the plain tests tell of worked histories.
 use Rattle.std.specs.List.{list_all}
-use Rattle.std.proofs.Common.{◌≡◌, ℕ, suc, true, List, [], ◌∷◌, ◌++◌, take, None, refl}
-use Rattle.kpn_lang.proofs.Prefixes.{IsPrefix-same}
+use Rattle.std.proofs.Common.{◌≡◌, ℕ, suc, true, List, take, None}
 use Rattle.kpn_net.specs.Tables.{Tables}
 use Rattle.kpn_net.specs.Faults.{first_fault}
 use Rattle.kpn_trace.specs.declared.event.Event.{Event}
-use Rattle.kpn_trace.specs.Legal.{IsConsistent, MayFollow, Legal}
+use Rattle.kpn_trace.specs.Legal.{Legal}
 use Rattle.kpn_trace.proofs.EndTests.{is_quiet, is_quiet-true, is_ended, is_ended-true}
 use Rattle.check_histories.specs.Claims.{RunsToItsEnd, BreaksAt}
 use Rattle.check_histories.proofs.NetworkTests.{is_program, network-true}
@@ -27,11 +26,3 @@ runs_to_its_end t n H programs sound passed quiet ended = record {
 pub breaks_at : (t : Tables) (n : ℕ) (H : List Event) (k : ℕ) → passes t n (take k H) ≡ true
     → (Legal t (take (suc k) H) → ⊥) → BreaksAt t H k
 breaks_at t n H k passed wrong = record { before = passes-legal t n (take k H) passed; after = wrong }
-
--- ---- a legal list
-
-pub last_follows : (t : Tables) (B : List Event) (event : Event) → Legal t (B ++ event ∷ []) → MayFollow t B event
-last_follows t B event legal = legal.follows B event (IsPrefix-same (B ++ event ∷ []) (B ++ event ∷ []) refl)
-
-pub consistent_whole : (t : Tables) (H : List Event) → Legal t H → IsConsistent t H
-consistent_whole t H legal = legal.consistent H (IsPrefix-same H H refl)

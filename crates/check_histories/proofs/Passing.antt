@@ -27,6 +27,7 @@ use Rattle.kpn_trace.specs.Waiting.{wait_of, full_in_cycle}
 use Rattle.kpn_trace.specs.Legal.{IsConsistent, waiter_of_last, OwesGrowth, HasNumbers, CanGo, ending_of, ComesToWrite, MayFeed, MayTake, IsDue, MayFollow, Legal}
 use Rattle.kpn_net.proofs.Cycles.{smallest_unique}
 use Rattle.kpn_trace.proofs.Searching.{each_below, each_below-at, Way, Round, Off, Lost, Allows}
+use Rattle.kpn_trace.proofs.Growth.{last_waiter}
 use Rattle.kpn_trace.proofs.Checking.{way_round, way_round-allows, way_round-cycle, is_nobody}
 use Rattle.check_histories.proofs.ListTests.{begins, equals, begins-true, equals-true, is_smallest, smallest, is_smallest-true}
 
@@ -283,10 +284,6 @@ may_take t B c = is_sink (channel_at t c) && not (is_left B c)
 
 may_take-true : (t : Tables) (B : List Event) (c : ℕ) → may_take t B c ≡ true → MayTake t B c
 may_take-true t B c e = let parts = and_parts _ _ e in record { sink = parts.0; not_left = not-true _ parts.1 }
-
--- the process whose wait is the last event
-abbrev last_waiter : List Event → Option ℕ
-last_waiter B = waiter_of_last (last_or None B)
 
 abbrev grows : Tables → List Event → (p d : ℕ) → Option ℕ → Bool
 grows t B p d None = false

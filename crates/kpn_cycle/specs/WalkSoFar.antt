@@ -1,4 +1,4 @@
--- What the code's walk along the waits keeps. A reader of the public contracts needs none of it.
+-- Scaffolding: what the code's walk along the waits keeps. The contracts of private functions speak of it.
 use Rattle.std.specs.Prelude.{◌≡◌, ℕ, ◌<◌, List, [], Option, Some, None}
 use Rattle.kpn_net.specs.declared.wait.Wait.{Wait}
 use Rattle.kpn_net.specs.declared.wait.Wait.TheVariants as wait

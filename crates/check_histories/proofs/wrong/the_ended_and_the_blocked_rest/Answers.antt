@@ -1,17 +1,18 @@
 use Rattle.std.proofs.Common.{refl, take}
 use Rattle.kpn_trace.specs.declared.event.How.TheVariants as how
 use Rattle.kpn_trace.specs.declared.event.Event.TheVariants.{Ended, WaitEmpty}
+use Rattle.kpn_trace.proofs.Legality.{Legal-last}
 use Rattle.check_histories.specs.Networks.{ended_reader_network, two_readers_network}
 use Rattle.check_histories.specs.WrongLists.{ends_twice, waits_while_blocked}
-use Rattle.check_histories.proofs.Claiming.{breaks_at, last_follows}
+use Rattle.check_histories.proofs.Claiming.{breaks_at}
 use Rattle.check_histories.proofs.wrong.the_ended_and_the_blocked_rest.Goals as goal
 
 pub returns-clause-ends_twice : goal.returns-clause-ends_twice
 unfolding ended_reader_network ends_twice
 returns-clause-ends_twice c = breaks_at ended_reader_network 1 ends_twice 2 refl (λ legal.
-    let lives = (last_follows ended_reader_network (take 2 ends_twice) (Ended 1 how.Done) legal).due.0.lives in cc)
+    let lives = (Legal-last ended_reader_network (take 2 ends_twice) (Ended 1 how.Done) legal).due.0.lives in cc)
 
 pub returns-clause-waits_while_blocked : goal.returns-clause-waits_while_blocked
 unfolding two_readers_network waits_while_blocked
 returns-clause-waits_while_blocked c = breaks_at two_readers_network 1 waits_while_blocked 1 refl (λ legal.
-    let free = (last_follows two_readers_network (take 1 waits_while_blocked) (WaitEmpty 0 0) legal).due.0.free in cc)
+    let free = (Legal-last two_readers_network (take 1 waits_while_blocked) (WaitEmpty 0 0) legal).due.0.free in cc)
