@@ -1,14 +1,13 @@
 -- Steps of reading: what a chain of steps gives, and the laws of the parsers of one token.
-use Rattle.std.proofs.Common.{◌≡◌, ℕ, Bool, true, false, cond, nat_eq, List, [], ◌∷◌, slice_index_or, Option, Some, None, Result, Ok, Err, IfOk, refl, sym, ap, subst, ◌∙◌, arith}
-use Rattle.std.specs.List.{find}
-use Rattle.std.proofs.lemmas.Bool.Decides.{nat_tests}
+use Rattle.std.proofs.Common.{◌≡◌, ℕ, Bool, true, false, cond, List, [], ◌∷◌, Option, Some, None, Result, Ok, Err, IfOk, refl, sym, ap, subst, ◌∙◌}
+use denote.Enum.Bare.{same_true, true_same}
 use Rattle.kpn_tokens.specs.declared.tokens.Lexeme.{Lexeme}
 use Rattle.kpn_tokens.specs.declared.tokens.Token.{Token}
 use Rattle.kpn_tokens.specs.declared.tokens.Token.TheVariants as token
 use Rattle.kpn_tokens.specs.declared.tokens.Mark.{Mark}
-use Rattle.kpn_tokens.specs.declared.tokens.Mark.TheVariants as mark_
+use Rattle.kpn_tokens.specs.contracts.tokens.Mark.{the_type as mark_type}
 use Rattle.kpn_tokens.specs.declared.tokens.Keyword.{Keyword}
-use Rattle.kpn_tokens.specs.declared.tokens.Keyword.TheVariants as keyword_
+use Rattle.kpn_tokens.specs.contracts.tokens.Keyword.{the_type as keyword_type}
 use Rattle.kpn_grammar.specs.declared.fault.GrammarFault.{GrammarFault}
 use Rattle.kpn_grammar.specs.declared.fault.GrammarFault.TheVariants as fault
 use Rattle.kpn_grammar.specs.declared.parser.Scope.{Scope}
@@ -17,8 +16,9 @@ use Rattle.kpn_lang.specs.declared.syntax.Op.TheVariants as op
 use Rattle.kpn_grammar.specs.Operators.{operators, operator_mark, operator_of}
 use Rattle.kpn_grammar.specs.Spelling.{kinds}
 use Rattle.kpn_tokens.specs.Results.{and_then, OkOr}
-use Rattle.kpn_grammar.specs.TokenTests.{mark_number, same_mark, keyword_number, is_mark, is_keyword}
+use Rattle.kpn_grammar.specs.TokenTests.{same_mark, same_keyword, is_mark, is_keyword}
 use Rattle.kpn_grammar.specs.Reading.{Fails, Gives, next, mark, keyword, named, name, numbered, number, token_operator, or_fault_at, operator}
+use Rattle.kpn_tokens.proofs.Pieces.{find_passes}
 
 -- the value of a step that had no fault
 pub bind_ok : {A B : Type 0} (r : Result A GrammarFault) (f : A → Result B GrammarFault) (y : B) → and_then r f ≡ Ok y
@@ -29,9 +29,6 @@ bind_ok (Err d) f y e = absurd cc
 
 pub ok_is : {A : Type 0} (x y : A) → ◌≡◌ {A = Result A GrammarFault} (Ok x) (Ok y) → x ≡ y
 ok_is x y e = cc
-
-some_is : {A : Type 0} (x y : A) → ◌≡◌ {A = Option A} (Some x) (Some y) → x ≡ y
-some_is x y e = cc
 
 -- a fault that a call tells
 pub fails_with : {A : Type 0} (e : GrammarFault) (read : Result A GrammarFault) → read ≡ Err e → Fails e read
@@ -58,74 +55,13 @@ moved P x y h holds = subst P (ok_is x y h) holds
 pub no_value : {A : Type 0} (d : GrammarFault) (y : A) → ◌≡◌ {A = Result A GrammarFault} (Err d) (Ok y) → ⊥
 no_value d y e = cc
 
--- ---- marks and reserved words are told apart by their numbers
-
-marks_by_number : List Mark
-marks_by_number = mark_.LeftParen ∷ mark_.RightParen ∷ mark_.LeftBrace ∷ mark_.RightBrace ∷ mark_.Semicolon
-    ∷ mark_.Comma ∷ mark_.Assign ∷ mark_.Plus ∷ mark_.Minus ∷ mark_.Star ∷ mark_.Slash ∷ mark_.Percent ∷ mark_.Less
-    ∷ mark_.LessOrEqual ∷ mark_.Greater ∷ mark_.GreaterOrEqual ∷ mark_.Equal ∷ mark_.NotEqual ∷ mark_.And ∷ mark_.Or
-    ∷ mark_.Not ∷ []
-
-mark_back : (m : Mark) → slice_index_or marks_by_number (mark_number m) mark_.Not ≡ m
-unfolding marks_by_number
-mark_back mark_.LeftParen = refl
-mark_back mark_.RightParen = refl
-mark_back mark_.LeftBrace = refl
-mark_back mark_.RightBrace = refl
-mark_back mark_.Semicolon = refl
-mark_back mark_.Comma = refl
-mark_back mark_.Assign = refl
-mark_back mark_.Plus = refl
-mark_back mark_.Minus = refl
-mark_back mark_.Star = refl
-mark_back mark_.Slash = refl
-mark_back mark_.Percent = refl
-mark_back mark_.Less = refl
-mark_back mark_.LessOrEqual = refl
-mark_back mark_.Greater = refl
-mark_back mark_.GreaterOrEqual = refl
-mark_back mark_.Equal = refl
-mark_back mark_.NotEqual = refl
-mark_back mark_.And = refl
-mark_back mark_.Or = refl
-mark_back mark_.Not = refl
-
-keywords_by_number : List Keyword
-keywords_by_number = keyword_.Process ∷ keyword_.In ∷ keyword_.Out ∷ keyword_.Par ∷ keyword_.Read ∷ keyword_.Write
-    ∷ keyword_.If ∷ keyword_.Else ∷ keyword_.While ∷ keyword_.Network ∷ keyword_.Limit ∷ keyword_.Channel ∷ keyword_.Cap
-    ∷ keyword_.Source ∷ keyword_.Sink ∷ keyword_.Policy ∷ keyword_.Grow ∷ []
-
-keyword_back : (k : Keyword) → slice_index_or keywords_by_number (keyword_number k) keyword_.Grow ≡ k
-unfolding keywords_by_number
-keyword_back keyword_.Process = refl
-keyword_back keyword_.In = refl
-keyword_back keyword_.Out = refl
-keyword_back keyword_.Par = refl
-keyword_back keyword_.Read = refl
-keyword_back keyword_.Write = refl
-keyword_back keyword_.If = refl
-keyword_back keyword_.Else = refl
-keyword_back keyword_.While = refl
-keyword_back keyword_.Network = refl
-keyword_back keyword_.Limit = refl
-keyword_back keyword_.Channel = refl
-keyword_back keyword_.Cap = refl
-keyword_back keyword_.Source = refl
-keyword_back keyword_.Sink = refl
-keyword_back keyword_.Policy = refl
-keyword_back keyword_.Grow = refl
-
-same_number : (a b : ℕ) → nat_eq a b ≡ true → a ≡ b
-same_number a b h = grind (arith, nat_tests)
-
-number_same : (a : ℕ) → nat_eq a a ≡ true
-number_same a = grind (arith, nat_tests)
+-- ---- marks and reserved words are told apart
 
 same_mark_true : (n m : Mark) → same_mark n m ≡ true → n ≡ m
-same_mark_true n m h =
-    sym (mark_back n)
-    ∙ ap (λ k. slice_index_or marks_by_number k mark_.Not) (same_number (mark_number n) (mark_number m) h)
-    ∙ mark_back m
+same_mark_true n m h = same_true mark_type tt n m h
+
+same_keyword_true : (n k : Keyword) → same_keyword n k ≡ true → n ≡ k
+same_keyword_true n k h = same_true keyword_type tt n k h
 
 pub is_mark_true : (m : Mark) (t : Token) → is_mark m t ≡ true → t ≡ token.Mark m
 is_mark_true m (token.Mark n) h = ap token.Mark (same_mark_true n m h)
@@ -134,18 +70,16 @@ is_mark_true m (token.Number n) h = absurd cc
 is_mark_true m (token.Keyword k) h = absurd cc
 
 pub is_mark_same : (m : Mark) → is_mark m (token.Mark m) ≡ true
-is_mark_same m = number_same (mark_number m)
+is_mark_same m = true_same mark_type m m refl
 
 pub is_keyword_true : (k : Keyword) (t : Token) → is_keyword k t ≡ true → t ≡ token.Keyword k
-is_keyword_true k (token.Keyword n) h =
-    ap token.Keyword (sym (keyword_back n) ∙ ap (λ i. slice_index_or keywords_by_number i keyword_.Grow)
-    (same_number (keyword_number n) (keyword_number k) h) ∙ keyword_back k)
+is_keyword_true k (token.Keyword n) h = ap token.Keyword (same_keyword_true n k h)
 is_keyword_true k (token.Name x) h = absurd cc
 is_keyword_true k (token.Number n) h = absurd cc
 is_keyword_true k (token.Mark m) h = absurd cc
 
 pub is_keyword_same : (k : Keyword) → is_keyword k (token.Keyword k) ≡ true
-is_keyword_same k = number_same (keyword_number k)
+is_keyword_same k = true_same keyword_type k k refl
 
 -- ---- tokens at the front
 
@@ -257,17 +191,10 @@ name_again s ls x more h =
     let f = front ls (token.Name x) more h in
     (f.rest, name_at s x ls f.lexeme f.rest f.whole f.kind, f.after)
 
-found_passes : {A : Type 0} (test : A → Bool) (xs : List A) (x : A) → find test xs ≡ Some x → test x ≡ true
-found_passes test [] x h = absurd cc
-found_passes test (y ∷ ys) x h =
-    by_test (test y) (Some y) (find test ys) (Some x) h
-    (λ passes e. subst (λ z. test z ≡ true) (some_is y x e) passes)
-    (λ fails e. found_passes test ys x e)
-
 operator_is : (m : Mark) (o : Op) → operator_of m ≡ Some o → m ≡ operator_mark o
 unfolding operator_of
 operator_is m o h =
-    sym (same_mark_true (operator_mark o) m (found_passes (λ p. same_mark (operator_mark p) m) operators o h))
+    sym (same_mark_true (operator_mark o) m (find_passes (λ p. same_mark (operator_mark p) m) operators o h))
 
 operator_back : (o : Op) → operator_of (operator_mark o) ≡ Some o
 unfolding operator_of

@@ -56,10 +56,6 @@ statements_seen ss = map statement_seen ss
 abbrev pub block_seen : List StatementCode → Statements
 block_seen ss = statements_of (statements_seen ss)
 
--- ports and parameters
-abbrev pub parts_seen : HeadPartsCode → HeadParts
-parts_seen p = record { ins = names_seen p.ins.items; outs = names_seen p.outs.items; pars = names_seen p.pars.items }
-
 -- the process that the code's process stands for
 abbrev pub process_seen : ProcessCode → Process
 process_seen p = record {
@@ -107,6 +103,10 @@ abbrev pub document : DescriptionCode → Description
 document d = record { processes = processes_seen d.processes.items; network = network_seen d.network }
 
 -- ---- scaffolding: what the parsers give, all of which but `description` are private
+
+-- ports and parameters
+abbrev pub parts_seen : HeadPartsCode → HeadParts
+parts_seen p = record { ins = names_seen p.ins.items; outs = names_seen p.outs.items; pars = names_seen p.pars.items }
 
 -- the tokens from a place on
 abbrev pub tokens_from : Source → ℕ → List Lexeme

@@ -1,4 +1,4 @@
--- Scaffolding: what the code's values stand for.
+-- What the code gives for a description: its programs with their names, and the tables of its network.
 use Rattle.std.specs.Prelude.{◌+◌, length, map}
 use Rattle.kpn_lang.specs.View.{blocks_of, parts_with}
 use Rattle.kpn_net.specs.View.{tables_with}
@@ -11,27 +11,12 @@ use Rattle.kpn_names.specs.Blocks.{Written}
 use Rattle.kpn_names.specs.Network.{Wiring}
 use Rattle.kpn_names.specs.Named.{NamedProgram, Programs, Named}
 
-abbrev pub written : Writer → Written
-written w = record { scope = w.scope; blocks = blocks_of w.blocks.items }
-
 -- the parts are those that `Program::new` is handed
 abbrev pub program_seen : ProgramParts → NamedProgram
 program_seen p =
     record {
       names = p.scope;
       parts = parts_with (length p.scope.ins) (length p.scope.outs) p.pars (p.pars + p.locals) p.blocks.items;
-    }
-
-abbrev pub programs_seen : Processes → Programs
-programs_seen p = record { names = p.names; programs = map program_seen p.programs.items }
-
-abbrev pub wiring_seen : WiringCode → Wiring
-wiring_seen w =
-    record {
-      channel_names = w.channel_names;
-      channels = w.channels.items;
-      instance_names = w.instance_names;
-      instances = w.instances.items;
     }
 
 -- the tables are those that `Network::new` is handed
@@ -44,3 +29,20 @@ named_seen n = record {
   instances = n.instance_names;
   channels = n.channel_names;
 }
+
+-- ---- scaffolding: what the code's values stand for while a description is read
+
+abbrev pub written : Writer → Written
+written w = record { scope = w.scope; blocks = blocks_of w.blocks.items }
+
+abbrev pub programs_seen : Processes → Programs
+programs_seen p = record { names = p.names; programs = map program_seen p.programs.items }
+
+abbrev pub wiring_seen : WiringCode → Wiring
+wiring_seen w =
+    record {
+      channel_names = w.channel_names;
+      channels = w.channels.items;
+      instance_names = w.instance_names;
+      instances = w.instances.items;
+    }

@@ -1,10 +1,10 @@
--- The lemmas. Other crates may cite the public ones: the rules (`Follows`, `TokenLaws`), white space (`Parting`), and
--- the tokens without their places (`WithoutPlaces`).
+-- The lemmas. Other crates may cite the public ones: the rules (`Follows`, `TokenLaws`), white space (`Parting`), the
+-- tokens without their places (`WithoutPlaces`), and what a search finds (`Pieces`).
 mod Digits
 pub mod Follows
 pub mod WithoutPlaces
 pub mod Parting
-mod Pieces
+pub mod Pieces
 mod Runs
 mod Scanning
 mod Tables
