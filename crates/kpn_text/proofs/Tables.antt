@@ -1,6 +1,6 @@
 -- Names in tables, and tables taken item by item.
 use Rattle.std.proofs.Common.{◌≡◌, ℕ, suc, ◌+◌, ◌<◌, ◌≤◌, List, [], ◌∷◌, ◌++◌, length, map, get_or, drop, Option, Some, None, Result, Ok, Err, refl, sym, ap, ◌∙◌, subst, append_assoc, append-nil, add-one, arith, length-append, inl, inr}
-use Rattle.std.specs.Prelude.{slice_get, option_copied, IsSome, IfSome, IfNone, ◌⊎◌}
+use Rattle.std.specs.Prelude.{slice_get, IfSome, IfNone, ◌⊎◌}
 use Rattle.std.proofs.Math.Seq.{drop-cons}
 use Rattle.std.proofs.lemmas.List.{drop_all}
 use Rattle.std.proofs.lemmas.Option.{slice_get-get_or, get_or_from_slice_get, slice_get_within}
@@ -26,7 +26,6 @@ use Rattle.kpn_names.specs.declared.network_names.ProcessNames.{ProcessNames}
 use Rattle.kpn_names.specs.NetworkNames.{names_in, process_names_in, paired}
 use Rattle.kpn_text.specs.Fault.{net_fault}
 use Rattle.kpn_text.specs.Making.{TellsCause, program_told}
-use denote.Bor.{Bor}
 
 -- ---- an item at a number
 
@@ -43,11 +42,6 @@ item_read slice xs k x d e is h = is ∙ ap (λ l. get_or l k x) e ∙ same_item
 
 -- ---- a table copied name by name
 
-pub is_there : (xs : List (List ℕ)) (i : ℕ) (r : Option (Bor (List ℕ))) → option_copied r ≡ slice_get xs i
-    → i < length xs → IsSome r
-is_there xs i (Some b) e h = refl
-is_there xs i None e h = let f : slice_get xs i ≡ Some (get_or xs i []) = slice_get-get_or xs i [] h in absurd cc
-
 drop_next : {A : Type 0} (xs : List A) (i : ℕ) (x : A) → slice_get xs i ≡ Some x → drop i xs ≡ x ∷ drop (i + 1) xs
 drop_next xs i x e =
     rw (add-one, drop-cons xs i x (slice_get_within xs i x e), get_or_from_slice_get xs i x x e) refl
@@ -60,6 +54,9 @@ one_more own new xs i x e is f =
 
 pub all_there : {A : Type 0} (own xs : List A) (i : ℕ) → own ++ drop i xs ≡ xs → length xs ≤ i → own ≡ xs
 all_there own xs i e h = sym (append-nil own) ∙ ap (λ l. own ++ l) (sym (drop_all i xs h)) ∙ e
+
+pub none_left : {A : Type 0} (own xs : List A) (i : ℕ) → own ++ drop i xs ≡ xs → slice_get xs i ≡ None → own ≡ xs
+none_left own xs i e f = sym (append-nil own) ∙ ap (λ l. own ++ l) (sym (drop_from_none xs i f)) ∙ e
 
 -- ---- two tables taken side by side
 

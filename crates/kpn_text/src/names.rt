@@ -22,7 +22,9 @@ fn table(alloc: Global, names: &NameTable<'_>) -> Result<Sequence<Sequence<u8>>,
 {
     let mut own = Sequence::new(alloc);
     for number in 0..names.len() {
-        let name = names.get(number).unwrap();
+        let Some(name) = names.get(number) else {
+            break;
+        };
         own.push(copied(alloc, name)?)?;
     }
     Ok(own)
@@ -56,9 +58,8 @@ fn of_processes(
 {
     let mut own = Sequence::new(alloc);
     for (number, program) in programs.iter().enumerate() {
-        let name = match names.get(number) {
-            Some(name) => name,
-            None => break,
+        let Some(name) = names.get(number) else {
+            break;
         };
         own.push(of_process(alloc, name, &program.scope)?)?;
     }

@@ -4,15 +4,16 @@ use Rattle.kpn_names.specs.View.{program_seen}
 use Rattle.kpn_names.specs.NetworkNames.{process_names_in}
 use Rattle.kpn_text.proofs.Tables.{pairs_break, pairs_end, pairs_next, pairs_start}
 use Rattle.kpn_text.proofs.names.of_processes.Goals as goal
-use Rattle.kpn_text.proofs.names.of_processes.Goals.{else-loop-number-test, then-loop-number-test+in-None}
+use Rattle.kpn_text.proofs.names.of_processes.Goals.{else-loop-number-test, then-loop-number-test+in_default}
 
 pub returns : goal.returns
 returns c =
     elim c.loop-number-test.branch [
       | else-loop-number-test w ↦ pairs_end process_names_in (λ p. (program_seen p).names) c.loop-number.own
           c.args.names.now c.args.programs.now c.loop-number.number c.loop-number.invariant (omega arith)
-      | then-loop-number-test+in-None w ↦ pairs_break process_names_in (λ p. (program_seen p).names) c.loop-number.own
-          c.args.names.now c.args.programs.now c.loop-number.number c.loop-number.invariant (sym w.in-None.ensures)
+      | then-loop-number-test+in_default w ↦ pairs_break process_names_in (λ p. (program_seen p).names)
+          c.loop-number.own c.args.names.now c.args.programs.now c.loop-number.number c.loop-number.invariant
+          (sym w.in_default.ensures)
     ]
 
 pub loop-number-preserved : goal.loop-number-preserved
