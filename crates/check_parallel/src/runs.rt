@@ -187,27 +187,28 @@ fn feeds(history: &History) -> usize {
         .count()
 }
 
-/// Whether a run by so many workers that stops at one item of each sink has fed and closed the sources as a run on one
-/// thread does, which comes to the same outcome.
+/// Whether a run by so many workers has fed and closed the sources as a run on one thread does, which comes to the same
+/// outcome.
 fn feeds_as_here<R: Threads + Wait + Clock + Sync>(
     rt: &R,
     alloc: Global,
     text: &str,
     lists: &[Sequence<i64>],
     workers: usize,
+    limits: &Limits,
 ) -> Result<bool, Fail> {
     let gate = Always(Go::On);
-    let Some(Ok(report)) = answer(rt, alloc, text, lists, workers, &gate, &ONE)? else {
+    let Some(Ok(report)) = answer(rt, alloc, text, lists, workers, &gate, limits)? else {
         return Ok(false);
     };
-    let Some(wanted) = here(alloc, text, lists, &ONE)? else {
+    let Some(wanted) = here(alloc, text, lists, limits)? else {
         return Ok(false);
     };
     let is_same = feeds(&report.history) == feeds(&wanted.history);
     Ok(is_same && report.outcome == wanted.outcome)
 }
 
-/// What is wanted of the sinks ends the taking alone: by then each list was fed whole, and its source closed.
+/// Each list is fed whole and its source closed, also where less is wanted of the sinks, or fewer commits are made.
 #[test]
 fn lists_are_fed_whole(rt: HostRuntime) -> Result<(), Fail> {
     let alloc = rt.alloc();
@@ -215,9 +216,13 @@ fn lists_are_fed_whole(rt: HostRuntime) -> Result<(), Fail> {
     let copied = Sequence::from_vec(vec![in alloc; 8; 600]?);
     let lists = vec![in alloc; dropped, copied]?;
     for workers in [1, 2] {
-        for (name, text) in [("no sink", DROPPED), ("one sink", HALF)] {
+        for (name, text, limits) in [
+            ("no sink", DROPPED, ONE),
+            ("one sink", HALF, ONE),
+            ("stops", DROPPED, FEW),
+        ] {
             assert!(rt;
-                feeds_as_here(&rt, alloc, text, &lists, workers)?,
+                feeds_as_here(&rt, alloc, text, &lists, workers, &limits)?,
                 "{name}, {workers}"
             );
         }
