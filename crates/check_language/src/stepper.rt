@@ -167,8 +167,8 @@ fn goes_on_in_place(rt: HostRuntime) -> Result<(), Fail> {
     assert_eq!(rt; program.pars(), 0);
     let start = Frame::start(&program, &[]);
     let mut frame = start.copy();
-    let mut stop = Stop::Done;
-    assert_eq!(rt; frame.run(&program, 9, &mut stop), 1);
+    let (steps, stop) = frame.run(&program, 9);
+    assert_eq!(rt; steps, 1);
     assert_eq!(rt; stop, Stop::WantRead(0));
     let mut kept = advance(&program, start.copy(), 9);
     kept.load(&program, &start);

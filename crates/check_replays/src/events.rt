@@ -32,8 +32,7 @@ fn come_to_stop(state: &mut Configuration, network: &Network, p: usize) -> Resul
     ensures stands { IfOk result (Stands network.now state.new p) }
 {
     ensure!(p < network.instances(), "there is no such process");
-    let mut stop = Stop::Paused;
-    state.step(network, p, 1_000, &mut stop);
+    let (_, stop) = state.step(network, p, 1_000);
     ensure!(state.end_of(p).is_none(), "the process has ended");
     ensure!(state.wait(p) == Wait::Nobody, "the process waits");
     Ok(stop)

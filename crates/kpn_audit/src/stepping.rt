@@ -55,9 +55,8 @@ fn step_on<A: Allocator>(
         (frame_in configuration.old p) (frame_in configuration.new p) }
 {
     let mut remaining = quota;
-    let mut stop = Stop::Paused;
     'steps: loop {
-        let steps = configuration.step(network, p, part_of(remaining), &mut stop);
+        let (steps, stop) = configuration.step(network, p, part_of(remaining));
         remaining -= u64::from(steps);
         if remaining == 0 || !matches!(stop, Stop::Paused) {
             return stop;

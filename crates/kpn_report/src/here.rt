@@ -44,11 +44,12 @@ fn run(book: &mut Book<'_>, limits: &Limits) -> Result<Outcome, AllocError>
     if has_enough(book, limits.take) {
         return Ok(Outcome::Enough);
     }
+    let quota = limits.quota.max(1);
     'run: loop {
         if let Some(outcome) = outcome_unless_enough(book, limits) {
             return Ok(outcome);
         }
-        if step(book, limits)? {
+        if step(book, limits, quota)? {
             return Ok(Outcome::Enough);
         }
     }

@@ -16,14 +16,15 @@ use kpn_net::Network;
 use kpn_trace::Event;
 use std::alloc::AllocError;
 
-/// Steps the first process that is ready, and takes what it has put on a sink. Tells whether there is enough then.
-pub(crate) fn step(book: &mut Book<'_>, limits: &Limits) -> Result<bool, AllocError>
+/// Steps the first process that is ready, by no more steps than the quota, and takes what it has put on a sink. Tells
+/// whether there is enough then.
+pub(crate) fn step(book: &mut Book<'_>, limits: &Limits, quota: u32) -> Result<bool, AllocError>
     requires countable { book.old.commits + 1 < 2 ^ 64 }
     requires to_itself { IsLeftToItself book.old }
     requires goes_on { IsOutcome book.old.tables book.old.history book.old.commits limits.now None }
     ensures { IfOk result (λ enough. IsStepped limits.now enough book.old book.new) }
 {
-    if !step_first(book, limits.quota.max(1))? {
+    if !step_first(book, quota)? {
         return Ok(false);
     }
     take_what_was_put(book, limits)
@@ -73,9 +74,7 @@ fn last_event(book: &Book<'_>) -> Option<Event>
     ensures numbers { IfSome result (λ event. HasNumbers book.now.tables event) }
 {
     book.known();
-    let history = book.history();
-    let last = history.len().checked_sub(1)?;
-    history.at(last)
+    book.history().last()
 }
 
 /// The sink on which the event has put an item, if it has.

@@ -92,7 +92,9 @@ impl<'p> Advance<'p> {
         self.program = program;
         self.from.copy_from(frame);
         self.to.copy_from(frame);
-        self.steps = self.to.run(program, 0, &mut self.stop);
+        let (steps, stop) = self.to.run(program, 0);
+        self.steps = steps;
+        self.stop = stop;
     }
 
     /// Goes on in place until it stops, at most `quota` steps from the frame that it began at.
@@ -104,7 +106,9 @@ impl<'p> Advance<'p> {
         ensures quota { IsWithinQuota quota self.new }
     {
         let allowed = quota - self.steps;
-        self.steps += self.to.run(self.program, allowed, &mut self.stop);
+        let (steps, stop) = self.to.run(self.program, allowed);
+        self.steps += steps;
+        self.stop = stop;
     }
 
     /// Why they ended, without a copy.

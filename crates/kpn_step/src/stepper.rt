@@ -5,7 +5,6 @@ ghost use Rattle.kpn_step.specs.Stops.{IsAdvance, IsWithinQuota};
 
 use crate::advanced::Advance;
 use crate::frame::Frame;
-use crate::stop::Stop;
 use kpn_lang::Program;
 
 /// Makes steps from a frame of the program until it stops, at most `quota`.
@@ -23,7 +22,6 @@ pub fn advance(program: &Program, frame: Frame, quota: u32) -> Advance<'_>
 {
     let from = frame.copy();
     let mut to = frame;
-    let mut stop = Stop::Paused;
-    let steps = to.run(program, quota, &mut stop);
+    let (steps, stop) = to.run(program, quota);
     Advance::new(program, from, to, steps, stop)
 }

@@ -218,24 +218,24 @@ impl<'n, A: Allocator> OpenBook<'n, A> {
         self.configuration.reserve_one(c)
     }
 
-    /// Steps process `p` from its frame on, by no more steps than the quota.
-    pub(super) fn step(&mut self, p: usize, quota: u32, stop: &mut Stop) -> u32
+    /// Steps process `p` from its frame on, by no more steps than the quota: how many there were, and the stop.
+    pub(super) fn step(&mut self, p: usize, quota: u32) -> (u32, Stop)
         requires shape { IsConfiguration self.old.book.tables self.old.book.configuration }
         requires process { p < length self.old.book.tables.instances }
         ensures advance { let b = self.old.book in
             let from = frame_in b.configuration p in
             let to = frame_in self.new.book.configuration p in
-            IsAdvance (advanced_of (program_of b.tables p) from to result stop.new) }
+            IsAdvance (advanced_of (program_of b.tables p) from to result.0 result.1) }
         ensures quota { let b = self.old.book in
             let from = frame_in b.configuration p in
             let to = frame_in self.new.book.configuration p in
-            IsWithinQuota quota (advanced_of (program_of b.tables p) from to result stop.new) }
+            IsWithinQuota quota (advanced_of (program_of b.tables p) from to result.0 result.1) }
         ensures port { let b = self.old.book in
-            IsAtPort (program_of b.tables p) (frame_in self.new.book.configuration p) stop.new }
+            IsAtPort (program_of b.tables p) (frame_in self.new.book.configuration p) result.1 }
         ensures after { self.new
             ≡ on_book (standing_at p (frame_in self.new.book.configuration p)) self.old }
     {
-        self.configuration.step(self.network, p, quota, stop)
+        self.configuration.step(self.network, p, quota)
     }
 
     /// Process `p` stands where these steps, which began at its frame, have led.

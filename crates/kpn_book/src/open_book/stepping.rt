@@ -126,8 +126,7 @@ impl<'n, A: Allocator> OpenBook<'n, A> {
         let Some(p) = self.hold_one() else {
             return Ok(None);
         };
-        let mut stop = Stop::Paused;
-        let _steps = self.step(p, quota, &mut stop);
+        let (_, stop) = self.step(p, quota);
         if let Err(error) = self.reserve(p, stop) {
             self.make_ready(p);
             return Err(error);

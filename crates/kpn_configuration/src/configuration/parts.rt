@@ -110,27 +110,21 @@ impl<A: Allocator> Configuration<A> {
         self.waits.set(p, wait);
     }
 
-    /// Steps a process from its frame on, by no more steps than the quota, and tells how many there were.
-    pub(super) fn run_frame(
-        &mut self,
-        network: &Network,
-        p: usize,
-        quota: u32,
-        stop: &mut Stop,
-    ) -> u32
+    /// Steps a process from its frame on, by no more steps than the quota: how many there were, and the stop.
+    pub(super) fn run_frame(&mut self, network: &Network, p: usize, quota: u32) -> (u32, Stop)
         requires process { p < length network.now.instances }
         requires frame { p < length self.old.frames }
         requires fits { IsTrue (fits (program_of network.now p) (frame_in self.old p)) }
         ensures advance { let program = program_of network.now p in
             IsAdvance (advanced_of program
-            (frame_in self.old p) (frame_in self.new p) result stop.new) }
+            (frame_in self.old p) (frame_in self.new p) result.0 result.1) }
         ensures quota { let program = program_of network.now p in IsWithinQuota quota
-            (advanced_of program (frame_in self.old p) (frame_in self.new p) result stop.new) }
-        ensures port { IsAtPort (program_of network.now p) (frame_in self.new p) stop.new }
+            (advanced_of program (frame_in self.old p) (frame_in self.new p) result.0 result.1) }
+        ensures port { IsAtPort (program_of network.now p) (frame_in self.new p) result.1 }
         ensures after { self.new ≡ with_frame p (frame_in self.new p) self.old }
     {
         let frame = &mut self.frames[p];
-        frame.run(network.program(p), quota, stop)
+        frame.run(network.program(p), quota)
     }
 
     /// Puts a copy of another frame in place of that of a process.

@@ -13,24 +13,24 @@ use kpn_step::{Advance, Stop};
 use std::alloc::Allocator;
 
 impl<A: Allocator> Configuration<A> {
-    /// Steps process `p` from its frame on, by no more steps than the quota, and tells how many there were.
-    /// Afterwards the process stands at this stop.
-    pub fn step(&mut self, network: &Network, p: usize, quota: u32, stop: &mut Stop) -> u32
+    /// Steps process `p` from its frame on, by no more steps than the quota: how many there were, and the stop at
+    /// which it stands afterwards.
+    pub fn step(&mut self, network: &Network, p: usize, quota: u32) -> (u32, Stop)
         requires shape { IsConfiguration network.now self.old }
         requires process { p < length network.now.instances }
         ensures advance { let t = network.now in
             IsAdvance (advanced_of (program_of t p)
-            (frame_in self.old p) (frame_in self.new p) result stop.new) }
+            (frame_in self.old p) (frame_in self.new p) result.0 result.1) }
         ensures quota { let t = network.now in IsWithinQuota quota
             (advanced_of (program_of t p)
-            (frame_in self.old p) (frame_in self.new p) result stop.new) }
-        ensures port { IsAtPort (program_of network.now p) (frame_in self.new p) stop.new }
+            (frame_in self.old p) (frame_in self.new p) result.0 result.1) }
+        ensures port { IsAtPort (program_of network.now p) (frame_in self.new p) result.1 }
         ensures after { self.new ≡ with_frame p (frame_in self.new p) self.old }
         ensures shape { IsConfiguration network.now self.new }
         ensures run { (H : List Event) → IsRun network.now H self.old
             → IsRun network.now H self.new }
     {
-        self.run_frame(network, p, quota, stop)
+        self.run_frame(network, p, quota)
     }
 
     /// Process `p` stands where these steps, which began at its frame, have led.

@@ -18,9 +18,9 @@ returns-then-remaining-eq0-clause-paused g c paused =
     let after = frame_in c.step-steps.new.self p in
     elim c.then-remaining-eq0.branch [
       | then-remaining-eq0-via-then-remaining-eq0 w ↦
-          let whole : c.args.quota - c.steps.remaining + c.step-steps.result ≡ c.args.quota = omega arith in
+          let whole : c.args.quota - c.steps.remaining + c.step-steps.result.0 ≡ c.args.quota = omega arith in
           subst (λ n. Steps blocks n before after) whole
-          (Steps-append blocks (c.args.quota - c.steps.remaining) c.step-steps.result before
+          (Steps-append blocks (c.args.quota - c.steps.remaining) c.step-steps.result.0 before
           (frame_in c.steps.configuration p) after
           c.steps.invariant.stepped c.step-steps.ensures.advance.stepped)
       | then-remaining-eq0-via-else-remaining-eq0+then-not-matches w ↦
@@ -42,9 +42,9 @@ returns-then-remaining-eq0-clause-moved g c =
     let p = c.args.p in
     let after = frame_in c.step-steps.new.self p in
     record {
-      steps = c.args.quota - c.steps.remaining + c.step-steps.result;
+      steps = c.args.quota - c.steps.remaining + c.step-steps.result.0;
       reached =
-          Steps-append (program_of c.args.network.now p).blocks (c.args.quota - c.steps.remaining) c.step-steps.result
+          Steps-append (program_of c.args.network.now p).blocks (c.args.quota - c.steps.remaining) c.step-steps.result.0
           (frame_in c.args.configuration.now p) (frame_in c.steps.configuration p) after
           c.steps.invariant.stepped c.step-steps.ensures.advance.stepped;
       others =
@@ -58,7 +58,7 @@ steps-preserved g c =
     let blocks = (program_of c.args.network.now p).blocks in
     let before = frame_in c.args.configuration.now p in
     let after = frame_in c.step-steps.new.self p in
-    let more : c.args.quota - c.steps.remaining + c.step-steps.result ≡ c.args.quota - (c.steps.remaining - c.from.result) =
+    let more : c.args.quota - c.steps.remaining + c.step-steps.result.0 ≡ c.args.quota - (c.steps.remaining - c.from.result) =
     omega arith in
     record {
       shape = c.step-steps.ensures.shape;
@@ -71,7 +71,7 @@ steps-preserved g c =
           c.step-steps.ensures.after c.steps.invariant.others;
       stepped =
           subst (λ n. Steps blocks n before after) more
-          (Steps-append blocks (c.args.quota - c.steps.remaining) c.step-steps.result before
+          (Steps-append blocks (c.args.quota - c.steps.remaining) c.step-steps.result.0 before
           (frame_in c.steps.configuration p) after
           c.steps.invariant.stepped c.step-steps.ensures.advance.stepped);
     }

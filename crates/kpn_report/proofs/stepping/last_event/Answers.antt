@@ -1,8 +1,15 @@
-use Rattle.std.proofs.Common.{ap, ◌∙◌, slice_get}
+use Rattle.std.specs.List.{last_or}
+use Rattle.std.proofs.Common.{ap, sym, ◌∙◌}
+use Rattle.kpn_trace.proofs.Events.{last_or-at, last_or-push}
 use Rattle.kpn_report.proofs.Told.{numbers_at}
 use Rattle.kpn_report.proofs.stepping.last_event.Goals as goal
 
+pub returns-clause-last : goal.returns-clause-last
+returns-clause-last c = λ B event is.
+    c.last.ensures ∙ ap (last_or None) (c.history.ensures ∙ is) ∙ last_or-push None B event
+
 pub returns-clause-numbers : goal.returns-clause-numbers
 returns-clause-numbers c =
-    numbers_at c.args.book.now.tables c.args.book.now.history c.known.ensures.kept.in_step.run.legal c.in_ok-last.last
-    c.at.result (c.at.ensures ∙ ap (λ H. slice_get H c.in_ok-last.last) c.history-history.ensures)
+    let events = c.args.book.now.history in
+    numbers_at c.args.book.now.tables events c.known.ensures.kept.in_step.run.legal (length events - 1)
+    c.last.result (c.last.ensures ∙ ap (last_or None) c.history.ensures ∙ sym (last_or-at events))
