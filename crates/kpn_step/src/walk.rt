@@ -8,7 +8,6 @@ use crate::stop::Stop;
 use kpn_lang::Program;
 
 /// Makes steps until the frame stops, at most `quota`: how many, and the stop.
-#[inline(always)]
 pub(crate) fn walk(program: &Program, frame: &mut Frame, quota: u64) -> (u64, Stop)
     requires { IsTrue (fits program.now frame.old) }
     ensures { Walked program.now.blocks quota frame.old result.0 result.1 frame.new }

@@ -183,7 +183,9 @@ impl<'n, A: Allocator> OpenBook<'n, A> {
                 let c = self.out_channel(p, port);
                 self.reserve_write(c)
             }
-            Stop::WantRead(_) | Stop::Done | Stop::Faulted(_) => self.reserve_events(),
+            // an arm of its own: in one with the ends the stop would be looked at again where the read is answered
+            Stop::WantRead(_) => self.reserve_events(),
+            Stop::Done | Stop::Faulted(_) => self.reserve_events(),
         }
     }
 

@@ -1,5 +1,5 @@
 use Rattle.std.specs.List.{last_or}
-use Rattle.std.proofs.Common.{ap, sym, ◌∙◌}
+use Rattle.std.proofs.Common.{◌-◌, length, None, ap, sym, ◌∙◌}
 use Rattle.kpn_trace.proofs.Events.{last_or-at, last_or-push}
 use Rattle.kpn_report.proofs.Told.{numbers_at}
 use Rattle.kpn_report.proofs.stepping.last_event.Goals as goal
