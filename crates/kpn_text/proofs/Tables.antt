@@ -1,5 +1,5 @@
 -- Names in tables, and tables taken item by item.
-use Rattle.std.proofs.Common.{◌≡◌, ℕ, suc, ◌+◌, ◌<◌, ◌≤◌, List, [], ◌∷◌, ◌++◌, length, map, get_or, drop, Option, Some, None, Result, Ok, Err, refl, sym, ap, ◌∙◌, subst, append_assoc, append-nil, add-one, arith, length-append, inl, inr}
+use Rattle.std.proofs.Common.{◌≡◌, ℕ, zero, suc, ◌+◌, ◌<◌, ◌≤◌, List, [], ◌∷◌, ◌++◌, length, map, get_or, drop, Option, Some, None, Result, Ok, Err, refl, sym, ap, ◌∙◌, subst, append_assoc, append-nil, add-one, arith, length-append, inl, inr}
 use Rattle.std.specs.Prelude.{slice_get, IfSome, IfNone, ◌⊎◌}
 use Rattle.std.proofs.Math.Seq.{drop-cons}
 use Rattle.std.proofs.lemmas.List.{drop_all}
@@ -8,7 +8,6 @@ use Rattle.kpn_text.specs.Phases.{Cause, in_network, network_cause, or_else, pro
 use Rattle.kpn_lang.specs.declared.program.ProgramFault.{ProgramFault}
 use Rattle.kpn_lang.specs.declared.program.ProgramFault.TheVariants as rule
 use Rattle.kpn_lang.specs.Parts.{Parts, first_fault}
-use Rattle.kpn_lang.proofs.Remaining.{drop_from_none}
 use Rattle.kpn_net.specs.declared.fault.NetFault.{NetFault}
 use Rattle.kpn_net.specs.declared.fault.NetFault.TheVariants as net
 use Rattle.kpn_net.specs.declared.tables.ChannelSpec.{ChannelSpec}
@@ -39,6 +38,13 @@ same_item xs k x d h = some_is _ _ (sym (slice_get-get_or xs k x h) ∙ slice_ge
 pub item_read : {A : Type 0} (slice xs : List A) (k : ℕ) (x d : A) → slice ≡ xs → x ≡ get_or slice k x → k < length xs
     → x ≡ get_or xs k d
 item_read slice xs k x d e is h = is ∙ ap (λ l. get_or l k x) e ∙ same_item xs k x d h
+
+-- past its end nothing of a list remains
+drop_from_none : {A : Type 0} (xs : List A) (place : ℕ) → slice_get xs place ≡ None → drop place xs ≡ []
+drop_from_none [] zero e = refl
+drop_from_none [] (suc place) e = refl
+drop_from_none (x ∷ xs) zero e = absurd cc
+drop_from_none (x ∷ xs) (suc place) e = drop_from_none xs place e
 
 -- ---- a table copied name by name
 
