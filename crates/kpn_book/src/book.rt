@@ -1,11 +1,13 @@
 //! The book as its owner sees it: each call keeps all that holds of a book.
-ghost use Rattle.std.specs.Prelude.{◌≡◌, ◌↔◌, ◌<◌, [], length, is_some, IfOk, IsTrue};
+ghost use Rattle.std.specs.Prelude.{◌≡◌, ◌↔◌, ◌<◌, ℕ, [], length, is_some, IfOk, IsTrue};
 ghost use Rattle.kpn_lang.specs.Prefix.{IsPrefix};
+ghost use Rattle.kpn_net.specs.Tables.{instance_at, program_of};
+ghost use Rattle.kpn_step.specs.Frame.{start_frame};
 ghost use Rattle.kpn_chan.specs.Channel.{next_item};
 ghost use Rattle.kpn_trace.specs.Channels.{read_on};
 ghost use Rattle.kpn_trace.specs.Views.{AreCounts, Agrees};
 ghost use Rattle.kpn_trace.specs.Ends.{IsVerdict};
-ghost use Rattle.kpn_configuration.specs.Configuration.{channel_in};
+ghost use Rattle.kpn_configuration.specs.Configuration.{channel_in, frame_in};
 ghost use Rattle.kpn_schedule.specs.Schedule.{all_ready};
 ghost use Rattle.kpn_book.specs.Kept.{IsBook};
 
@@ -46,15 +48,18 @@ impl<'n, A: Allocator> Model for Book<'n, A> {
 }
 
 impl<'n, A: Allocator + Copy> Book<'n, A> {
-    /// The book of a network at the start: nothing has happened, and all processes are ready, in order of number. It
-    /// makes the room of the queue for all of them. The allocator is kept for all that the book comes to hold. The
-    /// error is that memory ran out.
+    /// The book of a network at the start: nothing has happened, each process stands at the start of its program, and
+    /// all are ready, in order of number. It makes the room of the queue for all of them. The allocator is kept for all
+    /// that the book comes to hold. The error is that memory ran out.
     pub fn new(alloc: A, network: &'n Network) -> Result<Self, AllocError>
         ensures tables { IfOk result (λ book. book.tables ≡ network.now) }
         ensures history { IfOk result (λ book. book.history ≡ []) }
         ensures schedule { IfOk result (λ book.
             book.schedule ≡ all_ready (length network.now.instances)) }
         ensures commits { IfOk result (λ book. book.commits ≡ 0) }
+        ensures frames { let t = network.now in IfOk result (λ book.
+            (p : ℕ) → p < length t.instances → frame_in book.configuration p
+            ≡ start_frame (program_of t p) (instance_at t p).pars) }
         ensures book { IfOk result (λ book. IsBook book) }
     {
         let configuration = Configuration::new(alloc, network)?;

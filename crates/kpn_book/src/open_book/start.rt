@@ -24,6 +24,7 @@ impl<'n, A: Allocator> OpenBook<'n, A> {
         requires history { history.events ≡ [] }
         ensures tables { result.book.tables ≡ network.now }
         ensures history { result.book.history ≡ [] }
+        ensures configuration { result.book.configuration ≡ configuration }
         ensures schedule { result.book.schedule ≡ all_ready (length network.now.instances) }
         ensures commits { result.book.commits ≡ 0 }
         ensures kept { IsKept result.book }
