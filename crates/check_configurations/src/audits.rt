@@ -1,4 +1,5 @@
-//! Audits that replay in a heap: one that is too small for a configuration, or for the items that come, refuses.
+//! Audits in a heap: one that is too small for the configuration on which an audit replays, for the items that come,
+//! or for what is found, refuses.
 use crate::feeding::copying;
 use kpn_audit::{AuditFault, audit};
 use kpn_net::Network;
@@ -32,6 +33,19 @@ fn is_legal(
     Ok(audit(alloc, &heap, network, events, 1_000).is_ok())
 }
 
+/// Whether an audit of these events is refused memory where what it finds, and that alone, stands in a heap of this
+/// size.
+fn is_finding_refused(
+    alloc: Global,
+    network: &Network,
+    events: &[Event],
+    size: usize,
+) -> Result<bool, AllocError> {
+    let heap = LocalHeap::new(alloc, size)?;
+    let found = audit(&heap, alloc, network, events, 1_000);
+    Ok(matches!(found, Err(AuditFault::NoMemory)))
+}
+
 #[test]
 fn an_audit_is_refused_at_its_start_and_in_its_course(rt: HostRuntime) -> Result<(), Fail> {
     let network = copying(rt.alloc())?;
@@ -40,5 +54,15 @@ fn an_audit_is_refused_at_its_start_and_in_its_course(rt: HostRuntime) -> Result
     assert!(rt; is_legal(rt.alloc(), &network, &ONE, 4_096)?);
     assert!(rt; is_refused(rt.alloc(), &network, &many, 4_096)?);
     assert!(rt; is_legal(rt.alloc(), &network, &many, 65_536)?);
+    Ok(())
+}
+
+#[test]
+fn what_is_found_is_refused_memory(rt: HostRuntime) -> Result<(), Fail> {
+    let network = copying(rt.alloc())?;
+    let many = vec![in rt.alloc(); Event::Feed(0, 5); 1_000]?;
+    assert!(rt; is_finding_refused(rt.alloc(), &network, &ONE, 64)?);
+    assert!(rt; is_finding_refused(rt.alloc(), &network, &many, 4_096)?);
+    assert!(rt; !is_finding_refused(rt.alloc(), &network, &many, 65_536)?);
     Ok(())
 }

@@ -30,7 +30,7 @@ same_entries f g a (suc n) m fits same =
     ∙ ap (λ xs. g a ∷ xs) (same_entries f g (a + 1) n m (omega arith) same)
 
 -- the entries of a configuration are those of the history
-pub shown : (t : Tables) (H : List Event) (s : Configuration) → IsRun t H s → (audit : Audit)
+pub shown : {A : Type 0} (t : Tables) (H : List Event) (s : Configuration) → IsRun t H s → (audit : Audit A)
     → audit.journals ≡ lists_of t (λ c. (channel_in s c).journal)
     → audit.caps ≡ map (λ c. (channel_in s c).capacity) (channel_numbers t)
     → ((audit.exact ≡ true) ↔ IsQuiet t H) → IsAudit t H audit
@@ -47,8 +47,8 @@ shown t H s run audit journals caps exact =
     }
 
 -- the journals of a quiet history are the least solution for what was fed
-pub least_where_exact : (t : Tables) → IsNetwork t → (H : List Event) (audit : Audit) → IsAudit t H audit
-    → audit.exact ≡ true → AreLeast t H audit
+pub least_where_exact : {A : Type 0} (t : Tables) → IsNetwork t → (H : List Event) (audit : Audit A)
+    → IsAudit t H audit → audit.exact ≡ true → AreLeast t H audit
 least_where_exact t network H audit is exact =
     record {
       each = λ c below.

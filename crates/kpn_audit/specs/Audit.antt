@@ -20,14 +20,14 @@ use Rattle.kpn_audit.specs.declared.findings.AuditFault.{AuditFault}
 use Rattle.kpn_audit.specs.declared.findings.AuditFault.TheVariants.{Illegal, NoMemory, Budget}
 
 -- the events are a legal history, after which these are the journals and the capacities, and which is quiet or not
-pub record IsAudit (t : Tables) (H : List Event) (audit : Audit) : Type 0 where
+pub record IsAudit {A : Type 0} (t : Tables) (H : List Event) (audit : Audit A) : Type 0 where
   pub legal : Legal t H
   pub journals : audit.journals ≡ lists_of t (written_on H)
   pub caps : audit.caps ≡ map (capacity_after t H) (channel_numbers t)
   pub exact : (audit.exact ≡ true) ↔ IsQuiet t H
 
 -- the journals are the least solution for what was fed
-pub record AreLeast (t : Tables) (H : List Event) (audit : Audit) : Type 0 where
+pub record AreLeast {A : Type 0} (t : Tables) (H : List Event) (audit : Audit A) : Type 0 where
   pub each : (c : ℕ) → c < length t.channels → IsLeast t (fed t H) c (slice_index_or audit.journals c [])
 
 -- the events before event k are a legal history, and with it they are none

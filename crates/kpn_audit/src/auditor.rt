@@ -11,7 +11,7 @@ use crate::summary::summary;
 use kpn_configuration::Configuration;
 use kpn_net::Network;
 use kpn_trace::Event;
-use std::alloc::{Allocator, Global};
+use std::alloc::Allocator;
 
 /// Audits a list of events: whether they are a legal history of the network, and what stands after them.
 ///
@@ -19,15 +19,15 @@ use std::alloc::{Allocator, Global};
 /// whether the network has its numbers, and whether its process has ended or is blocked. Then the process makes steps,
 /// `quota` of them at most, and where it stops the event has to be due.
 ///
-/// The configuration on which it replays takes its memory from `replay_alloc`, and what it finds from `alloc`. Where either is
-/// refused the answer is [`AuditFault::NoMemory`], and nothing is kept.
-pub fn audit<A: Allocator + Copy>(
-    alloc: Global,
-    replay_alloc: A,
+/// The configuration on which it replays takes its memory from `replay_alloc`, and what it finds from `alloc`. Where
+/// either is refused the answer is [`AuditFault::NoMemory`], and nothing is kept.
+pub fn audit<A: Allocator + Copy, R: Allocator + Copy>(
+    alloc: A,
+    replay_alloc: R,
     network: &Network,
     events: &[Event],
     quota: u64,
-) -> Result<Audit, AuditFault>
+) -> Result<Audit<A>, AuditFault>
     ensures legal { IfOk result (λ audit. IsAudit network.now events.now audit) }
     ensures least { IfOk result (λ audit.
         audit.exact ≡ true → AreLeast network.now events.now audit) }
@@ -41,12 +41,12 @@ pub fn audit<A: Allocator + Copy>(
 }
 
 /// Replays the events on a configuration of its own, from the start.
-fn replay<A: Allocator + Copy>(
-    replay_alloc: A,
+fn replay<R: Allocator + Copy>(
+    replay_alloc: R,
     network: &Network,
     events: &[Event],
     quota: u64,
-) -> Result<Configuration<A>, AuditFault>
+) -> Result<Configuration<R>, AuditFault>
     ensures run { IfOk result (λ made. IsRun network.now events.now made) }
     ensures refused { IfErr result (λ fault. IsFault network.now events.now quota fault) }
 {

@@ -3,15 +3,15 @@ ghost use Rattle.std.specs.Prelude.{◌≡◌};
 ghost use Rattle.kpn_audit.specs.declared.findings.AuditFault.TheVariants.{NoMemory};
 
 use kpn_lang::Sequence;
-use std::alloc::AllocError;
+use std::alloc::{AllocError, Allocator, Global};
 
 /// What stands after a legal history. The lists have an entry for each channel, in order of number.
 #[derive(Debug, Drop)]
-pub struct Audit {
+pub struct Audit<A: Allocator = Global> {
     /// All items that were written on the channel, in order.
-    pub journals: Sequence<Sequence<i64>>,
+    pub journals: Sequence<Sequence<i64, A>, A>,
     /// How many may lie unread; None for a source.
-    pub caps: Sequence<Option<u32>>,
+    pub caps: Sequence<Option<u32>, A>,
     /// Whether each process has ended or is blocked on an empty channel.
     pub exact: bool,
 }

@@ -11,14 +11,14 @@ use crate::findings::Audit;
 use kpn_configuration::Configuration;
 use kpn_lang::Sequence;
 use kpn_net::Network;
-use std::alloc::{AllocError, Allocator, Global};
+use std::alloc::{AllocError, Allocator};
 
 /// What a configuration shows of the history that led to it. The error is that memory ran out.
-pub(crate) fn summary<A: Allocator>(
-    alloc: Global,
+pub(crate) fn summary<A: Allocator + Copy, R: Allocator>(
+    alloc: A,
     network: &Network,
-    configuration: &Configuration<A>,
-) -> Result<Audit, AllocError>
+    configuration: &Configuration<R>,
+) -> Result<Audit<A>, AllocError>
     requires { IsConfiguration network.now configuration.now }
     ensures { (H : List Event) → IsRun network.now H configuration.now
         → IfOk result (λ audit. IsAudit network.now H audit) }
@@ -34,11 +34,11 @@ pub(crate) fn summary<A: Allocator>(
 }
 
 /// The journal of each channel.
-fn journals<A: Allocator>(
-    alloc: Global,
+fn journals<A: Allocator + Copy, R: Allocator>(
+    alloc: A,
     network: &Network,
-    configuration: &Configuration<A>,
-) -> Result<Sequence<Sequence<i64>>, AllocError>
+    configuration: &Configuration<R>,
+) -> Result<Sequence<Sequence<i64, A>, A>, AllocError>
     requires { IsConfiguration network.now configuration.now }
     ensures { IfOk result (λ journals.
         journals ≡ lists_of network.now (λ c. (channel_in configuration.now c).journal)) }
@@ -52,11 +52,11 @@ fn journals<A: Allocator>(
 }
 
 /// The capacity of each channel.
-fn capacities<A: Allocator>(
-    alloc: Global,
+fn capacities<A: Allocator, R: Allocator>(
+    alloc: A,
     network: &Network,
-    configuration: &Configuration<A>,
-) -> Result<Sequence<Option<u32>>, AllocError>
+    configuration: &Configuration<R>,
+) -> Result<Sequence<Option<u32>, A>, AllocError>
     requires { IsConfiguration network.now configuration.now }
     ensures { IfOk result (λ caps. caps
         ≡ map (λ c. (channel_in configuration.now c).capacity) (channel_numbers network.now)) }

@@ -4,14 +4,15 @@ use Rattle.std.proofs.lemmas.List.FromFn.{length-map-range_with_len}
 use Rattle.kpn_net.specs.Tables.{Tables}
 use Rattle.kpn_trace.specs.declared.event.Event.{Event}
 use Rattle.kpn_trace.specs.Channels.{written_on}
+use Rattle.std.specs.declared.alloc.Global.{Global}
 use Rattle.kpn_audit.specs.declared.findings.Audit.{Audit}
 use Rattle.kpn_audit.specs.Audit.{IsAudit, AreLeast, IsIllegalAt, IsBudgetAt}
 use Rattle.kpn_audit_command.specs.AuditText.{audit_text, finding_line}
 use Rattle.kpn_audit_command.specs.Answers.{IsConclusion, legal, illegal, budget}
 
 -- the audit has a journal for each channel
-pub journals_within : (t own : Tables) (H : List Event) (audit : Audit) → own ≡ t → IsAudit own H audit
-    → length audit.journals ≤ length t.channels
+pub journals_within : {A : Type 0} (t own : Tables) (H : List Event) (audit : Audit A) → own ≡ t
+    → IsAudit own H audit → length audit.journals ≤ length t.channels
 journals_within t own H audit same is =
     let all =
     ap length is.journals ∙ length-map-range_with_len (written_on H) 0 (length own.channels)
@@ -19,7 +20,7 @@ journals_within t own H audit same is =
     omega (arith, all)
 
 module _ (t own : Tables) (same : own ≡ t) (names : List (List ℕ)) (H : List Event) (steps : ℕ) (text : List ℕ) where
-  pub concludes_legal : (audit : Audit) → IsAudit own H audit → (audit.exact ≡ true → AreLeast own H audit)
+  pub concludes_legal : (audit : Audit Global) → IsAudit own H audit → (audit.exact ≡ true → AreLeast own H audit)
       → text ≡ audit_text names audit → IsConclusion t names H steps text 0
   concludes_legal audit is least made =
       legal audit (subst (λ n. IsAudit n H audit) same is)

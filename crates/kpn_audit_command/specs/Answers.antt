@@ -6,6 +6,7 @@ use Rattle.kpn_text.specs.Document.{Document}
 use Rattle.kpn_trace.specs.declared.event.Event.{Event}
 use Rattle.kpn_trace_text.specs.declared.fault.TraceFault.{TraceFault}
 use Rattle.kpn_trace_text.specs.TraceText.{Spells, Refuses}
+use Rattle.std.specs.declared.alloc.Global.{Global}
 use Rattle.kpn_audit.specs.declared.findings.Audit.{Audit}
 use Rattle.kpn_audit.specs.Audit.{IsAudit, AreLeast, IsIllegalAt, IsBudgetAt}
 use Rattle.kpn_answers.specs.declared.refusal.Refusal.{Refusal}
@@ -26,7 +27,7 @@ IsRefusedTrace may_give trace fault = IsLoadedAs Refuses may_give trace fault
 -- legal, 1; or the event that its process did not come to in so many steps, 5
 pub data IsConclusion (t : Tables) (names : List (List ℕ)) (H : List Event) (steps : ℕ) (text : List ℕ) (status : ℕ)
     : Type 0 where
-  legal : (audit : Audit) → IsAudit t H audit → (audit.exact ≡ true → AreLeast t H audit)
+  legal : (audit : Audit Global) → IsAudit t H audit → (audit.exact ≡ true → AreLeast t H audit)
       → text ≡ audit_text names audit → status ≡ 0 → IsConclusion t names H steps text status
   illegal : (k : ℕ) → IsIllegalAt t H k → text ≡ finding_line (codes "illegal") k → status ≡ 1
       → IsConclusion t names H steps text status

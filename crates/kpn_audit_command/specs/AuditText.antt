@@ -23,7 +23,7 @@ exact_line true = codes "exact yes\n"
 exact_line false = codes "exact no\n"
 
 -- `legal`, whether it is exact, and a line for each channel in order of number
-abbrev pub audit_text : (names : List (List ℕ)) → Audit → List ℕ
+abbrev pub audit_text : {A : Type 0} → (names : List (List ℕ)) → Audit A → List ℕ
 audit_text names audit =
     codes "legal\n" ++ exact_line audit.exact ++ lines_from (channel_line names audit.caps) 0 audit.journals
 

@@ -14,7 +14,8 @@ pub returns-then-not-is_open_source-clause-judged : goal.returns-then-not-is_ope
 returns-then-not-is_open_source-clause-judged g c H run owes legal =
     both_ways _ c.if-not-is_open_source.true
     (c.is_open_source.ensures.1
-    (due_outside c.args.network.now c.known.ensures H c.args.configuration.now run owes (Feed c.args.c c.args.item) refl legal))
+    (due_outside c.args.network.now c.known.ensures H c.args.configuration.now run owes (Feed c.args.c c.args.item) refl
+    legal))
 
 pub returns-clause-judged : goal.returns-clause-judged
 returns-clause-judged g c H run owes =
