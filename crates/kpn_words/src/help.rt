@@ -3,8 +3,9 @@
 // Below the commands.
 pub(crate) const STATUSES: &str = "\
 Statuses: 0 for success, 1 for a refused input or a device that fails, 2 for words that are not
-understood, 6 for want of memory; run and audit have more. A refusal is one line on standard error,
-and nothing is then on standard output.";
+understood, 6 for want of memory; run and audit have more. A refused input is told in one line on
+standard error; words that are not understood are told with how they are used. Nothing is then on
+standard output.";
 
 pub(crate) const ALONE_HELP: &str = "\
 The items stand on lines: an optional `-` and 1 to 19 digits each. What the process puts goes to
@@ -31,7 +32,8 @@ pub(crate) const ROUNDS_HELP: &str = "\
 Round 0 is the given lists on the sources and nothing elsewhere. In each further round every process
 runs alone from its start on the lists of the round before, where each loop has N turns. Writes a
 line for each channel, `NAME:` and its items: the N-th iterate. Each list is a part, from the front,
-of the list that Kahn's least solution has on the channel.
+of the list that Kahn's least solution has on the channel. Each round runs every process anew, so the
+time grows with N, and with N a loop of many turns takes more of them.
 
 The file of a source has an item on each line: an optional `-` and 1 to 19 digits.
 
@@ -67,7 +69,7 @@ pub(crate) const AUDIT_HELP: &str = "\
 Replays a trace that `kpn run --trace` has stored. Writes `legal`, whether the journals are exact,
 which are then those of Kahn's least solution, and each channel with its capacity and journal; or
 `illegal at K` where event K, counted from 0, can't follow those before it; or `budget at K` where
-its process made too many steps.
+its process made too many steps: then give --steps a larger number.
 
 Statuses: 0 for legal, 1 for illegal and for a refused file, 2 for words that are not understood, 5
 for budget, 6 for want of memory.";

@@ -75,49 +75,80 @@ pub fn read_words<'a>(alloc: Global, words: &'a [String]) -> Result<Request<'a>,
     let mut program = program(alloc)?;
     let matches = program.try_get_matches_from_mut(words)?;
     match matches.subcommand() {
-        Some(("alone", alone)) => Ok(Request::Alone(alone.get_str(NAME).unwrap_or(""))),
-        Some(("check", check)) => Ok(Request::Check(file_of(check))),
-        Some(("print", print)) => Ok(Request::Print(file_of(print))),
-        Some(("rounds", rounds)) => Ok(rounds_request(alloc, rounds)?),
-        Some(("run", run)) => Ok(run_request(alloc, run)?),
-        Some(("audit", audit)) => Ok(audit_request(audit)),
+        Some(("alone", alone)) => Ok(Request::Alone(required(&mut program, alone, NAME)?)),
+        Some(("check", check)) => Ok(Request::Check(required(&mut program, check, FILE)?)),
+        Some(("print", print)) => Ok(Request::Print(required(&mut program, print, FILE)?)),
+        Some(("rounds", rounds)) => rounds_request(alloc, &mut program, rounds),
+        Some(("run", run)) => run_request(alloc, &mut program, run),
+        Some(("audit", audit)) => audit_request(&mut program, audit),
         _ => Err(program.error(ErrorKind::MissingSubcommand, "a command is needed")?),
     }
 }
 
-// The file of a description that a command names.
-fn file_of<'a>(matches: &ArgMatches<'a>) -> &'a str {
-    matches.get_str(FILE).unwrap_or("")
+// A word that has to be there.
+fn required<'a>(
+    program: &mut Command<'a>,
+    matches: &ArgMatches<'a>,
+    id: &str,
+) -> Result<&'a str, Error> {
+    match matches.get_str(id) {
+        Some(word) => Ok(word),
+        None => Err(program.error(ErrorKind::MissingRequiredArgument, id)?),
+    }
 }
 
 // What `kpn rounds` is asked for.
-fn rounds_request<'a>(alloc: Global, rounds: &ArgMatches<'a>) -> Result<Request<'a>, AllocError> {
+fn rounds_request<'a>(
+    alloc: Global,
+    program: &mut Command<'a>,
+    rounds: &ArgMatches<'a>,
+) -> Result<Request<'a>, Error> {
+    let Some(n) = rounds.get_one::<u32>(ROUNDS) else {
+        return Err(program.error(ErrorKind::MissingRequiredArgument, ROUNDS)?);
+    };
     Ok(Request::Rounds {
-        file: file_of(rounds),
-        n: rounds.get_one::<u32>(ROUNDS).unwrap_or(0),
+        file: required(program, rounds, FILE)?,
+        n,
         words: sources_of(alloc, rounds)?,
     })
 }
 
 // What `kpn run` is asked for.
-fn run_request<'a>(alloc: Global, run: &ArgMatches<'a>) -> Result<Request<'a>, AllocError> {
+fn run_request<'a>(
+    alloc: Global,
+    program: &mut Command<'a>,
+    run: &ArgMatches<'a>,
+) -> Result<Request<'a>, Error> {
     let words = RunWords {
-        file: file_of(run),
+        file: required(program, run, FILE)?,
         words: sources_of(alloc, run)?,
         commits: run.get_one::<u64>(MAX_COMMITS).unwrap_or(USUAL_COUNT),
         take: run.get_one::<u64>(TAKE),
         trace: run.get_str(TRACE),
     };
+    if words.trace.is_some_and(|trace| is_input(&words, trace)) {
+        let message = "the trace would overwrite its own input";
+        return Err(program.error(ErrorKind::ArgumentConflict, message)?);
+    }
     Ok(Request::Run(words, run.get_one::<u32>(WORKERS)))
 }
 
+// Whether the description of a run or the items of a source are in this file.
+fn is_input(words: &RunWords<'_>, name: &str) -> bool {
+    words.file == name
+        || words.words.iter().any(|word| word.split_once('=').is_some_and(|(_, file)| file == name))
+}
+
 // What `kpn audit` is asked for.
-fn audit_request<'a>(audit: &ArgMatches<'a>) -> Request<'a> {
-    Request::Audit {
-        file: file_of(audit),
-        trace: audit.get_str(TRACE).unwrap_or(""),
+fn audit_request<'a>(
+    program: &mut Command<'a>,
+    audit: &ArgMatches<'a>,
+) -> Result<Request<'a>, Error> {
+    Ok(Request::Audit {
+        file: required(program, audit, FILE)?,
+        trace: required(program, audit, TRACE)?,
         steps: audit.get_one::<u64>(STEPS).unwrap_or(USUAL_COUNT),
-    }
+    })
 }
 
 // The words behind the `--source` options.
@@ -226,7 +257,8 @@ fn commits_word<'a>(alloc: Global) -> Arg<'a> {
 
 // The `--trace` option.
 fn stored_trace_word<'a>(alloc: Global) -> Arg<'a> {
-    let help = "Stores all events of the run in the file OUT, before the report is written";
+    let help =
+        "Stores all events of the run in the file OUT, which is no input of it, before the report is written";
     option(alloc, TRACE, "trace", "OUT", help)
 }
 
