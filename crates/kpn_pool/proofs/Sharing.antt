@@ -22,6 +22,7 @@ use Rattle.kpn_lang.specs.contracts.spine.Spine as Spine
 use Rattle.kpn_lang.specs.contracts.instruction.Instruction as Instruction
 use Rattle.kpn_lang.specs.contracts.program.Program as Program
 use Rattle.kpn_net.specs.contracts.network.Network as Network
+use Rattle.kpn_step.specs.contracts.frame.Frame as Frame
 use Rattle.kpn_trace.specs.contracts.history.History as History
 use Rattle.kpn_configuration.specs.contracts.configuration.Configuration as Configuration
 use Rattle.kpn_schedule.specs.contracts.schedule.Schedule as Schedule
@@ -64,8 +65,11 @@ network_sync = let programs = program_sync in search (crosses, sendable) depth 4
 history_send : IsSend (History.the_field heap.the_row ghosts).row
 history_send = search (crosses, sendable) depth 40
 
+frame_send : IsSend Frame.the_field.row
+frame_send = search (crosses, sendable) depth 40
+
 configuration_send : IsSend (Configuration.the_field heap.the_row ghosts).row
-configuration_send = search (crosses, sendable) depth 40
+configuration_send = let frame = frame_send in search (crosses, sendable) depth 40
 
 schedule_send : IsSend (Schedule.the_field heap.the_row ghosts).row
 schedule_send = search (crosses, sendable) depth 40
