@@ -1,5 +1,5 @@
 //! Limits of a run, and what it has come to.
-ghost use Rattle.std.specs.Prelude.{◌≡◌, is_some, Some};
+ghost use Rattle.std.specs.Prelude.{◌≡◌, Some};
 ghost use Rattle.kpn_report.specs.Outcomes.{verdict_of};
 
 use kpn_trace::Verdict;
@@ -29,18 +29,6 @@ pub enum Outcome {
     Enough,
     /// The commits have reached their limit.
     Stopped,
-}
-
-impl Outcome {
-    /// Whether the run has come to a verdict: nothing more can happen in it but that the outside leaves a sink.
-    pub fn is_verdict(self) -> bool
-        ensures { result ≡ is_some (verdict_of self) }
-    {
-        match self {
-            Outcome::Ended | Outcome::Clogged | Outcome::Jammed => true,
-            Outcome::Enough | Outcome::Stopped => false,
-        }
-    }
 }
 
 impl From<Verdict> for Outcome {
