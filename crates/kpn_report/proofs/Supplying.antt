@@ -43,6 +43,7 @@ IsSupplied-fed c items item bound before between after book so_far feeds = recor
   closed = λ d closed.
       ap (λ H. is_closed H d) feeds.appends.history
       ∙ closed_next between.history (Feed c item) d (so_far.closed d closed);
+  commits = feeds.appends.commits ∙ so_far.commits;
 }
 
 -- ---- it is closed
@@ -62,6 +63,7 @@ closes_kept c items before between after so_far false appends = record {
       ∙ so_far.elsewhere d other;
   closed = λ d closed.
       ap (λ H. is_closed H d) appends.history ∙ closed_next between.history (Close c) d (so_far.closed d closed);
+  commits = appends.commits ∙ so_far.commits;
 }
 
 pub IsSupplied-closed : (c : ℕ) (items : List ℤ) (before between after : Book) → IsSupplied c items before between
@@ -87,8 +89,8 @@ closed_then c before after book closes =
 
 module _ (t : Tables) (given : Family) where
   pub IsFedBelow-first : (b : Book) → b.tables ≡ t → b.history ≡ [] → b.schedule ≡ all_ready (length t.instances)
-      → IsFedBelow t given 0 b
-  IsFedBelow-first b tables history schedule = record {
+      → b.commits ≡ 0 → IsFedBelow t given 0 b
+  IsFedBelow-first b tables history schedule commits = record {
     tables = tables;
     nobody_held =
         ap (λ s. count_by is_held s.states) schedule ∙ sym (AreCounts-ready (length t.instances)).held;
@@ -96,6 +98,7 @@ module _ (t : Tables) (given : Family) where
     closed = λ c below source. absurd (omega arith);
     later = λ c past. ap (λ H. written_on H c) history;
     others = λ c other. ap (λ H. written_on H c) history;
+    commits = commits;
   }
 
   pub IsFedBelow-skip : (k : ℕ) (b : Book) → is_source (channel_at t k) ≡ false → IsFedBelow t given k b
@@ -107,6 +110,7 @@ module _ (t : Tables) (given : Family) where
     closed = λ c below source. so_far.closed c (before c below source) source;
     later = λ c past. so_far.later c (omega arith);
     others = so_far.others;
+    commits = so_far.commits;
   }
     where
       before : (c : ℕ) → c < k + 1 → is_source (channel_at t c) ≡ true → c < k
@@ -138,6 +142,7 @@ module _ (t : Tables) (given : Family) where
         (λ same.
         both_ways (is_source (channel_at t c)) other (subst (λ x. is_source (channel_at t x) ≡ true) (sym same) is))
         ∙ so_far.others c other;
+    commits = supplied.commits ∙ so_far.commits;
   }
 
   pub IsLeftToItself-fed : (b : Book) → IsFedBelow t given (length t.channels) b → IsLeftToItself b

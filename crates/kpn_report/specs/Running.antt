@@ -23,8 +23,9 @@ pub record IsSupplied (c : ℕ) (items : List ℤ) (before after : Book) : Type 
   pub here : written_on after.history c ≡ written_on before.history c ++ items
   pub elsewhere : (d : ℕ) → d ≢ c → written_on after.history d ≡ written_on before.history d
   pub closed : (d : ℕ) → is_closed before.history d ≡ true → is_closed after.history d ≡ true
+  pub commits : after.commits ≡ before.commits
 
--- the sources with a number below k were fed their lists and are closed, and nothing else was written
+-- the sources with a number below k were fed their lists and are closed, and nothing else was written or committed
 pub record IsFedBelow (t : Tables) (given : Family) (k : ℕ) (b : Book) : Type 0 where
   pub tables : b.tables ≡ t
   pub nobody_held : held_count b ≡ 0
@@ -32,6 +33,7 @@ pub record IsFedBelow (t : Tables) (given : Family) (k : ℕ) (b : Book) : Type 
   pub closed : (c : ℕ) → c < k → is_source (channel_at t c) ≡ true → is_closed b.history c ≡ true
   pub later : (c : ℕ) → k ≤ c → written_on b.history c ≡ []
   pub others : (c : ℕ) → is_source (channel_at t c) ≡ false → written_on b.history c ≡ []
+  pub commits : b.commits ≡ 0
 
 -- ---- the processes are stepped
 
@@ -95,11 +97,12 @@ pub record IsStepped (limits : Limits) (enough : Bool) (before after : Book) : T
   pub to_itself : IsLeftToItself after
   pub decides : IsTrue enough ↔ IsEnough after.tables after.history limits.take
 
--- the run has come to this outcome
+-- the run has come to this outcome, and its commits have not gone beyond their limit
 pub record ComesToOutcome (limits : Limits) (outcome : Outcome) (before after : Book) : Type 0 where
   pub later : IsLater before after
   pub nobody_held : held_count after ≡ 0
   pub comes_to : IsOutcome after.tables after.history after.commits limits (Some outcome)
+  pub within : before.commits ≤ limits.commits → after.commits ≤ limits.commits
 
 -- ---- the report is written
 

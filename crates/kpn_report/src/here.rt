@@ -1,5 +1,5 @@
 //! A run on the calling thread alone.
-ghost use Rattle.std.specs.Prelude.{◌≡◌, length, IfOk};
+ghost use Rattle.std.specs.Prelude.{◌≡◌, ◌≤◌, length, IfOk};
 ghost use Rattle.kpn_net.specs.Iteration.{sources};
 ghost use Rattle.kpn_report.specs.Reports.{IsReport};
 ghost use Rattle.kpn_report.specs.Running.{IsLeftToItself, ComesToOutcome};
@@ -27,7 +27,8 @@ pub fn run_here(
     limits: &Limits,
 ) -> Result<Report, AllocError>
     requires { length lists.now ≡ sources network.now }
-    ensures { IfOk result (λ report. IsReport network.now lists.now limits.now report) }
+    ensures report { IfOk result (λ report. IsReport network.now lists.now limits.now report) }
+    ensures commits { IfOk result (λ report. report.commits ≤ limits.now.commits) }
 {
     let mut book = Book::new(alloc, network)?;
     feed_sources(&mut book, network, lists)?;

@@ -1,3 +1,4 @@
+use Rattle.std.proofs.Common.{arith}
 use Rattle.std.proofs.lemmas.Bool.{both_ways}
 use Rattle.kpn_report.proofs.Stepped.{IsLater-refl, IsLater-trans}
 use Rattle.kpn_report.proofs.here.run.Goals as goal
@@ -7,6 +8,7 @@ returns-then-has_enough c = record {
   later = IsLater-refl c.args.book.now;
   nobody_held = c.requires.nobody_held;
   comes_to = c.has_enough.ensures.0 c.if-has_enough.true;
+  within = λ below. below;
 }
 
 pub run-init : goal.run-init
@@ -14,6 +16,7 @@ run-init c = record {
   later = IsLater-refl c.args.book.now;
   to_itself = c.requires;
   few = λ enough. both_ways c.has_enough.result c.if-has_enough.false (c.has_enough.ensures.1 enough);
+  within = λ below. below;
 }
 
 pub returns-then-branch : goal.returns-then-branch
@@ -23,6 +26,10 @@ returns-then-branch c =
       later = IsLater-trans c.args.book.now c.run.book c.step.new.book c.run.invariant.later stepped.later;
       nobody_held = stepped.to_itself.nobody_held;
       comes_to = stepped.decides.0 c.if-branch.true;
+      within = λ _.
+          let below = (c.in_default.ensures.outcome c.run.invariant.few).2 in
+          let one_more = stepped.commits in
+          omega arith;
     }
 
 pub run-preserved : goal.run-preserved
@@ -32,4 +39,8 @@ run-preserved c =
       later = IsLater-trans c.args.book.now c.run.book c.step.new.book c.run.invariant.later stepped.later;
       to_itself = stepped.to_itself;
       few = λ enough. both_ways c.in_ok-step.field-0 c.if-branch.false (stepped.decides.1 enough);
+      within = λ _.
+          let below = (c.in_default.ensures.outcome c.run.invariant.few).2 in
+          let one_more = stepped.commits in
+          omega arith;
     }

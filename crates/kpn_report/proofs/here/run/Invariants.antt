@@ -1,4 +1,4 @@
-use Rattle.std.proofs.Common.{◌-◌}
+use Rattle.std.proofs.Common.{◌-◌, ◌≤◌}
 use Rattle.kpn_report.specs.Outcomes.{IsEnough}
 use Rattle.kpn_report.specs.Running.{IsLeftToItself, IsLater}
 use Rattle.kpn_report.proofs.here.run.Given as goal
@@ -8,6 +8,7 @@ invariant-run l = record {
   later : IsLater l.initial.book l.book;
   to_itself : IsLeftToItself l.book;
   few : ¬ IsEnough l.book.tables l.book.history l.limits.take;
+  within : l.initial.book.commits ≤ l.limits.commits → l.book.commits ≤ l.limits.commits;
 }
 
 abbrev pub decreases-run : goal.decreases-run

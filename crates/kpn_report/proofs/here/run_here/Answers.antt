@@ -1,4 +1,4 @@
-use Rattle.std.proofs.Common.{subst}
+use Rattle.std.proofs.Common.{subst, arith}
 use Rattle.std.proofs.lemmas.Result.{IfOk-weaker}
 use Rattle.kpn_net.specs.Faults.{IsNetwork}
 use Rattle.kpn_net.specs.Iteration.{given_by}
@@ -10,17 +10,24 @@ pub feed_sources-requires-clause-first : goal.feed_sources-requires-clause-first
 feed_sources-requires-clause-first c =
     IsFedBelow-first c.args.network.now (given_by c.args.network.now c.args.lists.now) c.in_ok-book.book
     c.in_ok-book.ensures.tables c.in_ok-book.ensures.history c.in_ok-book.ensures.schedule
+    c.in_ok-book.ensures.commits
 
 pub run-requires : goal.run-requires
 run-requires c =
     IsLeftToItself-fed c.args.network.now (given_by c.args.network.now c.args.lists.now) c.feed_sources.new.book
     c.in_ok-feed_sources.ensures
 
-pub returns : goal.returns
-returns c =
+pub returns-clause-report : goal.returns-clause-report
+returns-clause-report c =
     IfOk-weaker c.report_of.result _ _
     (IsReport-told c.args.network.now
     (subst IsNetwork c.in_ok-book.ensures.tables c.in_ok-book.ensures.book.network) c.args.lists.now
     c.args.limits.now c.in_ok-outcome.outcome c.feed_sources.new.book c.run.new.book c.in_ok-feed_sources.ensures
     c.in_ok-outcome.ensures c.known.ensures)
     c.report_of.ensures
+
+pub returns-clause-commits : goal.returns-clause-commits
+returns-clause-commits c =
+    let none = c.in_ok-feed_sources.ensures.commits in
+    let most = c.in_ok-outcome.ensures.within (omega arith) in
+    IfOk-weaker c.report_of.result _ _ (λ report tells. let same = tells.commits in omega arith) c.report_of.ensures
