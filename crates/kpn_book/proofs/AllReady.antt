@@ -1,5 +1,5 @@
 -- A schedule once some processes have become ready: those are, and all others are in the state that they were in.
-use Rattle.std.proofs.Common.{◌≡◌, ℕ, ◌<◌, List, [], ◌∷◌, ◌++◌, length, set, get_or, refl, sym, ap, ◌∙◌, subst, inl, inr, arith}
+use Rattle.std.proofs.Common.{◌≡◌, ℕ, ◌<◌, List, [], ◌∷◌, ◌++◌, length, set, get_or, refl, sym, ◌∙◌, subst, inl, inr, arith}
 use Rattle.std.specs.List.{Contains}
 use Rattle.std.proofs.lemmas.Bool.{cases_eq, cases_lt}
 use Rattle.std.proofs.lemmas.List.{length-set, get_or-set_same, get_or-set_other, get_or_past}
@@ -8,8 +8,6 @@ use Rattle.kpn_trace.specs.declared.state.State.{State}
 use Rattle.kpn_trace.specs.declared.state.State.TheVariants.{Ready}
 use Rattle.kpn_schedule.specs.Schedule.{Schedule, state_at, made_ready}
 use Rattle.kpn_book.specs.Appending.{all_made_ready}
-use Rattle.kpn_book.specs.Book.{put_back}
-use Rattle.kpn_book.specs.Open.{Open, on_book, made_ready_in}
 
 pub states_length : (ps : List ℕ) (s : Schedule) → length (all_made_ready ps s).states ≡ length s.states
 states_length [] s = refl
@@ -52,23 +50,7 @@ are_as_before (p ∷ ps) s q none =
     (λ same. none (subst (λ z. Contains (p ∷ ps) z) (sym same) (Contains-first p ps)))
 
 -- one more
-push_one : (ps : List ℕ) (q : ℕ) (s : Schedule)
+pub all_made_ready-push : (ps : List ℕ) (q : ℕ) (s : Schedule)
     → all_made_ready (ps ++ q ∷ []) s ≡ made_ready q (all_made_ready ps s)
-push_one [] q s = refl
-push_one (p ∷ ps) q s = push_one ps q (made_ready p s)
-
-pub all_made_ready-push : (ps : List ℕ) (q : ℕ) (o : Open)
-    → on_book (made_ready_in (ps ++ q ∷ [])) o ≡ on_book (put_back q) (on_book (made_ready_in ps) o)
-all_made_ready-push ps q o =
-    ap
-    (λ x. record {
-      book = record {
-        tables = o.book.tables;
-        history = o.book.history;
-        configuration = o.book.configuration;
-        schedule = x;
-        commits = o.book.commits;
-      };
-      room = o.room;
-    })
-    (push_one ps q o.book.schedule)
+all_made_ready-push [] q s = refl
+all_made_ready-push (p ∷ ps) q s = all_made_ready-push ps q (made_ready p s)

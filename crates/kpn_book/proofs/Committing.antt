@@ -1,5 +1,5 @@
 -- A commit and a step in place: a process is held, stands where its steps have led, and is answered there.
-use Rattle.std.proofs.Common.{◌≡◌, ◌≢◌, ℕ, ◌+◌, ◌-◌, ◌<◌, ◌^◌, ℤ, true, false, cond, IsTrue, [], length, set, Option, Some, None, refl, sym, ap, ◌∙◌, subst, inl, inr, arith, IfSome, IfNone, Result, Ok, Err, slice_index}
+use Rattle.std.proofs.Common.{◌≡◌, ◌≢◌, ℕ, ◌+◌, ◌-◌, ◌<◌, ◌≤◌, ◌^◌, ℤ, true, false, cond, if◌then◌else◌, is_ok, IsTrue, List, [], length, set, Option, Some, None, refl, sym, ap, ◌∙◌, subst, inl, inr, arith, IfSome, IfNone, Result, Ok, Err, slice_index}
 use Rattle.std.proofs.lemmas.Bool.{cases_eq, cases_lt, false≢true}
 use Rattle.std.proofs.lemmas.List.{length-set, get_or-set_same, get_or-set_other, get_or_past}
 use Rattle.kpn_net.specs.Tables.{Tables, instance_at, program_of, channel_at, is_source}
@@ -13,7 +13,8 @@ use Rattle.kpn_trace.specs.Talks.{is_of_process, process_events}
 use Rattle.kpn_trace.specs.Legal.{waiter}
 use Rattle.kpn_trace.proofs.AfterEvent.{process_events-next}
 use Rattle.kpn_trace.specs.Views.{is_held}
-use Rattle.kpn_configuration.specs.Configuration.{channel_in, end_in, wait_in, frame_in}
+use Rattle.kpn_chan.specs.Channel.{with_room}
+use Rattle.kpn_configuration.specs.Configuration.{Configuration, channel_in, end_in, wait_in, frame_in, with_channel}
 use Rattle.kpn_configuration.proofs.Moving.{IsRun-moved}
 use Rattle.kpn_configuration.proofs.Reserving.{IsRun-reserved}
 use Rattle.kpn_schedule.specs.Schedule.{Schedule, state_at, HoldsFirst}
@@ -21,12 +22,13 @@ use Rattle.kpn_book.specs.declared.answers.Done.{Done}
 use Rattle.kpn_book.specs.Book.{Book, IsHeld, held_count, standing_at, put_back, IsClaimed}
 use Rattle.kpn_book.specs.Commits.{IsWriteTo, HandlesStop, IsOwnAdvance, Commits}
 use Rattle.kpn_book.specs.Kept.{IsStateBy, IsKept}
-use Rattle.kpn_book.specs.Open.{Open, Follows, of_process, claims_by, IsReserved, is_but_reserved, reserved_on, reserves_by, reserves_item_by}
+use Rattle.kpn_book.specs.Open.{Follows, of_process, claims_by, reserves_by, IsReserved, is_but_reserved, reserved_on}
 use Rattle.kpn_book.proofs.Counting.{held_in, held_more}
 use Rattle.kpn_book.specs.Stepping.{ClaimsAndSteps, StepsNext, StepsInVain}
 use Rattle.kpn_book.proofs.Appended.{claimed_is_held}
 use Rattle.kpn_book.proofs.Reserved.{handles_unreserved, is_reserved_here}
 use Rattle.kpn_configuration.specs.Changes.{IsChannelAt}
+use Rattle.kpn_book.proofs.Following.{recorded}
 use Rattle.kpn_book.proofs.Answering.{put_back_in_step, put_back_released, sound_after}
 
 -- ---- memory that is reserved
@@ -56,6 +58,10 @@ module _ (s : Stop) (b o : Book) (but : is_but_reserved s b o) where
 
   pub kept_reserved : IsKept b → IsKept o
   kept_reserved kept = by_cases IsKept kept (kept_reserved_on b kept)
+
+  pub held_reserved : (p : ℕ) → IsHeld b p → IsHeld o p
+  held_reserved p held =
+      by_cases (λ x. IsHeld x p) held (λ c below. record { there = held.there; held = held.held })
 
   pub tables_reserved : o.tables ≡ b.tables
   tables_reserved = by_cases (λ x. x.tables ≡ b.tables) refl (λ c below. refl)
@@ -178,12 +184,14 @@ kept_claimed b kept p a claimed more =
 
 -- ---- what the calls answer
 
-pub claims_from : (r : Option ℕ) (o a : Open) → IsKept o.book
-    → (o.book.commits + held_count o.book ≡ 2 ^ 64 - 1 → ⊥)
-    → IfSome r (λ p. IsClaimed p o.book a.book) → a.room ≡ o.room
-    → IfNone r ((o.book.schedule.queue ≡ []) × (a ≡ o)) → claims_by r o a
-claims_from None o a kept more held room none = (inl none.0, none.1)
-claims_from (Some p) o a kept more held room none = (held, kept_claimed o.book kept p a.book held more, room)
+pub claims_from : (r : Option ℕ) (b : Book) (s : Schedule) → IsKept b
+    → (b.commits + held_count b ≡ 2 ^ 64 - 1 → ⊥) → IfSome r (λ p. HoldsFirst p b.schedule s)
+    → IfNone r ((b.schedule.queue ≡ []) × (s ≡ b.schedule))
+    → claims_by r b (recorded b b.history b.configuration s)
+claims_from None b s kept more held none = inl none.0
+claims_from (Some p) b s kept more held none =
+    let claimed : IsClaimed p b (recorded b b.history b.configuration s) = record { holds = held; same = refl } in
+    (claimed, kept_claimed b kept p (recorded b b.history b.configuration s) claimed more)
 
 -- the steps are committed
 pub commits_from : (b o1 o2 a : Book) (p : ℕ) (x : Advanced) (answer : Done) → IsHeld b p → IsOwnAdvance b p x
@@ -239,13 +247,6 @@ pub port_there : (b o : Book) (p : ℕ) (s : Stop) → o.tables ≡ b.tables
     → (f : Frame) × IsAtPort (program_of b.tables p) f s → (f : Frame) × IsAtPort (program_of o.tables p) f s
 port_there b o p s same at = (at.0, subst (λ t. IsAtPort (program_of t p) at.0 s) (sym same) at.1)
 
-pub item_there : (t : Tables) (p : ℕ) (s : Stop) (o1 : Open) (o2 : Book) (f : Frame) → IsReserved t p s o1
-    → o2 ≡ standing_at p f o1.book → o1.book.tables ≡ t → (c : ℕ) (v : ℤ) → IsWriteTo o2.tables p s c v
-    → IsTrue (channel_in o2.configuration c).is_reserved
-item_there t p s o1 o2 f reserved is same c v writes =
-    subst (λ b. IsTrue (channel_in b.configuration c).is_reserved) (sym is)
-    (reserved.item c v (subst (λ x. IsWriteTo x p s c v) (ap (λ b. b.tables) is ∙ same) writes))
-
 pub own_reserved : (s : Stop) (b o : Book) → is_but_reserved s b o → (p : ℕ) (x : Advanced) → IsOwnAdvance b p x
     → IsOwnAdvance o p x
 own_reserved s b o but p x own = record {
@@ -263,11 +264,11 @@ kept_stepped s b o1 o2 but kept p there x advance own is =
     (own_reserved s b o1 but p x own))
 
 -- the steps of a commit by the stop that was read of them
-pub commits_read : (b : Book) (o1 : Open) (o2 a : Book) (p : ℕ) (x : Advanced) (s : Stop) (answer : Done) → s ≡ x.stop
-    → IsHeld b p → IsOwnAdvance b p x → is_but_reserved s b o1.book → o2 ≡ standing_at p x.to o1.book
+pub commits_read : (b o1 o2 a : Book) (p : ℕ) (x : Advanced) (s : Stop) (answer : Done) → s ≡ x.stop
+    → IsHeld b p → IsOwnAdvance b p x → is_but_reserved s b o1 → o2 ≡ standing_at p x.to o1
     → HandlesStop p s answer o2 a → Commits p x answer b a
 commits_read b o1 o2 a p x s answer same held own but is handles =
-    commits_from b o1.book o2 a p x answer held own (subst (λ z. is_but_reserved z b o1.book) same but) is
+    commits_from b o1 o2 a p x answer held own (subst (λ z. is_but_reserved z b o1) same but) is
     (subst (λ z. HandlesStop p z answer o2 a) same handles)
 
 -- ---- a step in place
@@ -326,17 +327,31 @@ one_port p s port v c d w t is at writes =
     let ports : port ≡ writes.port = cc in
     sym at.1 ∙ ap (slice_index (instance_at t p).outs) ports ∙ writes.channel.1
 
-pub reserves_write : {T E : Type 0} (p : ℕ) (s : Stop) (port : ℕ) (v : ℤ) (c : ℕ) (o a : Open) (r : Result T E)
-    → s ≡ stop.WantWrite port v → IsChannelAt (instance_at o.book.tables p).outs port c
-    → c < length o.book.configuration.channels → reserves_item_by c r o a → reserves_by p s r o a
-reserves_write p s port v c o a (Ok _) is at below done = (
+pub reserves_write : (p : ℕ) (s : Stop) (port : ℕ) (v : ℤ) (c : ℕ) (b a : Book) (room : ℕ)
+    → s ≡ stop.WantWrite port v → IsChannelAt (instance_at b.tables p).outs port c
+    → c < length b.configuration.channels → 2 ≤ room → a ≡ reserved_on c b
+    → IsReserved p s room a × is_but_reserved s b a
+reserves_write p s port v c b a room is at below two same = (
   record {
-    events = λ some. done.0;
+    events = λ some. two;
     item = λ d w writes.
-        subst (λ z. IsTrue (channel_in z.configuration d).is_reserved) (sym done.1)
-        (subst (λ z. IsTrue (channel_in (reserved_on c o.book).configuration z).is_reserved)
-        (one_port p s port v c d w o.book.tables is at writes) (is_reserved_here o.book c below));
+        subst (λ z. IsTrue (channel_in z.configuration d).is_reserved) (sym same)
+        (subst (λ z. IsTrue (channel_in (reserved_on c b).configuration z).is_reserved)
+        (one_port p s port v c d w b.tables is at
+        (subst (λ z. IsWriteTo z.tables p s d w) same writes)) (is_reserved_here b c below));
   },
-  inr (λ paused. no_pause s port v is paused, (c, below, done.1)),
+  inr (λ paused. no_pause s port v is paused, (c, below, same)),
 )
-reserves_write p s port v c o a (Err _) is at below done = (λ paused. no_pause s port v is paused, done)
+
+pub reserves_item : {T E : Type 0} (p : ℕ) (s : Stop) (port : ℕ) (v : ℤ) (c : ℕ) (b : Book) (H : List Event)
+    → (o : Configuration) (room : ℕ) (r : Result T E) → s ≡ stop.WantWrite port v
+    → IsChannelAt (instance_at b.tables p).outs port c → c < length b.configuration.channels → 2 ≤ room
+    → H ≡ b.history → o ≡ (if is_ok r then with_channel c (with_room (channel_in b.configuration c)) b.configuration
+    else b.configuration) → reserves_by p s r b room (recorded b H o b.schedule)
+reserves_item p s port v c b H o room (Ok _) is at below two same after =
+    reserves_write p s port v c b (recorded b H o b.schedule) room is at below two
+    (ap (λ z. recorded b z o b.schedule) same ∙ ap (λ z. recorded b b.history z b.schedule) after)
+reserves_item p s port v c b H o room (Err _) is at below two same after = (
+  λ paused. no_pause s port v is paused,
+  ap (λ z. recorded b z o b.schedule) same ∙ ap (λ z. recorded b b.history z b.schedule) after,
+)

@@ -13,9 +13,9 @@ use Rattle.kpn_net.specs.Tables.{Tables}
 use Rattle.kpn_net.proofs.Networks.{sizes}
 use Rattle.kpn_schedule.specs.Schedule.{Schedule, state_at}
 use Rattle.kpn_book.specs.Book.{Book, IsHeld}
-use Rattle.kpn_book.specs.Appending.{own_part, woken_by, schedule_after}
+use Rattle.kpn_book.specs.Appending.{own_part, woken_by, all_made_ready, schedule_after}
 use Rattle.kpn_book.specs.Kept.{IsStateBy, IsInStep}
-use Rattle.kpn_book.specs.Open.{Open, MayBeReady, Follows, of_process, on_book, with_configuration, with_event, made_ready_in}
+use Rattle.kpn_book.specs.Open.{MayBeReady, Follows, of_process}
 use Rattle.kpn_book.proofs.Woken.{EndsThere, woken_distinct}
 use Rattle.kpn_book.proofs.InStep.{woken_may_be_ready, woken_not_held, agree_after, length_after}
 use Rattle.kpn_book.proofs.Counting.{held_as_before, held_own}
@@ -31,9 +31,10 @@ next_book e configuration b =
       commits = b.commits;
     }
 
--- the book with another schedule
-abbrev pub with_schedule : Schedule → Book → Book
-with_schedule schedule b = record b { schedule = schedule }
+-- the book with this history, configuration and schedule
+abbrev pub recorded : Book → List Event → Configuration → Schedule → Book
+recorded b H s order =
+    record { tables = b.tables; history = H; configuration = s; schedule = order; commits = b.commits }
 
 -- the process of an event is held
 pub own_held : (b : Book) (p : ℕ) → IsHeld b p → (q : ℕ) → eqb p q ≡ true → IsHeld b q
@@ -103,35 +104,16 @@ may_be_woken b network step e own ends s ps is woken =
     (subst (λ xs. MayBeReady (own_part e b.schedule) xs) (sym woken) (may_be_ready b network step e own ends))
 
 -- the configuration changes, an event is pushed, its process moves, and others are woken
-pub chain : (o0 o1 o2 o3 o4 : Open) (s : Configuration) (e pushed : Event) (own : Schedule → Schedule) (ws : List ℕ)
-    → o1 ≡ on_book (with_configuration s) o0
-    → o2.book ≡ with_event pushed o1.book
-    → o3.book ≡ with_schedule (own o2.book.schedule) o2.book
-    → o4.book ≡ made_ready_in ws o3.book
-    → pushed ≡ e → ((x : Schedule) → own x ≡ own_part e x)
-    → ws ≡ woken_by o0.book.tables o0.book.configuration.waits e
-    → o4.book ≡ next_book e s o0.book
-chain o0 o1 o2 o3 o4 s e pushed own ws a b c d is moves woken =
-    d
-    ∙ ap (made_ready_in ws) c
-    ∙ ap (λ x. made_ready_in ws (with_schedule (own x.schedule) x)) b
-    ∙ ap (λ x. made_ready_in ws (with_schedule (own x.book.schedule) (with_event pushed x.book))) a
-    ∙ ap (λ x. made_ready_in ws (with_schedule (own o0.book.schedule) (with_event x (with_configuration s o0.book)))) is
-    ∙ ap (λ x. made_ready_in ws (with_schedule x (with_event e (with_configuration s o0.book))))
-    (moves o0.book.schedule)
-    ∙ ap
-    (λ x. made_ready_in x (with_schedule (own_part e o0.book.schedule) (with_event e (with_configuration s o0.book))))
-    woken
-
--- the schedule when others are woken
-pub chain_schedule : (o0 o1 o2 o3 : Open) (s : Configuration) (e pushed : Event) (own : Schedule → Schedule)
-    → o1 ≡ on_book (with_configuration s) o0
-    → o2.book ≡ with_event pushed o1.book
-    → o3.book ≡ with_schedule (own o2.book.schedule) o2.book
-    → ((x : Schedule) → own x ≡ own_part e x)
-    → o3.book.schedule ≡ own_part e o0.book.schedule
-chain_schedule o0 o1 o2 o3 s e pushed own a b c moves =
-    ap (λ x. x.schedule) c ∙ ap (λ x. own x.schedule) b ∙ ap (λ x. own x.book.schedule) a ∙ moves o0.book.schedule
+pub followed : (b : Book) → IsNetwork b.tables → IsInStep b → (e : Event) → ((q : ℕ) → is_of q e ≡ true → IsHeld b q)
+    → EndsThere b.tables e → (s : Configuration) → Changes b.tables e b.configuration s → IsConfiguration b.tables s
+    → Legal b.tables (b.history ++ e ∷ []) → (pushed : Event) (H : List Event) (own order : Schedule) (ws : List ℕ)
+    → pushed ≡ e → H ≡ b.history ++ pushed ∷ [] → own ≡ own_part e b.schedule → order ≡ all_made_ready ws own
+    → ws ≡ woken_by b.tables b.configuration.waits e → Follows e b (recorded b H s order)
+followed b network step e own ends s changes shape legal pushed H moved order ws is history moves wakes woken =
+    follows b network step e own ends s changes shape legal (recorded b H s order)
+    (ap (λ x. recorded b x s order) (history ∙ ap (λ x. b.history ++ x ∷ []) is)
+    ∙ ap (recorded b (b.history ++ e ∷ []) s)
+    (wakes ∙ ap (all_made_ready ws) moves ∙ ap (λ xs. all_made_ready xs (own_part e b.schedule)) woken))
 
 -- the numbers of a network fit in an event
 pub process_fits : (t : Tables) → IsNetwork t → (p : ℕ) → p < length t.instances → p < 65536

@@ -1,16 +1,22 @@
 -- What the calls of the outside come to.
-use Rattle.std.proofs.Common.{◌≡◌, is_some, cond, slice_get, ℕ, ◌<◌, ℤ, true, false, List, [], ◌∷◌, length, Some, None, refl, sym, ap, ◌∙◌, subst}
+use Rattle.std.proofs.Common.{◌≡◌, is_some, cond, slice_get, ℕ, ◌<◌, ℤ, true, false, List, [], ◌∷◌, ◌++◌, length, Some, None, refl, sym, ap, ◌∙◌, subst, arith}
 use Rattle.std.proofs.lemmas.Bool.{false≢true}
 use Rattle.kpn_net.specs.Tables.{channel_at, is_source, is_sink}
-use Rattle.kpn_chan.specs.Channel.{ChannelState, unread, next_item}
+use Rattle.kpn_net.specs.Faults.{IsNetwork}
+use Rattle.kpn_chan.specs.Channel.{ChannelState, unread, next_item, with_room}
+use Rattle.kpn_trace.specs.declared.event.Event.{Event}
 use Rattle.kpn_trace.specs.declared.event.Event.TheVariants as event
-use Rattle.kpn_configuration.specs.Configuration.{channel_in, closed_in}
+use Rattle.kpn_configuration.specs.Configuration.{Configuration, channel_in, closed_in, with_channel, IsConfiguration}
+use Rattle.kpn_configuration.specs.Changes.{Changes}
+use Rattle.kpn_configuration.proofs.Due.{Legal-due}
+use Rattle.kpn_schedule.specs.Schedule.{Schedule}
 use Rattle.kpn_book.specs.Book.{Book}
-use Rattle.kpn_book.specs.Appending.{Appends}
+use Rattle.kpn_book.specs.Appending.{Appends, all_made_ready, woken_by}
 use Rattle.kpn_book.specs.Refusals.{IsAtBound, Feeds, Takes}
-use Rattle.kpn_book.specs.Open.{Follows, IsSound, reserved_on}
+use Rattle.kpn_book.specs.Open.{Follows, reserved_on}
 use Rattle.kpn_book.specs.Kept.{IsKept}
-use Rattle.kpn_book.proofs.Committing.{kept_reserved_on}
+use Rattle.kpn_book.proofs.Following.{recorded, followed, own_none}
+use Rattle.kpn_book.proofs.Committing.{kept_reserved_on, source_there}
 use Rattle.kpn_book.proofs.Reserved.{appends_unreserved}
 
 pub fed : (b o a : Book) (c : ℕ) (v : ℤ) (bound : ℕ) → is_source (channel_at b.tables c) ≡ true
@@ -24,28 +30,34 @@ fed b o a c v bound source not_closed below there is follows = record {
       (subst (λ x. Appends (event.Feed c v) x a) is follows.appends);
 }
 
-pub taken : (b o a : Book) (c : ℕ) (v : ℤ) → is_sink (channel_at b.tables c) ≡ true
-    → (channel_in b.configuration c).is_retired ≡ false → o ≡ b
-    → next_item (channel_in o.configuration c) ≡ Some v → Follows (event.Take c v) o a → Takes c (Some v) b a
-taken b o a c v sink not_left is item follows = record {
-  sink = record { sink = sink; not_left = not_left };
-  takes = (
-    subst (λ x. next_item (channel_in x.configuration c) ≡ Some v) is item,
-    subst (λ x. Appends (event.Take c v) x a) is follows.appends,
-  );
-}
-
--- memory was reserved, and the book is as it was
-pub kept_same : (b o : Book) → o ≡ b → IsKept b → IsKept o
-kept_same b o is kept = subst IsKept (sym is) kept
-
-pub sound_same : (b o : Book) → o ≡ b → IsKept b → IsSound o
-sound_same b o is kept =
-    let now = kept_same b o is kept in record { in_step = now.in_step; nothing_owed = now.nothing_owed }
+pub taken : (b a : Book) (c : ℕ) (v : ℤ) → is_sink (channel_at b.tables c) ≡ true
+    → (channel_in b.configuration c).is_retired ≡ false → next_item (channel_in b.configuration c) ≡ Some v
+    → Follows (event.Take c v) b a → Takes c (Some v) b a
+taken b a c v sink not_left item follows =
+    record { sink = record { sink = sink; not_left = not_left }; takes = (item, follows.appends) }
 
 pub kept_with_item : (b o : Book) (c : ℕ) → c < length b.configuration.channels → o ≡ reserved_on c b → IsKept b
     → IsKept o
 kept_with_item b o c below is kept = subst IsKept (sym is) (kept_reserved_on b kept c below)
+
+-- an item was reserved, then fed
+pub fed_follows : (b : Book) → IsNetwork b.tables → IsKept b → (c : ℕ) (v : ℤ) → is_source (channel_at b.tables c) ≡ true
+    → closed_in b.configuration c ≡ false → (o s : Configuration)
+    → o ≡ with_channel c (with_room (channel_in b.configuration c)) b.configuration
+    → Changes b.tables (event.Feed c v) o s → IsConfiguration b.tables s → (pushed : Event) (H : List Event)
+    → (order : Schedule) (ws : List ℕ) → pushed ≡ event.Feed c v → H ≡ b.history ++ pushed ∷ []
+    → order ≡ all_made_ready ws b.schedule → ws ≡ woken_by b.tables o.waits (event.Feed c v)
+    → Follows (event.Feed c v) (recorded b b.history o b.schedule) (recorded b H s order)
+fed_follows b network kept c v source not_closed o s is changes shape pushed H order ws same history wakes woken =
+    let there = source_there b.tables c source in
+    let long = kept.in_step.run.shape.channels in
+    let below : c < length b.configuration.channels = omega (arith, there, long) in
+    let x = recorded b b.history o b.schedule in
+    let now = kept_with_item b x c below (ap (λ z. recorded b b.history z b.schedule) is) kept in
+    followed x network now.in_step (event.Feed c v) (own_none x) tt s changes shape
+    (Legal-due b.tables network b.history o now.in_step.run now.nothing_owed (event.Feed c v) there
+    (source, ap (λ z. closed_in z c) is ∙ not_closed))
+    pushed H b.schedule order ws same history refl wakes woken
 
 -- nothing is unread on a sink that was not left and has no item
 pub nothing_to_take : (ch : ChannelState) → ch.is_retired ≡ false → is_some (next_item ch) ≡ false → unread ch ≡ []

@@ -1,55 +1,36 @@
 -- What the code keeps of a book in the midst of a call. A reader of the public contracts needs none of it.
 use Rattle.std.specs.Prelude.{◌≡◌, ◌≢◌, ℕ, ◌+◌, ◌<◌, ◌≤◌, ◌⊎◌, false, ℤ, IsTrue, if◌then◌else◌, List, [], ◌∷◌, ◌++◌, length, Option, Some, None, Contains, Result, Ok, Err}
-use Rattle.kpn_net.specs.Tables.{Tables}
 use Rattle.kpn_net.specs.Waits.{AreDistinct}
 use Rattle.kpn_step.specs.declared.stop.Stop.{Stop}
 use Rattle.kpn_step.specs.declared.stop.Stop.TheVariants as stop
 use Rattle.kpn_chan.specs.Channel.{with_room}
 use Rattle.kpn_trace.specs.declared.event.Event.{Event}
 use Rattle.kpn_trace.specs.declared.event.Event.TheVariants as event
-use Rattle.kpn_trace.specs.declared.state.State.{State}
 use Rattle.kpn_trace.specs.Talks.{is_of_process}
 use Rattle.kpn_trace.specs.Views.{is_ready}
 use Rattle.kpn_trace.specs.Legal.{OwesGrowth, waiter}
 use Rattle.kpn_trace.specs.Stops.{OwesNothing}
-use Rattle.kpn_configuration.specs.Configuration.{Configuration, channel_in, with_channel}
-use Rattle.kpn_schedule.specs.Schedule.{Schedule, state_at, with_state}
+use Rattle.kpn_configuration.specs.Configuration.{channel_in, with_channel}
+use Rattle.kpn_schedule.specs.Schedule.{Schedule, state_at}
+use Rattle.kpn_book.specs.declared.open_book.OpenBook.{OpenBook}
 use Rattle.kpn_book.specs.declared.answers.Done.{Done}
 use Rattle.kpn_book.specs.declared.answers.Done.TheVariants as done
-use Rattle.kpn_book.specs.Book.{Book, IsHeld, IsClaimed, held_count, put_back}
-use Rattle.kpn_book.specs.Appending.{Appends, AppendsAll, all_made_ready}
+use Rattle.kpn_book.specs.Book.{Book, IsClaimed, held_count}
+use Rattle.kpn_book.specs.Appending.{Appends, AppendsAll}
 use Rattle.kpn_book.specs.Commits.{IsWriteTo, IsAnswer, ready_if_paused}
-use Rattle.kpn_book.specs.Refusals.{AcceptsItem, RefusesFeed}
-use Rattle.kpn_book.specs.Stepping.{ClaimsNobody, IsStep, StepsInVain}
-use Rattle.kpn_book.specs.declared.answers.Refused.{Refused}
-use Rattle.kpn_book.specs.declared.answers.Refused.TheVariants.{NoMemory}
+use Rattle.kpn_book.specs.Stepping.{ClaimsNobody}
 use Rattle.kpn_book.specs.Kept.{IsInStep, IsKept}
 
--- a book, and for how many more events memory is reserved
-pub record Open : Type 0 where
-  pub book : Book
-  pub room : ℕ
-
--- ---- one part of it changed
-
-abbrev pub on_book : (Book → Book) → Open → Open
-on_book change o = record o { book = change o.book }
-
-abbrev pub with_event : Event → Book → Book
-with_event e b = record b { history = b.history ++ e ∷ [] }
-
-abbrev pub with_configuration : Configuration → Book → Book
-with_configuration configuration b = record b { configuration = configuration }
-
--- but for the configuration all is as before
-abbrev pub changes_configuration_alone : (before after : Open) → Type 0
-changes_configuration_alone before after = after ≡ on_book (with_configuration after.book.configuration) before
-
-abbrev pub in_state : (p : ℕ) → State → Book → Book
-in_state p state b = record b { schedule = with_state p state b.schedule }
-
-abbrev pub made_ready_in : List ℕ → Book → Book
-made_ready_in ps b = record b { schedule = all_made_ready ps b.schedule }
+-- the book that these parts make up
+abbrev pub book_of : {A : Type 0} → OpenBook A → Book
+book_of parts =
+    record {
+      tables = parts.network.now;
+      history = parts.history.events;
+      configuration = parts.configuration;
+      schedule = parts.schedule;
+      commits = parts.commits;
+    }
 
 -- the next item of channel c is reserved
 abbrev pub reserved_on : (c : ℕ) → Book → Book
@@ -99,10 +80,10 @@ pub record IsSound (b : Book) : Type 0 where
   pub in_step : IsInStep b
   pub nothing_owed : OwesNothing b.tables b.history
 
--- memory is reserved for whatever process p, which stands at this stop, may do
-pub record IsReserved (t : Tables) (p : ℕ) (s : Stop) (o : Open) : Type 0 where
-  pub events : s ≢ stop.Paused → 2 ≤ o.room
-  pub item : (c : ℕ) (v : ℤ) → IsWriteTo t p s c v → IsTrue (channel_in o.book.configuration c).is_reserved
+-- memory is reserved for whatever process p, which stands at this stop, may do: for so many events, and for an item
+pub record IsReserved (p : ℕ) (s : Stop) (room : ℕ) (b : Book) : Type 0 where
+  pub events : s ≢ stop.Paused → 2 ≤ room
+  pub item : (c : ℕ) (v : ℤ) → IsWriteTo b.tables p s c v → IsTrue (channel_in b.configuration c).is_reserved
 
 -- but for this the book is the same
 abbrev pub is_but_reserved : Stop → (before after : Book) → Type 0
@@ -125,35 +106,13 @@ pub record GrowsIfOwed (p : ℕ) (answer : Done) (before after : Book) : Type 0 
 
 -- ---- what the calls answer, and the book afterwards
 
-abbrev pub claims_by : Option ℕ → (before after : Open) → Type 0
-claims_by (Some p) before after = IsClaimed p before.book after.book × IsKept after.book × (after.room ≡ before.room)
-claims_by None before after = ClaimsNobody before.book × (after ≡ before)
+-- the first process of the queue is claimed, or nobody can be
+abbrev pub claims_by : Option ℕ → (before after : Book) → Type 0
+claims_by (Some p) before after = IsClaimed p before after × IsKept after
+claims_by None before after = ClaimsNobody before
 
--- the call has done this, or it was refused for this cause and the book is as before
-abbrev pub done_or_refused : {T : Type 0} → (does : T → Book → Book → Type 0) → (refuses : Book → Refused → Type 0)
-    → Result T Refused → (before after : Book) → Type 0
-done_or_refused does refuses (Ok answer) before after = does answer before after
-done_or_refused does refuses (Err cause) before after = refuses before cause × (after ≡ before)
-
--- process p, which is held, is put back
-abbrev pub puts_back : (p : ℕ) → (before after : Book) → Type 0
-puts_back p before after = IsHeld before p × (after ≡ put_back p before)
-
-abbrev pub steps_by : {E : Type 0} → (quota : ℕ) → Result (Option Done) E → (before after : Book) → Type 0
-steps_by quota (Ok answer) before after = IsStep quota answer before after
-steps_by quota (Err _) before after = StepsInVain quota before after
-
-abbrev pub has_feed_fault : (c : ℕ) → (item : ℤ) → (bound : ℕ) → Option Refused → Book → Type 0
-has_feed_fault c item bound (Some cause) b = RefusesFeed c item bound b cause × (cause ≢ NoMemory)
-has_feed_fault c item bound None b = AcceptsItem c bound b
-
--- memory is reserved for this stop, or it was refused and nothing has changed
-abbrev pub reserves_by : {T E : Type 0} → (p : ℕ) → Stop → Result T E → (before after : Open) → Type 0
-reserves_by p s (Ok _) before after =
-    IsReserved before.book.tables p s after × is_but_reserved s before.book after.book
-reserves_by p s (Err _) before after = (s ≢ stop.Paused) × (after.book ≡ before.book)
-
--- two events and an item are reserved, or memory was refused and nothing has changed
-abbrev pub reserves_item_by : {T E : Type 0} → (c : ℕ) → Result T E → (before after : Open) → Type 0
-reserves_item_by c (Ok _) before after = (2 ≤ after.room) × (after.book ≡ reserved_on c before.book)
-reserves_item_by c (Err _) before after = after.book ≡ before.book
+-- memory is reserved for this stop, for so many events and for an item, or it was refused and nothing has changed
+abbrev pub reserves_by : {T E : Type 0} → (p : ℕ) → Stop → Result T E → (before : Book) → (room : ℕ) → (after : Book)
+    → Type 0
+reserves_by p s (Ok _) before room after = IsReserved p s room after × is_but_reserved s before after
+reserves_by p s (Err _) before room after = (s ≢ stop.Paused) × (after ≡ before)

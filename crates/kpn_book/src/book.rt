@@ -11,7 +11,9 @@ ghost use Rattle.kpn_configuration.specs.Configuration.{channel_in, frame_in};
 ghost use Rattle.kpn_schedule.specs.Schedule.{all_ready};
 ghost use Rattle.kpn_book.specs.Kept.{IsBook};
 
+use crate::journal::begins;
 use crate::open_book::OpenBook;
+use crate::view::{last_view, view_of};
 use kpn_configuration::Configuration;
 use kpn_net::Network;
 use kpn_schedule::Schedule;
@@ -36,15 +38,17 @@ impl<'n, A: Allocator> Model for Book<'n, A> {
     ghost use Rattle.std.specs.Coded.{codes};
     ghost use Rattle.kpn_lang.specs.Codes.{parts_code};
     ghost use Rattle.kpn_book.specs.Book.{Book as Seen};
-    ghost use Rattle.kpn_book.specs.Kept.{IsKept};
 
     ghost Value = { Seen };
 
     ghost coded = { Prim.hlevel (codes, parts_code) };
 
-    ghost view = { λ b. b.parts.book };
+    ghost use Rattle.kpn_book.specs.Kept.{IsKept};
+    ghost use Rattle.kpn_book.specs.Open.{book_of};
 
-    ghost invariant = { λ b. IsKept b.parts.book };
+    ghost view = { λ b. book_of b.parts };
+
+    ghost invariant = { λ b. IsKept (book_of b.parts) };
 }
 
 impl<'n, A: Allocator + Copy> Book<'n, A> {
@@ -64,8 +68,17 @@ impl<'n, A: Allocator + Copy> Book<'n, A> {
     {
         let configuration = Configuration::new(alloc, network)?;
         let schedule = Schedule::new(alloc, network.instances())?;
-        let parts = OpenBook::opened(network, configuration, schedule, History::new(alloc));
-        Ok(Book { parts })
+        network.known();
+        schedule.known();
+        Ok(Book {
+            parts: OpenBook {
+                network,
+                configuration,
+                history: History::new(alloc),
+                schedule,
+                commits: 0,
+            },
+        })
     }
 }
 
@@ -74,35 +87,36 @@ impl<'n, A: Allocator> Book<'n, A> {
     pub fn known(&self)
         ensures { IsBook self.now }
     {
-        self.parts.known_whole();
+        self.parts.network.known();
+        self.parts.schedule.known();
     }
 
     /// The network.
     pub fn network(&self) -> &'n Network
         ensures { result.now ≡ self.now.tables }
     {
-        self.parts.network()
+        self.parts.network
     }
 
     /// How many processes are in each state.
     pub fn counts(&self) -> Counts
         ensures { AreCounts self.now.schedule.states result }
     {
-        self.parts.counts()
+        self.parts.schedule.counts()
     }
 
     /// How many commits were made.
     pub fn commits(&self) -> u64
         ensures { result ≡ self.now.commits }
     {
-        self.parts.commits()
+        self.parts.commits
     }
 
     /// The events so far.
     pub fn history(&self) -> &History<A>
         ensures { result.now.events ≡ self.now.history }
     {
-        self.parts.history()
+        &self.parts.history
     }
 
     /// The events so far, moved out.
@@ -110,7 +124,7 @@ impl<'n, A: Allocator> Book<'n, A> {
         ensures { result.events ≡ self.entry.history }
     {
         let Book { parts } = self;
-        parts.into_history()
+        parts.history
     }
 
     /// Whether a take from this sink, or a get from this channel, would give an item.
@@ -118,7 +132,7 @@ impl<'n, A: Allocator> Book<'n, A> {
         requires { c < length self.now.tables.channels }
         ensures { result ≡ is_some (next_item (channel_in self.now.configuration c)) }
     {
-        self.parts.offers(c)
+        self.parts.configuration.has_item(c)
     }
 
     /// How many items were read from a channel.
@@ -126,7 +140,7 @@ impl<'n, A: Allocator> Book<'n, A> {
         requires { c < length self.now.tables.channels }
         ensures { result ≡ length (read_on self.now.history c) }
     {
-        self.parts.read_count(c)
+        self.parts.configuration.channel(c).read_count()
     }
 
     /// Whether the journal of a channel, all that was ever put on it, begins with these items.
@@ -134,7 +148,7 @@ impl<'n, A: Allocator> Book<'n, A> {
         requires { c < length self.now.tables.channels }
         ensures { IsTrue result ↔ IsPrefix items.now (channel_in self.now.configuration c).journal }
     {
-        self.parts.journal_begins(c, items)
+        begins(self.parts.configuration.channel(c), items)
     }
 
     /// How the run has come to a stop, if it has: each process has ended or waits, each source is closed and each sink
@@ -142,7 +156,11 @@ impl<'n, A: Allocator> Book<'n, A> {
     pub fn verdict(&self) -> Option<Verdict>
         ensures { IsVerdict self.now.tables self.now.history result }
     {
-        self.parts.verdict()
+        self.parts.network.known();
+        if !self.parts.schedule.is_idle() {
+            return None;
+        }
+        self.parts.judge()
     }
 
     /// The run as it is seen at this moment, in lists of an allocator that the caller names. The error is that memory
@@ -151,7 +169,13 @@ impl<'n, A: Allocator> Book<'n, A> {
         ensures agrees { IfOk result (λ view. Agrees self.now.tables self.now.history view) }
         ensures states { IfOk result (λ view. view.states ≡ self.now.schedule.states) }
     {
-        self.parts.snapshot(alloc)
+        let channels = self.parts.network.channels();
+        view_of(
+            alloc,
+            channels,
+            &self.parts.configuration,
+            &self.parts.schedule,
+        )
     }
 }
 
@@ -164,6 +188,8 @@ impl<'n> Book<'n> {
         ensures history { IfOk result (λ told. told.1.events ≡ self.entry.history) }
     {
         let Book { parts } = self;
-        parts.into_view(alloc)
+        let channels = parts.network.channels();
+        let view = last_view(alloc, channels, parts.configuration, &parts.schedule)?;
+        Ok((view, parts.history))
     }
 }

@@ -1,113 +1,87 @@
-//! A book in the midst of a call: the same parts, of which all that holds of a book need not hold yet.
-ghost use Rattle.std.specs.Prelude.{◌≡◌, ◌<◌, ◌^◌, ◌↔◌, ℕ, [], ◌+◌, IfOk, IsTrue, is_some, length};
-ghost use Rattle.kpn_net.specs.Faults.{IsNetwork};
-ghost use Rattle.kpn_chan.specs.Channel.{next_item};
-ghost use Rattle.kpn_trace.specs.Views.{AreCounts};
-ghost use Rattle.kpn_configuration.specs.Configuration.{channel_in};
-ghost use Rattle.kpn_configuration.specs.Run.{IsRun};
-ghost use Rattle.kpn_schedule.specs.Schedule.{IsSchedule, all_ready};
+//! The parts of a book in the midst of a call: all that holds of a book need not hold of them yet.
+ghost use Rattle.std.specs.Prelude.{◌≡◌, ◌↔◌, ◌+◌, ◌-◌, ◌<◌, ◌^◌, length, Option, option_to_list, IsTrue, IfNone};
+ghost use Rattle.kpn_trace.specs.declared.state.Verdict.{Verdict as Told};
+ghost use Rattle.kpn_configuration.specs.Configuration.{IsConfiguration};
+ghost use Rattle.kpn_configuration.specs.Settled.{IsVerdictNow};
+ghost use Rattle.kpn_book.specs.Appending.{all_made_ready};
+ghost use Rattle.kpn_book.specs.Book.{IsHeld, held_count};
+ghost use Rattle.kpn_book.specs.Kept.{IsKept};
+ghost use Rattle.kpn_book.specs.Open.{MayBeReady, book_of, claims_by};
 
 use kpn_configuration::Configuration;
 use kpn_net::Network;
 use kpn_schedule::Schedule;
-use kpn_trace::{Counts, History};
+use kpn_trace::{History, State, Verdict};
 use std::alloc::Allocator;
-use std::marker::Model;
 
-mod claims;
 mod commits;
-mod events;
-mod moves;
-mod outside;
-mod parts;
-mod seen;
-mod start;
-mod stepping;
 
 /// The network, the history so far, the configuration to which it leads, the schedule of the processes, and how many
 /// commits were made.
 #[derive(Debug, Drop)]
 pub(crate) struct OpenBook<'n, A: Allocator> {
-    network: &'n Network,
-    configuration: Configuration<A>,
-    history: History<A>,
-    schedule: Schedule<A>,
-    commits: u64,
-}
-
-impl<'n, A: Allocator> Model for OpenBook<'n, A> {
-    ghost use Rattle.std.specs.Coded.{codes};
-    ghost use Rattle.kpn_lang.specs.Codes.{parts_code};
-    ghost use Rattle.kpn_book.specs.Open.{Open};
-
-    ghost Value = { Open };
-
-    ghost coded = { Prim.hlevel (codes, parts_code) };
-
-    ghost view = { λ o. record {
-      book = record {
-        tables = o.network.now;
-        history = o.history.events;
-        configuration = o.configuration;
-        schedule = o.schedule;
-        commits = o.commits;
-      };
-      room = o.history.room;
-    } };
+    pub(crate) network: &'n Network,
+    pub(crate) configuration: Configuration<A>,
+    pub(crate) history: History<A>,
+    pub(crate) schedule: Schedule<A>,
+    pub(crate) commits: u64,
 }
 
 impl<'n, A: Allocator> OpenBook<'n, A> {
-    /// Does nothing. It tells a caller's proof what holds of the network and of the schedule.
-    pub(crate) fn known(&self)
-        ensures network { IsNetwork self.now.book.tables }
-        ensures schedule { IsSchedule self.now.book.schedule }
-        ensures bound { length self.now.book.schedule.states < 2 ^ 64 }
+    /// Whether process `p` is held.
+    pub(crate) fn is_held(&self, p: usize) -> bool
+        ensures { IsTrue result ↔ IsHeld (book_of self.now) p }
     {
-        self.network.known();
-        self.schedule.known();
+        p < self.schedule.len() && self.schedule.state(p) == State::Held
     }
 
-    /// The network.
-    pub(crate) fn network(&self) -> &'n Network
-        ensures { result.now ≡ self.now.book.tables }
+    /// The first process of the queue is held from now on. `None` where no process is ready, or where the commits and
+    /// the processes that are held are as many as can be counted.
+    pub(crate) fn hold_next(&mut self) -> Option<usize>
+        requires { IsKept (book_of self.old) }
+        ensures claims { claims_by result (book_of self.old) (book_of self.new) }
+        ensures same { IfNone result (self.new ≡ self.old) }
     {
-        self.network
+        if self.is_counted_out() {
+            return None;
+        }
+        self.schedule.hold_next()
     }
 
-    /// How many processes are in each state.
-    pub(crate) fn counts(&self) -> Counts
-        ensures { AreCounts self.now.book.schedule.states result }
+    /// Whether the commits and the processes that are held are as many as can be counted.
+    fn is_counted_out(&self) -> bool
+        requires { self.now.commits + held_count (book_of self.now) < 2 ^ 64 }
+        ensures { IsTrue result ↔ (self.now.commits + held_count (book_of self.now) ≡ 2 ^ 64 - 1) }
     {
-        self.schedule.counts()
+        self.commits + self.schedule.counts().held as u64 == u64::MAX
     }
 
-    /// How many commits were made.
-    pub(crate) fn commits(&self) -> u64
-        ensures { result ≡ self.now.book.commits }
+    /// The verdict of the configuration. Apart, so that a verdict is asked for at each step by one look at the counts.
+    #[cold]
+    #[inline(never)]
+    pub(crate) fn judge(&self) -> Option<Verdict>
+        requires { IsConfiguration self.now.network.now self.now.configuration }
+        ensures { let t = self.now.network.now in (told : Option Told)
+            → ((result ≡ told) ↔ IsVerdictNow t self.now.configuration told) }
     {
-        self.commits
+        self.configuration.verdict(self.network)
     }
+}
 
-    /// The events so far.
-    pub(crate) fn history(&self) -> &History<A>
-        ensures { result.now.events ≡ self.now.book.history }
-    {
-        &self.history
+/// A process that was woken becomes ready, if there is one.
+pub(crate) fn wake<A: Allocator>(schedule: &mut Schedule<A>, woken: Option<usize>)
+    requires { MayBeReady schedule.old (option_to_list woken) }
+    ensures { schedule.new ≡ all_made_ready (option_to_list woken) schedule.old }
+{
+    if let Some(q) = woken {
+        schedule.make_ready(q);
     }
+}
 
-    /// The events so far, moved out.
-    pub(crate) fn into_history(self) -> History<A>
-        ensures { result.events ≡ self.entry.book.history }
-    {
-        let OpenBook { history, .. } = self;
-        history
-    }
-
-    /// Whether a get or a take would give an item.
-    pub(crate) fn has_item(&self, c: usize) -> bool
-        requires { c < length self.now.book.configuration.channels }
-        ensures { result ≡ is_some (next_item (channel_in self.now.book.configuration c)) }
-    {
-        self.configuration.has_item(c)
-    }
+/// A number of a process or of a channel, as events have it.
+pub(crate) fn number(n: usize) -> u16
+    requires { n < 2 ^ 16 }
+    ensures { result ≡ n }
+{
+    n as u16
 }

@@ -50,39 +50,22 @@ fn supply_next(
     if !network.is_source(c) {
         return Ok(source);
     }
-    supply(book, c, lists[source].as_slice())?;
+    feed_items(book, c, lists[source].as_slice())?;
+    close(book, c)?;
     Ok(source + 1)
 }
 
-/// Feeds these items to source `c` and closes it.
-fn supply(book: &mut Book<'_>, c: usize, items: &[i64]) -> Result<(), AllocError>
-    ensures supplied { IfOk result (λ _. IsSupplied c items.now book.old book.new) }
-    ensures closed { IfOk result (λ _. is_closed book.new.history c ≡ true) }
-{
-    feed_items(book, c, items)?;
-    close(book, c)
-}
-
-/// Feeds these items to source `c`.
+/// Feeds these items to source `c`, on which any number of items may be unread.
 fn feed_items(book: &mut Book<'_>, c: usize, items: &[i64]) -> Result<(), AllocError>
     ensures { IfOk result (λ _. IsSupplied c items.now book.old book.new) }
 {
     'items: for item in items {
-        feed(book, c, *item)?;
+        book.known();
+        let Ok(()) = book.feed(c, *item, usize::MAX) else {
+            return Err(AllocError);
+        };
     }
     Ok(())
-}
-
-/// Feeds an item to source `c`, on which any number of items may be unread.
-fn feed(book: &mut Book<'_>, c: usize, item: i64) -> Result<(), AllocError>
-    ensures { IfOk result (λ _. (before : Seen) (items : List ℤ)
-        → IsSupplied c items before book.old → IsSupplied c (items ++ item ∷ []) before book.new) }
-{
-    book.known();
-    match book.feed(c, item, usize::MAX) {
-        Ok(()) => Ok(()),
-        Err(_) => Err(AllocError),
-    }
 }
 
 /// Closes source `c`.

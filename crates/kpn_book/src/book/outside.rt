@@ -1,10 +1,14 @@
 //! The calls of the outside: it feeds sources and closes them, takes from sinks and leaves them. Sources and sinks
 //! go by their channel numbers.
-ghost use Rattle.std.specs.Prelude.{◌≡◌, ◌≢◌, IfOk, IfErr, OnErr, IfSome, IfNone};
-ghost use Rattle.kpn_book.specs.Refusals.{AcceptsItem, RefusesFeed, RefusesClose, RefusesTake, RefusesLeave, Feeds, Closes, Takes, Leaves};
+ghost use Rattle.std.specs.Prelude.{◌≡◌, ◌≢◌, ◌↔◌, ◌<◌, length, IsTrue, IfOk, IfErr, OnErr, IfSome, IfNone};
+ghost use Rattle.kpn_chan.specs.Channel.{ChannelState};
+ghost use Rattle.kpn_book.specs.Refusals.{AcceptsItem, IsAtBound, RefusesFeed, RefusesClose, RefusesTake, RefusesLeave, Feeds, Closes, Takes, Leaves};
 
 use super::Book;
 use crate::answers::Refused;
+use crate::open_book::{number, wake};
+use kpn_chan::Channel;
+use kpn_trace::Event;
 use std::alloc::Allocator;
 
 impl<'n, A: Allocator> Book<'n, A> {
@@ -15,7 +19,18 @@ impl<'n, A: Allocator> Book<'n, A> {
         ensures lasts { IfSome result (λ cause. cause ≢ Refused.NoMemory) }
         ensures none { IfNone result (AcceptsItem source bound self.now) }
     {
-        self.parts.feed_fault(source, item, bound)
+        let network = self.parts.network;
+        network.known();
+        if !network.is_source(source) {
+            return Some(Refused::NoSuchEnd);
+        }
+        if self.parts.configuration.is_closed(source) {
+            return Some(Refused::SourceClosed);
+        }
+        if is_at_bound(self.parts.configuration.channel(source), bound) {
+            return Some(Refused::Full(item));
+        }
+        None
     }
 
     /// Puts an item on a source that is not closed and on which fewer items than the bound are unread, or whose reader
@@ -25,7 +40,17 @@ impl<'n, A: Allocator> Book<'n, A> {
         ensures refused { IfErr result (λ cause. RefusesFeed source item bound self.old cause) }
         ensures as_before { OnErr result (self.new ≡ self.old) }
     {
-        self.parts.feed(source, item, bound)
+        let network = self.parts.network;
+        network.known();
+        if let Some(cause) = self.feed_fault(source, item, bound) {
+            return Err(cause);
+        }
+        self.parts.history.reserve(1)?;
+        self.parts.configuration.reserve_one(source)?;
+        let woken = self.parts.configuration.feed(network, source, item);
+        self.parts.history.push(Event::Feed(number(source), item));
+        wake(&mut self.parts.schedule, woken);
+        Ok(())
     }
 
     /// Closes a source. A second time it changes nothing and takes no memory.
@@ -34,7 +59,18 @@ impl<'n, A: Allocator> Book<'n, A> {
         ensures refused { IfErr result (λ cause. RefusesClose source self.old cause) }
         ensures as_before { OnErr result (self.new ≡ self.old) }
     {
-        self.parts.close_source(source)
+        let network = self.parts.network;
+        network.known();
+        if !network.is_source(source) {
+            return Err(Refused::NoSuchEnd);
+        }
+        if self.parts.configuration.is_closed(source) {
+            return Ok(());
+        }
+        self.parts.history.reserve(1)?;
+        self.parts.configuration.close(network, source);
+        self.parts.history.push(Event::Close(number(source)));
+        Ok(())
     }
 
     /// The next item of a sink that was not left, which is then read. `None` where nothing is unread: that takes no
@@ -44,7 +80,22 @@ impl<'n, A: Allocator> Book<'n, A> {
         ensures refused { IfErr result (λ cause. RefusesTake sink self.old cause) }
         ensures as_before { OnErr result (self.new ≡ self.old) }
     {
-        self.parts.take(sink)
+        let network = self.parts.network;
+        network.known();
+        if !network.is_sink(sink) {
+            return Err(Refused::NoSuchEnd);
+        }
+        if self.parts.configuration.channel(sink).is_retired() {
+            return Err(Refused::SinkLeft);
+        }
+        if !self.parts.configuration.has_item(sink) {
+            return Ok(None);
+        }
+        self.parts.history.reserve(1)?;
+        let got = self.parts.configuration.take(network, sink);
+        self.parts.history.push(Event::Take(number(sink), got.item));
+        wake(&mut self.parts.schedule, got.woken);
+        Ok(Some(got.item))
     }
 
     /// Leaves a sink: nothing is taken from it any more, and it is never full. A second time it changes nothing and
@@ -54,6 +105,25 @@ impl<'n, A: Allocator> Book<'n, A> {
         ensures refused { IfErr result (λ cause. RefusesLeave sink self.old cause) }
         ensures as_before { OnErr result (self.new ≡ self.old) }
     {
-        self.parts.leave_sink(sink)
+        let network = self.parts.network;
+        network.known();
+        if !network.is_sink(sink) {
+            return Err(Refused::NoSuchEnd);
+        }
+        if self.parts.configuration.channel(sink).is_retired() {
+            return Ok(());
+        }
+        self.parts.history.reserve(1)?;
+        let woken = self.parts.configuration.leave(network, sink);
+        self.parts.history.push(Event::Leave(number(sink)));
+        wake(&mut self.parts.schedule, woken);
+        Ok(())
     }
+}
+
+/// Whether the reader of a channel is there, and as many items as the bound are unread.
+fn is_at_bound<A: Allocator>(channel: &Channel<A>, bound: usize) -> bool
+    ensures { IsTrue result ↔ IsAtBound channel.now bound }
+{
+    !channel.is_retired() && bound <= channel.len()
 }

@@ -1,10 +1,10 @@
 //! The calls for whoever steps the processes: claim, commit, put back, and all in one for a single owner.
-ghost use Rattle.std.specs.Prelude.{◌≡◌, IfOk, IfErr, OnErr, IsTrue, IfSome, IfNone};
+ghost use Rattle.std.specs.Prelude.{◌≡◌, ◌↔◌, ◌<◌, ◌+◌, ◌-◌, ◌^◌, length, IfOk, IfErr, OnErr, IsTrue, IfSome, IfNone};
 ghost use Rattle.kpn_net.specs.Tables.{program_of};
 ghost use Rattle.kpn_step.specs.Frame.{fits};
 ghost use Rattle.kpn_step.specs.Stops.{IsWithinQuota};
 ghost use Rattle.kpn_configuration.specs.Configuration.{frame_in};
-ghost use Rattle.kpn_book.specs.Book.{IsHeld, IsClaimed, put_back};
+ghost use Rattle.kpn_book.specs.Book.{IsHeld, IsClaimed, held_count, put_back};
 ghost use Rattle.kpn_book.specs.Commits.{Commits};
 ghost use Rattle.kpn_book.specs.Refusals.{RefusesCommit, RefusesPutBack};
 ghost use Rattle.kpn_book.specs.Stepping.{ClaimsNobody, IsStep, StepsInVain};
@@ -12,7 +12,9 @@ ghost use Rattle.kpn_book.specs.Stepping.{ClaimsNobody, IsStep, StepsInVain};
 use super::Book;
 use crate::answers::{Done, Refused};
 use crate::claim::Claim;
-use kpn_step::Advance;
+use kpn_lang::same;
+use kpn_step::{Advance, Frame};
+use kpn_trace::State;
 use std::alloc::{AllocError, Allocator};
 
 impl<'n, A: Allocator> Book<'n, A> {
@@ -29,7 +31,16 @@ impl<'n, A: Allocator> Book<'n, A> {
         ensures nobody { IfNone result (ClaimsNobody self.old) }
         ensures as_before { IfNone result (self.new ≡ self.old) }
     {
-        self.parts.claim()
+        let Some(process) = self.parts.hold_next() else {
+            return None;
+        };
+        let program = self.parts.network.program(process);
+        let frame = self.parts.configuration.frame(process).copy();
+        Some(Claim {
+            process,
+            program,
+            frame,
+        })
     }
 
     /// Claims the first process of the queue as `claim` does, and begins the advance at its frame, by no step and in
@@ -42,7 +53,14 @@ impl<'n, A: Allocator> Book<'n, A> {
         ensures nobody { IfNone result (ClaimsNobody self.old) }
         ensures as_before { IfNone result ((self.new ≡ self.old) × (steps.new ≡ steps.old)) }
     {
-        self.parts.claim_into(steps)
+        let Some(process) = self.parts.hold_next() else {
+            return None;
+        };
+        steps.load(
+            self.parts.network.program(process),
+            self.parts.configuration.frame(process),
+        );
+        Some(process)
     }
 
     /// Commits the steps of process `p`, which is held: they are steps of its program from its frame. It gets or puts
@@ -53,7 +71,13 @@ impl<'n, A: Allocator> Book<'n, A> {
         ensures refused { IfErr result (λ cause. RefusesCommit p advance.now self.old cause) }
         ensures as_before { OnErr result (self.new ≡ self.old) }
     {
-        self.parts.commit_steps(p, advance)
+        if !self.parts.is_held(p) {
+            return Err(Refused::NotHeld);
+        }
+        if !same(advance.program(), self.parts.network.program(p)) {
+            return Err(Refused::Stranger);
+        }
+        self.commit_own(p, advance)
     }
 
     /// Commits the steps of process `p` as `commit` does, for who knows that they are steps of its program, as those of
@@ -64,7 +88,20 @@ impl<'n, A: Allocator> Book<'n, A> {
         ensures refused { IfErr result (λ cause. RefusesCommit p advance.now self.old cause) }
         ensures as_before { OnErr result (self.new ≡ self.old) }
     {
-        self.parts.commit_own_steps(p, advance)
+        advance.known();
+        if !self.parts.is_held(p) {
+            return Err(Refused::NotHeld);
+        }
+        if !same_frame(advance.from(), self.parts.configuration.frame(p)) {
+            return Err(Refused::Stranger);
+        }
+        let stop = advance.stop();
+        self.parts.reserve(p, stop)?;
+        let network = self.parts.network;
+        self.parts.configuration.step_to(network, p, advance);
+        let done = self.parts.handle_stop(p, stop);
+        self.parts.commits += 1;
+        Ok(done)
     }
 
     /// Puts process `p`, which is held, to the tail of the queue. It stands where it stood.
@@ -74,7 +111,11 @@ impl<'n, A: Allocator> Book<'n, A> {
         ensures refused { IfErr result (λ cause. RefusesPutBack p self.old cause) }
         ensures as_before { OnErr result (self.new ≡ self.old) }
     {
-        self.parts.release(p)
+        if !self.parts.is_held(p) {
+            return Err(Refused::NotHeld);
+        }
+        self.parts.schedule.put_back(p);
+        Ok(())
     }
 
     /// Claims a process, advances it by no more steps than the quota and commits this, in place: no frame is copied.
@@ -84,6 +125,23 @@ impl<'n, A: Allocator> Book<'n, A> {
         ensures step { IfOk result (λ answer. IsStep quota answer self.old self.new) }
         ensures in_vain { OnErr result (StepsInVain quota self.old self.new) }
     {
-        self.parts.step_one(quota)
+        let Some(p) = self.parts.hold_next() else {
+            return Ok(None);
+        };
+        let network = self.parts.network;
+        let (_, stop) = self.parts.configuration.step(network, p, quota);
+        if let Err(error) = self.parts.reserve(p, stop) {
+            self.parts.schedule.put_back(p);
+            return Err(error);
+        }
+        let done = self.parts.handle_stop(p, stop);
+        self.parts.commits += 1;
+        Ok(Some(done))
     }
+}
+
+fn same_frame(left: &Frame, right: &Frame) -> bool
+    ensures { IsTrue result ↔ (left.now ≡ right.now) }
+{
+    *left == *right
 }

@@ -1,202 +1,217 @@
-//! What a process that is held is answered where it stands.
-ghost use Rattle.std.specs.Prelude.{◌≡◌, ◌≢◌, ◌<◌, ◌≤◌, ℕ, ℤ, [], false, true, length, IsTrue};
+//! What a process that is held is answered where it stands: one function for each kind of stop makes the event that is
+//! due there, and after a wait the growth that is owed.
+ghost use Rattle.std.specs.Prelude.{◌≡◌, ◌≢◌, ◌<◌, ◌≤◌, ◌+◌, ℕ, ℤ, [], true, length, IsTrue};
 ghost use Rattle.kpn_net.specs.Tables.{instance_at, program_of};
-ghost use Rattle.kpn_step.specs.declared.stop.Stop.{Stop as Where};
+ghost use Rattle.kpn_step.specs.declared.stop.Stop.{Stop as Place};
 ghost use Rattle.kpn_step.specs.declared.stop.Stop.TheVariants.{Faulted, Paused};
 ghost use Rattle.kpn_step.specs.Frame.{Frame};
 ghost use Rattle.kpn_step.specs.Stops.{IsAtPort};
 ghost use Rattle.kpn_chan.specs.Channel.{is_full, unread};
+ghost use Rattle.kpn_trace.specs.declared.event.Event.TheVariants as event;
 ghost use Rattle.kpn_configuration.specs.Configuration.{channel_in};
 ghost use Rattle.kpn_configuration.specs.Changes.{IsChannelAt};
 ghost use Rattle.kpn_configuration.specs.Due.{Stands, ReadsFrom, WritesTo, stop_of};
 ghost use Rattle.kpn_book.specs.Book.{IsHeld};
-ghost use Rattle.kpn_book.specs.Commits.{IsReadFrom, IsWriteTo, HandlesStop};
-ghost use Rattle.kpn_book.specs.Kept.{IsInStep, IsKept};
-ghost use Rattle.kpn_book.specs.Open.{IsSound, EndsWithWait, GrowsIfOwed, Answered};
+ghost use Rattle.kpn_book.specs.Commits.{IsReadFrom, IsWriteTo};
+ghost use Rattle.kpn_book.specs.Kept.{IsInStep};
+ghost use Rattle.kpn_book.specs.Open.{book_of, reserves_by, IsSound, Follows, EndsWithWait, GrowsIfOwed, Answered, MayBeReady};
+ghost use Rattle.kpn_book.specs.Appending.{all_made_ready};
 
-use super::OpenBook;
+use super::{OpenBook, number, wake};
 use crate::answers::Done;
 use kpn_lang::Fault;
 use kpn_net::Network;
+use kpn_schedule::Schedule;
 use kpn_step::Stop;
-use kpn_trace::How;
-use std::alloc::Allocator;
+use kpn_trace::{Event, How, State};
+use std::alloc::{AllocError, Allocator};
 
 impl<'n, A: Allocator> OpenBook<'n, A> {
-    /// Process `p`, which stands at this stop, is answered, and this commit is counted.
-    pub(super) fn handle_stop(&mut self, p: usize, stop: Stop) -> Done
-        requires kept { IsKept self.old.book }
-        requires held { IsHeld self.old.book p }
-        requires room { stop ≢ Paused → 2 ≤ self.old.room }
-        requires stands { Stands self.old.book.tables self.old.book.configuration p stop }
-        requires port { (f : Frame) × IsAtPort (program_of self.old.book.tables p) f stop }
-        requires reserved { let b = self.old.book in (c : ℕ) (v : ℤ) → IsWriteTo b.tables p stop c v
-            → IsTrue (channel_in b.configuration c).is_reserved }
-        ensures handles { HandlesStop p stop result self.old.book self.new.book }
-        ensures kept { IsKept self.new.book }
+    /// Reserves what process `p`, which stands at this stop, may need: two events, and for a write an item.
+    pub(crate) fn reserve(&mut self, p: usize, stop: Stop) -> Result<(), AllocError>
+        requires process { p < length self.old.network.now.instances }
+        requires step { IsInStep (book_of self.old) }
+        requires port { (f : Frame) × IsAtPort (program_of self.old.network.now p) f stop }
+        ensures { reserves_by p stop result
+            (book_of self.old) self.new.history.room (book_of self.new) }
     {
-        let done = self.answer(p, stop);
-        self.count();
-        done
+        let network = self.network;
+        network.known();
+        match stop {
+            Stop::Paused => Ok(()),
+            Stop::WantWrite(port, _) => {
+                let c = out_channel(network, p, port);
+                self.history.reserve(2)?;
+                self.configuration.reserve_one(c)
+            }
+            // an arm of its own: in one with the ends the stop would be looked at again where the read is answered
+            Stop::WantRead(_) => self.history.reserve(2),
+            Stop::Done | Stop::Faulted(_) => self.history.reserve(2),
+        }
     }
 
     /// Process `p`, which stands at this stop, is answered.
-    fn answer(&mut self, p: usize, stop: Stop) -> Done
-        requires sound { IsSound self.old.book }
-        requires held { IsHeld self.old.book p }
-        requires room { stop ≢ Paused → 2 ≤ self.old.room }
-        requires stands { Stands self.old.book.tables self.old.book.configuration p stop }
-        requires port { (f : Frame) × IsAtPort (program_of self.old.book.tables p) f stop }
-        requires reserved { let b = self.old.book in (c : ℕ) (v : ℤ) → IsWriteTo b.tables p stop c v
-            → IsTrue (channel_in b.configuration c).is_reserved }
-        ensures { Answered p (λ (s : Where). s ≡ stop) result self.old.book self.new.book }
+    pub(crate) fn handle_stop(&mut self, p: usize, stop: Stop) -> Done
+        requires sound { IsSound (book_of self.old) }
+        requires held { IsHeld (book_of self.old) p }
+        requires room { stop ≢ Paused → 2 ≤ self.old.history.room }
+        requires stands { Stands self.old.network.now self.old.configuration p stop }
+        requires port { (f : Frame) × IsAtPort (program_of self.old.network.now p) f stop }
+        requires reserved { (c : ℕ) (v : ℤ) → IsWriteTo self.old.network.now p stop c v
+            → IsTrue (channel_in self.old.configuration c).is_reserved }
+        ensures { Answered p (λ (s : Place). s ≡ stop) result (book_of self.old) (book_of self.new) }
     {
-        self.known();
+        let network = self.network;
+        network.known();
         match stop {
             Stop::WantRead(port) => {
-                let c = self.in_channel(p, port);
+                let c = in_channel(network, p, port);
                 self.read(p, c)
             }
             Stop::WantWrite(port, item) => {
-                let c = self.out_channel(p, port);
+                let c = out_channel(network, p, port);
                 self.write(p, c, item)
             }
-            Stop::Done => self.finish(p, How::Done),
-            Stop::Faulted(fault) => self.finish(p, how_of(fault)),
-            Stop::Paused => self.pause(p),
+            Stop::Done => self.end(p, How::Done),
+            Stop::Faulted(fault) => self.end(p, how_of(fault)),
+            Stop::Paused => {
+                self.schedule.put_back(p);
+                Done::Paused
+            }
         }
     }
 
     /// Process `p`, which stands at a read from channel `c`, gets its next item, or waits where there is none.
     fn read(&mut self, p: usize, c: usize) -> Done
-        requires room { 2 ≤ self.old.room }
-        requires sound { IsSound self.old.book }
-        requires held { IsHeld self.old.book p }
-        requires reads { ReadsFrom self.old.book.tables self.old.book.configuration p c }
-        ensures { let t = self.old.book.tables in
-            Answered p (λ s. IsReadFrom t p s c) result self.old.book self.new.book }
+        requires room { 2 ≤ self.old.history.room }
+        requires sound { IsSound (book_of self.old) }
+        requires held { IsHeld (book_of self.old) p }
+        requires reads { ReadsFrom self.old.network.now self.old.configuration p c }
+        ensures { let t = self.old.network.now in
+            Answered p (λ s. IsReadFrom t p s c) result (book_of self.old) (book_of self.new) }
     {
-        self.known();
-        if !self.has_item(c) {
-            return self.block_on_empty(p, c);
+        let network = self.network;
+        network.known();
+        if !self.configuration.has_item(c) {
+            self.wait_on_empty(p, c);
+            return self.grow_if_owed(p);
         }
-        let item = self.get(p, c);
-        Done::Got(item)
+        let got = self.configuration.get(network, p, c);
+        self.history
+            .push(Event::Get(number(p), number(c), got.item));
+        self.schedule.put_back(p);
+        wake(&mut self.schedule, got.woken);
+        Done::Got(got.item)
     }
 
     /// Process `p`, which stands at a write of this item to channel `c`, puts it there, or waits where the channel is
     /// full.
     fn write(&mut self, p: usize, c: usize, item: i64) -> Done
-        requires room { 2 ≤ self.old.room }
-        requires sound { IsSound self.old.book }
-        requires held { IsHeld self.old.book p }
-        requires writes { WritesTo self.old.book.tables self.old.book.configuration p c item }
-        requires reserved { IsTrue (channel_in self.old.book.configuration c).is_reserved }
-        ensures { let t = self.old.book.tables in
-            Answered p (λ s. IsWriteTo t p s c item) result self.old.book self.new.book }
+        requires room { 2 ≤ self.old.history.room }
+        requires sound { IsSound (book_of self.old) }
+        requires held { IsHeld (book_of self.old) p }
+        requires writes { WritesTo self.old.network.now self.old.configuration p c item }
+        requires reserved { IsTrue (channel_in self.old.configuration c).is_reserved }
+        ensures { let t = self.old.network.now in
+            Answered p (λ s. IsWriteTo t p s c item) result (book_of self.old) (book_of self.new) }
     {
-        self.known();
-        if self.is_full(c) {
-            return self.block_on_full(p, c, item);
+        let network = self.network;
+        network.known();
+        if self.configuration.channel(c).is_full() {
+            self.wait_on_full(p, c, item);
+            return self.grow_if_owed(p);
         }
-        self.put(p, c, item);
+        let woken = self.configuration.put(network, p, c, item);
+        self.history.push(Event::Put(number(p), number(c), item));
+        self.schedule.put_back(p);
+        wake(&mut self.schedule, woken);
         Done::Put
     }
 
-    /// Process `p`, which stands at a read from channel `c`, where nothing is unread, waits.
-    fn block_on_empty(&mut self, p: usize, c: usize) -> Done
-        requires room { 2 ≤ self.old.room }
-        requires sound { IsSound self.old.book }
-        requires held { IsHeld self.old.book p }
-        requires reads { ReadsFrom self.old.book.tables self.old.book.configuration p c }
-        requires ready { unread (channel_in self.old.book.configuration c) ≡ [] }
-        ensures { let t = self.old.book.tables in
-            Answered p (λ s. IsReadFrom t p s c) result self.old.book self.new.book }
+    /// Process `p`, which stands at a read from channel `c`, waits on it as empty.
+    fn wait_on_empty(&mut self, p: usize, c: usize)
+        requires room { 0 < self.old.history.room }
+        requires sound { IsSound (book_of self.old) }
+        requires held { IsHeld (book_of self.old) p }
+        requires reads { ReadsFrom self.old.network.now self.old.configuration p c }
+        requires ready { unread (channel_in self.old.configuration c) ≡ [] }
+        ensures follows { Follows (event.WaitEmpty p c) (book_of self.old) (book_of self.new) }
+        ensures room { self.old.history.room ≤ self.new.history.room + 1 }
     {
-        self.wait_on_empty(p, c);
-        self.grow_if_owed(p)
+        let network = self.network;
+        network.known();
+        self.configuration.wait_on_empty(network, p, c);
+        self.history.push(Event::WaitEmpty(number(p), number(c)));
+        self.schedule.set(p, State::WaitsEmpty(c));
     }
 
-    /// Process `p`, which stands at a write of this item to channel `c`, which is full, waits.
-    fn block_on_full(&mut self, p: usize, c: usize, item: i64) -> Done
-        requires room { 2 ≤ self.old.room }
-        requires sound { IsSound self.old.book }
-        requires held { IsHeld self.old.book p }
-        requires writes { WritesTo self.old.book.tables self.old.book.configuration p c item }
-        requires ready { is_full (channel_in self.old.book.configuration c) ≡ true }
-        ensures { let t = self.old.book.tables in
-            Answered p (λ s. IsWriteTo t p s c item) result self.old.book self.new.book }
+    /// Process `p`, which stands at a write of this item to channel `c`, waits on it as full.
+    fn wait_on_full(&mut self, p: usize, c: usize, item: i64)
+        requires room { 0 < self.old.history.room }
+        requires sound { IsSound (book_of self.old) }
+        requires held { IsHeld (book_of self.old) p }
+        requires writes { WritesTo self.old.network.now self.old.configuration p c item }
+        requires ready { is_full (channel_in self.old.configuration c) ≡ true }
+        ensures follows { Follows (event.WaitFull p c) (book_of self.old) (book_of self.new) }
+        ensures room { self.old.history.room ≤ self.new.history.room + 1 }
     {
         let _item = item;
-        self.wait_on_full(p, c);
-        self.grow_if_owed(p)
+        let network = self.network;
+        network.known();
+        self.configuration.wait_on_full(network, p, c);
+        self.history.push(Event::WaitFull(number(p), number(c)));
+        self.schedule.set(p, State::WaitsFull(c));
     }
 
     /// Process `p`, which has come to wait, has the channel grown whose growth is owed for this, if one is.
     fn grow_if_owed(&mut self, p: usize) -> Done
-        requires room { 0 < self.old.room }
-        requires step { IsInStep self.old.book }
-        requires process { p < length self.old.book.tables.instances }
-        requires waits { EndsWithWait self.old.book.history p }
-        ensures { GrowsIfOwed p result self.old.book self.new.book }
+        requires room { 0 < self.old.history.room }
+        requires step { IsInStep (book_of self.old) }
+        requires process { p < length self.old.network.now.instances }
+        requires waits { EndsWithWait self.old.history.events p }
+        ensures { GrowsIfOwed p result (book_of self.old) (book_of self.new) }
     {
-        self.known();
-        let Some(d) = self.owed(p) else {
+        let network = self.network;
+        network.known();
+        let Some(d) = self.configuration.owed(network, p) else {
             return Done::Blocked;
         };
-        self.grow(p, d);
+        let woken = self.configuration.grow(network, p, d);
+        self.history.push(Event::Grow(number(p), number(d)));
+        wake(&mut self.schedule, woken);
         Done::Grew(d)
     }
 
-    /// Process `p`, which stands at this end, has ended.
-    fn finish(&mut self, p: usize, how: How) -> Done
-        requires room { 0 < self.old.room }
-        requires sound { IsSound self.old.book }
-        requires held { IsHeld self.old.book p }
-        requires stands { Stands self.old.book.tables self.old.book.configuration p (stop_of how) }
-        ensures { Answered p (λ s. s ≡ stop_of how) result self.old.book self.new.book }
+    /// Process `p`, which stands at this end, has ended, and those that this wakes become ready.
+    fn end(&mut self, p: usize, how: How) -> Done
+        requires room { 0 < self.old.history.room }
+        requires sound { IsSound (book_of self.old) }
+        requires held { IsHeld (book_of self.old) p }
+        requires stands { Stands self.old.network.now self.old.configuration p (stop_of how) }
+        ensures { Answered p (λ (s : Place). s ≡ stop_of how) result (book_of self.old) (book_of self.new) }
     {
-        self.end(p, how);
+        let network = self.network;
+        network.known();
+        let woken = self.configuration.end(network, p, how);
+        self.history.push(Event::Ended(number(p), how));
+        self.schedule.set(p, State::Ended(how));
+        wake_all(&mut self.schedule, woken.as_slice());
         Done::Ended
-    }
-
-    /// Process `p` is ready again.
-    fn pause(&mut self, p: usize) -> Done
-        requires sound { IsSound self.old.book }
-        requires held { IsHeld self.old.book p }
-        ensures { Answered p (λ (s : Where). s ≡ Paused) result self.old.book self.new.book }
-    {
-        self.make_ready(p);
-        Done::Paused
-    }
-
-    /// Whether a writer would have to wait.
-    fn is_full(&self, c: usize) -> bool
-        requires { c < length self.now.book.configuration.channels }
-        ensures { result ≡ is_full (channel_in self.now.book.configuration c) }
-    {
-        self.configuration.channel(c).is_full()
-    }
-
-    /// The channel at an in port of process `p`.
-    fn in_channel(&self, p: usize, port: usize) -> usize
-        requires process { p < length self.now.book.tables.instances }
-        requires port { port < length (instance_at self.now.book.tables p).ins }
-        ensures { IsChannelAt (instance_at self.now.book.tables p).ins port result }
-    {
-        in_channel(self.network, p, port)
-    }
-
-    /// The channel at an out port of process `p`.
-    pub(super) fn out_channel(&self, p: usize, port: usize) -> usize
-        requires process { p < length self.now.book.tables.instances }
-        requires port { port < length (instance_at self.now.book.tables p).outs }
-        ensures { IsChannelAt (instance_at self.now.book.tables p).outs port result }
-    {
-        out_channel(self.network, p, port)
     }
 }
 
+/// These processes become ready, in this order.
+fn wake_all<A: Allocator>(schedule: &mut Schedule<A>, woken: &[usize])
+    requires { MayBeReady schedule.old woken.now }
+    ensures { schedule.new ≡ all_made_ready woken.now schedule.old }
+{
+    'processes: for i in 0..woken.len() {
+        let q = woken[i];
+        schedule.make_ready(q);
+    }
+}
+
+/// The channel at an in port of process `p`.
 fn in_channel(network: &Network, p: usize, port: usize) -> usize
     requires process { p < length network.now.instances }
     requires port { port < length (instance_at network.now p).ins }
@@ -205,6 +220,7 @@ fn in_channel(network: &Network, p: usize, port: usize) -> usize
     network.ins(p)[port]
 }
 
+/// The channel at an out port of process `p`.
 fn out_channel(network: &Network, p: usize, port: usize) -> usize
     requires process { p < length network.now.instances }
     requires port { port < length (instance_at network.now p).outs }

@@ -28,7 +28,7 @@ returns-clause-more c =
     let given : c.as_slice.result.now ≡ given_by t lists c.args.c =
     c.as_slice.ensures ∙ c.index-lists-source.is ∙ get_or_default lists c.args.source _ [] there
     ∙ ap (λ n. get_or lists n []) c.requires.source in
-    IsFedBelow-more t (given_by t lists) c.args.c c.args.book.now c.supply.new.book is c.requires.so_far
-    (subst (λ items. IsSupplied c.args.c items c.args.book.now c.supply.new.book) given
-    c.in_ok-supply.ensures.supplied)
-    c.in_ok-supply.ensures.closed
+    IsFedBelow-more t (given_by t lists) c.args.c c.args.book.now c.close.new.book is c.requires.so_far
+    (subst (λ items. IsSupplied c.args.c items c.args.book.now c.close.new.book) given
+    (c.in_ok-close.ensures.supplied c.args.book.now c.as_slice.result.now c.in_ok-feed_items.ensures))
+    c.in_ok-close.ensures.closed

@@ -1,25 +1,53 @@
-use Rattle.std.proofs.Common.{◌≡◌, refl, sym, ap, subst}
-use Rattle.kpn_book.specs.Commits.{HandlesStop}
-use Rattle.kpn_book.specs.Kept.{IsKept}
-use Rattle.kpn_book.proofs.Answering.{fits_after, handles_counted, kept_counted}
+use Rattle.std.proofs.Common.{◌≡◌, ◌∙◌, ap, sym, subst, arith}
+use Rattle.kpn_net.specs.Tables.{program_of}
+use Rattle.kpn_net.proofs.Networks.{IsInstance-of}
+use Rattle.kpn_step.specs.Stops.{IsAtPort}
+use Rattle.kpn_step.specs.declared.stop.Stop.TheVariants.{Paused}
+use Rattle.kpn_book.specs.declared.answers.Done.TheVariants as done
+use Rattle.kpn_book.specs.Book.{put_back}
+use Rattle.kpn_book.specs.Commits.{IsReadFrom}
+use Rattle.kpn_book.specs.Open.{book_of, Answered}
+use Rattle.kpn_book.proofs.Following.{held_is_there, recorded}
+use Rattle.kpn_book.proofs.Answering.{asked_otherwise, answered_paused}
 use Rattle.kpn_book.proofs.open_book.OpenBook.handle_stop.Goals as goal
 
-pub count-requires : goal.count-requires
-count-requires g c =
-    fits_after c.args.self.now.book c.answer-done.new.self.book c.args.p (λ s. s ≡ c.args.stop) c.args.stop
-    c.answer-done.result refl c.requires.kept c.requires.held c.answer-done.ensures
+pub in_channel-c-requires-clause-port : goal.in_channel-c-requires-clause-port
+in_channel-c-requires-clause-port g c =
+    let b = book_of c.args.self.now in
+    let there = held_is_there b c.requires.sound.in_step c.args.p c.requires.held in
+    let at = subst (λ s. IsAtPort (program_of b.tables c.args.p) c.requires.port.0 s) c.in-WantRead.is
+    c.requires.port.1 in
+    let below = at.0 in
+    let long = (IsInstance-of b.tables c.known.ensures c.args.p there).ins in
+    omega (arith, below, long)
 
-pub returns-clause-handles : goal.returns-clause-handles
-returns-clause-handles g c =
-    subst (λ b. HandlesStop c.args.p c.args.stop c.answer-done.result c.args.self.now.book b)
-    (sym (ap (λ o. o.book) c.count.ensures))
-    (handles_counted c.args.self.now.book c.answer-done.new.self.book c.args.p c.args.stop c.answer-done.result
-    c.requires.kept (c.answer-done.ensures.answers c.args.stop refl) c.answer-done.ensures.sound
-    c.answer-done.ensures.released)
+pub out_channel-c-requires-clause-port : goal.out_channel-c-requires-clause-port
+out_channel-c-requires-clause-port g c =
+    let b = book_of c.args.self.now in
+    let there = held_is_there b c.requires.sound.in_step c.args.p c.requires.held in
+    let at =
+    subst (λ s. IsAtPort (program_of b.tables c.args.p) c.requires.port.0 s) c.in-WantWrite.is c.requires.port.1 in
+    let below = at.0 in
+    let long = (IsInstance-of b.tables c.known.ensures c.args.p there).outs in
+    omega (arith, below, long)
 
-pub returns-clause-kept : goal.returns-clause-kept
-returns-clause-kept g c =
-    subst IsKept (sym (ap (λ o. o.book) c.count.ensures))
-    (kept_counted c.args.self.now.book c.answer-done.new.self.book c.args.p c.args.stop c.answer-done.result
-    c.requires.kept (c.answer-done.ensures.answers c.args.stop refl) c.answer-done.ensures.sound
-    c.answer-done.ensures.released)
+pub write-requires-clause-reserved : goal.write-requires-clause-reserved
+write-requires-clause-reserved g c =
+    c.requires.reserved c.out_channel-c.result c.in-WantWrite.item
+    (record { port = c.in-WantWrite.port; asks = c.in-WantWrite.is; channel = c.out_channel-c.ensures })
+
+pub returns-in-WantRead : goal.returns-in-WantRead
+returns-in-WantRead g c =
+    let b = book_of c.args.self.now in
+    asked_otherwise c.args.p (λ s. IsReadFrom b.tables c.args.p s c.in_channel-c.result)
+    (λ s. s ≡ c.args.stop) c.read.result b (book_of c.read.new.self)
+    (λ s is. record { port = c.in-WantRead.port; asks = is ∙ c.in-WantRead.is; channel = c.in_channel-c.ensures })
+    c.read.ensures
+
+pub returns-in-Paused : goal.returns-in-Paused
+returns-in-Paused g c =
+    let b = book_of c.args.self.now in
+    subst (λ a. Answered c.args.p (λ s. s ≡ c.args.stop) done.Paused b a)
+    (sym (ap (recorded b b.history b.configuration) c.put_back.ensures))
+    (asked_otherwise c.args.p (λ s. s ≡ Paused) (λ s. s ≡ c.args.stop) done.Paused b (put_back c.args.p b)
+    (λ s is. is ∙ c.in-Paused.is) (answered_paused b c.requires.sound c.args.p c.requires.held))
