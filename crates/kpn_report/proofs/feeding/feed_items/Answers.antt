@@ -1,4 +1,4 @@
-use Rattle.std.proofs.Common.{ℤ, pos, [], ◌∷◌, ◌++◌, take, get_or, subst, sym, ap, ◌∙◌, rules, w64, SFits, to_z, of_z}
+use Rattle.std.proofs.Common.{ℤ, pos, [], ◌∷◌, ◌++◌, take, get_or, subst, sym, ap, ◌∙◌, rules, w64, SFits}
 use Rattle.std.proofs.lemmas.Int.{to_z-of_z}
 use Rattle.std.proofs.lemmas.List.{take_more}
 use Rattle.kpn_report.specs.Running.{IsSupplied}
