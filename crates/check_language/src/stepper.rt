@@ -172,7 +172,7 @@ fn goes_on_in_place(rt: HostRuntime) -> Result<(), Fail> {
     assert_eq!(rt; stop, Stop::WantRead(0));
     let mut kept = advance(&program, start.copy(), 9);
     kept.load(&program, &start);
-    assert_eq!(rt; *kept.stop_ref(), Stop::Paused);
+    assert_eq!(rt; kept.stop(), Stop::Paused);
     kept.run(9);
     assert_eq!(rt; kept.steps(), 1);
     assert!(rt; *kept.to() == frame);

@@ -131,7 +131,7 @@ impl Interpreter<'_> {
             LeadsTo (run tree self.now.turns) (goes_on answer) state.old state.new) }
     {
         match statement {
-            Stmt::Assign(variable, expr) => match state.value(expr) {
+            Stmt::Assign(variable, expr) => match eval(expr, &state.variables) {
                 Ok(value) => {
                     state.assign(*variable, value);
                     Ok(None)
@@ -146,7 +146,7 @@ impl Interpreter<'_> {
                 }
                 None => Ok(Some(Ending::Starved(*port))),
             },
-            Stmt::Write(port, expr) => match state.value(expr) {
+            Stmt::Write(port, expr) => match eval(expr, &state.variables) {
                 Ok(value) => {
                     state.say(Said::Put(*port, value))?;
                     Ok(None)
@@ -242,19 +242,12 @@ impl<'a> State<'a> {
         })
     }
 
-    fn value(&self, expr: &Expr) -> Result<i64, Fault>
-        requires { IsTrue (names_below (length self.now.variables) (term_of expr.now)) }
-        ensures { result ≡ value (term_of expr.now) self.now.variables }
-    {
-        eval(expr, &self.variables)
-    }
-
     // Whether a test holds.
     fn test(&self, expr: &Expr) -> Result<bool, Fault>
         requires { IsTrue (names_below (length self.now.variables) (term_of expr.now)) }
         ensures { result ≡ holds (value (term_of expr.now) self.now.variables) }
     {
-        Ok(self.value(expr)? != 0)
+        Ok(eval(expr, &self.variables)? != 0)
     }
 
     fn assign(&mut self, variable: usize, value: i64)

@@ -1,12 +1,12 @@
 //! A small list type over `Vec` that contracts see as a list: for fields, and for lists inside lists.
-ghost use Rattle.std.specs.Prelude.{◌≡◌, ◌+◌, ◌^◌, ◌<◌, ◌↔◌, [], ◌∷◌, ◌++◌, length, IsTrue, OnSome, slice_get, if◌then◌else◌, is_ok, IfErr};
+ghost use Rattle.std.specs.Prelude.{◌≡◌, ◌+◌, ◌^◌, ◌<◌, [], ◌∷◌, ◌++◌, length, OnSome, slice_get, if◌then◌else◌, is_ok, IfErr};
 ghost use Rattle.std.specs.Cmp.Lexicographic.{pointwise, lists_per, lists_equiv};
 ghost use Rattle.kpn_lang.specs.Lists.{remaining, next_at, without_next};
 
 use std::alloc::{AllocFailed, Allocator, Global};
 use std::marker::Model;
 
-/// A list of items. It is made from a `Vec` and gives it back without taking memory.
+/// A list of items. It is made from a `Vec` without taking memory.
 #[derive(Debug, Drop)]
 pub struct Sequence<T, A: Allocator = Global> {
     items: Vec<T, A>,
@@ -52,33 +52,11 @@ impl<T, A: Allocator> Sequence<T, A> {
         Sequence { items }
     }
 
-    /// The `Vec` of the items.
-    pub fn into_vec(self) -> Vec<T, A>
-        ensures { result.items ≡ self }
-    {
-        let Sequence { items } = self;
-        items
-    }
-
     /// The items in order.
     pub fn as_slice(&self) -> &[T]
         ensures { result.now ≡ self.now }
     {
         self.items.as_slice()
-    }
-
-    /// How many items there are.
-    pub fn len(&self) -> usize
-        ensures { result ≡ length self.now }
-    {
-        self.items.len()
-    }
-
-    /// Whether there is no item.
-    pub fn is_empty(&self) -> bool
-        ensures { IsTrue result ↔ (self.now ≡ []) }
-    {
-        self.items.is_empty()
     }
 
     /// Puts an item at the end. The error gives the item back where memory ran out; the list is then

@@ -1,6 +1,6 @@
 //! Tables of names: the number of a name is its place, in the order in which the names were given.
 
-ghost use Rattle.std.specs.Prelude.{◌≡◌, ◌↔◌, IsTrue, [], length, slice_get, option_copied, OnOk, IfOk, IfErr};
+ghost use Rattle.std.specs.Prelude.{◌≡◌, [], length, slice_get, option_copied, OnOk, IfOk, IfErr};
 ghost use Rattle.std.proofs.Common.{rules};
 ghost use Rattle.std.specs.Cmp.Rules.{comparing};
 ghost use Rattle.std.specs.Str.{bytes_eq};
@@ -85,13 +85,6 @@ impl<'a> NameTable<'a> {
         ensures { result ≡ length self.now }
     {
         self.words.len()
-    }
-
-    /// Whether there is no name.
-    pub fn is_empty(&self) -> bool
-        ensures { IsTrue result ↔ (self.now ≡ []) }
-    {
-        self.words.is_empty()
     }
 
     /// The bytes of the name with this number, or `None` where there is none.

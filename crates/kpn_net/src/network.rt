@@ -16,7 +16,7 @@ mod equality;
 mod parts;
 mod sides;
 
-use equality::same_parts;
+use equality::{same_channels, same_processes};
 use parts::Parts;
 use sides::Side;
 
@@ -231,5 +231,7 @@ impl Network {
 pub fn same(left: &Network, right: &Network) -> bool
     ensures { IsTrue result ↔ (left.now ≡ right.now) }
 {
-    same_parts(&left.parts, &right.parts)
+    same_processes(&left.parts, &right.parts)
+        && same_channels(&left.parts.channels, &right.parts.channels)
+        && left.parts.limit == right.parts.limit
 }

@@ -2,7 +2,7 @@
 //! has ended, and how many of each there are.
 #![tactic(auto)]
 
+mod counting;
 mod schedule;
-mod states;
 
 pub use schedule::Schedule;

@@ -1,9 +1,10 @@
 //! A schedule as it is kept: the states of the processes, and a queue of those that are ready with room for all.
-ghost use Rattle.std.specs.Prelude.{◌≡◌, ◌↔◌, ℕ, ◌<◌, ◌^◌, true, false, ◌&&◌, nat_eq, [], length, slice_get, IfOk, IfSome, IfNone};
+ghost use Rattle.std.specs.Prelude.{◌≡◌, ◌↔◌, ℕ, ◌<◌, ◌^◌, true, false, ◌&&◌, nat_eq, [], length, replicate, slice_get, slice_set, IfOk, IfSome, IfNone};
+ghost use Rattle.kpn_trace.specs.declared.state.State.TheVariants.{Ready};
 ghost use Rattle.kpn_trace.specs.Views.{AreCounts, is_ready};
 ghost use Rattle.kpn_schedule.specs.Schedule.{state_at, IsSchedule, HaveStopped, all_ready, HoldsFirst, made_ready, with_state};
 
-use crate::states::States;
+use crate::counting::{enter, leave};
 use kpn_trace::{Counts, State};
 use std::alloc::{AllocError, Allocator, Global};
 use std::collections::VecDeque;
@@ -15,21 +16,24 @@ use std::marker::Model;
 /// Contracts see the state of each process and the queue. But for `new` and `copy_states` no call takes memory.
 #[derive(Debug, Drop)]
 pub struct Schedule<A: Allocator = Global> {
-    states: States<A>,
+    states: Vec<State, A>,
+    // How many processes are in each state, kept step by step.
+    counts: Counts,
     queue: VecDeque<usize, A>,
 }
 
 impl<A: Allocator> Model for Schedule<A> {
     ghost use Rattle.std.specs.Prelude.{◌≤◌, length};
     ghost use Rattle.std.specs.VecDeque.{deque_capacity};
+    ghost use Rattle.kpn_trace.specs.Views.{AreCounts};
     ghost use Rattle.kpn_schedule.specs.Schedule.{Schedule as Seen, IsSchedule};
 
     ghost Value = { Seen };
 
-    ghost view = { λ s. record { states = s.states; queue = s.queue.items } };
+    ghost view = { λ s. record { states = s.states.items; queue = s.queue.items } };
 
-    ghost invariant = { λ s. IsSchedule (record { states = s.states; queue = s.queue.items })
-        × (length s.states ≤ deque_capacity s.queue) };
+    ghost invariant = { λ s. IsSchedule (record { states = s.states.items; queue = s.queue.items })
+        × ((length s.states.items ≤ deque_capacity s.queue) × AreCounts s.states.items s.counts) };
 }
 
 impl<A: Allocator + Copy> Schedule<A> {
@@ -38,12 +42,23 @@ impl<A: Allocator + Copy> Schedule<A> {
     pub fn new(alloc: A, processes: usize) -> Result<Self, AllocError>
         ensures { IfOk result (λ made. made ≡ all_ready processes) }
     {
-        let states = States::all_ready(alloc, processes)?;
+        let states = all_ready(alloc, processes)?;
+        let counts = Counts {
+            ready: processes,
+            held: 0,
+            empty: 0,
+            full: 0,
+            ended: 0,
+        };
         let mut queue = VecDeque::with_capacity(alloc, processes)?;
         for p in 0..processes {
             queue.push_back_reserved(p);
         }
-        Ok(Schedule { states, queue })
+        Ok(Schedule {
+            states,
+            counts,
+            queue,
+        })
     }
 }
 
@@ -60,22 +75,21 @@ impl<A: Allocator> Schedule<A> {
         requires { p < length self.now.states }
         ensures { result ≡ state_at self.now.states p }
     {
-        self.states.get(p)
+        self.states[p]
     }
 
     /// How many processes are in each state.
     pub fn counts(&self) -> Counts
         ensures { AreCounts self.now.states result }
     {
-        self.states.counts()
+        self.counts
     }
 
     /// Whether each process has ended or waits.
     pub fn is_idle(&self) -> bool
         ensures { (result ≡ true) ↔ HaveStopped self.now.states }
     {
-        let counts = self.states.counts();
-        none_goes(counts)
+        none_goes(self.counts)
     }
 
     /// The process that is the next to be held, `None` where no process is ready.
@@ -91,7 +105,13 @@ impl<A: Allocator> Schedule<A> {
         ensures none { IfNone result ((self.old.queue ≡ []) × (self.new ≡ self.old)) }
     {
         let p = self.queue.pop_front()?;
-        self.states.change(p, State::Ready, State::Held);
+        change(
+            &mut self.states,
+            &mut self.counts,
+            p,
+            State::Ready,
+            State::Held,
+        );
         Some(p)
     }
 
@@ -120,7 +140,7 @@ impl<A: Allocator> Schedule<A> {
         requires state { is_ready from ≡ false }
         ensures { self.new ≡ made_ready p self.old }
     {
-        self.states.change(p, from, State::Ready);
+        change(&mut self.states, &mut self.counts, p, from, State::Ready);
         self.queue.push_back_reserved(p);
     }
 
@@ -131,14 +151,15 @@ impl<A: Allocator> Schedule<A> {
         requires new { is_ready state ≡ false }
         ensures { self.new ≡ with_state p state self.old }
     {
-        self.states.set(p, state);
+        let from = self.states[p];
+        change(&mut self.states, &mut self.counts, p, from, state);
     }
 
     /// A list of the states, in order of number. The error is that memory ran out.
     pub fn copy_states<B: Allocator>(&self, alloc: B) -> Result<Vec<State, B>, AllocError>
         ensures { IfOk result (λ states. states.items ≡ self.now.states) }
     {
-        self.states.copy(alloc)
+        Vec::from_slice(alloc, self.states.as_slice())
     }
 
     /// Does nothing. It tells a caller's proof what holds of every schedule: the queue holds each ready process once
@@ -149,6 +170,33 @@ impl<A: Allocator> Schedule<A> {
     {
         let _ = &self.queue;
     }
+}
+
+/// The states of so many processes that are all ready.
+fn all_ready<A: Allocator>(alloc: A, processes: usize) -> Result<Vec<State, A>, AllocError>
+    ensures { IfOk result (λ states. states.items ≡ replicate processes Ready) }
+{
+    Ok(vec![in alloc; State::Ready; processes]?)
+}
+
+/// From now on process `p`, which was in the state `from`, is in the state `to`. It does not look at the state that is
+/// kept.
+fn change<A: Allocator>(
+    states: &mut Vec<State, A>,
+    counts: &mut Counts,
+    p: usize,
+    from: State,
+    to: State,
+)
+    requires process { p < length states.old.items }
+    requires from { state_at states.old.items p ≡ from }
+    requires counts { AreCounts states.old.items counts.old }
+    ensures states { states.new.items ≡ slice_set states.old.items p to }
+    ensures counts { AreCounts states.new.items counts.new }
+{
+    leave(counts, from);
+    enter(counts, to);
+    states[p] = to;
 }
 
 /// Whether none is counted as ready or held.

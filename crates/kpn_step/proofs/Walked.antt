@@ -11,13 +11,14 @@ use Rattle.kpn_lang.specs.Parts.{Parts, IsProgram}
 use Rattle.kpn_lang.specs.Run.{Lists, list_at, ends, says}
 use Rattle.kpn_lang.specs.Alone.{Process, CanSay, ComesTo, alone}
 use Rattle.kpn_step.specs.declared.stop.Stop.TheVariants as stop
+use Rattle.kpn_step.specs.declared.stop.AloneStop.{AloneStop}
 use Rattle.kpn_step.specs.declared.stop.AloneStop.TheVariants.{Done, Faulted, Starved, Paused}
 use Rattle.kpn_step.specs.Frame.{Frame, start_frame, fits}
 use Rattle.kpn_step.specs.Step.{Steps}
 use Rattle.kpn_step.specs.Residual.{residual, SaysTheSame}
 use Rattle.kpn_step.specs.Stops.{StandsAt}
 use Rattle.kpn_step.specs.After.{GoesOnAs}
-use Rattle.kpn_step.specs.Walk.{Speaks, Walks, AloneGives}
+use Rattle.kpn_step.specs.Walk.{Speaks, Walks, IsAloneOutcome, AloneGives}
 use Rattle.kpn_step.proofs.Sameness.{SaysTheSame-equal}
 use Rattle.kpn_step.proofs.StepCases.{Steps-append}
 use Rattle.kpn_step.proofs.Places.{fits-start, fits-passed_with, fits-steps}
@@ -176,49 +177,25 @@ module _ (parts : Parts) (program : IsProgram parts) (pars : List ℤ) (lists : 
 
   module _ (quota k : ℕ) (most : k ≤ quota) (talk : List Said) (to : Frame) (rest : Lists)
       (walk : Walks parts.blocks k (start_frame parts pars) lists talk to rest) where
+    gives : (stop : AloneStop) → IsAloneOutcome parts pars lists (k ≡ quota) to talk stop →
+        AloneGives parts pars lists quota talk stop
+    gives stop outcome =
+        record { steps = k; most = most; to = to; rest = rest; walk = walk; outcome = outcome }
+
     pub AloneGives-done : StandsAt parts.blocks to stop.Done → AloneGives parts pars lists quota talk Done
-    AloneGives-done at =
-        record {
-          steps = k;
-          most = most;
-          to = to;
-          rest = rest;
-          walk = walk;
-          outcome = comes_to k talk to rest ending.Done walk (at.ended 0 rest) (λ e. cc);
-        }
+    AloneGives-done at = gives Done (comes_to k talk to rest ending.Done walk (at.ended 0 rest) (λ e. cc))
 
     pub AloneGives-faulted : (fault : Fault) → StandsAt parts.blocks to (stop.Faulted fault) →
         AloneGives parts pars lists quota talk (Faulted fault)
     AloneGives-faulted fault at =
-        record {
-          steps = k;
-          most = most;
-          to = to;
-          rest = rest;
-          walk = walk;
-          outcome = comes_to k talk to rest (ending.Faulted fault) walk (at.faulted 0 rest) (λ e. cc);
-        }
+        gives (Faulted fault) (comes_to k talk to rest (ending.Faulted fault) walk (at.faulted 0 rest) (λ e. cc))
 
     pub AloneGives-starved : (port : ℕ) → StandsAt parts.blocks to (stop.WantRead port) → list_at rest port ≡ [] →
         AloneGives parts pars lists quota talk (Starved port)
     AloneGives-starved port at none =
-        record {
-          steps = k;
-          most = most;
-          to = to;
-          rest = rest;
-          walk = walk;
-          outcome = comes_to k talk to rest (ending.Starved port) walk (at.1.starved 0 rest none) (λ e. cc);
-        }
+        gives (Starved port)
+        (comes_to k talk to rest (ending.Starved port) walk (at.1.starved 0 rest none) (λ e. cc))
 
     pub AloneGives-paused : StandsAt parts.blocks to stop.Paused → k ≡ quota →
         AloneGives parts pars lists quota talk Paused
-    AloneGives-paused at used_up =
-        record {
-          steps = k;
-          most = most;
-          to = to;
-          rest = rest;
-          walk = walk;
-          outcome = (can_say k talk to rest walk, at, used_up);
-        }
+    AloneGives-paused at used_up = gives Paused (can_say k talk to rest walk, at, used_up)

@@ -111,13 +111,6 @@ impl<'p> Advance<'p> {
         self.stop = stop;
     }
 
-    /// Why they ended, without a copy.
-    pub fn stop_ref(&self) -> &Stop
-        ensures { result.now ≡ self.now.stop }
-    {
-        &self.stop
-    }
-
     /// Does nothing. It tells a caller's proof what the steps are, and that a stop at a read or a write names a port of
     /// the program.
     pub fn known(&self)

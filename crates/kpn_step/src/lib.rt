@@ -4,7 +4,6 @@
 
 mod advanced;
 mod alone_run;
-mod element;
 mod frame;
 pub mod laws;
 mod place;

@@ -1,23 +1,12 @@
-//! Equality of the parts of programs by value: where they lie in memory does not count.
+//! Equality of the blocks of programs by value: where they lie in memory does not count.
 ghost use Rattle.std.specs.Prelude.{◌≡◌, ◌↔◌, IsTrue};
 ghost use Rattle.kpn_lang.specs.Syntax.{term_of, statement_of};
-ghost use Rattle.kpn_lang.specs.View.{parts_of, blocks_of, statements_of};
+ghost use Rattle.kpn_lang.specs.View.{blocks_of, statements_of};
 
-use crate::program::parts::Parts;
 use crate::syntax::{Expr, Op, Stmt};
 
-/// Whether two programs are made of the same parts.
-pub fn same_parts(left: &Parts, right: &Parts) -> bool
-    ensures { IsTrue result ↔ (parts_of left.now ≡ parts_of right.now) }
-{
-    left.ins == right.ins
-        && left.outs == right.outs
-        && left.pars == right.pars
-        && left.vars == right.vars
-        && same_blocks(&left.blocks, &right.blocks)
-}
-
-fn same_blocks(left: &[Vec<Stmt>], right: &[Vec<Stmt>]) -> bool
+/// Whether two programs have the same blocks.
+pub fn same_blocks(left: &[Vec<Stmt>], right: &[Vec<Stmt>]) -> bool
     ensures { IsTrue result ↔ (blocks_of left.now ≡ blocks_of right.now) }
 {
     left.len() == right.len() && left.iter().zip(right).all(|(x, y)| same_block(x, y))

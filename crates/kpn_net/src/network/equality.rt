@@ -1,20 +1,11 @@
 //! Equality of the parts of networks by value: places in memory do not count.
 ghost use Rattle.std.specs.Prelude.{◌≡◌, ◌↔◌, IsTrue};
-ghost use Rattle.kpn_net.specs.View.{tables_of};
 
 use crate::network::parts::Parts;
 use crate::tables::{ChannelSpec, Instance};
 use kpn_lang::{Program, same};
 
-pub fn same_parts(left: &Parts, right: &Parts) -> bool
-    ensures { IsTrue result ↔ (tables_of left.now ≡ tables_of right.now) }
-{
-    same_processes(left, right)
-        && same_channels(&left.channels, &right.channels)
-        && left.limit == right.limit
-}
-
-fn same_processes(left: &Parts, right: &Parts) -> bool
+pub fn same_processes(left: &Parts, right: &Parts) -> bool
     ensures { IsTrue result
         ↔ ((left.now.programs.items ≡ right.now.programs.items)
         × (left.now.instances.items ≡ right.now.instances.items)) }
@@ -51,7 +42,7 @@ fn same_ends(left: &Instance, right: &Instance) -> bool
         && same_ports(left.outs.as_slice(), right.outs.as_slice())
 }
 
-fn same_channels(left: &[ChannelSpec], right: &[ChannelSpec]) -> bool
+pub fn same_channels(left: &[ChannelSpec], right: &[ChannelSpec]) -> bool
     ensures { IsTrue result ↔ (left.now ≡ right.now) }
 {
     left.len() == right.len() && left.iter().zip(right).all(|(x, y)| same_channel(x, y))

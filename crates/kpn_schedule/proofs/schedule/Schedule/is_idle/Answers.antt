@@ -4,4 +4,4 @@ use Rattle.kpn_schedule.proofs.schedule.Schedule.is_idle.Goals as goal
 pub returns : goal.returns
 returns g c =
     rw (← c.self.view_is, c.none_goes.ensures)
-    (idle_is c.self.inside.states c.counts-counts.result c.counts-counts.ensures)
+    (idle_is c.self.inside.states.items c.self.inside.counts c.self.invariant.1.1)

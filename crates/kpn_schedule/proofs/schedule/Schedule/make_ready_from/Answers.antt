@@ -8,23 +8,26 @@ use Rattle.kpn_schedule.proofs.schedule.Schedule.make_ready_from.Goals as goal
 pub push_back_reserved-requires : goal.push_back_reserved-requires
 push_back_reserved-requires g c =
     let room =
-    has_room c.self.inside.states c.self.inside.queue.items c.self.invariant.0 c.args.p
+    has_room c.self.inside.states.items c.self.inside.queue.items c.self.invariant.0 c.args.p
     (subst (λ s. c.args.p < length s.states) (sym c.self.view_is) c.requires.process)
     (subst (λ s. is_ready (get_or s.states c.args.p Ready) ≡ false) (sym c.self.view_is)
     (ap is_ready c.requires.from ∙ c.requires.state)) in
-    omega (arith, c.self.invariant.1, c.self.inside.queue.ok.0)
+    omega (arith, c.self.invariant.1.0, c.self.inside.queue.ok.0)
 
 pub invariant_of-self : goal.invariant_of-self
 invariant_of-self g c =
-    rw (c.change.ensures, c.push_back_reserved.ensures.items) (
-      IsSchedule-made_ready c.self.inside.states c.self.inside.queue.items c.self.invariant.0 c.args.p
+    rw (c.change.ensures.states, c.push_back_reserved.ensures.items) (
+      IsSchedule-made_ready c.self.inside.states.items c.self.inside.queue.items c.self.invariant.0 c.args.p
           (subst (λ s. c.args.p < length s.states) (sym c.self.view_is) c.requires.process)
           (subst (λ s. is_ready (get_or s.states c.args.p Ready) ≡ false) (sym c.self.view_is)
           (ap is_ready c.requires.from ∙ c.requires.state)),
-      omega (
-        arith,
-        length-set c.self.inside.states c.args.p Ready,
-        c.self.invariant.1,
-        c.push_back_reserved.ensures.capacity,
+      (
+        omega (
+          arith,
+          length-set c.self.inside.states.items c.args.p Ready,
+          c.self.invariant.1.0,
+          c.push_back_reserved.ensures.capacity,
+        ),
+        rw c.change.ensures.states at c.change.ensures.counts,
       ),
     )

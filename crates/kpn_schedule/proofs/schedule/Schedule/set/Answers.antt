@@ -7,10 +7,13 @@ use Rattle.kpn_schedule.proofs.schedule.Schedule.set.Goals as goal
 
 pub invariant_of-self : goal.invariant_of-self
 invariant_of-self g c =
-    rw c.set.ensures (
-      IsSchedule-set c.self.inside.states c.self.inside.queue.items c.self.invariant.0 c.args.p
+    rw c.change.ensures.states (
+      IsSchedule-set c.self.inside.states.items c.self.inside.queue.items c.self.invariant.0 c.args.p
           (subst (λ s. c.args.p < length s.states) (sym c.self.view_is) c.requires.process)
           (subst (λ s. is_ready (get_or s.states c.args.p Ready) ≡ false) (sym c.self.view_is) c.requires.old)
           c.args.state c.requires.new,
-      omega (arith, length-set c.self.inside.states c.args.p c.args.state, c.self.invariant.1),
+      (
+        omega (arith, length-set c.self.inside.states.items c.args.p c.args.state, c.self.invariant.1.0),
+        rw c.change.ensures.states at c.change.ensures.counts,
+      ),
     )
