@@ -33,11 +33,11 @@ pub(crate) fn report_here<S: Shelf>(
     shelf: &S,
 ) -> Result<Reported, Refusal>
     ensures ok { IfOk result (IsReported (S.may_give shelf.now) request.now.file.now
-        (map (λ word. word.now) request.now.words.items) request.now.limits) }
+        (map (λ word. word.now) request.now.sources.items) request.now.limits) }
     ensures refused { IfErr result (IsUnreported (S.may_give shelf.now) request.now.file.now
-        (map (λ word. word.now) request.now.words.items) None) }
+        (map (λ word. word.now) request.now.sources.items) None) }
 {
-    let inputs = load_inputs(alloc, shelf, request.file, &request.words)?;
+    let inputs = load_inputs(alloc, shelf, request.file, &request.sources)?;
     let network = inputs.document.network();
     let report = run_here(alloc, network, &inputs.given, &request.limits)?;
     Ok(Reported { inputs, report })
@@ -52,11 +52,11 @@ pub(crate) fn report_by_workers<R: Threads + Wait + Clock + Sync, S: Shelf>(
     shelf: &S,
 ) -> Result<Reported, Refusal>
     ensures ok { IfOk result (IsReported (S.may_give shelf.now) request.now.file.now
-        (map (λ word. word.now) request.now.words.items) request.now.limits) }
+        (map (λ word. word.now) request.now.sources.items) request.now.limits) }
     ensures refused { IfErr result (IsUnreported (S.may_give shelf.now) request.now.file.now
-        (map (λ word. word.now) request.now.words.items) (Some workers)) }
+        (map (λ word. word.now) request.now.sources.items) (Some workers)) }
 {
-    let inputs = load_inputs(alloc, shelf, request.file, &request.words)?;
+    let inputs = load_inputs(alloc, shelf, request.file, &request.sources)?;
     let network = inputs.document.network();
     let report = run_by_workers(rt, alloc, network, &inputs.given, workers, &request.limits)?;
     Ok(Reported { inputs, report })

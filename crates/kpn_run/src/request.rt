@@ -7,7 +7,7 @@ use kpn_report::Limits;
 #[derive(Debug, Drop)]
 pub struct RunRequest<'a> {
     pub file: &'a str,
-    pub words: Vec<&'a str>,
+    pub sources: Vec<&'a str>,
     pub limits: Limits,
     pub trace: Option<&'a str>,
 }

@@ -29,7 +29,7 @@ pub fn run_command<S: Shelf, O: Write, E: Write>(
     err: &mut E,
 ) -> u8
     ensures { AnswersRun S.may_give O.contents request.now.file.now
-        (map (λ word. word.now) request.now.words.items) request.now.limits
+        (map (λ word. word.now) request.now.sources.items) request.now.limits
         (option_map (λ name. name.now) request.now.trace) None
         shelf.old shelf.new out.old out.new err.old err.new result }
 {
@@ -52,7 +52,7 @@ pub fn run_command_by_workers<R: Threads + Wait + Clock + Sync, S: Shelf, O: Wri
     err: &mut E,
 ) -> u8
     ensures { AnswersRun S.may_give O.contents request.now.file.now
-        (map (λ word. word.now) request.now.words.items) request.now.limits
+        (map (λ word. word.now) request.now.sources.items) request.now.limits
         (option_map (λ name. name.now) request.now.trace) (Some workers)
         shelf.old shelf.new out.old out.new err.old err.new result }
 {
@@ -72,7 +72,7 @@ fn tell<S: Shelf, O: Write, E: Write>(
     err: &mut E,
 ) -> u8
     requires { IsReported (S.may_give shelf.old) request.now.file.now
-        (map (λ word. word.now) request.now.words.items) request.now.limits reported.now }
+        (map (λ word. word.now) request.now.sources.items) request.now.limits reported.now }
     ensures { TellsReport S.may_give O.contents request.now.limits
         (option_map (λ name. name.now) request.now.trace) reported.now
         shelf.old shelf.new out.old out.new err.old err.new result }

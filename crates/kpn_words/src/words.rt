@@ -30,21 +30,6 @@ const TRACE: &str = "TRACE";
 
 const STEPS: &str = "STEPS";
 
-/// What a run is asked for.
-#[derive(Drop)]
-pub struct RunWords<'a> {
-    /// The file of the description.
-    pub file: &'a str,
-    /// The words behind the `--source` options.
-    pub words: Vec<&'a str>,
-    /// The most commits.
-    pub commits: u64,
-    /// How many items are wanted of each sink.
-    pub take: Option<u64>,
-    /// The file for the trace.
-    pub trace: Option<&'a str>,
-}
-
 /// What a command line asks for.
 #[derive(Drop)]
 pub enum Request<'a> {
@@ -58,10 +43,22 @@ pub enum Request<'a> {
     Rounds {
         file: &'a str,
         n: u32,
-        words: Vec<&'a str>,
+        sources: Vec<&'a str>,
     },
-    /// `run FILE`, with what the run is asked for, and how many workers it has, where it has any.
-    Run(RunWords<'a>, Option<u32>),
+    /// `run FILE`.
+    Run {
+        file: &'a str,
+        /// The words behind the `--source` options.
+        sources: Vec<&'a str>,
+        /// How many workers there are, if there are any.
+        workers: Option<u32>,
+        /// The most commits.
+        commits: u64,
+        /// How many items are wanted of each sink.
+        take: Option<u64>,
+        /// The file for the trace.
+        trace: Option<&'a str>,
+    },
     /// `audit FILE TRACE`, with the most steps before an event.
     Audit {
         file: &'a str,
@@ -109,7 +106,7 @@ fn rounds_request<'a>(
     Ok(Request::Rounds {
         file: required(program, rounds, FILE)?,
         n,
-        words: sources_of(alloc, rounds)?,
+        sources: sources_of(alloc, rounds)?,
     })
 }
 
@@ -119,24 +116,27 @@ fn run_request<'a>(
     program: &mut Command<'a>,
     run: &ArgMatches<'a>,
 ) -> Result<Request<'a>, Error> {
-    let words = RunWords {
-        file: required(program, run, FILE)?,
-        words: sources_of(alloc, run)?,
-        commits: run.get_one::<u64>(MAX_COMMITS).unwrap_or(USUAL_COUNT),
-        take: run.get_one::<u64>(TAKE),
-        trace: run.get_str(TRACE),
-    };
-    if words.trace.is_some_and(|trace| is_input(&words, trace)) {
+    let file = required(program, run, FILE)?;
+    let sources = sources_of(alloc, run)?;
+    let trace = run.get_str(TRACE);
+    if trace.is_some_and(|trace| is_input(file, &sources, trace)) {
         let message = "the trace would overwrite its own input";
         return Err(program.error(ErrorKind::ArgumentConflict, message)?);
     }
-    Ok(Request::Run(words, run.get_one::<u32>(WORKERS)))
+    Ok(Request::Run {
+        file,
+        sources,
+        workers: run.get_one::<u32>(WORKERS),
+        commits: run.get_one::<u64>(MAX_COMMITS).unwrap_or(USUAL_COUNT),
+        take: run.get_one::<u64>(TAKE),
+        trace,
+    })
 }
 
-// Whether the description of a run or the items of a source are in this file.
-fn is_input(words: &RunWords<'_>, name: &str) -> bool {
-    words.file == name
-        || words.words.iter().any(|word| word.split_once('=').is_some_and(|(_, file)| file == name))
+// Whether the description of a run or the items of a source are in the file of this name.
+fn is_input(file: &str, sources: &[&str], name: &str) -> bool {
+    file == name
+        || sources.iter().any(|word| word.split_once('=').is_some_and(|(_, file)| file == name))
 }
 
 // What `kpn audit` is asked for.
