@@ -4,15 +4,14 @@ ghost use Rattle.kpn_cli.specs.Command.{Runs, IsTold};
 
 use clap::Error;
 use clap::error::ErrorKind;
-use kpn_alone::alone_command;
+use kpn_alone_command::alone_command;
 use kpn_answers::answer::give;
 use kpn_answers::refusal::Refusal;
 use kpn_answers::shelf::Shelf;
 use kpn_audit_command::audit_command;
-use kpn_check::{check_command, print_command};
+use kpn_description_commands::{check_command, print_command, rounds_command};
 use kpn_report::Limits;
-use kpn_rounds::rounds_command;
-use kpn_run::{RunRequest, run_command, run_command_by_workers};
+use kpn_run_command::{RunRequest, run_command, run_command_by_workers};
 use kpn_words::{Request, read_words};
 use std::alloc::Global;
 use std::io;
