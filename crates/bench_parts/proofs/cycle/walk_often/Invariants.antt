@@ -1,5 +1,5 @@
 use Rattle.std.proofs.Common.{◌≤◌}
-use Rattle.bench_cycle.proofs.walk_often.Given as goal
+use Rattle.bench_parts.proofs.cycle.walk_often.Given as goal
 
 abbrev pub invariant-loop-walk : goal.invariant-loop-walk
 invariant-loop-walk l = l.found ≤ l.walk

@@ -1,12 +1,8 @@
-//! Makes a history and writes its trace into memory, for `bench/trace`, which measures it beside a plain writer. Words:
-//! how many events, and how often the trace is written. It writes how many bytes a trace has, and the sum of its bytes.
-#![tactic(auto)]
-
-use anyhow::{Context, Result, anyhow, bail};
+//! A trace that is written into memory. `bench/trace` measures it beside a plain writer.
+use anyhow::{Result, anyhow};
 use kpn_trace::{Event, History};
 use kpn_trace_text::write_trace;
 use std::alloc::{AllocError, Global};
-use std::env;
 
 // The most bytes of a line.
 const LINE: usize = 40;
@@ -39,21 +35,13 @@ fn sum_of(bytes: &[u8]) -> u64 {
     sum
 }
 
-fn main(rt: HostRuntime) -> Result<()> {
-    let words: Vec<String> = env::args(&rt)?.collect(rt.alloc())?;
-    let [_, events, times] = words.as_slice() else {
-        bail!("two words: how many events, and how often they are written");
-    };
-    let events = events.as_str().parse::<u32>().context("how many events")?;
-    let times = times.as_str().parse::<u32>().context("how often")?;
-    let history = history_of(rt.alloc(), events)?;
-    let mut text = Vec::with_capacity(rt.alloc(), history.len().saturating_mul(LINE))?;
+/// Writes the trace of so many events, so often: how many bytes it has, and the sum of its bytes.
+pub fn written(alloc: Global, events: u32, times: u32) -> Result<(usize, u64)> {
+    let history = history_of(alloc, events)?;
+    let mut text = Vec::with_capacity(alloc, history.len().saturating_mul(LINE))?;
     for _time in 0..times {
         text.clear();
         write_trace(&mut text, &history).map_err(|_| anyhow!("out of memory"))?;
     }
-    let length = text.len();
-    let sum = sum_of(&text);
-    println!(rt; "{length} {sum}")?;
-    Ok(())
+    Ok((text.len(), sum_of(&text)))
 }
