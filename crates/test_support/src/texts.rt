@@ -1,5 +1,4 @@
 //! Descriptions of worked networks that tests of several crates read.
-#![tactic(auto)]
 
 /// A process that copies each item.
 pub const COPY: &str = "process copy(in i; out o) { while 1 { read i x; write o x; } }

@@ -1,6 +1,4 @@
 //! Devices that fail, which tests of several crates read from and write to.
-#![tactic(auto)]
-
 use std::io;
 use std::io::{ErrorKind, Read, Write};
 

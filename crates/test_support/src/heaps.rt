@@ -1,6 +1,4 @@
 //! Heaps that are filled up, for tests of calls that are refused memory.
-#![tactic(auto)]
-
 ghost use Rattle.std.specs.Prelude.{◌≡◌, IfSome, vec_len};
 
 use linked_list_allocator::LocalHeap;
