@@ -10,13 +10,15 @@ TOP = pathlib.Path(__file__).resolve().parent.parent
 
 
 class Run:
-    """One run of a program: its seconds on the processors and on the clock, its peak memory in bytes, and what it
-    wrote."""
+    """One run of a program, over an input that is given to it: its seconds on the processors and on the clock, its peak
+    memory in bytes, and what it wrote."""
 
-    def __init__(self, words, environment=None):
-        with tempfile.TemporaryFile() as out, tempfile.TemporaryFile() as told:
+    def __init__(self, words, environment=None, given=''):
+        with tempfile.TemporaryFile() as input, tempfile.TemporaryFile() as out, tempfile.TemporaryFile() as told:
+            input.write(given.encode())
+            input.seek(0)
             started = time.monotonic()
-            child = subprocess.Popen(words, stdin=subprocess.DEVNULL, stdout=out, stderr=told, env=environment)
+            child = subprocess.Popen(words, stdin=input, stdout=out, stderr=told, env=environment)
             _, status, usage = os.wait4(child.pid, 0)
             self.elapsed = time.monotonic() - started
             child.returncode = os.waitstatus_to_exitcode(status)
@@ -47,6 +49,14 @@ def kpn():
     """The program that is measured, built where it is not current."""
     subprocess.run([TOP / 'kpn', '--version'], check=True, stdout=subprocess.DEVNULL)
     return TOP / 'crates/kpn/out/kpn'
+
+
+def parts():
+    """The program that does what a line of its input says with one part of the program, built where it is not current.
+    """
+    folder = TOP / 'crates/bench_parts'
+    subprocess.run(['rt', 'run'], cwd=folder, input='frames 1\n', text=True, check=True, capture_output=True)
+    return folder / 'out/bench_parts'
 
 
 def plain(source, folder):

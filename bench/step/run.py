@@ -7,52 +7,41 @@ word; the default is 1,000,000. Told is the best processor time of 40 rounds, le
 are short, and each program has its turn in each round, so that others on the machine trouble all alike.
 """
 import pathlib
-import resource
-import subprocess
 import sys
 import tempfile
 
 HERE = pathlib.Path(__file__).resolve().parent
-BENCH = HERE.parent.parent / 'crates/bench_step'
+sys.dont_write_bytecode = True
+sys.path.append(str(HERE.parent))
+
+import measure
+
 LOOPS = ['counting', 'ifs', 'arithmetic', 'computing', 'remainder', 'deep']
 FRAMES = 4_000_000
 ROUNDS = 40
 
 
-def spent():
-    """The processor time of all programs that were run, in seconds."""
-    used = resource.getrusage(resource.RUSAGE_CHILDREN)
-    return used.ru_utime + used.ru_stime
-
-
-def once(words):
-    """The processor time of a run in seconds, and the words of its output."""
-    begun = spent()
-    done = subprocess.run(words, check=True, capture_output=True, text=True)
-    return spent() - begun, done.stdout.split()
-
-
 def measured(programs, count):
-    """The seconds that each program takes for so many turns, and its output. Given are its words but the count."""
+    """The seconds that each program takes for so many turns, and its output. Each is a run by how many there are."""
     starts, times, outputs = ([None] * len(programs) for _ in range(3))
     for _ in range(ROUNDS):
-        for place, (program, loop, *more) in enumerate(programs):
-            start, _ = once([program, loop, '1', *more])
-            seconds, outputs[place] = once([program, loop, str(count), *more])
-            starts[place] = min(starts[place] or start, start)
-            times[place] = min(times[place] or seconds, seconds)
+        for place, program in enumerate(programs):
+            start, run = program(1), program(count)
+            starts[place] = min(starts[place] or start.seconds, start.seconds)
+            times[place] = min(times[place] or run.seconds, run.seconds)
+            outputs[place] = run.wrote.split()
     return [max(seconds - start, 1e-9) for seconds, start in zip(times, starts)], outputs
 
 
 def main():
     turns = int(sys.argv[1]) if len(sys.argv) > 1 else 1_000_000
-    ours = str(BENCH / 'out/bench_step')
-    subprocess.run(['rt', 'run', '--', 'counting', '1'], cwd=BENCH, check=True, capture_output=True)
-    with tempfile.TemporaryDirectory() as name:
-        plain = str(pathlib.Path(name) / 'plain')
-        subprocess.run(['rustc', '-O', '-o', plain, HERE / 'plain.rs'], check=True)
+    parts = measure.parts()
+    with tempfile.TemporaryDirectory() as folder:
+        plain = measure.plain(HERE / 'plain.rs', folder)
         for loop in LOOPS:
-            programs = [(ours, loop), (plain, loop), (plain, loop, 'compiled')]
+            programs = [lambda count: measure.Run([parts], given=f'step {loop} {count}'),
+                        lambda count: measure.Run([plain, loop, str(count)]),
+                        lambda count: measure.Run([plain, loop, str(count), 'compiled'])]
             seconds, (computed, (wanted, steps), (compiled, _)) = measured(programs, turns)
             if computed != [wanted] or compiled != wanted:
                 sys.exit(f'{loop}: {computed} where the plain interpreter computed {wanted}, and rustc {compiled}')
@@ -60,7 +49,7 @@ def main():
                   f'{turns / seconds[0] / 1e6:6.1f} million turns, '
                   f'{seconds[1] / seconds[0]:5.2f} of the plain interpreter, '
                   f'{seconds[2] / seconds[0]:6.3f} of what rustc compiles')
-    (seconds,), _ = measured([(ours, 'frames')], FRAMES)
+    (seconds,), _ = measured([lambda count: measure.Run([parts], given=f'frames {count}')], FRAMES)
     print(f'frames     {seconds / FRAMES * 1e9:6.1f} ns to copy one and compare it with another')
 
 

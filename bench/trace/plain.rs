@@ -1,5 +1,5 @@
-// A plain writer of traces: it does what the crate bench_trace does, with `writeln!` into a `Vec`. Words: how many
-// events, and how often the trace is written. It prints how many bytes a trace has, and the sum of its bytes.
+// A plain writer of traces: it does what `trace` of the crate bench_parts does, with `writeln!` into a `Vec`. Words:
+// how many events, and how often the trace is written. It prints how many bytes a trace has, and the sum of its bytes.
 use std::env;
 use std::io::{self, Write};
 

@@ -6,7 +6,6 @@ a word; the default is 10,000,000. What a run that writes the trace once takes i
 oftener. The programs take turns, and the best of nine runs of each is told, by the time that it took on its processor.
 """
 import pathlib
-import subprocess
 import sys
 import tempfile
 
@@ -16,7 +15,6 @@ sys.path.append(str(HERE.parent))
 
 import measure
 
-BENCH = measure.TOP / 'crates/bench_trace'
 RUNS = 9
 TIMES = 3
 
@@ -24,13 +22,13 @@ TIMES = 3
 class Writer:
     """A program, and its runs that write the trace once and oftener."""
 
-    def __init__(self, program):
-        self.program = program
+    def __init__(self, run_once):
+        self.run_once = run_once
         self.runs = {1: [], 1 + TIMES: []}
 
     def run(self, events):
         for times, runs in self.runs.items():
-            runs.append(measure.Run([self.program, str(events), str(times)]))
+            runs.append(self.run_once(events, times))
 
     def seconds(self):
         """What it takes to write the trace once."""
@@ -56,9 +54,11 @@ def tell(events, own, plain):
 
 def main():
     events = int(sys.argv[1]) if len(sys.argv) > 1 else 10_000_000
-    subprocess.run(['rt', 'run', '--', '100', '1'], cwd=BENCH, check=True, capture_output=True)
+    parts = measure.parts()
     with tempfile.TemporaryDirectory() as folder:
-        tell(events, Writer(BENCH / 'out/bench_trace'), Writer(measure.plain(HERE / 'plain.rs', folder)))
+        plain = measure.plain(HERE / 'plain.rs', folder)
+        tell(events, Writer(lambda events, times: measure.Run([parts], given=f'trace {events} {times}')),
+             Writer(lambda events, times: measure.Run([plain, str(events), str(times)])))
 
 
 if __name__ == '__main__':

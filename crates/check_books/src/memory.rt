@@ -2,7 +2,6 @@
 //! with room. A report asks `Global`, which no test can exhaust.
 use crate::outside::{Row, answers, shows};
 use crate::processes::claimed;
-use full_heaps::fill;
 use kpn_book::{Book, Done, Refused, View};
 use kpn_net::Network;
 use kpn_step::Advance;
@@ -10,7 +9,8 @@ use kpn_text::read_network;
 use linked_list_allocator::LocalHeap;
 use std::alloc::{AllocError, Global};
 use std::test::Fail;
-use worked_texts::COPY;
+use test_support::heaps::fill;
+use test_support::texts::COPY;
 
 /// Two processes as in `TWO`, and one that does nothing: when a capacity has to grow there are three events, and the
 /// memory for four.

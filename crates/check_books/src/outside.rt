@@ -4,7 +4,7 @@ use kpn_book::{Book, Event, Refused, View};
 use kpn_text::read_network;
 use std::alloc::Allocator;
 use std::test::Fail;
-use worked_texts::COPY;
+use test_support::texts::COPY;
 
 /// A call of the outside with what it has to answer.
 #[derive(Clone, Copy)]

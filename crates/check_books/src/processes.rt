@@ -4,7 +4,7 @@ use kpn_step::{Advance, advance};
 use kpn_text::read_network;
 use std::alloc::Allocator;
 use std::test::Fail;
-use worked_texts::TWO;
+use test_support::texts::TWO;
 
 /// The first process of the queue, claimed and stepped to its next stop.
 pub fn claimed<'n, A: Allocator>(book: &mut Book<'n, A>) -> Option<(usize, Advance<'n>)> {

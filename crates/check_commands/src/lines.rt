@@ -1,6 +1,5 @@
 //! Command lines, run over shelves and devices in memory.
 
-use failing_devices::{Broken, Failing};
 use kpn_answers::shelf::{MemoryShelf, Shelf};
 use kpn_cli::command::command;
 use std::alloc::{AllocError, Global};
@@ -8,7 +7,8 @@ use std::sync::Wait;
 use std::test::Fail;
 use std::thread::Threads;
 use std::time::Clock;
-use worked_texts::COPY;
+use test_support::devices::{Broken, Failing};
+use test_support::texts::COPY;
 
 /// What a command line answered and wrote.
 #[derive(Drop)]

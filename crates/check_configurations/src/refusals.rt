@@ -3,13 +3,13 @@
 ghost use Rattle.kpn_configuration.specs.Configuration.{IsConfiguration};
 
 use crate::feeding::{copying, feed};
-use full_heaps::fill;
 use kpn_configuration::Configuration;
 use kpn_net::{Network, Wait};
 use linked_list_allocator::LocalHeap;
 use std::alloc::{AllocError, Allocator};
 use std::process::Abort;
 use std::test::Fail;
+use test_support::heaps::fill;
 
 /// Feeds as many items as a channel has room for from the beginning.
 fn feed_four<A: Allocator>(

@@ -12,7 +12,7 @@ use std::sync::atomic::{AtomicU64, Ordering};
 use std::test::Fail;
 use std::thread::Threads;
 use std::time::Clock;
-use worked_texts::{COPY, TWO};
+use test_support::texts::{COPY, TWO};
 
 const EMPTY: &str = "network { }";
 

@@ -6,7 +6,6 @@ use crate::endings::is_ready;
 use crate::networks::{copying, pouring};
 use crate::outside::shows;
 use commit_gates::Always;
-use full_heaps::fill;
 use kpn_net::Network;
 use kpn_pool::{
     Go, Job, Opened, Refused, Shared, SinkSeat, SnapFault, SourceSeat, Why, close, feed, leave,
@@ -19,6 +18,7 @@ use std::sync::Wait;
 use std::sync::ledger::Blank;
 use std::test::Fail;
 use std::time::Clock;
+use test_support::heaps::fill;
 
 /// How many bytes the heap of a test has.
 const HEAP: usize = 16_384;

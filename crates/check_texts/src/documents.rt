@@ -5,7 +5,7 @@ use kpn_limits::MAX_TEXT_BYTES;
 use kpn_text::{Document, TextFault, read_network};
 use std::alloc::{AllocError, Global};
 use std::test::Fail;
-use worked_texts::{COPY, TWO};
+use test_support::texts::{COPY, TWO};
 
 /// Whether a text is read, or its fault.
 fn fault_of(alloc: Global, text: &[u8]) -> Option<TextFault> {

@@ -1,10 +1,10 @@
 //! Item files: inputs that fail, stop or never end, and an output that fails.
 
-use failing_devices::{Broken, Halting};
 use kpn_items::{ItemFault, WriteFault, read_all, read_items, read_up_to, write_items};
 use std::io;
 use std::io::Read;
 use std::test::Fail;
+use test_support::devices::{Broken, Halting};
 
 /// How many bytes one read asks for.
 const CHUNK: usize = 8192;

@@ -6,11 +6,11 @@ use Rattle.kpn_answers.specs.declared.refusal.Refusal.TheVariants.{NoMemory}
 use Rattle.kpn_answers.specs.Answer.{Answers, Concludes}
 use Rattle.kpn_answers.specs.Description.{IsRefusalOfCommand}
 use Rattle.kpn_answers.specs.Inputs.{IsRefusalOfInputs}
-use Rattle.kpn_alone.specs.Alone.{RunsAlone}
-use Rattle.kpn_check.specs.CheckText.{check_text}
-use Rattle.kpn_check.specs.TextOf.{IsTextOf}
-use Rattle.kpn_rounds.specs.Rounds.{IsRounds}
-use Rattle.kpn_run.specs.Run.{AnswersRun}
+use Rattle.kpn_alone_command.specs.Alone.{RunsAlone}
+use Rattle.kpn_description_commands.specs.CheckText.{check_text}
+use Rattle.kpn_description_commands.specs.TextOf.{IsTextOf}
+use Rattle.kpn_description_commands.specs.Rounds.{IsRounds}
+use Rattle.kpn_run_command.specs.Run.{AnswersRun}
 use Rattle.kpn_audit_command.specs.Answers.{IsAudited, IsRefusalOfAudit}
 
 -- what `clap` has to say of the words

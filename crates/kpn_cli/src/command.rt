@@ -4,16 +4,15 @@ ghost use Rattle.kpn_cli.specs.Command.{Runs, IsTold};
 
 use clap::Error;
 use clap::error::ErrorKind;
-use kpn_alone::alone_command;
+use kpn_alone_command::alone_command;
 use kpn_answers::answer::give;
 use kpn_answers::refusal::Refusal;
 use kpn_answers::shelf::Shelf;
 use kpn_audit_command::audit_command;
-use kpn_check::{check_command, print_command};
+use kpn_description_commands::{check_command, print_command, rounds_command};
 use kpn_report::Limits;
-use kpn_rounds::rounds_command;
-use kpn_run::{RunRequest, run_command, run_command_by_workers};
-use kpn_words::{Request, RunWords, read_words};
+use kpn_run_command::{RunRequest, run_command, run_command_by_workers};
+use kpn_words::{Request, read_words};
 use std::alloc::Global;
 use std::io;
 use std::io::{Read, Write};
@@ -43,36 +42,59 @@ pub fn command<R: Threads + Wait + Clock + Sync, S: Shelf, I: Read, O: Write, E:
         out.old out.new err.old err.new result }
 {
     match read_words(alloc, words) {
-        Ok(Request::Alone(name)) => alone_command(alloc, name, input, out, err),
-        Ok(Request::Check(file)) => check_command(alloc, file, shelf, out, err),
-        Ok(Request::Print(file)) => print_command(alloc, file, shelf, out, err),
-        Ok(Request::Rounds { file, n, words }) => {
-            rounds_command(alloc, file, n, &words, shelf, out, err)
-        }
-        Ok(Request::Run(words, workers)) => match workers {
-            None => run_command(alloc, &asked(words), shelf, out, err),
-            Some(workers) => {
-                run_command_by_workers(rt, alloc, &asked(words), workers as usize, shelf, out, err)
-            }
-        },
-        Ok(Request::Audit { file, trace, steps }) => {
-            audit_command(alloc, file, trace, steps, shelf, out, err)
-        }
+        Ok(request) => answer(rt, alloc, request, shelf, input, out, err),
         Err(error) => show(alloc, &error, out, err),
     }
 }
 
-// What the words of `kpn run` ask for.
-fn asked<'a>(words: RunWords<'a>) -> RunRequest<'a> {
-    RunRequest {
-        file: words.file,
-        words: words.words,
-        limits: Limits {
-            commits: words.commits,
-            take: words.take,
-            quota: QUOTA,
-        },
-        trace: words.trace,
+// Answers what the words ask for by the command that they name.
+fn answer<R: Threads + Wait + Clock + Sync, S: Shelf, I: Read, O: Write, E: Write>(
+    rt: &R,
+    alloc: Global,
+    request: Request<'_>,
+    shelf: &mut S,
+    input: &mut I,
+    out: &mut O,
+    err: &mut E,
+) -> u8
+    ensures { Runs S.may_give I.remaining O.contents shelf.old shelf.new input.old input.new
+        out.old out.new err.old err.new result }
+{
+    match request {
+        Request::Alone(name) => alone_command(alloc, name, input, out, err),
+        Request::Check(file) => check_command(alloc, file, shelf, out, err),
+        Request::Print(file) => print_command(alloc, file, shelf, out, err),
+        Request::Rounds { file, n, sources } => {
+            rounds_command(alloc, file, n, &sources, shelf, out, err)
+        }
+        Request::Run {
+            file,
+            sources,
+            workers,
+            commits,
+            take,
+            trace,
+        } => {
+            let request = RunRequest {
+                file,
+                sources,
+                limits: Limits {
+                    commits,
+                    take,
+                    quota: QUOTA,
+                },
+                trace,
+            };
+            match workers {
+                None => run_command(alloc, &request, shelf, out, err),
+                Some(workers) => {
+                    run_command_by_workers(rt, alloc, &request, workers as usize, shelf, out, err)
+                }
+            }
+        }
+        Request::Audit { file, trace, steps } => {
+            audit_command(alloc, file, trace, steps, shelf, out, err)
+        }
     }
 }
 

@@ -4,4 +4,4 @@
 mod help;
 mod words;
 
-pub use words::{Request, RunWords, read_words};
+pub use words::{Request, read_words};

@@ -30,21 +30,6 @@ const TRACE: &str = "TRACE";
 
 const STEPS: &str = "STEPS";
 
-/// What a run is asked for.
-#[derive(Drop)]
-pub struct RunWords<'a> {
-    /// The file of the description.
-    pub file: &'a str,
-    /// The words behind the `--source` options.
-    pub words: Vec<&'a str>,
-    /// The most commits.
-    pub commits: u64,
-    /// How many items are wanted of each sink.
-    pub take: Option<u64>,
-    /// The file for the trace.
-    pub trace: Option<&'a str>,
-}
-
 /// What a command line asks for.
 #[derive(Drop)]
 pub enum Request<'a> {
@@ -58,10 +43,22 @@ pub enum Request<'a> {
     Rounds {
         file: &'a str,
         n: u32,
-        words: Vec<&'a str>,
+        sources: Vec<&'a str>,
     },
-    /// `run FILE`, with what the run is asked for, and how many workers it has, where it has any.
-    Run(RunWords<'a>, Option<u32>),
+    /// `run FILE`.
+    Run {
+        file: &'a str,
+        /// The words behind the `--source` options.
+        sources: Vec<&'a str>,
+        /// How many workers there are, if there are any.
+        workers: Option<u32>,
+        /// The most commits.
+        commits: u64,
+        /// How many items are wanted of each sink.
+        take: Option<u64>,
+        /// The file for the trace.
+        trace: Option<&'a str>,
+    },
     /// `audit FILE TRACE`, with the most steps before an event.
     Audit {
         file: &'a str,
@@ -74,13 +71,22 @@ pub enum Request<'a> {
 pub fn read_words<'a>(alloc: Global, words: &'a [String]) -> Result<Request<'a>, Error> {
     let mut program = program(alloc)?;
     let matches = program.try_get_matches_from_mut(words)?;
+    request_of(alloc, &mut program, &matches)
+}
+
+// What a command line asks for that was matched.
+fn request_of<'a>(
+    alloc: Global,
+    program: &mut Command<'a>,
+    matches: &ArgMatches<'a>,
+) -> Result<Request<'a>, Error> {
     match matches.subcommand() {
-        Some(("alone", alone)) => Ok(Request::Alone(required(&mut program, alone, NAME)?)),
-        Some(("check", check)) => Ok(Request::Check(required(&mut program, check, FILE)?)),
-        Some(("print", print)) => Ok(Request::Print(required(&mut program, print, FILE)?)),
-        Some(("rounds", rounds)) => rounds_request(alloc, &mut program, rounds),
-        Some(("run", run)) => run_request(alloc, &mut program, run),
-        Some(("audit", audit)) => audit_request(&mut program, audit),
+        Some(("alone", alone)) => Ok(Request::Alone(required(program, alone, NAME)?)),
+        Some(("check", check)) => Ok(Request::Check(required(program, check, FILE)?)),
+        Some(("print", print)) => Ok(Request::Print(required(program, print, FILE)?)),
+        Some(("rounds", rounds)) => rounds_request(alloc, program, rounds),
+        Some(("run", run)) => run_request(alloc, program, run),
+        Some(("audit", audit)) => audit_request(program, audit),
         _ => Err(program.error(ErrorKind::MissingSubcommand, "a command is needed")?),
     }
 }
@@ -109,7 +115,7 @@ fn rounds_request<'a>(
     Ok(Request::Rounds {
         file: required(program, rounds, FILE)?,
         n,
-        words: sources_of(alloc, rounds)?,
+        sources: sources_of(alloc, rounds)?,
     })
 }
 
@@ -119,24 +125,27 @@ fn run_request<'a>(
     program: &mut Command<'a>,
     run: &ArgMatches<'a>,
 ) -> Result<Request<'a>, Error> {
-    let words = RunWords {
-        file: required(program, run, FILE)?,
-        words: sources_of(alloc, run)?,
-        commits: run.get_one::<u64>(MAX_COMMITS).unwrap_or(USUAL_COUNT),
-        take: run.get_one::<u64>(TAKE),
-        trace: run.get_str(TRACE),
-    };
-    if words.trace.is_some_and(|trace| is_input(&words, trace)) {
+    let file = required(program, run, FILE)?;
+    let sources = sources_of(alloc, run)?;
+    let trace = run.get_str(TRACE);
+    if trace.is_some_and(|trace| is_input(file, &sources, trace)) {
         let message = "the trace would overwrite its own input";
         return Err(program.error(ErrorKind::ArgumentConflict, message)?);
     }
-    Ok(Request::Run(words, run.get_one::<u32>(WORKERS)))
+    Ok(Request::Run {
+        file,
+        sources,
+        workers: run.get_one::<u32>(WORKERS),
+        commits: run.get_one::<u64>(MAX_COMMITS).unwrap_or(USUAL_COUNT),
+        take: run.get_one::<u64>(TAKE),
+        trace,
+    })
 }
 
-// Whether the description of a run or the items of a source are in this file.
-fn is_input(words: &RunWords<'_>, name: &str) -> bool {
-    words.file == name
-        || words.words.iter().any(|word| word.split_once('=').is_some_and(|(_, file)| file == name))
+// Whether the description of a run or the items of a source are in the file of this name.
+fn is_input(file: &str, sources: &[&str], name: &str) -> bool {
+    file == name
+        || sources.iter().any(|word| word.split_once('=').is_some_and(|(_, file)| file == name))
 }
 
 // What `kpn audit` is asked for.
@@ -158,49 +167,61 @@ fn sources_of<'a>(alloc: Global, matches: &ArgMatches<'a>) -> Result<Vec<&'a str
 
 // The commands and their words.
 fn program<'a>(alloc: Global) -> Result<Command<'a>, AllocError> {
-    Command::new(alloc, "kpn")
+    let program = Command::new(alloc, "kpn")
         .version(VERSION)
         .about("Reads, checks, runs and audits Kahn process networks")
         .after_help(STATUSES)
         .subcommand_required(true)
-        .arg_required_else_help(true)
-        .subcommand(alone_words(alloc)?)?
-        .subcommand(check_words(alloc)?)?
-        .subcommand(print_words(alloc)?)?
-        .subcommand(rounds_words(alloc)?)?
-        .subcommand(run_words(alloc)?)?
-        .subcommand(audit_words(alloc)?)
+        .arg_required_else_help(true);
+    let program = with(program, alone_words(alloc))?;
+    let program = with(program, check_words(alloc))?;
+    let program = with(program, print_words(alloc))?;
+    let program = with(program, rounds_words(alloc))?;
+    let program = with(program, run_words(alloc))?;
+    with(program, audit_words(alloc))
+}
+
+// The program with one more command.
+fn with<'a>(
+    program: Command<'a>,
+    command: Result<Command<'a>, AllocError>,
+) -> Result<Command<'a>, AllocError> {
+    program.subcommand(command?)
+}
+
+// A command without words, and what help says above and below its words.
+fn command<'a>(
+    alloc: Global,
+    name: &'static str,
+    about: &'static str,
+    help: &'static str,
+) -> Command<'a> {
+    Command::new(alloc, name).about(about).after_help(help)
 }
 
 // The words of `kpn alone`.
 fn alone_words<'a>(alloc: Global) -> Result<Command<'a>, AllocError> {
-    Command::new(alloc, "alone")
-        .about("Runs a process alone on the items of standard input")
-        .after_help(ALONE_HELP)
-        .arg(word(alloc, NAME, "The process: copy, double or sum"))
+    let about = "Runs a process alone on the items of standard input";
+    let name = word(alloc, NAME, "The process: copy, double or sum");
+    command(alloc, "alone", about, ALONE_HELP).arg(name)
 }
 
 // The words of `kpn check`.
 fn check_words<'a>(alloc: Global) -> Result<Command<'a>, AllocError> {
-    Command::new(alloc, "check")
-        .about("Checks a description and counts its parts")
-        .after_help(CHECK_HELP)
-        .arg(file_word(alloc))
+    let about = "Checks a description and counts its parts";
+    command(alloc, "check", about, CHECK_HELP).arg(file_word(alloc))
 }
 
 // The words of `kpn print`.
 fn print_words<'a>(alloc: Global) -> Result<Command<'a>, AllocError> {
-    Command::new(alloc, "print")
-        .about("Prints a description in its one canonical form")
-        .after_help(PRINT_HELP)
-        .arg(file_word(alloc))
+    let about = "Prints a description in its one canonical form";
+    command(alloc, "print", about, PRINT_HELP).arg(file_word(alloc))
 }
 
 // The words of `kpn rounds`.
 fn rounds_words<'a>(alloc: Global) -> Result<Command<'a>, AllocError> {
-    Command::new(alloc, "rounds")
-        .about("Computes the lists of all channels by Kahn's iteration")
-        .after_help(ROUNDS_HELP)
+    let about = "Computes the lists of all channels by Kahn's iteration";
+    command(alloc, "rounds", about, ROUNDS_HELP)
         .arg(file_word(alloc))?
         .arg(rounds_word(alloc))?
         .arg(source_word(alloc))
@@ -208,9 +229,8 @@ fn rounds_words<'a>(alloc: Global) -> Result<Command<'a>, AllocError> {
 
 // The words of `kpn run`.
 fn run_words<'a>(alloc: Global) -> Result<Command<'a>, AllocError> {
-    Command::new(alloc, "run")
-        .about("Runs a network, and writes what it has come to")
-        .after_help(RUN_HELP)
+    let about = "Runs a network, and writes what it has come to";
+    command(alloc, "run", about, RUN_HELP)
         .arg(file_word(alloc))?
         .arg(source_word(alloc))?
         .arg(workers_word(alloc))?
@@ -221,9 +241,8 @@ fn run_words<'a>(alloc: Global) -> Result<Command<'a>, AllocError> {
 
 // The words of `kpn audit`.
 fn audit_words<'a>(alloc: Global) -> Result<Command<'a>, AllocError> {
-    Command::new(alloc, "audit")
-        .about("Checks a trace against the network of a description")
-        .after_help(AUDIT_HELP)
+    let about = "Checks a trace against the network of a description";
+    command(alloc, "audit", about, AUDIT_HELP)
         .arg(file_word(alloc))?
         .arg(trace_word(alloc))?
         .arg(steps_word(alloc))

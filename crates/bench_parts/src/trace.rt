@@ -1,0 +1,47 @@
+//! A trace that is written into memory. `bench/trace` measures it beside a plain writer.
+use anyhow::{Result, anyhow};
+use kpn_trace::{Event, History};
+use kpn_trace_text::write_trace;
+use std::alloc::{AllocError, Global};
+
+// The most bytes of a line.
+const LINE: usize = 40;
+
+/// A history of so many events: an item is put, taken, got, and so on.
+fn history_of(alloc: Global, events: u32) -> Result<History, AllocError> {
+    let mut history = History::new(alloc);
+    for k in 0..events {
+        let process = (k % 200) as u16;
+        let channel = (k / 3 % 1000) as u16;
+        let item = i64::from(k).wrapping_mul(7_919).wrapping_sub(1_000_000_000);
+        let event = match k % 4 {
+            0 => Event::Put(process, channel, item),
+            1 => Event::Get(process, channel, item),
+            2 => Event::Take(channel, item),
+            _ => Event::WaitEmpty(process, channel),
+        };
+        history.reserve(1)?;
+        history.push(event);
+    }
+    Ok(history)
+}
+
+/// The sum of bytes.
+fn sum_of(bytes: &[u8]) -> u64 {
+    let mut sum = 0u64;
+    for byte in bytes {
+        sum = sum.wrapping_add(u64::from(*byte));
+    }
+    sum
+}
+
+/// Writes the trace of so many events, so often: how many bytes it has, and the sum of its bytes.
+pub fn written(alloc: Global, events: u32, times: u32) -> Result<(usize, u64)> {
+    let history = history_of(alloc, events)?;
+    let mut text = Vec::with_capacity(alloc, history.len().saturating_mul(LINE))?;
+    for _time in 0..times {
+        text.clear();
+        write_trace(&mut text, &history).map_err(|_| anyhow!("out of memory"))?;
+    }
+    Ok((text.len(), sum_of(&text)))
+}

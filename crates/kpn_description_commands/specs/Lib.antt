@@ -1,0 +1,4 @@
+pub mod CheckText
+pub mod TextOf
+pub mod RoundsText
+pub mod Rounds

@@ -1,0 +1,17 @@
+-- What `kpn rounds` answers.
+use Rattle.std.specs.Prelude.{◌≡◌, ℕ, ℤ, List}
+use Rattle.kpn_net.specs.Iteration.{given_by, iterate, lists_of}
+use Rattle.kpn_text.specs.Document.{Document}
+use Rattle.kpn_answers.specs.Inputs.{AreInputs}
+use Rattle.kpn_description_commands.specs.RoundsText.{rounds_text}
+
+-- the n-th iterate of the network of a document that the file spells, where each source has the items of the file
+-- that one of these words gives it, and else none
+pub record IsRounds (may_give : List ℕ → List ℕ → Type 0) (file : List ℕ) (n : ℕ) (words : List (List ℕ))
+    (text : List ℕ) : Type 0 where
+  pub document : Document
+  pub given : List (List ℤ)
+  pub are_inputs : AreInputs may_give file words document given
+  pub made : text
+      ≡ rounds_text document.names.channels
+      (lists_of document.tables (iterate document.tables (given_by document.tables given) n))

@@ -1,0 +1,41 @@
+//! `kpn check FILE`: a description is read, and its parts are counted.
+ghost use Rattle.std.specs.Prelude.{IfOk, IfErr};
+ghost use Rattle.kpn_answers.specs.Answer.{Answers};
+ghost use Rattle.kpn_answers.specs.Description.{IsRefusalOfCommand};
+ghost use Rattle.kpn_description_commands.specs.CheckText.{check_text};
+ghost use Rattle.kpn_description_commands.specs.TextOf.{IsTextOf};
+
+use crate::check_text::text_of;
+use kpn_answers::answer::give;
+use kpn_answers::description::load_document;
+use kpn_answers::refusal::Refusal;
+use kpn_answers::shelf::Shelf;
+use std::alloc::Global;
+use std::io::Write;
+
+/// The command `kpn check FILE` over a shelf, an output and a place for faults. It answers the status
+/// that the program ends with.
+pub fn check_command<S: Shelf, O: Write, E: Write>(
+    alloc: Global,
+    file: &str,
+    shelf: &S,
+    out: &mut O,
+    err: &mut E,
+) -> u8
+    ensures { let may_give = S.may_give shelf.now in
+        Answers O.contents (IsTextOf check_text may_give file.now)
+        (IsRefusalOfCommand may_give file.now) out.old out.new err.old err.new result }
+{
+    give(answer(alloc, file, shelf), out, err)
+}
+
+// The line that counts the parts of the network that a file spells.
+fn answer<S: Shelf>(alloc: Global, file: &str, shelf: &S) -> Result<Vec<u8>, Refusal>
+    ensures ok { IfOk result (λ text.
+        IsTextOf check_text (S.may_give shelf.now) file.now text.items) }
+    ensures refused { IfErr result (IsRefusalOfCommand (S.may_give shelf.now) file.now) }
+{
+    let document = load_document(alloc, shelf, file)?;
+    let text = text_of(alloc, &document)?;
+    Ok(text)
+}

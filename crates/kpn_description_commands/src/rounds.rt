@@ -1,0 +1,52 @@
+//! The command: a network and the lists of its sources are read, and the n-th iterate is written.
+ghost use Rattle.std.specs.Prelude.{map, IfOk, IfErr};
+ghost use Rattle.kpn_answers.specs.Answer.{Answers};
+ghost use Rattle.kpn_answers.specs.Inputs.{IsRefusalOfInputs};
+ghost use Rattle.kpn_description_commands.specs.Rounds.{IsRounds};
+
+use crate::rounds_text::text_of;
+use kpn_answers::answer::give;
+use kpn_answers::inputs::load_inputs;
+use kpn_answers::refusal::Refusal;
+use kpn_answers::shelf::Shelf;
+use kpn_net::rounds;
+use std::alloc::Global;
+use std::io::Write;
+
+/// The command `kpn rounds FILE N` over a shelf, an output and a place for faults, where these words
+/// stand behind the `--source` options. It answers the status that the program ends with.
+pub fn rounds_command<S: Shelf, O: Write, E: Write>(
+    alloc: Global,
+    file: &str,
+    n: u32,
+    words: &[&str],
+    shelf: &S,
+    out: &mut O,
+    err: &mut E,
+) -> u8
+    ensures { let may_give = S.may_give shelf.now in
+        let words = map (λ word. word.now) words.now in
+        Answers O.contents (IsRounds may_give file.now n words)
+        (IsRefusalOfInputs may_give file.now words) out.old out.new err.old err.new result }
+{
+    give(answer(alloc, file, n, words, shelf), out, err)
+}
+
+// The text of the n-th iterate.
+fn answer<S: Shelf>(
+    alloc: Global,
+    file: &str,
+    n: u32,
+    words: &[&str],
+    shelf: &S,
+) -> Result<Vec<u8>, Refusal>
+    ensures ok { IfOk result (λ text.
+        IsRounds (S.may_give shelf.now) file.now n (map (λ word. word.now) words.now) text.items) }
+    ensures refused { IfErr result
+        (IsRefusalOfInputs (S.may_give shelf.now) file.now (map (λ word. word.now) words.now)) }
+{
+    let inputs = load_inputs(alloc, shelf, file, words)?;
+    let lists = rounds(alloc, inputs.document.network(), &inputs.given, n)?;
+    let text = text_of(alloc, &inputs.document, lists.as_slice())?;
+    Ok(text)
+}

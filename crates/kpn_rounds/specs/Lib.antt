@@ -1,2 +1,0 @@
-pub mod RoundsText
-pub mod Rounds

@@ -1,0 +1,28 @@
+-- What was run, and the report of it; or why there is none.
+use Rattle.std.specs.Prelude.{◌⊎◌, ℕ, List, Option, IsSome, ⊤}
+use Rattle.kpn_report.specs.declared.outcome.Limits.{Limits}
+use Rattle.kpn_report.specs.Reports.{IsReport}
+use Rattle.kpn_answers.specs.declared.refusal.Refusal.{Refusal}
+use Rattle.kpn_answers.specs.declared.refusal.Refusal.TheVariants.{Threads, Abandoned, Foreign, NoMemory}
+use Rattle.kpn_answers.specs.Inputs.{AreInputs, IsRefusalOfInputs}
+use Rattle.kpn_run_command.specs.declared.reporting.Reported.{Reported}
+
+-- the inputs that the words name, and a report of a run on them under these limits
+pub record IsReported (may_give : List ℕ → List ℕ → Type 0) (file : List ℕ) (words : List (List ℕ)) (limits : Limits)
+    (reported : Reported) : Type 0 where
+  pub are_inputs : AreInputs may_give file words reported.inputs.document reported.inputs.given.items
+  pub is_report : IsReport reported.inputs.document.tables reported.inputs.given.items limits reported.report
+
+-- why a run gives no report: there is no memory, or something befell the workers, where there are any
+abbrev pub IsRefusalOfReport : (workers : Option ℕ) → Refusal → Type 0
+IsRefusalOfReport workers NoMemory = ⊤
+IsRefusalOfReport workers Threads = IsSome workers
+IsRefusalOfReport workers Abandoned = IsSome workers
+IsRefusalOfReport workers Foreign = IsSome workers
+IsRefusalOfReport workers other = ⊥
+
+-- why there is no report: the inputs are refused, or the run gives none
+abbrev pub IsUnreported : (may_give : List ℕ → List ℕ → Type 0) (file : List ℕ) (words : List (List ℕ))
+    (workers : Option ℕ) → Refusal → Type 0
+IsUnreported may_give file words workers refusal =
+    IsRefusalOfInputs may_give file words refusal ⊎ IsRefusalOfReport workers refusal

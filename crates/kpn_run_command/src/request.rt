@@ -1,0 +1,13 @@
+//! What a run is asked for.
+
+use kpn_report::Limits;
+
+/// What a run is asked for: the file of the description, the words behind the `--source` options, the
+/// limits, and the file for the trace, if there is to be one.
+#[derive(Debug, Drop)]
+pub struct RunRequest<'a> {
+    pub file: &'a str,
+    pub sources: Vec<&'a str>,
+    pub limits: Limits,
+    pub trace: Option<&'a str>,
+}
