@@ -4,44 +4,47 @@ use Rattle.kpn_lang.specs.Prefix.{IsPrefix}
 use Rattle.kpn_lang.proofs.Prefixes.{IsPrefix-from_rest}
 use Rattle.kpn_net.specs.declared.tables.ChannelSpec.{ChannelSpec}
 use Rattle.kpn_net.specs.Tables.{Tables, channel_at, is_source, is_sink}
-use Rattle.kpn_net.proofs.Networks.{source_there}
-use Rattle.kpn_configuration.specs.Configuration.{channel_in}
+use Rattle.kpn_trace.specs.declared.event.Event.{Event}
 use Rattle.kpn_book.specs.Book.{Book}
+use Rattle.kpn_book.specs.Appending.{Appends}
 use Rattle.kpn_book.specs.declared.answers.Refused.{Refused}
-use Rattle.kpn_book.specs.declared.answers.Refused.TheVariants.{NotHeld, Stranger, NoMemory, NoSuchEnd, SourceClosed, Full, SinkLeft}
-use Rattle.kpn_book.specs.Refusals.{AcceptsItem, RefusesFeed, RefusesClose, RefusesTake, RefusesLeave, Feeds, Closes, Takes, Leaves, closes_by, takes_item, leaves_by}
-use Rattle.kpn_pool.specs.declared.outside_calls.SnapFault.{SnapFault}
-use Rattle.kpn_pool.specs.declared.outside_calls.SnapFault.TheVariants as snap_fault
-use Rattle.kpn_pool.specs.declared.outside_calls.SnapFault.TheVariants.{Foreign}
-use Rattle.kpn_pool.specs.OutsideSeats.{RefusesSnapshot, MayRefuseFeed, MayRefuseEnd, MayRefuseTake, MayRefuseSnapshot}
+use Rattle.kpn_book.specs.declared.answers.Refused.TheVariants.{NoMemory, NoSuchEnd, SourceClosed, Full, SinkLeft}
+use Rattle.kpn_book.specs.Refusals.{RefusesFeed, RefusesClose, RefusesTake, RefusesLeave, Feeds, Closes, Takes, Leaves, closes_by, takes_item, leaves_by}
+use Rattle.kpn_pool.specs.OutsideSeats.{MayRefuseFeed, MayRefuseEnd, MayRefuseTake}
 
 -- the network and the number of commits are the same
 pub record KeepsCount (before after : Book) : Type 0 where
   pub tables : after.tables ≡ before.tables
   pub commits : after.commits ≡ before.commits
 
+stays : (before after : Book) → after ≡ before → KeepsCount before after
+stays before after same = record { tables = ap (λ b. b.tables) same; commits = ap (λ b. b.commits) same }
+
+appends : (e : Event) (before after : Book) → Appends e before after → KeepsCount before after
+appends e before after h = record { tables = h.tables; commits = h.commits }
+
 pub feeds : (c : ℕ) (item : ℤ) (bound : ℕ) (before after : Book) → Feeds c item bound before after
     → KeepsCount before after
-feeds c item bound before after h = record { tables = h.appends.tables; commits = h.appends.commits }
+feeds c item bound before after h = appends _ before after h.appends
 
 closes_cases : (closed : Bool) (c : ℕ) (before after : Book) → closes_by closed c before after → KeepsCount before after
-closes_cases true c before after h = record { tables = ap (λ b. b.tables) h; commits = ap (λ b. b.commits) h }
-closes_cases false c before after h = record { tables = h.tables; commits = h.commits }
+closes_cases true c before after h = stays before after h
+closes_cases false c before after h = appends _ before after h
 
 pub closes : (c : ℕ) (before after : Book) → Closes c before after → KeepsCount before after
 closes c before after h = closes_cases _ c before after h.closes
 
 takes_cases : (c : ℕ) (item : Option ℤ) (before after : Book) → takes_item c item before after
     → KeepsCount before after
-takes_cases c None before after h = record { tables = ap (λ b. b.tables) h.1; commits = ap (λ b. b.commits) h.1 }
-takes_cases c (Some v) before after h = record { tables = h.1.tables; commits = h.1.commits }
+takes_cases c None before after h = stays before after h.1
+takes_cases c (Some v) before after h = appends _ before after h.1
 
 pub takes : (c : ℕ) (item : Option ℤ) (before after : Book) → Takes c item before after → KeepsCount before after
 takes c item before after h = takes_cases c item before after h.takes
 
 leaves_cases : (left : Bool) (c : ℕ) (before after : Book) → leaves_by left c before after → KeepsCount before after
-leaves_cases true c before after h = record { tables = ap (λ b. b.tables) h; commits = ap (λ b. b.commits) h }
-leaves_cases false c before after h = record { tables = h.tables; commits = h.commits }
+leaves_cases true c before after h = stays before after h
+leaves_cases false c before after h = appends _ before after h
 
 pub leaves : (c : ℕ) (before after : Book) → Leaves c before after → KeepsCount before after
 leaves c before after h = leaves_cases _ c before after h.leaves
@@ -55,9 +58,6 @@ module _ (t : Tables) (b : Book) (same : b.tables ≡ t) (c : ℕ) where
   pub fed_source : (item : ℤ) (bound : ℕ) (after : Book) → Feeds c item bound b after
       → is_source (channel_at t c) ≡ true
   fed_source item bound after h = there is_source true h.source.source
-
-  pub accepting_source : (bound : ℕ) → AcceptsItem c bound b → is_source (channel_at t c) ≡ true
-  accepting_source bound h = there is_source true h.0.source
 
   pub closed_source : (after : Book) → Closes c b after → is_source (channel_at t c) ≡ true
   closed_source after h = there is_source true h.source
@@ -74,51 +74,26 @@ module _ (t : Tables) (b : Book) (same : b.tables ≡ t) (c : ℕ) where
   feed_refused item bound SourceClosed h = there is_source true h.0
   feed_refused item bound (Full v) h = (there is_source true h.0.source, h.2)
   feed_refused item bound NoMemory h = there is_source true h.0.source
-  feed_refused item bound NotHeld h = absurd h
-  feed_refused item bound Stranger h = absurd h
-  feed_refused item bound SinkLeft h = absurd h
+  feed_refused item bound other h = absurd h
 
   pub close_refused : (cause : Refused) → RefusesClose c b cause → MayRefuseEnd (is_source (channel_at t c)) cause
   close_refused NoSuchEnd h = there is_source false h
   close_refused NoMemory h = there is_source true h.source
-  close_refused (Full v) h = absurd h
-  close_refused SourceClosed h = absurd h
-  close_refused NotHeld h = absurd h
-  close_refused Stranger h = absurd h
-  close_refused SinkLeft h = absurd h
+  close_refused other h = absurd h
 
   pub take_refused : (cause : Refused) → RefusesTake c b cause → MayRefuseTake (is_sink (channel_at t c)) cause
   take_refused NoSuchEnd h = there is_sink false h
   take_refused SinkLeft h = there is_sink true h.0
   take_refused NoMemory h = there is_sink true h.0.sink
-  take_refused (Full v) h = absurd h
-  take_refused SourceClosed h = absurd h
-  take_refused NotHeld h = absurd h
-  take_refused Stranger h = absurd h
+  take_refused other h = absurd h
 
   pub leave_refused : (cause : Refused) → RefusesLeave c b cause → MayRefuseEnd (is_sink (channel_at t c)) cause
   leave_refused NoSuchEnd h = there is_sink false h
   leave_refused NoMemory h = there is_sink true h.sink
-  leave_refused (Full v) h = absurd h
-  leave_refused SourceClosed h = absurd h
-  leave_refused NotHeld h = absurd h
-  leave_refused Stranger h = absurd h
-  leave_refused SinkLeft h = absurd h
-
-  pub snapshot_refused : (fed : List ℤ) (cause : SnapFault) → RefusesSnapshot c fed b cause
-      → MayRefuseSnapshot (is_source (channel_at t c)) fed cause
-  snapshot_refused fed Foreign h =
-      λ is none.
-      let source = subst (λ u. is_source (channel_at u c) ≡ true) (sym same) is in
-      h (record {
-        there = source_there b.tables c source;
-        source = source;
-        begins = subst (λ xs. IsPrefix xs (channel_in b.configuration c).journal) (sym none) tt;
-      })
-  snapshot_refused fed snap_fault.NoMemory h = there is_source true h.source
+  leave_refused other h = absurd h
 
 -- ---- the lists of the seats
 
 -- a list and more begins with it
-pub fed_behind : (xs more ys : List ℤ) → ys ≡ xs ++ more → IsPrefix xs ys
-fed_behind xs more ys is = IsPrefix-from_rest xs more ys (sym is)
+pub begins : (xs more ys : List ℤ) → ys ≡ xs ++ more → IsPrefix xs ys
+begins xs more ys is = IsPrefix-from_rest xs more ys (sym is)

@@ -1,11 +1,9 @@
 -- The items that a seat feeds or takes in one call, and the events that record them in the book.
-use Rattle.std.proofs.Common.{◌≡◌, ℕ, ◌+◌, ◌<◌, Bool, true, false, ℤ, pos, List, [], ◌∷◌, ◌++◌, length, map, take, drop, get_or, Option, Some, None, is_some, refl, sym, ap, ◌∙◌, subst, arith, append-nil}
+use Rattle.std.proofs.Common.{◌≡◌, ℕ, ◌+◌, ◌<◌, true, false, ℤ, pos, List, [], ◌∷◌, ◌++◌, length, map, take, drop, get_or, Option, Some, None, is_some, refl, sym, ap, ◌∙◌, subst, arith, append-nil}
 use Rattle.std.specs.Prelude.{slice_get}
 use Rattle.std.proofs.lemmas.Bool.{false≢true}
 use Rattle.std.proofs.lemmas.List.{append_assoc, map-append}
 use Rattle.std.proofs.lemmas.Option.{slice_get-get_or}
-use Rattle.kpn_lang.specs.Prefix.{IsPrefix}
-use Rattle.kpn_lang.proofs.Prefixes.{IsPrefix-from_rest}
 use Rattle.kpn_net.specs.Tables.{Tables, channel_at, is_source}
 use Rattle.kpn_net.proofs.Networks.{sink_there}
 use Rattle.kpn_chan.specs.Channel.{ChannelState, unread}
@@ -17,7 +15,7 @@ use Rattle.kpn_configuration.specs.Configuration.{channel_in}
 use Rattle.kpn_book.specs.Book.{Book}
 use Rattle.kpn_book.specs.Appending.{Appends, AppendsAll}
 use Rattle.kpn_book.specs.declared.answers.Refused.{Refused}
-use Rattle.kpn_book.specs.Refusals.{Takes, RefusesFeed, RefusesTake}
+use Rattle.kpn_book.specs.Refusals.{Takes, RefusesFeed}
 use Rattle.kpn_pool.specs.Desk.{Desk}
 use Rattle.kpn_pool.specs.OutsideSeats.{EndSeat, with_item, with_taken, AreRecorded, FeedsUntil, TakesFirst, MayRefuseFeed}
 
@@ -38,6 +36,11 @@ events_more event_of m n xs ys a b c same first rest =
 items_more : (r s t : EndSeat) (xs ys : List ℤ) → s.items ≡ r.items ++ xs → t.items ≡ s.items ++ ys
     → t.items ≡ r.items ++ (xs ++ ys)
 items_more r s t xs ys first rest = rest ∙ ap (λ zs. zs ++ ys) first ∙ append_assoc r.items xs ys
+
+-- where a call is refused the seat and the desk are as before
+pub as_before : (P : EndSeat → Book → Type 0) (s t : EndSeat) (d e : Desk) → t ≡ s → e ≡ d → P s d.book → P t e.book
+as_before P s t d e seat desk holds =
+    subst (λ x. P x e.book) (sym seat) (subst (λ (x : Desk). P s x.book) (sym desk) holds)
 
 -- ---- what is fed
 
@@ -62,13 +65,6 @@ fed_until items r s t k v refuses there is so_far same refused = record {
   next = slice_get-get_or items k (pos 0) there ∙ ap Some (sym is);
   refused = refused;
 }
-
--- where it is refused nothing more was fed
-pub still_recorded : (event_of : ℕ → ℤ → Event) (r s t : EndSeat) (a : Book) (d e : Desk) → t ≡ s → e ≡ d
-    → AreRecorded event_of r s a d.book → AreRecorded event_of r t a e.book
-still_recorded event_of r s t a d e seat desk so_far =
-    subst (λ x. AreRecorded event_of r x a e.book) (sym seat)
-    (subst (λ (x : Desk). AreRecorded event_of r s a x.book) (sym desk) so_far)
 
 -- the same by the book, and by the network alone
 module _ (items : List ℤ) (r s t : EndSeat) (k : ℕ) (v : ℤ) (cause : Refused) (there : k < length items)
@@ -125,16 +121,6 @@ taken_once (Some v) s t a b is takes = record {
   first = first_unread s.channel v a b takes;
 }
 
--- where it is refused nothing was taken
-pub taken_not : (s t : EndSeat) (d e : Desk) → t ≡ s → e ≡ d → TakesFirst s t d.book e.book
-taken_not s t d e seat desk =
-    subst (λ x. TakesFirst s x d.book e.book) (sym seat)
-    (subst (λ (x : Desk). TakesFirst s s d.book x.book) (sym desk) (none_taken s d.book))
-
-pub refused_still : (c : ℕ) (d e : Desk) (cause : Refused) → e ≡ d → RefusesTake c d.book cause
-    → RefusesTake c e.book cause
-refused_still c d e cause same refused = subst (λ (x : Desk). RefusesTake c x.book cause) (sym same) refused
-
 pub taken_then : (r s t : EndSeat) (a b c : Book) → TakesFirst r s a b → TakesFirst s t b c → TakesFirst r t a c
 taken_then r s t a b c first rest =
     let xs : List ℤ = first.recorded.more in
@@ -156,17 +142,30 @@ taken_then r s t a b c first rest =
           ∙ sym (append_assoc xs ys (unread (channel_in c.configuration r.channel)));
     }
 
-pub taken_less : (item : Option ℤ) (c : ℕ) (a b : Book) → Takes c item a b → (more : Bool) → more ≡ is_some item
-    → more ≡ true
-    → length (unread (channel_in b.configuration c)) < length (unread (channel_in a.configuration c))
-taken_less (Some v) c a b takes more is goes_on = let long = ap length (first_unread c v a b takes) in omega arith
-taken_less None c a b takes more is goes_on = absurd (false≢true (sym is ∙ goes_on))
+-- one call more, which takes an item or finds none
+pub takes_on : (item : Option ℤ) (r s t : EndSeat) (a b c : Book) → TakesFirst r s a b → t ≡ with_taken item s
+    → Takes s.channel item b c → TakesFirst r t a c
+takes_on item r s t a b c so_far is takes = taken_then r s t a b c so_far (taken_once item s t b c is takes)
 
-pub taken_last : (item : Option ℤ) (c : ℕ) (a b : Book) → Takes c item a b → (more : Bool) → more ≡ is_some item
-    → more ≡ false → unread (channel_in b.configuration c) ≡ []
-taken_last None c a b takes more is last =
-    ap (λ (x : Book). unread (channel_in x.configuration c)) takes.takes.1 ∙ takes.takes.0
-taken_last (Some v) c a b takes more is last = absurd (false≢true (sym last ∙ is))
+-- where an item was taken less is left of the channel, whatever seat names it
+pub taken_less : (item : Option ℤ) (s t : EndSeat) (a b : Book) → t ≡ with_taken item s → Takes s.channel item a b
+    → is_some item ≡ true
+    → length (unread (channel_in b.configuration t.channel)) < length (unread (channel_in a.configuration s.channel))
+taken_less (Some v) s t a b is takes some =
+    let long = ap length (first_unread s.channel v a b takes) in
+    let less : length (unread (channel_in b.configuration s.channel))
+    < length (unread (channel_in a.configuration s.channel)) = omega arith in
+    subst (λ n. length (unread (channel_in b.configuration n)) < length (unread (channel_in a.configuration s.channel)))
+    (sym (ap (λ (e : EndSeat). e.channel) is)) less
+taken_less None s t a b is takes some = absurd (false≢true some)
+
+-- where none was taken none is left
+pub taken_last : (item : Option ℤ) (r s : EndSeat) (a b : Book) → s.channel ≡ r.channel → Takes s.channel item a b
+    → is_some item ≡ false → unread (channel_in b.configuration r.channel) ≡ []
+taken_last None r s a b channel takes none =
+    subst (λ n. unread (channel_in b.configuration n) ≡ []) channel
+    (ap (λ (x : Book). unread (channel_in x.configuration s.channel)) takes.takes.1 ∙ takes.takes.0)
+taken_last (Some v) r s a b channel takes none = absurd (false≢true (sym none))
 
 -- nothing is left: all that was unread was taken
 pub took_all : (r t : EndSeat) (a b : Book) → TakesFirst r t a b → unread (channel_in b.configuration r.channel) ≡ []
@@ -175,14 +174,3 @@ took_all r t a b takes none =
     takes.recorded.items
     ∙ ap (λ xs. r.items ++ xs)
     (sym (takes.first ∙ ap (λ xs. takes.recorded.more ++ xs) none ∙ append-nil takes.recorded.more))
-
-pub begins_taken : (r t : EndSeat) (a b : Book) → TakesFirst r t a b → IsPrefix r.items t.items
-begins_taken r t a b takes = IsPrefix-from_rest r.items takes.recorded.more t.items (sym takes.recorded.items)
-
--- less is left of the channel, whatever seat names it
-pub less_left : (s t : EndSeat) (a b : Book) → t.channel ≡ s.channel
-    → length (unread (channel_in b.configuration s.channel)) < length (unread (channel_in a.configuration s.channel))
-    → length (unread (channel_in b.configuration t.channel)) < length (unread (channel_in a.configuration s.channel))
-less_left s t a b same less =
-    subst (λ n. length (unread (channel_in b.configuration n)) < length (unread (channel_in a.configuration s.channel)))
-    (sym same) less

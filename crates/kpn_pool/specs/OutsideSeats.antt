@@ -101,8 +101,3 @@ pub record HasFed (b : Book) (c : ℕ) (items : List ℤ) : Type 0 where
   pub there : c < length b.tables.channels
   pub source : is_source (channel_at b.tables c) ≡ true
   pub begins : IsPrefix items (channel_in b.configuration c).journal
-
--- why who has fed these items to a source is given no snapshot
-abbrev pub RefusesSnapshot : (c : ℕ) → (fed : List ℤ) → Book → SnapFault → Type 0
-RefusesSnapshot c fed b Foreign = ¬ HasFed b c fed
-RefusesSnapshot c fed b snap_fault.NoMemory = HasFed b c fed

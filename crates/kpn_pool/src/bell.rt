@@ -4,8 +4,8 @@ use std::sync::Wait;
 use std::sync::atomic::{AtomicU64, Ordering};
 use std::time::{Clock, Duration, Instant};
 
-// for how many microseconds a thread listens before it sleeps
-const MOMENT: u64 = 10;
+/// For how many microseconds a thread listens before it sleeps.
+pub(crate) const MOMENT: u64 = 10;
 
 // and for how many at most: it costs about as much to sleep and to be woken
 const LONGEST: u64 = 4 * MOMENT;
@@ -82,12 +82,13 @@ fn is_within<R: Clock>(rt: &R, begun: Instant, micros: u64) -> bool {
         .is_ok_and(|time| time < Duration::from_micros(micros))
 }
 
-/// Listens for a moment to a count that rises: whether it is another one than `seen`.
-pub(crate) fn listen<R: Wait + Clock>(rt: &R, count: &AtomicU64, seen: u64) -> bool {
-    listen_for(rt, count, seen, MOMENT)
-}
-
-fn listen_for<R: Wait + Clock>(rt: &R, count: &AtomicU64, seen: u64, micros: u64) -> bool {
+/// Listens for so many microseconds to a count that rises: whether it is another one than `seen`.
+pub(crate) fn listen_for<R: Wait + Clock>(
+    rt: &R,
+    count: &AtomicU64,
+    seen: u64,
+    micros: u64,
+) -> bool {
     let Ok(begun) = Instant::now(rt) else {
         return false;
     };

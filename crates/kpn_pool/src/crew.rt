@@ -14,6 +14,13 @@
 //! At coarse work nobody yields. Who claims a process then and leaves others ready notifies one that rests, and so does
 //! a call of the outside that finds a process ready and nobody active.
 use std::mem;
+use std::time::Duration;
+
+// for how many microseconds the one that naps rests while others work
+const NAP: u64 = 500;
+
+// for how many microseconds everybody else rests
+const REST: u64 = 5_000;
 
 /// How many workers there are of each kind, and who leads.
 #[derive(Clone, Copy, Debug)]
@@ -46,6 +53,12 @@ impl Crew {
     /// How many are active.
     pub(crate) fn active(&self) -> usize {
         self.active
+    }
+
+    /// For how long a worker rests that naps, or does not.
+    pub(crate) fn rest_of(&self, naps: bool) -> Duration {
+        let is_short = naps && self.active > 0;
+        Duration::from_micros(if is_short { NAP } else { REST })
     }
 
     /// Whether somebody rests.

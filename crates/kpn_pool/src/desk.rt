@@ -1,6 +1,6 @@
 //! What lies under the lock of a run: each change of it is a call that is lent it.
-ghost use Rattle.std.specs.Prelude.{◌≡◌, false, IfNone, IfSome, IfOk, IfErr, OnErr, IsTrue};
-ghost use Rattle.kpn_net.specs.Tables.{program_of};
+ghost use Rattle.std.specs.Prelude.{◌≡◌, ◌≢◌, false, [], IfNone, IfSome, IfOk, IfErr, OnErr, IsTrue};
+ghost use Rattle.kpn_net.specs.Tables.{channel_at, is_source, program_of};
 ghost use Rattle.kpn_step.specs.Frame.{fits};
 ghost use Rattle.kpn_step.specs.Stops.{IsWithinQuota};
 ghost use Rattle.kpn_trace.specs.declared.state.Counts.{Counts as Tally};
@@ -11,6 +11,7 @@ ghost use Rattle.kpn_book.specs.Kept.{IsBook};
 ghost use Rattle.kpn_book.specs.Refusals.{RefusesPutBack};
 ghost use Rattle.kpn_book.specs.Stepping.{ClaimsNobody};
 ghost use Rattle.kpn_pool.specs.Desk.{with_book, halted, IsReason};
+ghost use Rattle.kpn_pool.specs.OutsideSeats.{HasFed};
 ghost use Rattle.kpn_pool.specs.Snapshot.{ShowsARun, ShowsJournals, IsBelowKahn, IsKahnAtRest};
 ghost use Rattle.kpn_pool.specs.Invariant.{AreBelowLeast, AreReadThenQueued, AreWithinCapacity, AreBlockedCounts, AreOwedGrowths, AreLeastWhenQuiet, HasNoneLeftToGrow};
 
@@ -27,7 +28,6 @@ use std::sync::ledger;
 use std::sync::ledger::Share;
 
 mod crew;
-mod outside;
 
 /// The book of a run, the mark that the workers shall end, and the total of the ledger in which commits are counted.
 #[derive(Drop)]
@@ -37,7 +37,7 @@ pub struct Desk<'n, J: Job, A: Allocator = Global> {
     halts: bool,
     // no contract sees the rest: who of the workers steps and who rests, and whether whoever lets the desk go rings for
     // whoever serves the sinks
-    crew: Crew,
+    pub(crate) crew: Crew,
     taker_is_wanted: bool,
 }
 
@@ -131,6 +131,16 @@ impl<'n, J: Job, A: Allocator> Desk<'n, J, A> {
         journals();
         self.book.known();
         self.book.snapshot(alloc)
+    }
+
+    /// Whether there is a source with this number whose journal begins with these items.
+    pub(crate) fn has_fed(&self, c: usize, items: &[i64]) -> bool
+        ensures fed { IsTrue result → HasFed self.now.book c items.now }
+        ensures source { IsTrue result → IsTrue (is_source (channel_at J.network c)) }
+        ensures foreign { (result ≡ false) → IsTrue (is_source (channel_at J.network c))
+            → items.now ≢ [] }
+    {
+        self.book.network().is_source(c) && self.book.journal_begins(c, items)
     }
 
     /// Why a worker ends here instead of a claim, where `most` commits are allowed: it is told to; else nothing more

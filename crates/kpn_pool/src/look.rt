@@ -8,14 +8,10 @@ use std::sync::MutexGuard;
 /// wait, also those of who has the look.
 #[derive(Drop)]
 pub struct Look<'l, 'n, J: Job, A: Allocator = Global> {
-    desk: MutexGuard<'l, Desk<'n, J, A>>,
+    pub(crate) desk: MutexGuard<'l, Desk<'n, J, A>>,
 }
 
 impl<'l, 'n, J: Job, A: Allocator> Look<'l, 'n, J, A> {
-    pub(crate) fn new(desk: MutexGuard<'l, Desk<'n, J, A>>) -> Self {
-        Look { desk }
-    }
-
     /// The desk as it is now. What holds of it `Desk::known` tells.
     pub fn desk(&self) -> &Desk<'n, J, A> {
         &self.desk

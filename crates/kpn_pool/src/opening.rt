@@ -7,64 +7,49 @@ use crate::outside_seats::{SinkSeat, SourceSeat};
 use kpn_net::Network;
 use std::alloc::{AllocError, Allocator};
 
-/// A seat for each source of a network, in order of number. The error is that memory ran out.
-pub(crate) fn source_seats<A: Allocator + Copy>(
-    alloc: A,
-    network: &Network,
-) -> Result<Vec<SourceSeat<A>, A>, AllocError>
-    ensures { IfOk result (λ seats. seats.items ≡ new_ends is_source network.now) }
-{
-    let mut seats = Vec::new(alloc);
-    for c in 0..network.channels() {
-        add_source(alloc, network, c, &mut seats)?;
-    }
-    Ok(seats)
+/// A seat for each source and for each sink of a network, in order of number.
+#[derive(Drop)]
+pub(crate) struct EndSeats<A: Allocator> {
+    pub sources: Vec<SourceSeat<A>, A>,
+    pub sinks: Vec<SinkSeat<A>, A>,
 }
 
-/// A seat more where the channel is a source.
-fn add_source<A: Allocator + Copy>(
+/// The seats of the outside. The error is that memory ran out.
+pub(crate) fn end_seats<A: Allocator + Copy>(
+    alloc: A,
+    network: &Network,
+) -> Result<EndSeats<A>, AllocError>
+    ensures sources { IfOk result (λ seats.
+        seats.sources.items ≡ new_ends is_source network.now) }
+    ensures sinks { IfOk result (λ seats. seats.sinks.items ≡ new_ends is_sink network.now) }
+{
+    let mut sources = Vec::new(alloc);
+    let mut sinks = Vec::new(alloc);
+    for c in 0..network.channels() {
+        add_seat(alloc, network, c, &mut sources, &mut sinks)?;
+    }
+    Ok(EndSeats { sources, sinks })
+}
+
+/// A seat more where the channel is a source or a sink.
+fn add_seat<A: Allocator + Copy>(
     alloc: A,
     network: &Network,
     c: usize,
-    seats: &mut Vec<SourceSeat<A>, A>,
+    sources: &mut Vec<SourceSeat<A>, A>,
+    sinks: &mut Vec<SinkSeat<A>, A>,
 ) -> Result<(), AllocError>
     requires { c < length network.now.channels }
-    ensures { IfOk result (λ _. seats.new.items ≡ seats.old.items
+    ensures sources { IfOk result (λ _. sources.new.items ≡ sources.old.items
         ++ (if is_source (channel_at network.now c) then new_end c ∷ [] else [])) }
-{
-    if network.is_source(c) {
-        seats.push(SourceSeat::new(alloc, c))?;
-    }
-    Ok(())
-}
-
-/// A seat for each sink of a network, in order of number. The error is that memory ran out.
-pub(crate) fn sink_seats<A: Allocator + Copy>(
-    alloc: A,
-    network: &Network,
-) -> Result<Vec<SinkSeat<A>, A>, AllocError>
-    ensures { IfOk result (λ seats. seats.items ≡ new_ends is_sink network.now) }
-{
-    let mut seats = Vec::new(alloc);
-    for c in 0..network.channels() {
-        add_sink(alloc, network, c, &mut seats)?;
-    }
-    Ok(seats)
-}
-
-/// A seat more where the channel is a sink.
-fn add_sink<A: Allocator + Copy>(
-    alloc: A,
-    network: &Network,
-    c: usize,
-    seats: &mut Vec<SinkSeat<A>, A>,
-) -> Result<(), AllocError>
-    requires { c < length network.now.channels }
-    ensures { IfOk result (λ _. seats.new.items ≡ seats.old.items
+    ensures sinks { IfOk result (λ _. sinks.new.items ≡ sinks.old.items
         ++ (if is_sink (channel_at network.now c) then new_end c ∷ [] else [])) }
 {
+    if network.is_source(c) {
+        sources.push(SourceSeat::new(alloc, c))?;
+    }
     if network.is_sink(c) {
-        seats.push(SinkSeat::new(alloc, c))?;
+        sinks.push(SinkSeat::new(alloc, c))?;
     }
     Ok(())
 }

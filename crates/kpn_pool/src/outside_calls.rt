@@ -166,6 +166,10 @@ pub fn snapshot<J: Job, A: Allocator, B: Allocator, C: Allocator + Copy, R: Wait
     ensures refused { IfErr result
         (MayRefuseSnapshot (is_source (channel_at J.network seat.now.channel)) seat.now.items) }
 {
-    let desk = shared.lock(rt);
-    desk.snapshot_of_feeder(alloc, seat.channel(), seat.fed())
+    let look = shared.look(rt);
+    let desk = look.desk();
+    if !desk.has_fed(seat.channel(), seat.fed()) {
+        return Err(SnapFault::Foreign);
+    }
+    Ok(desk.snapshot(alloc)?)
 }

@@ -1,18 +1,18 @@
 //! The seats of the outside: who feeds a source, and who takes from a sink.
-ghost use Rattle.std.specs.Prelude.{◌≡◌, ◌<◌, true, false, [], ◌∷◌, ◌++◌, length, IfOk, IfErr, OnErr, OnOk, IsTrue};
+ghost use Rattle.std.specs.Prelude.{◌≡◌, ◌≢◌, ◌<◌, ℤ, true, false, [], ◌++◌, length, IfOk, IfErr, OnErr, OnOk, IsTrue, Some};
 ghost use Rattle.kpn_lang.specs.Prefix.{IsPrefix};
 ghost use Rattle.kpn_net.specs.Tables.{channel_at, is_source, is_sink};
 ghost use Rattle.kpn_chan.specs.Channel.{unread};
 ghost use Rattle.kpn_trace.specs.declared.event.Event.TheVariants as event;
 ghost use Rattle.kpn_configuration.specs.Configuration.{channel_in};
-ghost use Rattle.kpn_book.specs.Refusals.{RefusesFeed, RefusesClose, RefusesTake, RefusesLeave, Feeds, Closes, Takes, Leaves};
+ghost use Rattle.kpn_book.specs.Book.{Book as Seen};
+ghost use Rattle.kpn_book.specs.Refusals.{RefusesFeed, RefusesClose, RefusesTake, RefusesLeave, Feeds, Closes, Takes, Leaves, IsOpenSink};
 ghost use Rattle.kpn_pool.specs.Desk.{with_book};
 ghost use Rattle.kpn_pool.specs.OutsideSeats.{with_item, with_taken, new_end, AreRecorded, FeedsUntil, TakesFirst, MayRefuseFeed, MayRefuseEnd, MayRefuseTake};
 
 use crate::desk::Desk;
 use crate::job::Job;
-use kpn_book::Refused;
-use kpn_net::End;
+use kpn_book::{Book, Refused};
 use std::alloc::{Allocator, Global};
 use std::marker::Model;
 
@@ -57,6 +57,7 @@ impl<A: Allocator> SourceSeat<A> {
     }
 
     /// Feeds an item to the source. It is refused as the book refuses it; memory is wanted for the seat's own list too.
+    #[tactic(auto, using(crate::proofs::Keeping::feeds, crate::proofs::Keeping::fed_source, crate::proofs::Keeping::feed_refused))]
     pub fn feed<J: Job, B: Allocator>(
         &mut self,
         desk: &mut Desk<'_, J, B>,
@@ -74,20 +75,19 @@ impl<A: Allocator> SourceSeat<A> {
             MayRefuseFeed (is_source (channel_at J.network self.old.channel)) item cause) }
         ensures as_before { OnErr result ((self.new ≡ self.old) × (desk.new ≡ desk.old)) }
     {
-        if let Some(fault) = desk.feed_fault(self.channel, item, bound) {
-            return Err(fault);
-        }
         let Ok(()) = self.fed.reserve(1) else {
-            return Err(Refused::NoMemory);
+            let fault = desk.book.feed_fault(self.channel, item, bound);
+            return Err(fault.unwrap_or(Refused::NoMemory));
         };
-        desk.feed(self.channel, item, bound)?;
+        desk.book.feed(self.channel, item, bound)?;
+        desk.book.known();
         self.fed.push_reserved(item);
         Ok(())
     }
 
     /// Feeds these items to the source, one after the other. Where one is refused, as the book refuses it, those before
     /// it were fed.
-    #[tactic(auto, using(crate::proofs::Keeping::fed_behind))]
+    #[tactic(auto, using(crate::proofs::Keeping::begins))]
     pub fn feed_all<J: Job, B: Allocator>(
         &mut self,
         desk: &mut Desk<'_, J, B>,
@@ -113,6 +113,7 @@ impl<A: Allocator> SourceSeat<A> {
     }
 
     /// Closes the source. A second time it changes nothing.
+    #[tactic(auto, using(crate::proofs::Keeping::closes, crate::proofs::Keeping::closed_source, crate::proofs::Keeping::close_refused))]
     pub fn close<J: Job, B: Allocator>(&self, desk: &mut Desk<'_, J, B>) -> Result<(), Refused>
         ensures done { IfOk result (λ _. Closes self.now.channel desk.old.book desk.new.book) }
         ensures source { OnOk result (is_source (channel_at J.network self.now.channel) ≡ true) }
@@ -123,7 +124,9 @@ impl<A: Allocator> SourceSeat<A> {
             MayRefuseEnd (is_source (channel_at J.network self.now.channel)) cause) }
         ensures as_before { OnErr result (desk.new ≡ desk.old) }
     {
-        desk.close_source(self.channel)
+        desk.book.close_source(self.channel)?;
+        desk.book.known();
+        Ok(())
     }
 }
 
@@ -167,7 +170,9 @@ impl<A: Allocator> SinkSeat<A> {
         self.taken.as_slice()
     }
 
-    /// Takes the next item from the sink; none where nothing is unread. It is refused as the book refuses it.
+    /// Takes the next item from the sink; none where nothing is unread. It is refused as the book refuses it; memory is
+    /// wanted for the seat's own list too.
+    #[tactic(auto, using(crate::proofs::Keeping::takes, crate::proofs::Keeping::taken_sink, crate::proofs::Keeping::take_refused))]
     pub fn take<J: Job, B: Allocator>(
         &mut self,
         desk: &mut Desk<'_, J, B>,
@@ -183,13 +188,12 @@ impl<A: Allocator> SinkSeat<A> {
             MayRefuseTake (is_sink (channel_at J.network self.old.channel)) cause) }
         ensures as_before { OnErr result ((self.new ≡ self.old) × (desk.new ≡ desk.old)) }
     {
-        if !desk.has_item_at_sink(self.channel) {
-            return desk.take(self.channel);
-        }
-        let Ok(()) = self.taken.reserve(1) else {
+        let has_room = self.taken.reserve(1).is_ok();
+        if !has_room && has_item_at_sink(&desk.book, self.channel) {
             return Err(Refused::NoMemory);
-        };
-        let item = desk.take(self.channel)?;
+        }
+        let item = desk.book.take(self.channel)?;
+        desk.book.known();
         if let Some(item) = item {
             self.taken.push_reserved(item);
         }
@@ -215,33 +219,12 @@ impl<A: Allocator> SinkSeat<A> {
         ensures may_refuse { IfErr result (λ cause.
             MayRefuseTake (is_sink (channel_at J.network self.old.channel)) cause) }
     {
-        'items: while self.take_next(desk)? {}
+        'items: while self.take(desk)?.is_some() {}
         Ok(())
     }
 
-    /// Takes the next item, if one is unread: whether one was.
-    fn take_next<J: Job, B: Allocator>(
-        &mut self,
-        desk: &mut Desk<'_, J, B>,
-    ) -> Result<bool, Refused>
-        ensures first { TakesFirst self.old self.new desk.old.book desk.new.book }
-        ensures less { IfOk result (λ more. IsTrue more
-            → length (unread (channel_in desk.new.book.configuration self.old.channel))
-            < length (unread (channel_in desk.old.book.configuration self.old.channel))) }
-        ensures none_left { IfOk result (λ more. more ≡ false
-            → unread (channel_in desk.new.book.configuration self.old.channel) ≡ []) }
-        ensures sink { OnOk result (is_sink (channel_at J.network self.old.channel) ≡ true) }
-        ensures desk { desk.new ≡ with_book desk.new.book desk.old }
-        ensures refused { IfErr result (λ cause.
-            RefusesTake self.old.channel desk.new.book cause) }
-        ensures may_refuse { IfErr result (λ cause.
-            MayRefuseTake (is_sink (channel_at J.network self.old.channel)) cause) }
-    {
-        let item = self.take(desk)?;
-        Ok(item.is_some())
-    }
-
     /// Leaves the sink: nothing is taken from it any more, and it is never full. A second time it changes nothing.
+    #[tactic(auto, using(crate::proofs::Keeping::leaves, crate::proofs::Keeping::left_sink, crate::proofs::Keeping::leave_refused))]
     pub fn leave<J: Job, B: Allocator>(&self, desk: &mut Desk<'_, J, B>) -> Result<(), Refused>
         ensures done { IfOk result (λ _. Leaves self.now.channel desk.old.book desk.new.book) }
         ensures sink { OnOk result (is_sink (channel_at J.network self.now.channel) ≡ true) }
@@ -252,6 +235,18 @@ impl<A: Allocator> SinkSeat<A> {
             MayRefuseEnd (is_sink (channel_at J.network self.now.channel)) cause) }
         ensures as_before { OnErr result (desk.new ≡ desk.old) }
     {
-        desk.leave_sink(self.channel)
+        desk.book.leave_sink(self.channel)?;
+        desk.book.known();
+        Ok(())
     }
+}
+
+/// Whether an item would be taken from the channel: it is a sink that was not left, and an item is unread there.
+fn has_item_at_sink<A: Allocator>(book: &Book<'_, A>, c: usize) -> bool
+    ensures open { IsTrue result → IsOpenSink book.now c }
+    ensures item { IsTrue result → unread (channel_in book.now.configuration c) ≢ [] }
+    ensures none { (result ≡ false) → (v : ℤ) (after : Seen) → ¬ Takes c (Some v) book.now after }
+{
+    book.known();
+    book.network().is_sink(c) && book.has_item(c)
 }

@@ -1,15 +1,14 @@
 //! The lock round a desk, and how workers wait for it to change.
-ghost use Rattle.std.specs.Prelude.{◌≡◌, ◌<◌, ◌≤◌, IfOk, IfSome, IfNone, IsSome, IsTrue, Some, None};
-ghost use Rattle.kpn_step.specs.Frame.{fits};
+ghost use Rattle.std.specs.Prelude.{◌≡◌, ◌<◌, ◌≤◌, IfOk, IfSome};
 ghost use Rattle.kpn_net.specs.Tables.{is_source, is_sink};
 ghost use Rattle.kpn_pool.specs.OutsideSeats.{new_ends};
 ghost use Rattle.kpn_pool.specs.Snapshot.{ShowsARun, IsBelowKahn, IsKahnAtRest};
-ghost use Rattle.kpn_pool.specs.Seat.{AreNewSeats, ended};
+ghost use Rattle.kpn_pool.specs.Seat.{AreNewSeats};
 
 use crate::desk::Desk;
 use crate::job::Job;
 use crate::look::Look;
-use crate::opening::{sink_seats, source_seats};
+use crate::opening::{EndSeats, end_seats};
 use crate::outside_seats::{SinkSeat, SourceSeat};
 use crate::seat::WorkerSeat;
 use crate::signals::Signals;
@@ -67,8 +66,7 @@ impl<'n, J: Job, A: Allocator + Copy> Shared<'n, J, A> {
         ensures sinks { IfOk result (λ opened.
             opened.sinks.items ≡ new_ends is_sink network.now) }
     {
-        let sources = source_seats(alloc, network)?;
-        let sinks = sink_seats(alloc, network)?;
+        let EndSeats { sources, sinks } = end_seats(alloc, network)?;
         let mut seats = Vec::with_capacity(alloc, workers)?;
         let (total, mut shares) = blank.open::<J>();
         for number in 0..workers {
@@ -101,13 +99,13 @@ impl<'n, J: Job, A: Allocator> Shared<'n, J, A> {
     /// of capacity 1, by a worker that finds nothing to step, and by each worker that ends. It is read before the sinks
     /// are looked at.
     pub fn rings(&self) -> u64 {
-        self.signals.rings()
+        self.signals.bell.rings()
     }
 
     /// Waits for a ring more than the `seen` ones, and no longer than some milliseconds: it listens for a moment, and
     /// then sleeps.
     pub fn await_ring<R: Wait + Clock>(&self, rt: &R, seen: u64) {
-        self.signals.await_ring(rt, seen);
+        self.signals.bell.wait(rt, seen);
     }
 
     /// Whether as many calls of `work` have ended as there are workers.
@@ -117,7 +115,9 @@ impl<'n, J: Job, A: Allocator> Shared<'n, J, A> {
 
     /// A look at the desk, once nobody else has it.
     pub fn look<R: Wait>(&self, rt: &R) -> Look<'_, 'n, J, A> {
-        Look::new(self.lock(rt))
+        Look {
+            desk: self.lock(rt),
+        }
     }
 
     /// The run as it is seen at one moment, or `None` where the lock is taken: a legal history, of the network that was
@@ -166,8 +166,10 @@ impl<'n, J: Job, A: Allocator> Shared<'n, J, A> {
     /// active, one that rests if a process is ready, or all if the run is settled.
     pub(crate) fn tell<'l>(&'l self, desk: MutexGuard<'l, Desk<'n, J, A>>) {
         let mut desk = desk;
-        let notifies = desk.notify_from_outside();
-        let is_over = desk.is_over();
+        let is_idle = desk.crew.active() == 0;
+        let notifies = is_idle && desk.notify();
+        // nobody else would find that the run is settled
+        let is_over = is_idle && desk.crew.rests() && desk.book.verdict().is_some();
         drop(desk);
         self.signals.move_made();
         if is_over {

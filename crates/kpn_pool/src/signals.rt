@@ -1,6 +1,6 @@
 //! What is told with no lock held: to a worker that listens that the outside has made a call, to whoever serves the
 //! sinks that something is to be taken, or that a worker has ended.
-use crate::bell::{Bell, listen};
+use crate::bell::{Bell, MOMENT, listen_for};
 use std::sync::Wait;
 use std::sync::atomic::{AtomicU64, Ordering};
 use std::time::Clock;
@@ -12,8 +12,8 @@ pub(crate) struct Signals {
     moves: AtomicU64,
     // the workers that have ended
     ended: AtomicU64,
-    // for whoever serves the sinks
-    bell: Bell,
+    // for whoever serves the sinks: they are to be looked at, or a worker has ended
+    pub bell: Bell,
 }
 
 impl Signals {
@@ -37,22 +37,7 @@ impl Signals {
 
     /// Listens for a moment whether the outside makes a call more than the `seen` ones.
     pub(crate) fn listen_for_move<R: Wait + Clock>(&self, rt: &R, seen: u64) {
-        let _ = listen(rt, &self.moves, seen);
-    }
-
-    /// Whoever serves the sinks is to look at them.
-    pub(crate) fn ring(&self) {
-        self.bell.ring();
-    }
-
-    /// How often the bell rang.
-    pub(crate) fn rings(&self) -> u64 {
-        self.bell.rings()
-    }
-
-    /// Waits for a ring more than the `seen` ones, as `Bell::wait` does.
-    pub(crate) fn await_ring<R: Wait + Clock>(&self, rt: &R, seen: u64) {
-        self.bell.wait(rt, seen);
+        let _ = listen_for(rt, &self.moves, seen, MOMENT);
     }
 
     /// A worker has ended, which whoever serves the sinks is told.

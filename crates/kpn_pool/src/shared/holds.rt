@@ -32,7 +32,7 @@ impl<'n, J: Job, A: Allocator> Shared<'n, J, A> {
         ensures fits { IfSome result (λ claim. IsTrue (fits claim.program.now claim.frame)) }
     {
         let mut desk = self.desk.lock(rt);
-        desk.enter();
+        desk.crew.enter();
         let Some(mut desk) = self.wait_for_work(rt, seat, pace, desk) else {
             return None;
         };
@@ -90,7 +90,7 @@ impl<'n, J: Job, A: Allocator> Shared<'n, J, A> {
     {
         let mut desk = self.desk.lock(rt);
         seat.abandon(&mut desk, process);
-        desk.leave(seat.number());
+        desk.crew.leave(seat.number());
         drop(desk);
         self.changed.notify_one();
         self.signals.end();
@@ -113,10 +113,10 @@ impl<'n, J: Job, A: Allocator> Shared<'n, J, A> {
                 self.end(desk, seat, why);
                 return None;
             }
-            if desk.join_in(pace, seat.number()) {
+            if desk.book.counts().ready > 0 && pace.join_in(&mut desk.crew, seat.number()) {
                 return Some(desk);
             }
-            desk = if desk.is_alone() && pace.take_moment() {
+            desk = if desk.crew.active() <= 1 && pace.take_moment() {
                 self.listen(rt, desk)
             } else {
                 self.rest(rt, desk, pace, seat.number())
@@ -136,7 +136,7 @@ impl<'n, J: Job, A: Allocator> Shared<'n, J, A> {
         let _ = desk.strike_taker();
         let seen = self.signals.moves();
         drop(desk);
-        self.signals.ring();
+        self.signals.bell.ring();
         self.signals.listen_for_move(rt, seen);
         self.desk.lock(rt)
     }
@@ -151,12 +151,12 @@ impl<'n, J: Job, A: Allocator> Shared<'n, J, A> {
     ) -> MutexGuard<'l, Desk<'n, J, A>> {
         let mut desk = desk;
         if desk.strike_taker() {
-            self.signals.ring();
+            self.signals.bell.ring();
         }
-        let naps = desk.rest(worker);
-        let most = desk.rest_of(naps);
+        let naps = desk.crew.rest(worker);
+        let most = desk.crew.rest_of(naps);
         let (mut desk, waited) = self.changed.wait_timeout(rt, desk, most);
-        desk.wake(naps);
+        desk.crew.wake(naps);
         if !waited.timed_out() {
             *pace = Pace::new();
         }
@@ -171,7 +171,7 @@ impl<'n, J: Job, A: Allocator> Shared<'n, J, A> {
         let notifies = pace.is_coarse() && desk.notify();
         drop(desk);
         if rings {
-            self.signals.ring();
+            self.signals.bell.ring();
         }
         if notifies {
             self.changed.notify_one();
@@ -183,7 +183,7 @@ impl<'n, J: Job, A: Allocator> Shared<'n, J, A> {
         ensures { seat.new ≡ ended why seat.old }
     {
         let mut desk = desk;
-        desk.leave(seat.number());
+        desk.crew.leave(seat.number());
         drop(desk);
         seat.end(why);
         self.changed.notify_all();

@@ -3,7 +3,8 @@ use Rattle.std.proofs.lemmas.Int.{to_z-of_z}
 use Rattle.std.proofs.lemmas.Result.{err_from_is_err_and}
 use Rattle.kpn_net.specs.Tables.{channel_at, is_source}
 use Rattle.kpn_trace.specs.declared.event.Event.TheVariants as event
-use Rattle.kpn_pool.proofs.Recording.{fed_then, still_recorded, refused_there, may_refuse_there}
+use Rattle.kpn_pool.specs.OutsideSeats.{AreRecorded}
+use Rattle.kpn_pool.proofs.Recording.{fed_then, as_before, refused_there, may_refuse_there}
 use Rattle.kpn_pool.proofs.Seating.{fed_more, still_with_book}
 use Rattle.kpn_pool.proofs.outside_seats.SourceSeat.feed_all.Goals as goal
 
@@ -35,8 +36,8 @@ returns-clause-source g c some = c.items.invariant.source (omega (arith, c.items
 pub returns-in_err-feed-clause-recorded : goal.returns-in_err-feed-clause-recorded
 returns-in_err-feed-clause-recorded g c =
     let kept = c.in_err-feed.ensures.as_before in
-    still_recorded event.Feed c.args.self.now c.items.self c.feed.new.self c.args.desk.now.book c.items.desk
-    c.feed.new.desk kept.0 kept.1 c.items.invariant.recorded
+    as_before (λ s b. AreRecorded event.Feed c.args.self.now s c.args.desk.now.book b) c.items.self c.feed.new.self
+    c.items.desk c.feed.new.desk kept.0 kept.1 c.items.invariant.recorded
 
 pub returns-in_err-feed-clause-refused : goal.returns-in_err-feed-clause-refused
 returns-in_err-feed-clause-refused g c =
