@@ -3,7 +3,7 @@
 ghost use Rattle.std.specs.Prelude.{◌≡◌, map, option_copied, IfOk, IfErr};
 ghost use Rattle.kpn_grammar.specs.Syntax.{literal_value};
 ghost use Rattle.kpn_grammar.specs.View.{literal_seen, instance_seen, item_seen};
-ghost use Rattle.kpn_names.specs.Fault.{Gives, each};
+ghost use Rattle.kpn_names.specs.Fault.{Gives};
 ghost use Rattle.kpn_names.specs.Network as spec;
 ghost use Rattle.kpn_names.specs.View.{wiring_seen};
 
@@ -121,26 +121,10 @@ impl<'a> Wiring<'a> {
             instance_names: NameTable::new(alloc),
             instances: Vec::new(alloc),
         };
-        read.add_all(alloc, programs, &channels, items)?;
-        Ok(read)
-    }
-
-    /// Adds items in order.
-    fn add_all(
-        &mut self,
-        alloc: Global,
-        programs: &NameTable<'a>,
-        channels: &NameTable<'a>,
-        items: &[Item<'a>],
-    ) -> Result<(), NameFault>
-        ensures { Gives (λ _. wiring_seen self.new) result
-            (each (spec.with_item programs.now channels.now) (wiring_seen self.old)
-            (map item_seen items.now)) }
-    {
         for item in items {
-            self.add(alloc, programs, channels, item)?;
+            read.add(alloc, programs, &channels, item)?;
         }
-        Ok(())
+        Ok(read)
     }
 
     /// Adds an item, whose name must be new.
