@@ -1,5 +1,5 @@
 -- A view that is copied from a book agrees with its history.
-use Rattle.std.proofs.Common.{◌≡◌, ℕ, ◌<◌, false, not, List, [], ◌∷◌, None, Result, Ok, Err, IfOk, length, map, get_or, refl, sym, ap, ◌∙◌, subst, arith}
+use Rattle.std.proofs.Common.{◌≡◌, ℕ, ◌<◌, false, not, List, [], ◌∷◌, None, length, map, get_or, refl, sym, ap, ◌∙◌, subst, arith}
 use Rattle.std.specs.List.{Contains, range_with_len}
 use Rattle.std.proofs.lemmas.List.FromFn.{length-range_with_len, get_or-range_with_len}
 use Rattle.kpn_net.specs.declared.wait.Wait.{Wait}
@@ -85,21 +85,16 @@ module _ (b : Book) (step : IsInStep b) where
     counts = counts;
   }
 
-  -- where it was copied
-  pub Agrees-if : {A E : Type 0} (channels : ℕ) → channels ≡ length b.tables.channels → (copied : Result (View A) E)
-      → IfOk copied
-      (λ view. view.journals ≡ map (λ c. (channel_in b.configuration c).journal) (range_with_len 0 channels))
-      → IfOk copied (λ view. view.read ≡ map (λ c. (channel_in b.configuration c).read) (range_with_len 0 channels))
-      → IfOk copied (λ view. view.caps ≡ map (λ c. (channel_in b.configuration c).capacity) (range_with_len 0 channels))
-      → IfOk copied
-      (λ view. view.retired ≡ map (λ c. (channel_in b.configuration c).is_retired) (range_with_len 0 channels))
-      → IfOk copied (λ view. view.states ≡ b.schedule.states)
-      → IfOk copied (λ view. AreCounts view.states view.counts)
-      → IfOk copied (λ view. Agrees b.tables b.history view)
-  Agrees-if channels all (Ok view) journals read caps retired states counts =
+  -- of so many channels
+  pub Agrees-of : {A : Type 0} (channels : ℕ) → channels ≡ length b.tables.channels → (view : View A)
+      → view.journals ≡ map (λ c. (channel_in b.configuration c).journal) (range_with_len 0 channels)
+      → view.read ≡ map (λ c. (channel_in b.configuration c).read) (range_with_len 0 channels)
+      → view.caps ≡ map (λ c. (channel_in b.configuration c).capacity) (range_with_len 0 channels)
+      → view.retired ≡ map (λ c. (channel_in b.configuration c).is_retired) (range_with_len 0 channels)
+      → view.states ≡ b.schedule.states → AreCounts view.states view.counts → Agrees b.tables b.history view
+  Agrees-of channels all view journals read caps retired states counts =
       Agrees-copied view (journals ∙ ap
       (λ n. map (λ c. (channel_in b.configuration c).journal) (range_with_len 0 n)) all)
       (read ∙ ap (λ n. map (λ c. (channel_in b.configuration c).read) (range_with_len 0 n)) all)
       (caps ∙ ap (λ n. map (λ c. (channel_in b.configuration c).capacity) (range_with_len 0 n)) all)
       (retired ∙ ap (λ n. map (λ c. (channel_in b.configuration c).is_retired) (range_with_len 0 n)) all) states counts
-  Agrees-if channels all (Err e) journals read caps retired states counts = tt

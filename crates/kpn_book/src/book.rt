@@ -13,7 +13,7 @@ ghost use Rattle.kpn_book.specs.Kept.{IsBook};
 
 use crate::journal::begins;
 use crate::open_book::OpenBook;
-use crate::view::{last_view, view_of};
+use crate::view::{copied_journals, moved_journals, view_without_journals};
 use kpn_configuration::Configuration;
 use kpn_net::Network;
 use kpn_schedule::Schedule;
@@ -169,13 +169,16 @@ impl<'n, A: Allocator> Book<'n, A> {
         ensures agrees { IfOk result (λ view. Agrees self.now.tables self.now.history view) }
         ensures states { IfOk result (λ view. view.states ≡ self.now.schedule.states) }
     {
-        let channels = self.parts.network.channels();
-        view_of(
-            alloc,
-            channels,
-            &self.parts.configuration,
-            &self.parts.schedule,
-        )
+        let OpenBook {
+            network,
+            configuration,
+            schedule,
+            ..
+        } = &self.parts;
+        let channels = network.channels();
+        let mut view = view_without_journals(alloc, channels, configuration, schedule)?;
+        view.journals = copied_journals(alloc, channels, configuration)?;
+        Ok(view)
     }
 }
 
@@ -189,7 +192,13 @@ impl<'n> Book<'n> {
     {
         let Book { parts } = self;
         let channels = parts.network.channels();
-        let view = last_view(alloc, channels, parts.configuration, &parts.schedule)?;
+        let mut view = view_without_journals(
+            alloc,
+            channels,
+            &parts.configuration,
+            &parts.schedule,
+        )?;
+        view.journals = moved_journals(alloc, channels, parts.configuration)?;
         Ok((view, parts.history))
     }
 }

@@ -10,29 +10,18 @@ use kpn_chan::Channel;
 use kpn_configuration::Configuration;
 use kpn_lang::Sequence;
 use kpn_schedule::Schedule;
-use kpn_trace::{Counts, State, View};
+use kpn_trace::View;
 use std::alloc::{AllocError, Allocator, Global};
 
-/// A view but for its journals.
-#[derive(Drop)]
-struct Rest<B: Allocator> {
-    read: Sequence<usize, B>,
-    caps: Sequence<Option<u32>, B>,
-    retired: Sequence<bool, B>,
-    states: Sequence<State, B>,
-    counts: Counts,
-}
-
-/// The view of a run with this many channels. The error is that memory ran out.
-pub(crate) fn view_of<A: Allocator, B: Allocator + Copy>(
+/// The view of a run with so many channels, but for its journals: there are none in it yet. The error is that memory
+/// ran out.
+pub(crate) fn view_without_journals<A: Allocator, B: Allocator + Copy>(
     alloc: B,
     channels: usize,
     configuration: &Configuration<A>,
     schedule: &Schedule<A>,
 ) -> Result<View<B>, AllocError>
     requires { channels ≡ length configuration.now.channels }
-    ensures journals { let s = configuration.now in IfOk result (λ view.
-        view.journals ≡ map (λ c. (channel_in s c).journal) (range_with_len 0 channels)) }
     ensures read { let s = configuration.now in IfOk result (λ view.
         view.read ≡ map (λ c. (channel_in s c).read) (range_with_len 0 channels)) }
     ensures caps { let s = configuration.now in IfOk result (λ view.
@@ -42,80 +31,8 @@ pub(crate) fn view_of<A: Allocator, B: Allocator + Copy>(
     ensures states { IfOk result (λ view. view.states ≡ schedule.now.states) }
     ensures counts { IfOk result (λ view. AreCounts view.states view.counts) }
 {
-    let journals = copied_journals(alloc, channels, configuration)?;
-    let rest = rest_of(alloc, channels, configuration, schedule)?;
-    Ok(with_journals(journals, rest))
-}
-
-/// The view of a run with this many channels that is over: its configuration goes into the view. The error is that
-/// memory ran out.
-pub(crate) fn last_view(
-    alloc: Global,
-    channels: usize,
-    configuration: Configuration,
-    schedule: &Schedule,
-) -> Result<View, AllocError>
-    requires { channels ≡ length configuration.channels }
-    ensures journals { let s = configuration in IfOk result (λ view.
-        view.journals ≡ map (λ c. (channel_in s c).journal) (range_with_len 0 channels)) }
-    ensures read { let s = configuration in IfOk result (λ view.
-        view.read ≡ map (λ c. (channel_in s c).read) (range_with_len 0 channels)) }
-    ensures caps { let s = configuration in IfOk result (λ view.
-        view.caps ≡ map (λ c. (channel_in s c).capacity) (range_with_len 0 channels)) }
-    ensures retired { let s = configuration in IfOk result (λ view.
-        view.retired ≡ map (λ c. (channel_in s c).is_retired) (range_with_len 0 channels)) }
-    ensures states { IfOk result (λ view. view.states ≡ schedule.now.states) }
-    ensures counts { IfOk result (λ view. AreCounts view.states view.counts) }
-{
-    let rest = rest_of(alloc, channels, &configuration, schedule)?;
-    let journals = moved_journals(alloc, channels, configuration)?;
-    Ok(with_journals(journals, rest))
-}
-
-/// The view of these parts.
-fn with_journals<B: Allocator>(journals: Sequence<Sequence<i64, B>, B>, rest: Rest<B>) -> View<B>
-    ensures journals { result.journals ≡ journals }
-    ensures read { result.read ≡ rest.read }
-    ensures caps { result.caps ≡ rest.caps }
-    ensures retired { result.retired ≡ rest.retired }
-    ensures states { result.states ≡ rest.states }
-    ensures counts { result.counts ≡ rest.counts }
-{
-    let Rest {
-        read,
-        caps,
-        retired,
-        states,
-        counts,
-    } = rest;
-    View {
-        journals,
-        read,
-        caps,
-        retired,
-        states,
-        counts,
-    }
-}
-
-/// What a view tells but for the journals.
-fn rest_of<A: Allocator, B: Allocator + Copy>(
-    alloc: B,
-    channels: usize,
-    configuration: &Configuration<A>,
-    schedule: &Schedule<A>,
-) -> Result<Rest<B>, AllocError>
-    requires { channels ≡ length configuration.now.channels }
-    ensures read { let s = configuration.now in IfOk result (λ rest.
-        rest.read ≡ map (λ c. (channel_in s c).read) (range_with_len 0 channels)) }
-    ensures caps { let s = configuration.now in IfOk result (λ rest.
-        rest.caps ≡ map (λ c. (channel_in s c).capacity) (range_with_len 0 channels)) }
-    ensures retired { let s = configuration.now in IfOk result (λ rest.
-        rest.retired ≡ map (λ c. (channel_in s c).is_retired) (range_with_len 0 channels)) }
-    ensures states { IfOk result (λ rest. rest.states ≡ schedule.now.states) }
-    ensures counts { IfOk result (λ rest. AreCounts rest.states rest.counts) }
-{
-    let mut rest = Rest {
+    let mut view = View {
+        journals: Sequence::new(alloc),
         read: Sequence::new(alloc),
         caps: Sequence::new(alloc),
         retired: Sequence::new(alloc),
@@ -123,36 +40,36 @@ fn rest_of<A: Allocator, B: Allocator + Copy>(
         counts: schedule.counts(),
     };
     'channels: for c in 0..channels {
-        add_channel(configuration, c, &mut rest)?;
+        add_channel(configuration, c, &mut view)?;
     }
-    Ok(rest)
+    Ok(view)
 }
 
-/// Puts a channel behind the others.
+/// Puts a channel behind the others of a view, but for its journal.
 fn add_channel<A: Allocator, B: Allocator>(
     configuration: &Configuration<A>,
     c: usize,
-    rest: &mut Rest<B>,
+    view: &mut View<B>,
 ) -> Result<(), AllocError>
     requires { c < length configuration.now.channels }
     ensures read { let s = configuration.now in IfOk result (λ _.
-        rest.new.read ≡ rest.old.read ++ (channel_in s c).read ∷ []) }
+        view.new.read ≡ view.old.read ++ (channel_in s c).read ∷ []) }
     ensures caps { let s = configuration.now in IfOk result (λ _.
-        rest.new.caps ≡ rest.old.caps ++ (channel_in s c).capacity ∷ []) }
+        view.new.caps ≡ view.old.caps ++ (channel_in s c).capacity ∷ []) }
     ensures retired { let s = configuration.now in IfOk result (λ _.
-        rest.new.retired ≡ rest.old.retired ++ (channel_in s c).is_retired ∷ []) }
-    ensures states { IfOk result (λ _. rest.new.states ≡ rest.old.states) }
-    ensures counts { IfOk result (λ _. rest.new.counts ≡ rest.old.counts) }
+        view.new.retired ≡ view.old.retired ++ (channel_in s c).is_retired ∷ []) }
+    ensures states { IfOk result (λ _. view.new.states ≡ view.old.states) }
+    ensures counts { IfOk result (λ _. view.new.counts ≡ view.old.counts) }
 {
     let channel = configuration.channel(c);
-    rest.read.push(channel.read_count())?;
-    rest.caps.push(channel.cap())?;
-    rest.retired.push(channel.is_retired())?;
+    view.read.push(channel.read_count())?;
+    view.caps.push(channel.cap())?;
+    view.retired.push(channel.is_retired())?;
     Ok(())
 }
 
 /// The journals of so many channels, copied.
-fn copied_journals<A: Allocator, B: Allocator + Copy>(
+pub(crate) fn copied_journals<A: Allocator, B: Allocator + Copy>(
     alloc: B,
     channels: usize,
     configuration: &Configuration<A>,
@@ -170,7 +87,7 @@ fn copied_journals<A: Allocator, B: Allocator + Copy>(
 }
 
 /// The journals of so many channels, moved.
-fn moved_journals(
+pub(crate) fn moved_journals(
     alloc: Global,
     channels: usize,
     configuration: Configuration,

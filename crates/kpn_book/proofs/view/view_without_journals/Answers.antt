@@ -2,7 +2,7 @@ use Rattle.std.proofs.Common.{sym, ◌∙◌, subst}
 use Rattle.kpn_trace.specs.Views.{AreCounts}
 use Rattle.kpn_configuration.specs.Configuration.{channel_in}
 use Rattle.kpn_book.proofs.Moved.{one_more}
-use Rattle.kpn_book.proofs.view.rest_of.Goals as goal
+use Rattle.kpn_book.proofs.view.view_without_journals.Goals as goal
 
 pub channels-preserved : goal.channels-preserved
 channels-preserved g c =
@@ -11,9 +11,9 @@ channels-preserved g c =
     let so_far = c.channels.invariant in
     let added = c.in_ok-add_channel.ensures in
     record {
-      read = one_more (λ c. (channel_in s c).read) n c.channels.rest.read _ so_far.read added.read;
-      caps = one_more (λ c. (channel_in s c).capacity) n c.channels.rest.caps _ so_far.caps added.caps;
-      retired = one_more (λ c. (channel_in s c).is_retired) n c.channels.rest.retired _ so_far.retired added.retired;
+      read = one_more (λ c. (channel_in s c).read) n c.channels.view.read _ so_far.read added.read;
+      caps = one_more (λ c. (channel_in s c).capacity) n c.channels.view.caps _ so_far.caps added.caps;
+      retired = one_more (λ c. (channel_in s c).is_retired) n c.channels.view.retired _ so_far.retired added.retired;
       states = added.states ∙ so_far.states;
       counts = subst (AreCounts c.args.schedule.now.states) (sym added.counts) so_far.counts;
     }
