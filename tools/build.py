@@ -1,12 +1,16 @@
 #!/usr/bin/env python3
-"""Proves and builds the program `kpn` and the libraries that it stands on, and tells on standard error how far it is.
+"""Proves and builds the program `kpn` and the libraries below it, and tells on standard error how far it is.
 
-Libraries are proved side by side. Since two runs of `rt` that need the same library wait for each other, each library
-is proved in a lane: a folder under out/lanes with a copy of its sources and links to the libraries below, which are
-built by then. What was made there is then moved back. What is current is left as it is, and an interrupted build goes
-on where it was. The launcher `kpn` calls this; out/needed says afterwards which folders the program was made from.
+It calls the prover itself, side by side for crates that do not depend on one another, first for those with the longest
+chain of crates above. A library is made with its statements only, which crates above read in less time than its proofs.
+`rt check` wants the proofs, so what is made here stands in out/ at the top, apart from each crate's own out/:
+libraries/ (packed, since the gate refuses sources that no check reads) and logs/. The program is crates/kpn/out/kpn.
+A crate is proved anew where its contents have changed, or what was made of a crate below it came out otherwise. An
+interrupted build goes on where it was. The launcher `kpn` calls this; out/needed says afterwards which folders the
+program was made from.
 """
 import fcntl
+import hashlib
 import json
 import os
 import pathlib
@@ -15,113 +19,155 @@ import shutil
 import signal
 import subprocess
 import sys
+import tempfile
 import time
 
+from prover import PARTS, Crate, find_kit, link_words, read_crates, words_of
+
 TOP = pathlib.Path(__file__).resolve().parent.parent
-OUT, LANES = TOP / 'out', TOP / 'out' / 'lanes'
-PARTS = ('src', 'specs', 'proofs')
+OUT = TOP / 'out'
 PROGRAM = 'kpn'
 # A check was seen to take up to this much memory.
 BYTES_FOR_A_CRATE = 3 * 2**30
-# Lines of rt that say nothing about what failed.
+# To read the libraries below a crate takes about as long as to prove so many bytes of sources.
+BYTES_FOR_LIBRARIES = 100_000
+# Lines of the prover that say nothing about what failed.
 QUIET = re.compile(r'(fn|impl|enum|struct|trait|const|type|mod) .*: (proved|no holes)$'
                    r'|(logic|statements|library|crate|by-macro:) ')
 
 
-class Crate:
-    def __init__(self, name, row, direct):
-        self.name, self.row, self.direct = name, row, direct
-        self.folder = TOP / 'crates' / name
-        # What was made last, once the crate is proved.
-        self.made = self.folder / 'out' / (PROGRAM if name == PROGRAM else 'rlib/stamp')
-        self.lane = LANES / name / 'crates' / name
-        self.log = OUT / 'logs' / name
-        self.run, self.jobs, self.held, self.is_done = None, 0, None, False
+def sum_of(folder, files):
+    """A sum of the names and contents of these files of a folder."""
+    total = hashlib.sha256()
+    for file in sorted(it for it in files if it.is_file()):
+        data = file.read_bytes()
+        total.update(f'{file.relative_to(folder)} {len(data)}\n'.encode() + data)
+    return total.hexdigest()
 
-    def files(self):
-        """Its sources, and their folders, whose time tells of a file that was removed."""
-        folders = [self.folder / part for part in PARTS if (self.folder / part).is_dir()]
-        return [*folders, *(file for folder in folders for file in folder.rglob('*'))]
 
-    def is_current(self):
-        """Whether what was made is newer than all that it is made from; `rt` itself looks at the contents."""
-        if not self.made.exists() or not all(below.is_done for below in self.direct):
+class Target(Crate):
+    """A crate as what is to be made: the program, or a packed library."""
+
+    def __init__(self, folder, uses, direct):
+        super().__init__(folder, uses, direct)
+        self.made = folder / 'out' / self.name if self.is_program else OUT / 'libraries' / f'{self.name}.tar'
+        # What it was made from, and its sum.
+        self.stamp = OUT / 'libraries' / f'{self.name}.json'
+        self.log = OUT / 'logs' / self.name
+        # Its sum, once it is current.
+        self.sum, self.run, self.jobs, self.started_from = None, None, 0, None
+
+    def made_from(self, kit):
+        """A sum of all that it is made from, once the libraries below are current."""
+        parts = [(kit / 'KIT-ID').read_text(), self.uses, sum_of(self.folder, self.sources())]
+        return hashlib.sha256(json.dumps([*parts, *(it.sum for it in self.below)]).encode()).hexdigest()
+
+    def look(self, kit):
+        """Looks whether it is current, and tells so."""
+        if all(it.sum for it in self.below) and self.stamp.exists() and self.made.exists():
+            was = json.loads(self.stamp.read_text())
+            # `rt` may have put a program of its own there.
+            is_ours = not self.is_program or was['sum'] == sum_of(self.made.parent, [self.made])
+            self.sum = was['sum'] if is_ours and was['from'] == self.made_from(kit) else None
+        return self.sum is not None
+
+
+def unpack(crate, room):
+    if not crate.is_program:
+        shutil.unpack_archive(crate.made, room)
+
+
+class Build:
+    """The crates that are still to be made, those that are being made, and the room where libraries lie unpacked."""
+
+    def __init__(self, kit, room, crates, progress):
+        self.kit, self.room, self.progress = kit, room, progress
+        self.waiting, self.running = [it for it in crates if not it.sum], []
+        self.most = max(1, min(len(os.sched_getaffinity(0)), free_memory() // BYTES_FOR_A_CRATE))
+        # For each crate how much there is to read and to prove on the longest chain from it up to the program.
+        self.height = {}
+        for crate in reversed(crates):
+            above = [it for other, it in self.height.items() if crate in other.direct]
+            size = BYTES_FOR_LIBRARIES + sum(file.stat().st_size for file in crate.sources())
+            self.height[crate] = size + max(above, default=0)
+
+    def make_all(self):
+        """Makes all; gives the first crate that is not proved, where there is one."""
+        try:
+            while self.waiting or self.running:
+                self.start_ready()
+                self.progress.show([it.name for it in self.running])
+                time.sleep(0.1)
+                for crate in [it for it in self.running if it.run.poll() is not None]:
+                    if not self.finish(crate):
+                        return crate
+        finally:
+            for crate in [it for it in self.running if it.run.poll() is None]:
+                os.killpg(crate.run.pid, signal.SIGKILL)
+                crate.run.wait()
+        return None
+
+    def start_ready(self):
+        """Starts what may run now, longest chain first. A crate can use several processors, but not all the time, so
+        half as many jobs more than processors are handed out, at least two to each crate, and to the one with the
+        longest chain of all as many as there are processors."""
+        ready = [it for it in self.waiting if all(below.sum for below in it.direct)]
+        ready = sorted(ready, key=self.height.get, reverse=True)[: self.most - len(self.running)]
+        free = self.most * 3 // 2 - sum(it.jobs for it in self.running)
+        longest = max(map(self.height.get, self.waiting + self.running), default=0)
+        for place, crate in enumerate(ready):
+            self.waiting.remove(crate)
+            # What is below may have come out as it was.
+            if crate.look(self.kit):
+                unpack(crate, self.room)
+                self.progress.add(crate.name)
+                continue
+            least = self.most if self.height[crate] == longest else min(2, self.most)
+            jobs = min(4, max(least, -(-free // (len(ready) - place))))
+            free -= jobs
+            self.start(crate, jobs)
+
+    def start(self, crate, jobs):
+        crate.stamp.unlink(missing_ok=True)
+        crate.started_from, crate.jobs = crate.made_from(self.kit), jobs
+        words = ['--logic-built', self.kit / 'logic_built', '--jobs', str(jobs)]
+        if crate.is_program:
+            words += ['--toolchain', self.kit / 'toolchain', '--backend', 'llvm', '-o', self.room / f'{crate.name}.o']
+        else:
+            words += ['--statements', '-o', self.room / f'{crate.name}.rlib']
+        with open(crate.log, 'w') as log:
+            how = {'stdin': subprocess.DEVNULL, 'stdout': log, 'stderr': log, 'preexec_fn': os.setpgrp}
+            words = words_of('build', crate, self.kit, self.room, *words)
+            crate.run = subprocess.Popen(words, cwd=crate.folder, **how)
+        self.running.append(crate)
+
+    def finish(self, crate):
+        """Keeps what was made, and tells whether it was made."""
+        self.running.remove(crate)
+        if crate.run.returncode == -signal.SIGKILL and crate.jobs > 1:
+            # Most likely for want of memory, of which one job takes less.
+            self.start(crate, 1)
+            return True
+        if crate.run.returncode or not self.keep(crate):
             return False
-        made = self.made.stat().st_mtime
-        parts = [*self.files(), TOP / 'crates.txt', *(below.made for below in self.direct)]
-        return all(part.stat().st_mtime <= made for part in parts)
+        # Sources that have changed meanwhile are proved at the next start.
+        if crate.made_from(self.kit) == crate.started_from:
+            crate.stamp.write_text(json.dumps({'from': crate.started_from, 'sum': crate.sum}))
+        self.progress.add(crate.name)
+        return True
 
-
-def needed_crates():
-    """The crates of the program, each after those that it stands on."""
-    rows = [row.partition('#')[0].strip() for row in (TOP / 'crates.txt').read_text().splitlines()]
-    rows = {row.partition(':')[0].split()[0]: row for row in rows if row}
-    found = {}
-
-    def add(name):
-        if name in rows and name not in found:
-            below = [it for it in rows[name].partition(':')[2].split() if it in rows]
-            for it in below:
-                add(it)
-            found[name] = Crate(name, rows[name], [found[it] for it in below])
-
-    add(PROGRAM)
-    return list(found.values())
-
-
-def all_below(crate):
-    found = {}
-    for below in crate.direct:
-        found.update(dict.fromkeys([*all_below(below), below]))
-    return list(found)
-
-
-def copy_sources(crate, to):
-    for part in PARTS:
-        if (crate.folder / part).is_dir():
-            shutil.copytree(crate.folder / part, to / part)
-
-
-def open_lane(crate):
-    shutil.rmtree(LANES / crate.name, ignore_errors=True)
-    below = all_below(crate)
-    crate.lane.mkdir(parents=True)
-    (LANES / crate.name / 'crates.txt').write_text(''.join(f'{it.row}\n' for it in [*below, crate]))
-    for it in below:
-        to = crate.lane.parent / it.name
-        copy_sources(it, to)
-        shutil.copytree(it.made.parent, to / 'out' / 'rlib', copy_function=os.link)
-    copy_sources(crate, crate.lane)
-    if (crate.folder / 'out').is_dir():
-        os.rename(crate.folder / 'out', crate.lane / 'out')
-
-
-def close_lane(crate):
-    if (crate.lane / 'out').is_dir() and not (crate.folder / 'out').exists():
-        os.rename(crate.lane / 'out', crate.folder / 'out')
-    shutil.rmtree(LANES / crate.name, ignore_errors=True)
-
-
-def start(crate, jobs):
-    # Another run of `rt` in this crate waits, or is waited for.
-    crate.held = os.open(crate.folder, os.O_RDONLY)
-    fcntl.flock(crate.held, fcntl.LOCK_EX)
-    open_lane(crate)
-    with open(crate.log, 'w') as log:
-        words = ['rt', 'lib', '--jobs', str(jobs)]
-        how = {'stdin': subprocess.DEVNULL, 'stdout': log, 'stderr': subprocess.STDOUT}
-        crate.run, crate.jobs = subprocess.Popen(words, cwd=crate.lane, **how), jobs
-
-
-def finish(crate):
-    """Ends the run where it has not ended, and keeps what it made."""
-    if crate.run.poll() is None:
-        crate.run.terminate()
-    crate.is_done = crate.run.wait() == 0
-    close_lane(crate)
-    os.close(crate.held)
-    if crate.is_done and crate.made.exists():
-        os.utime(crate.made)
+    def keep(self, crate):
+        """Packs a library, or links the program, and tells whether that succeeded."""
+        if not crate.is_program:
+            library = self.room / f'{crate.name}.rlib'
+            crate.sum = sum_of(library, library.rglob('*'))
+            return shutil.make_archive(str(crate.made.with_suffix('')), 'tar', self.room, library.name)
+        crate.made.parent.mkdir(exist_ok=True)
+        with open(crate.log, 'a') as log:
+            words = link_words(self.kit, self.room / f'{crate.name}.o', crate.made)
+            status = subprocess.run(words, stdin=subprocess.DEVNULL, stdout=log, stderr=log).returncode
+        crate.sum = status == 0 and sum_of(crate.made.parent, [crate.made])
+        return crate.sum
 
 
 class Progress:
@@ -162,72 +208,6 @@ def free_memory():
     return 1024 * int(found[1])
 
 
-def heights(crates):
-    """For each crate the size of the sources of the longest chain from it up to the program."""
-    found = {}
-    for crate in reversed(crates):
-        above = [found[it] for it in found if crate in it.direct]
-        found[crate] = sum(file.stat().st_size for file in crate.files()) + max(above, default=0)
-    return found
-
-
-def start_ready(waiting, running, most, height):
-    """Starts what may run now, longest chain first. A crate can use several processors, but not all the time, so half
-    as many jobs more than processors are handed out, and more where a crate would have to go on with fewer than two, or
-    the one with the longest chain of all with fewer than there are processors."""
-    ready = [it for it in waiting if all(below.is_done for below in it.direct)]
-    ready = sorted(ready, key=height.get, reverse=True)[: most - len(running)]
-    free = most * 3 // 2 - sum(it.jobs for it in running)
-    longest = max(map(height.get, waiting + running), default=0)
-    for place, crate in enumerate(ready):
-        least = most if height[crate] == longest else min(2, most)
-        jobs = min(4, max(least, -(-free // (len(ready) - place))))
-        free -= jobs
-        start(crate, jobs)
-        waiting.remove(crate)
-        running.append(crate)
-
-
-def prove_libraries(libraries, progress, height):
-    """Proves what is not current; gives the first that is not proved, where there is one."""
-    most = max(1, min(len(os.sched_getaffinity(0)), free_memory() // BYTES_FOR_A_CRATE))
-    waiting, running = list(libraries), []
-    try:
-        while waiting or running:
-            start_ready(waiting, running, most, height)
-            progress.show([it.name for it in running])
-            time.sleep(0.2)
-            for crate in [it for it in running if it.run.poll() is not None]:
-                running.remove(crate)
-                finish(crate)
-                if not crate.is_done:
-                    return crate
-                progress.add(crate.name)
-    finally:
-        for crate in running:
-            finish(crate)
-    return None
-
-
-def build_program(crate, progress):
-    """`rt` proves and links the program, and anything below whose contents are not what was proved."""
-    progress.show([crate.name])
-    with open(crate.log, 'w') as log:
-        how = {'stdin': subprocess.DEVNULL, 'stdout': log, 'stderr': subprocess.STDOUT}
-        run = subprocess.run(['rt', 'run', '--', '--version'], cwd=crate.folder, **how)
-    if run.returncode:
-        return crate
-    progress.add(crate.name)
-    os.utime(crate.made)
-    return None
-
-
-def tell_failure(crate, progress):
-    said = [line for line in crate.log.read_text().splitlines() if not QUIET.match(line)]
-    progress.line('\n'.join(said))
-    progress.line(f'kpn: {crate.name} is not proved: what is wrong stands above, and in {crate.log.relative_to(TOP)}')
-
-
 def last_build():
     kept = OUT / 'last_build'
     if not kept.exists():
@@ -236,31 +216,45 @@ def last_build():
     return f'the last time it took {clock(was["seconds"])} for {counted(was["crates"])}'
 
 
-def build():
-    crates = needed_crates()
-    for crate in crates:
-        close_lane(crate)
-        crate.is_done = crate.is_current()
-    *left, program = [it for it in crates if not it.is_done or it.name == PROGRAM]
-    if program.is_done and (OUT / 'needed').exists():
-        return 0
-    progress = Progress(len(left) + 1)
-    progress.line(f'kpn: the program is proved and built first, {counted(len(left) + 1)}; {last_build()}')
-    failed = prove_libraries(left, progress, heights(crates)) or build_program(program, progress)
+def make(kit, crates, number):
+    """Makes what is not current, and tells whether all of it was proved."""
+    progress = Progress(number)
+    progress.line(f'kpn: the program is proved and built first, {counted(number)}; {last_build()}')
+    room = pathlib.Path(tempfile.mkdtemp(prefix='kpn-build-'))
+    try:
+        for crate in [it for it in crates if it.sum]:
+            unpack(crate, room)
+        failed = Build(kit, room, crates, progress).make_all()
+    finally:
+        shutil.rmtree(room, ignore_errors=True)
     if failed:
-        tell_failure(failed, progress)
+        progress.line('\n'.join(it for it in failed.log.read_text().splitlines() if not QUIET.match(it)))
+        log = failed.log.relative_to(TOP)
+        progress.line(f'kpn: {failed.name} is not proved: what is wrong stands above, and in {log}')
+        return False
+    seconds = round(time.monotonic() - progress.began)
+    (OUT / 'last_build').write_text(json.dumps({'crates': number, 'seconds': seconds}))
+    progress.line(f'kpn: built in {progress.spent()}')
+    return True
+
+
+def build():
+    began, kit, program = time.time(), find_kit(), read_crates(TOP, Target)[PROGRAM]
+    crates = [*program.below, program]
+    number = sum(not it.look(kit) for it in crates)
+    if number and not make(kit, crates, number):
         return 1
-    seconds = time.monotonic() - progress.began
-    (OUT / 'last_build').write_text(json.dumps({'crates': progress.number, 'seconds': round(seconds)}))
     parts = [f'crates/{it.name}/{part}' for it in crates for part in PARTS if (it.folder / part).is_dir()]
     (OUT / 'needed').write_text('\n'.join(['crates.txt', *parts]) + '\n')
-    progress.line(f'kpn: built in {progress.spent()}')
+    # So that a source which has changed since then is newer.
+    os.utime(program.made, (began, began))
     return 0
 
 
 def main():
     signal.signal(signal.SIGTERM, signal.default_int_handler)
-    (OUT / 'logs').mkdir(parents=True, exist_ok=True)
+    for name in ('libraries', 'logs'):
+        (OUT / name).mkdir(parents=True, exist_ok=True)
     with open(OUT / 'lock', 'w') as lock:
         try:
             fcntl.flock(lock, fcntl.LOCK_EX | fcntl.LOCK_NB)

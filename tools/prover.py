@@ -1,0 +1,57 @@
+"""What crates.txt says of the crates, and how the prover is called for one of them: in the words that `rt` uses, but
+over libraries in a folder of the caller's. `build.py` and `gate.py` use it.
+"""
+import pathlib
+import subprocess
+
+PARTS = ('src', 'specs', 'proofs')
+TARGET = 'x86_64-unknown-linux-gnu'
+
+
+def find_kit():
+    """The kit's folder, in which the page lies that `rt doc` names."""
+    said = subprocess.run(['rt', 'doc'], check=True, capture_output=True, text=True)
+    return pathlib.Path(said.stdout.strip()).parent
+
+
+class Crate:
+    """A crate, the libraries that its line names (its own `direct` ones, and the kit's), and all crates below it."""
+
+    def __init__(self, folder, uses, direct):
+        self.name, self.folder, self.uses, self.direct = folder.name, folder, uses, direct
+        self.below = list(dict.fromkeys(it for low in direct for it in [*low.below, low]))
+        self.is_program = (folder / 'src/main.rt').exists()
+
+    def sources(self):
+        return [file for part in PARTS for file in (self.folder / part).rglob('*')]
+
+
+def read_crates(top, kind=Crate):
+    """The crates of a repository by their names, each after those below it."""
+    rows = [row.partition('#')[0].partition(':') for row in (top / 'crates.txt').read_text().splitlines()]
+    rows = {head.split()[0]: uses.split() for head, _, uses in rows if head.strip()}
+    found = {}
+
+    def add(name):
+        if name not in found:
+            direct = [add(it) for it in rows[name] if it in rows]
+            found[name] = kind(top / 'crates' / name, rows[name], direct)
+        return found[name]
+
+    for name in rows:
+        add(name)
+    return found
+
+
+def words_of(verb, crate, kit, libraries, *more):
+    own = {it.name for it in crate.below}
+    words = [kit / 'bin/rattle', verb, '--crate-name', crate.name, f'src/{"main" if crate.is_program else "lib"}.rt']
+    for name in ['std', *crate.uses]:
+        words += ['--extern', f'{name}={libraries if name in own else kit / "rlibs"}/{name}.rlib']
+    words += ['-L', f'dependency={kit}/rlibs', '-L', f'dependency={libraries}', '--links', f'{crate.name}=']
+    return list(map(str, [*words, '--antt-project', kit / 'rattle/logic/antt-project.json', *more]))
+
+
+def link_words(kit, made, program):
+    words = [kit / 'bin/rattle-link', '--target', TARGET, '--toolchain', kit / 'toolchain', '-o', program, made]
+    return list(map(str, [*words, kit / 'c/libos_c.a', kit / 'c/liblibc_c.a']))
