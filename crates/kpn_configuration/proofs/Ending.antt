@@ -1,5 +1,5 @@
 -- The end of a process: each channel that it reads is retired, in order of port, and the writer of the channel woken.
-use Rattle.std.proofs.Common.{◌≡◌, ◌≢◌, ℕ, ◌<◌, Bool, true, false, ◌||◌, cond, eqb, eq-eqb, IsTrue, List, [], ◌∷◌, ◌++◌, length, get_or, take, length-take, Option, Some, None, refl, sym, ap, ◌∙◌, subst, inl, inr, arith, append-nil, add-zero, length-set}
+use Rattle.std.proofs.Common.{◌≡◌, ◌≢◌, ℕ, ◌<◌, Bool, true, false, ◌||◌, cond, eqb, eq-eqb, IsTrue, List, [], ◌∷◌, ◌++◌, length, get_or, take, length-take, Option, Some, None, refl, sym, ap, ◌∙◌, subst, inl, inr, arith, append-nil, add-zero, length-set, slice_set}
 use Rattle.std.specs.List.{Contains, list_any, filter_map, cons_option}
 use Rattle.std.specs.Option.{option_to_list}
 use Rattle.std.proofs.lemmas.Bool.{cases_Bool, cases_eq, ne_eqb, eqb-true, both_ways, false≢true}
@@ -16,17 +16,19 @@ use Rattle.kpn_net.specs.Tables.{Tables, reader_of, writer_of, instance_at}
 use Rattle.kpn_net.specs.Faults.{IsNetwork}
 use Rattle.kpn_net.specs.Waits.{wait_at, AreWaits, AreDistinct}
 use Rattle.kpn_net.proofs.PortsApart.{reads_its_ins, one_port}
-use Rattle.kpn_chan.specs.Channel.{opened, retired}
+use Rattle.kpn_chan.specs.Channel.{ChannelState, opened, retired}
 use Rattle.kpn_trace.specs.declared.event.How.{How}
 use Rattle.kpn_trace.specs.declared.event.Event.TheVariants.{Ended}
 use Rattle.kpn_trace.specs.AfterEvent.{takes_end, takes_reader}
 use Rattle.kpn_trace.specs.Waking.{is_process, wakes}
-use Rattle.kpn_configuration.specs.Configuration.{Configuration, channel_in, closed_in, end_in, frame_in, IsConfiguration, IsFree, with_channel, with_waits, with_end}
+use Rattle.kpn_configuration.specs.Configuration.{Configuration, channel_in, closed_in, end_in, frame_in, IsConfiguration, IsFree, with_end}
 use Rattle.kpn_configuration.specs.Changes.{IsChannelAfter, Changes}
-use Rattle.kpn_configuration.specs.Woken.{is_wait_on_full, waiting_at, waiting_writer, AreWoken}
+use Rattle.kpn_configuration.specs.Woken.{is_wait, is_wait_on_full, waiting_at, waiting_writer, woken_at, AreWoken}
 use Rattle.kpn_configuration.specs.EndSoFar.{is_wait_on_full_among, IsRetiredAs, EndSoFar}
 use Rattle.kpn_configuration.proofs.Parts.{or-false, untouched, waits_of_kind}
 use Rattle.kpn_configuration.proofs.Calls.{Made, Made-from}
+use Rattle.kpn_configuration.proofs.Woken.{stay, process_woken}
+use Rattle.kpn_net.proofs.Cycles.{Contains-none}
 
 -- ---- one port more
 
@@ -78,7 +80,7 @@ woken_more c ports (Full d) =
     by_test true = refl
     by_test false = ap (λ b. cond b Nobody (Full d)) (same_test c d)
 
-writer_still_waits : (t : Tables) (before now : List Wait) (c : ℕ) (ports : List ℕ)
+pub writer_still_waits : (t : Tables) (before now : List Wait) (c : ℕ) (ports : List ℕ)
     → AreWoken (is_wait_on_full_among ports) before now → (Contains ports c → ⊥)
     → waiting_writer t now c ≡ waiting_writer t before c
 writer_still_waits t before now c ports woken none = by_end (writer_of t c)
@@ -90,26 +92,41 @@ writer_still_waits t before now c ports woken none = by_end (writer_of t c)
     by_end Source = refl
     by_end Sink = refl
 
-module _ (t : Tables) (before now s1 s2 : Configuration) (ports woken : List ℕ)
-    (h : EndSoFar t before now ports woken) (c : ℕ) (fresh : Contains ports c → ⊥) (there : c < length now.channels)
-    (left : s1 ≡ with_channel c (retired (channel_in s1 c).is_reserved (channel_in now c)) now)
-    (keep : IsTrue (channel_in now c).is_reserved → IsTrue (channel_in s1 c).is_reserved)
-    (woke : s2 ≡ with_waits s2.waits s1) (kind : AreWoken (is_wait_on_full c) s1.waits s2.waits)
-    (own : AreWaits t s2.waits) where
-  whole : s2 ≡ with_waits s2.waits (with_channel c (retired (channel_in s1 c).is_reserved (channel_in now c)) now)
-  whole = woke ∙ ap (with_waits s2.waits) left
+-- nothing was done at no ports
+pub EndSoFar-none : (t : Tables) (s now : Configuration) → now ≡ s → AreWaits t s.waits → (woken : List ℕ) → woken ≡ []
+    → EndSoFar t s now [] woken
+EndSoFar-none t s now is own woken none =
+    record {
+      channels = ap (λ x. length x.channels) is;
+      closed = ap (λ x. x.closed) is;
+      ends = ap (λ x. x.ends) is;
+      frames = ap (λ x. x.frames) is;
+      own = subst (λ x. AreWaits t x.waits) (sym is) own;
+      retires = λ d among. absurd (Contains-none d among);
+      keeps = λ d among. ap (λ x. channel_in x d) is;
+      waits = record { each = λ q. ap (λ x. wait_at x.waits q) is ∙ not_woken (wait_at s.waits q) };
+      woken = none;
+    }
+  where
+    not_woken : (w : Wait) → w ≡ cond (is_wait_on_full_among [] w) Nobody w
+    not_woken Nobody = refl
+    not_woken (Empty d) = refl
+    not_woken (Full d) = refl
 
-  waits_before : s1.waits ≡ now.waits
-  waits_before = ap (λ x. x.waits) left
-
-  here : channel_in s2 c ≡ retired (channel_in s1 c).is_reserved (channel_in now c)
-  here = ap (λ x. channel_in x c) whole ∙ get_or-set_same now.channels c _ (opened None false) there
+module _ (t : Tables) (before now s2 : Configuration) (ports woken : List ℕ) (h : EndSoFar t before now ports woken)
+    (c : ℕ) (fresh : Contains ports c → ⊥) (there : c < length now.channels) (ch : ChannelState)
+    (left : ch ≡ retired ch.is_reserved (channel_in now c))
+    (keep : IsTrue (channel_in now c).is_reserved → IsTrue ch.is_reserved) (waits : List Wait)
+    (woke : waits ≡ woken_at (is_wait (Full c)) now.waits (writer_of t c))
+    (whole : s2 ≡ record now { channels = slice_set now.channels c ch; waits = waits }) where
+  here : channel_in s2 c ≡ ch
+  here = ap (λ x. channel_in x c) whole ∙ get_or-set_same now.channels c ch (opened None false) there
 
   other : (d : ℕ) → d ≢ c → channel_in s2 d ≡ channel_in now d
-  other d differ = ap (λ x. channel_in x d) whole ∙ get_or-set_other now.channels c d _ (opened None false) differ
+  other d differ = ap (λ x. channel_in x d) whole ∙ get_or-set_other now.channels c d ch (opened None false) differ
 
-  same_reserved : (channel_in s2 c).is_reserved ≡ (channel_in s1 c).is_reserved
-  same_reserved = ap (λ x. x.is_reserved) here
+  waits_now : s2.waits ≡ woken_at (is_wait (Full c)) now.waits (writer_of t c)
+  waits_now = ap (λ x. x.waits) whole ∙ woke
 
   retires_more : (d : ℕ) → Contains (ports ++ c ∷ []) d → IsRetiredAs (channel_in before d) (channel_in s2 d)
   retires_more d among =
@@ -118,12 +135,12 @@ module _ (t : Tables) (before now s1 s2 : Configuration) (ports woken : List ℕ
             subst (λ x. IsRetiredAs (channel_in before x) (channel_in s2 x)) (sym same)
             (record {
               is =
-                  here ∙ ap (λ ch. retired (channel_in s1 c).is_reserved ch) (h.keeps c fresh)
-                  ∙ ap (λ b. retired b (channel_in before c)) (sym same_reserved);
+                  here ∙ left ∙ ap (λ x. retired ch.is_reserved x) (h.keeps c fresh)
+                  ∙ ap (λ b. retired b (channel_in before c)) (sym (ap (λ x. x.is_reserved) here));
               keeps =
                   λ r.
-                  subst (λ b. IsTrue b) (sym same_reserved)
-                  (keep (subst (λ ch. IsTrue ch.is_reserved) (sym (h.keeps c fresh)) r));
+                  subst (λ x. IsTrue x.is_reserved) (sym here)
+                  (keep (subst (λ x. IsTrue x.is_reserved) (sym (h.keeps c fresh)) r));
             })
         | inr differ ↦
             subst (λ x. IsRetiredAs (channel_in before d) x) (sym (other d differ))
@@ -140,15 +157,15 @@ module _ (t : Tables) (before now s1 s2 : Configuration) (ports woken : List ℕ
         closed = ap (λ x. x.closed) whole ∙ h.closed;
         ends = ap (λ x. x.ends) whole ∙ h.ends;
         frames = ap (λ x. x.frames) whole ∙ h.frames;
-        own = own;
+        own = subst (λ ws. AreWaits t ws) (sym waits_now) (stay t now.waits h.own (Full c) (writer_of t c));
         retires = retires_more;
         keeps =
             λ d none.
             other d (λ same. none (subst (λ x. Contains (ports ++ c ∷ []) x) (sym same) (Contains-push ports c)))
             ∙ h.keeps d (λ among. none (Contains-append_left ports (c ∷ []) d among));
         waits = record {
-          each = λ q. kind.each q
-              ∙ ap (λ ws. cond (is_wait_on_full c (wait_at ws q)) Nobody (wait_at ws q)) waits_before
+          each = λ q. ap (λ ws. wait_at ws q) waits_now
+              ∙ (process_woken t now.waits h.own (Full c) (λ e. absurd cc)).each q
               ∙ ap (λ w. cond (is_wait_on_full c w) Nobody w) (h.waits.each q)
               ∙ woken_more c ports (wait_at before.waits q);
         };
@@ -156,12 +173,6 @@ module _ (t : Tables) (before now s1 s2 : Configuration) (ports woken : List ℕ
             is ∙ ap (λ xs. xs ++ filter_map (waiting_writer t before.waits) (c ∷ [])) h.woken
             ∙ sym (filter_map-append (waiting_writer t before.waits) ports (c ∷ []));
       }
-
-  -- who was told at this port
-  pub told : waiting_writer t s1.waits c ≡ waiting_writer t before.waits c
-  told =
-      ap (λ ws. waiting_writer t ws c) waits_before
-      ∙ writer_still_waits t before.waits now.waits c ports h.waits fresh
 
 -- ---- after all ports
 

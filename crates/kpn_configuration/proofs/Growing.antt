@@ -1,6 +1,6 @@
 -- Growth: which one is owed is what the search along the waits finds, and the channel made larger is what its event
 -- makes of it.
-use Rattle.std.proofs.Common.{◌≡◌, ◌↔◌, ℕ, ◌+◌, ◌<◌, ◌≤◌, Bool, true, false, not, cond, eq-eqb, ltb, IsTrue, List, [], ◌∷◌, ◌++◌, length, Option, Some, None, is_some, refl, sym, ap, ◌∙◌, subst, inl, inr, arith, IsSomeAnd, ◌||◌, append-nil, add-zero, length-set}
+use Rattle.std.proofs.Common.{◌≡◌, ◌↔◌, ℕ, ◌+◌, ◌<◌, ◌≤◌, Bool, true, false, not, cond, eq-eqb, ltb, IsTrue, List, [], ◌∷◌, ◌++◌, length, Option, Some, None, is_some, refl, sym, ap, ◌∙◌, subst, inl, inr, arith, IsSomeAnd, ◌||◌, append-nil, add-zero, slice_set}
 use Rattle.std.specs.Option.{unwrap_or, option_map}
 use Rattle.std.proofs.lemmas.Bool.{cases_lt, ltb-true, ltb-false, ne_eqb}
 use Rattle.std.proofs.lemmas.List.{get_or_past, get_or-map, ext_get_or, length-map}
@@ -9,7 +9,7 @@ use Rattle.kpn_net.specs.declared.found.Found.{Found}
 use Rattle.kpn_net.specs.declared.found.Found.TheVariants.{NoCycle, AllEmpty, Full}
 use Rattle.kpn_net.specs.declared.wait.Wait.{Wait}
 use Rattle.kpn_net.specs.declared.wait.Wait.TheVariants as wait
-use Rattle.kpn_net.specs.Tables.{Tables, channel_at, is_source, capacity}
+use Rattle.kpn_net.specs.Tables.{Tables, channel_at, is_source, capacity, writer_of}
 use Rattle.kpn_net.specs.Faults.{IsNetwork}
 use Rattle.kpn_net.specs.Waits.{AreWaits}
 use Rattle.kpn_net.specs.Finding.{Finds}
@@ -30,13 +30,13 @@ use Rattle.kpn_trace.proofs.EarlierWaits.{wait_at-waits_of}
 use Rattle.kpn_trace.proofs.Growth.{one_owed}
 use Rattle.kpn_trace.proofs.OwedGrowth.{owed_as_found}
 use Rattle.kpn_trace.proofs.OneMore.{Legal-exactly}
-use Rattle.kpn_configuration.specs.Configuration.{Configuration, channel_in, closed_in, IsConfiguration, capacities, with_channel, with_waits}
+use Rattle.kpn_configuration.specs.Configuration.{Configuration, channel_in, IsConfiguration, capacities}
 use Rattle.kpn_configuration.specs.Run.{IsRun}
 use Rattle.kpn_configuration.specs.Changes.{Changes}
 use Rattle.kpn_configuration.specs.Owed.{IsOwed, channel_to_grow}
-use Rattle.kpn_configuration.specs.Woken.{is_wait_on_full, AreWoken}
-use Rattle.kpn_configuration.proofs.Parts.{or-false, keeps_reader, channels_set, waits_of_kind, wakes-grow, SameLengths}
-use Rattle.kpn_configuration.proofs.Calls.{Made, Made-from}
+use Rattle.kpn_configuration.specs.Woken.{is_wait, woken_at}
+use Rattle.kpn_configuration.proofs.Parts.{or-false, keeps_reader, wakes-grow}
+use Rattle.kpn_configuration.proofs.Calls.{Made, made_on}
 
 -- ---- what is found is what is owed
 
@@ -172,65 +172,38 @@ module _ (t : Tables) (network : IsNetwork t) (s : Configuration) (shape : IsCon
           let below : cap_in (capacities s) d < t.limit = owed.below_limit in
           omega arith
 
-  Changes-grown : (r : Bool) (waits : List Wait) → (IsTrue (channel_in s d).is_reserved → IsTrue r)
-      → AreWoken (is_wait_on_full d) s.waits waits
-      → Changes t (Grow p d) s (with_waits waits (with_channel d (grown r (channel_in s d)) s))
-  Changes-grown r waits keep woken =
+  pub Made-grown : (r : Bool) → (IsTrue (channel_in s d).is_reserved → IsTrue r) → (waits : List Wait)
+      → waits ≡ woken_at (is_wait (wait.Full d)) s.waits (writer_of t d) → (after : Configuration)
+      → after ≡ record s { channels = slice_set s.channels d (grown r (channel_in s d)); waits = waits }
+      → Made t (Grow p d) s after
+  Made-grown r keep =
+      made_on t s shape (Grow p d) d (grown r (channel_in s d)) (wait.Full d) s.frames owed_below
+      (record {
+        journal = sym (append-nil (channel_in s d).journal);
+        read = sym (add-zero (channel_in s d).read);
+        capacity =
+            larger (channel_in s d).capacity
+            ∙ sym
+            (ap (λ b. cond b (option_map (λ n. n + 1) (channel_in s d).capacity) (channel_in s d).capacity)
+            (eq-eqb d d refl));
+        retired =
+            sym
+            (ap (λ b. (channel_in s d).is_retired || b) (keeps_reader t (Grow p d) d (λ r. refl) refl)
+            ∙ or-false (channel_in s d).is_retired);
+        reserved = λ none was. keep was;
+      })
+      (λ c differ.
       record {
-        channels =
-            λ c is.
-            channels_set t (Grow p d) s.channels d (grown r (channel_in s d))
-            (let b = owed_below in omega (arith, shape.channels))
-            (record {
-              journal = sym (append-nil (channel_in s d).journal);
-              read = sym (add-zero (channel_in s d).read);
-              capacity =
-                  larger (channel_in s d).capacity
-                  ∙ sym
-                  (ap (λ b. cond b (option_map (λ n. n + 1) (channel_in s d).capacity) (channel_in s d).capacity)
-                  (eq-eqb d d refl));
-              retired =
-                  sym
-                  (ap (λ b. (channel_in s d).is_retired || b) (keeps_reader t (Grow p d) d (λ r. refl) refl)
-                  ∙ or-false (channel_in s d).is_retired);
-              reserved = λ none was. keep was;
-            })
-            (λ c differ.
-            record {
-              written = refl;
-              read = refl;
-              capacity =
-                  λ cap. ap (λ b. cond b (option_map (λ n. n + 1) cap) cap) (ne_eqb d c (λ e. differ (sym e)));
-              reader = keeps_reader t (Grow p d) c (λ r. refl) refl;
-            }) c;
-        closed = λ c is. sym (or-false (closed_in s c));
-        waits =
-            λ q is.
-            waits_of_kind t (Grow p d) (is_wait_on_full d) s.waits waits woken (wakes-grow t p d) refl
-            (λ q is. absurd cc) refl q;
-        ends = λ q is. refl;
-        frames = λ q is. refl;
-      }
+        written = refl;
+        read = refl;
+        capacity = λ cap. ap (λ b. cond b (option_map (λ n. n + 1) cap) cap) (ne_eqb d c (λ e. differ (sym e)));
+        reader = keeps_reader t (Grow p d) c (λ r. refl) refl;
+      })
+      (λ c. refl) (λ q end. refl) (λ e. absurd cc) (wakes-grow t p d) refl (λ q is. absurd cc) refl (λ q. refl)
     where
       larger : (o : Option ℕ) → one_more o ≡ option_map (λ n. n + 1) o
       larger None = refl
       larger (Some n) = refl
-
-  pub Made-grown : (s1 s2 : Configuration)
-      → s1 ≡ with_channel d (grown (channel_in s1 d).is_reserved (channel_in s d)) s
-      → (IsTrue (channel_in s d).is_reserved → IsTrue (channel_in s1 d).is_reserved)
-      → s2 ≡ with_waits s2.waits s1
-      → AreWoken (is_wait_on_full d) s1.waits s2.waits → AreWaits t s2.waits → Made t (Grow p d) s s2
-  Made-grown s1 s2 grew keep woke woken waits =
-      let whole : s2 ≡ with_waits s2.waits (with_channel d (grown (channel_in s1 d).is_reserved (channel_in s d)) s) =
-      woke ∙ ap (with_waits s2.waits) grew in
-      Made-from t (Grow p d) s s2 shape
-      (subst (λ x. Changes t (Grow p d) s x) (sym whole)
-      (Changes-grown (channel_in s1 d).is_reserved s2.waits keep
-      (subst (λ w. AreWoken (is_wait_on_full d) w s2.waits) (ap (λ x. x.waits) grew) woken)))
-      (subst (λ x. SameLengths s x) (sym whole)
-      (record { channels = length-set s.channels d _; closed = refl; ends = refl; frames = refl }))
-      waits
 
   pub Legal-grown : (H : List Event) → p < length t.instances → IsRun t H s → OwesGrowth t H p d
       → Legal t (H ++ Grow p d ∷ [])

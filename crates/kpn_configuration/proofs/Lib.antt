@@ -4,7 +4,6 @@ pub mod Ending
 pub mod Exact
 pub mod Growing
 pub mod Leading
-pub mod Made
 pub mod Mirror
 pub mod Moments
 pub mod Moving

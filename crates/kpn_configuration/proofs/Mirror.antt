@@ -6,7 +6,7 @@ use Rattle.std.proofs.lemmas.Bool.{false≢true}
 use Rattle.std.proofs.Math.Seq.{map-set_same}
 use Rattle.kpn_chan.specs.Channel.{ChannelState, one_more, with_room}
 
-pub capacities_kept : (channels : List ChannelState) (c : ℕ) (channel d : ChannelState)
+capacities_kept : (channels : List ChannelState) (c : ℕ) (channel d : ChannelState)
     → channel.capacity ≡ (get_or channels c d).capacity
     → map (λ x. unwrap_or x.capacity 0) (set channels c channel) ≡ map (λ x. unwrap_or x.capacity 0) channels
 capacities_kept channels c channel d same =
@@ -52,3 +52,9 @@ mirror_grows channels caps d cap channel dummy n mirror there more is at =
 pub some_of : (P : ℕ → Type 0) (o : Option ℕ) → IsSomeAnd o P → (n : ℕ) × (o ≡ Some n)
 some_of P None h = absurd h
 some_of P (Some n) h = (n, refl)
+
+pub mirror_kept : (channels : List ChannelState) (caps : List ℕ) (c : ℕ) (channel before : ChannelState)
+    → caps ≡ map (λ x. unwrap_or x.capacity 0) channels → channel.capacity ≡ before.capacity
+    → before ≡ get_or channels c before → caps ≡ map (λ x. unwrap_or x.capacity 0) (set channels c channel)
+mirror_kept channels caps c channel before mirror same is =
+    mirror ∙ sym (capacities_kept channels c channel before (same ∙ ap (λ x. x.capacity) is))

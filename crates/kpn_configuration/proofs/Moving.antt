@@ -3,7 +3,9 @@ use Rattle.std.proofs.Common.{◌≡◌, ℕ, ◌<◌, IsTrue, List, length, sym
 use Rattle.std.proofs.lemmas.Bool.{cases_eq}
 use Rattle.kpn_net.specs.Tables.{Tables, instance_at, program_of}
 use Rattle.kpn_step.specs.Frame.{Frame, fits}
-use Rattle.kpn_step.specs.Stops.{Advanced, IsAdvance}
+use Rattle.kpn_step.specs.Stops.{Advanced, IsAdvance, advanced_of}
+use Rattle.kpn_step.specs.declared.stop.Stop.{Stop}
+use Rattle.kpn_lang.specs.Parts.{Parts}
 use Rattle.kpn_step.specs.After.{IsAfter}
 use Rattle.kpn_step.proofs.After.{IsAfter-advance}
 use Rattle.kpn_trace.specs.declared.event.Event.{Event}
@@ -66,3 +68,10 @@ module _ (t : Tables) (s : Configuration) (p : ℕ) (g : Frame) (there : p < len
                 (subst (λ f. IsAfter a.program (instance_at t p).pars h.said f) (sym from)
                 (subst (λ x. IsAfter x (instance_at t p).pars h.said (frame_in s p)) (sym program) h.after))));
           }
+
+-- the steps of the code's frame are those of the configuration's
+pub advanced_as : (P : Advanced → Type 0) (x y : Parts) (f g h k : Frame) (steps : ℕ) (stop : Stop) → x ≡ y → f ≡ g
+    → h ≡ k → P (advanced_of x f h steps stop) → P (advanced_of y g k steps stop)
+advanced_as P x y f g h k steps stop program from to is =
+    subst (λ z. P (advanced_of z g k steps stop)) program
+    (subst (λ z. P (advanced_of x z k steps stop)) from (subst (λ z. P (advanced_of x f z steps stop)) to is))

@@ -1,7 +1,7 @@
 -- A reservation changes nothing that a history tells of.
-use Rattle.std.proofs.Common.{◌≡◌, ℕ, ◌<◌, Bool, true, false, not, cond, List, length, None, is_some, sym, ◌∙◌, subst, inl, inr, length-set}
+use Rattle.std.proofs.Common.{◌≡◌, ℕ, ◌<◌, Bool, true, false, not, cond, List, length, None, is_some, sym, ap, ◌∙◌, subst, inl, inr, length-set}
 use Rattle.std.proofs.lemmas.Bool.{cases_eq}
-use Rattle.std.proofs.lemmas.List.{get_or-set_same, get_or-set_other}
+use Rattle.std.proofs.lemmas.List.{get_or-set_same, get_or-set_other, set-get_or}
 use Rattle.kpn_net.specs.Tables.{Tables, channel_at, is_source}
 use Rattle.kpn_chan.specs.Channel.{ChannelState, opened, with_room}
 use Rattle.kpn_trace.specs.declared.event.Event.{Event}
@@ -24,6 +24,15 @@ module _ (s : Configuration) (c : ℕ) (there : c < length s.channels) where
             (sym (get_or-set_other s.channels c d (with_room (channel_in s c)) (opened None false) differ))
             (all d)
       ]
+
+  -- the code writes the channel back also where it is as before
+  pub room_made : (b : Bool) (channel before : ChannelState) → channel ≡ cond b (with_room before) before
+      → before ≡ channel_in s c
+      → with_channel c channel s ≡ cond b (with_channel c (with_room (channel_in s c)) s) s
+  room_made true channel before is same = ap (λ x. with_channel c x s) (is ∙ ap with_room same)
+  room_made false channel before is same =
+      ap (λ x. with_channel c x s) (is ∙ same)
+      ∙ ap (λ channels. record s { channels = channels }) (set-get_or s.channels c (opened None false))
 
   module _ (t : Tables) where
     with_room_shape : IsConfiguration t s → IsConfiguration t (with_channel c (with_room (channel_in s c)) s)

@@ -23,56 +23,18 @@ use Rattle.kpn_trace.proofs.Waking.{woken}
 use Rattle.kpn_configuration.specs.Configuration.{Configuration, wait_in, end_in, IsFree}
 use Rattle.kpn_configuration.specs.Run.{IsRun}
 use Rattle.kpn_configuration.specs.Changes.{end_then, Changes}
-use Rattle.kpn_configuration.specs.Woken.{is_wait_on_full, is_wait_on_empty, waiting_at, waiting_writer, waiting_reader}
+use Rattle.kpn_configuration.specs.Woken.{waiting_writer, waiting_reader}
 use Rattle.kpn_configuration.proofs.Moments.{ended_waits_for_nobody}
+use Rattle.kpn_configuration.proofs.Woken.{who_waits}
 
 -- ---- who waits on a channel
 
-full_true : (c : ℕ) (w : Wait) → is_wait_on_full c w ≡ true → w ≡ Full c
-full_true c (Full d) is = ap Full (sym (eqb-true c d is))
-full_true c w is = absurd (false≢true is)
-
-empty_true : (c : ℕ) (w : Wait) → is_wait_on_empty c w ≡ true → w ≡ Empty c
-empty_true c (Empty d) is = ap Empty (sym (eqb-true c d is))
-empty_true c w is = absurd (false≢true is)
-
--- the process at an end of a channel, where its wait is of a kind
-at_end : (kind : Wait → Bool) (waits : List Wait) (end : End) (q : ℕ) → waiting_at kind waits end ≡ Some q
-    → (end ≡ Process q) × (kind (wait_at waits q) ≡ true)
-at_end kind waits (Process r) q is = by_kind (kind (wait_at waits r)) refl is
-  where
-    by_kind : (b : Bool) → kind (wait_at waits r) ≡ b → cond b (Some r) None ≡ Some q
-        → (Process r ≡ Process q) × (kind (wait_at waits q) ≡ true)
-    by_kind true test e = let same : r ≡ q =
-        cc in (ap Process same, subst (λ x. kind (wait_at waits x) ≡ true) same test)
-    by_kind false test e = absurd (cc)
-at_end kind waits Source q is = absurd (cc)
-at_end kind waits Sink q is = absurd (cc)
-
 module _ (t : Tables) (waits : List Wait) (are : AreWaits t waits) (c q : ℕ) where
   pub who_writes : (waiting_writer t waits c ≡ Some q) ↔ ((q < length t.instances) × (wait_at waits q ≡ Full c))
-  who_writes = (
-    λ is.
-        let h = at_end (is_wait_on_full c) waits (writer_of t c) q is in
-        ((Writes-writer_of t q c h.0).process, full_true c (wait_at waits q) h.1),
-    λ h.
-        let own : writer_of t c ≡ Process q = subst (λ w. IsOwnWait t q w) h.1 (are.own q h.0) in
-        ap (waiting_at (is_wait_on_full c) waits) own
-        ∙ ap (λ w. cond (is_wait_on_full c w) (Some q) None) h.1
-        ∙ ap (λ b. cond b (Some q) None) (eq-eqb c c refl),
-  )
+  who_writes = who_waits t waits are (Full c) (λ e. absurd cc) q
 
   pub who_reads : (waiting_reader t waits c ≡ Some q) ↔ ((q < length t.instances) × (wait_at waits q ≡ Empty c))
-  who_reads = (
-    λ is.
-        let h = at_end (is_wait_on_empty c) waits (reader_of t c) q is in
-        ((Reads-reader_of t q c h.0).process, empty_true c (wait_at waits q) h.1),
-    λ h.
-        let own : reader_of t c ≡ Process q = subst (λ w. IsOwnWait t q w) h.1 (are.own q h.0) in
-        ap (waiting_at (is_wait_on_empty c) waits) own
-        ∙ ap (λ w. cond (is_wait_on_empty c w) (Some q) None) h.1
-        ∙ ap (λ b. cond b (Some q) None) (eq-eqb c c refl),
-  )
+  who_reads = who_waits t waits are (Empty c) (λ e. absurd cc) q
 
 -- ---- who becomes free
 

@@ -16,14 +16,13 @@ use std::marker::Model;
 
 mod growth;
 mod outside;
-mod parts;
 mod processes;
 mod start;
 mod steps;
 mod verdicts;
 mod wakes;
 
-pub use processes::{Got, stop_of};
+pub use processes::Got;
 
 /// The states of the processes of a network and the contents of its channels at one moment of a run.
 ///
@@ -78,7 +77,8 @@ impl<A: Allocator> Configuration<A> {
         ensures shape { (t : Tables) → IsConfiguration t self.old → IsConfiguration t self.new }
         ensures run { (t : Tables) (H : List Event) → IsRun t H self.old → IsRun t H self.new }
     {
-        self.reserve(c)
+        let channel = &mut self.channels[c];
+        channel.reserve_one()
     }
 
     /// The channels, in order of number, moved out of the configuration.

@@ -5,4 +5,4 @@
 mod configuration;
 pub mod laws;
 
-pub use configuration::{Configuration, Got, stop_of};
+pub use configuration::{Configuration, Got};

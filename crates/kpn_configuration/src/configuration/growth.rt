@@ -1,12 +1,11 @@
 //! Growth: which channel has to grow once a process has come to wait, and the channel made larger.
-ghost use Rattle.std.specs.Prelude.{◌≡◌, ◌↔◌, ◌<◌, ℕ, List, [], ◌∷◌, ◌++◌, length, Some, None};
+ghost use Rattle.std.specs.Prelude.{◌≡◌, ◌↔◌, ◌<◌, ℕ, List, [], ◌∷◌, ◌++◌, length, IsTrue, Some, None};
 ghost use Rattle.kpn_trace.specs.declared.event.Event.{Event};
 ghost use Rattle.kpn_trace.specs.declared.event.Event.TheVariants as event;
 ghost use Rattle.kpn_trace.specs.Legal.{OwesGrowth, waiter};
 ghost use Rattle.kpn_trace.specs.Stops.{OwesNothing};
-ghost use Rattle.kpn_trace.specs.Waiting.{waits_of};
-ghost use Rattle.kpn_trace.specs.Channels.{capacity_or_zero};
-ghost use Rattle.kpn_configuration.specs.Configuration.{IsConfiguration, capacities};
+ghost use Rattle.kpn_configuration.specs.Configuration.{IsConfiguration, capacities, channel_in, with_channel};
+ghost use Rattle.kpn_chan.specs.Channel.{MayGrow, grown};
 ghost use Rattle.kpn_configuration.specs.Run.{IsRun};
 ghost use Rattle.kpn_configuration.specs.Changes.{Changes};
 ghost use Rattle.kpn_configuration.specs.Owed.{IsOwed, channel_to_grow};
@@ -15,8 +14,9 @@ ghost use Rattle.kpn_net.specs.Finding.{Finds};
 ghost use Rattle.kpn_configuration.specs.Woken.{waiting_writer};
 
 use super::Configuration;
+use super::wakes::wake;
 use kpn_cycle::{Found, cycle_through};
-use kpn_net::Network;
+use kpn_net::{Network, Wait};
 use std::alloc::Allocator;
 
 impl<A: Allocator> Configuration<A> {
@@ -36,19 +36,6 @@ impl<A: Allocator> Configuration<A> {
         network.known();
         let found = self.walk(network, p);
         self.channel_to_grow(network.limit(), found)
-    }
-
-    /// The cycle of waiting processes through process `p`, and its smallest full channel, whether below the
-    /// limit or not: what a walk along the waits finds.
-    pub fn cycle_from(&self, network: &Network, p: usize) -> Found
-        requires shape { IsConfiguration network.now self.now }
-        requires process { p < length network.now.instances }
-        ensures exact { Finds network.now self.now.waits (cap_in (capacities self.now)) p result }
-        ensures history { (H : List Event) → IsRun network.now H self.now
-            → Finds network.now (waits_of network.now H) (capacity_or_zero network.now H) p result }
-    {
-        network.known();
-        self.walk(network, p)
     }
 
     /// What a walk along the waits from process `p` finds.
@@ -85,7 +72,24 @@ impl<A: Allocator> Configuration<A> {
             → IsRun network.now (H ++ event.Grow p d ∷ []) self.new }
     {
         network.known();
+        let woken = wake(&mut self.waits, network.writer_of(d), Wait::Full(d));
         self.enlarge(d);
-        self.wake_writer(network, d)
+        woken
+    }
+
+    /// Makes the capacity of a channel larger by one.
+    fn enlarge(&mut self, d: usize)
+        requires channel { d < length self.old.channels }
+        requires capacity { MayGrow (channel_in self.old d) }
+        ensures after { let reserved = (channel_in self.new d).is_reserved in
+            self.new ≡ with_channel d (grown reserved (channel_in self.old d)) self.old }
+        ensures reserved { IsTrue (channel_in self.old d).is_reserved
+            → IsTrue (channel_in self.new d).is_reserved }
+    {
+        let channel = &mut self.channels[d];
+        let Ok(()) = channel.grow() else {
+            unreachable!();
+        };
+        self.capacities[d] += 1;
     }
 }

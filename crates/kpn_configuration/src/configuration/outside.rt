@@ -12,7 +12,8 @@ ghost use Rattle.kpn_configuration.specs.Woken.{waiting_writer, waiting_reader};
 
 use super::Configuration;
 use super::processes::Got;
-use kpn_net::Network;
+use super::wakes::wake;
+use kpn_net::{Network, Wait};
 use std::alloc::Allocator;
 
 impl<A: Allocator> Configuration<A> {
@@ -31,8 +32,9 @@ impl<A: Allocator> Configuration<A> {
             → IsRun network.now (H ++ event.Feed c item ∷ []) self.new }
     {
         network.known();
-        self.put_item(c, item);
-        self.wake_reader(network, c)
+        let channel = &mut self.channels[c];
+        channel.put(item);
+        wake(&mut self.waits, network.reader_of(c), Wait::Empty(c))
     }
 
     /// The outside closes a source that is not closed.
@@ -47,7 +49,7 @@ impl<A: Allocator> Configuration<A> {
             → IsRun network.now (H ++ event.Close c ∷ []) self.new }
     {
         network.known();
-        self.set_closed(c);
+        self.closed[c] = true;
     }
 
     /// The outside takes the next item of a sink. This wakes the writer of the sink, if it waited on it as
@@ -65,8 +67,11 @@ impl<A: Allocator> Configuration<A> {
             → IsRun network.now (H ++ event.Take c result.item ∷ []) self.new }
     {
         network.known();
-        let item = self.read_next(c);
-        let woken = self.wake_writer(network, c);
+        let channel = &mut self.channels[c];
+        let Some(item) = channel.get() else {
+            unreachable!();
+        };
+        let woken = wake(&mut self.waits, network.writer_of(c), Wait::Full(c));
         Got { item, woken }
     }
 
@@ -84,7 +89,8 @@ impl<A: Allocator> Configuration<A> {
             → IsRun network.now (H ++ event.Leave c ∷ []) self.new }
     {
         network.known();
-        self.retire(c);
-        self.wake_writer(network, c)
+        let channel = &mut self.channels[c];
+        channel.retire();
+        wake(&mut self.waits, network.writer_of(c), Wait::Full(c))
     }
 }

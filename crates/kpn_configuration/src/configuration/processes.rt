@@ -17,11 +17,10 @@ ghost use Rattle.kpn_configuration.specs.Woken.{waiting_writer, waiting_reader};
 ghost use Rattle.kpn_configuration.specs.EndSoFar.{EndSoFar};
 
 use super::Configuration;
+use super::wakes::wake;
 use arrayvec::ArrayVec;
-use kpn_lang::Fault;
 use kpn_limits::MAX_PORTS;
 use kpn_net::{Network, Wait};
-use kpn_step::Stop;
 use kpn_trace::How;
 use std::alloc::Allocator;
 
@@ -48,9 +47,13 @@ impl<A: Allocator> Configuration<A> {
             → IsRun network.now (H ++ event.Get p c result.item ∷ []) self.new }
     {
         network.known();
-        let item = self.read_next(c);
-        self.give(network, p, item);
-        let woken = self.wake_writer(network, c);
+        let channel = &mut self.channels[c];
+        let Some(item) = channel.get() else {
+            unreachable!();
+        };
+        let frame = &mut self.frames[p];
+        frame.pass_read(network.program(p), item);
+        let woken = wake(&mut self.waits, network.writer_of(c), Wait::Full(c));
         Got { item, woken }
     }
 
@@ -71,9 +74,11 @@ impl<A: Allocator> Configuration<A> {
             → IsRun network.now (H ++ event.Put p c item ∷ []) self.new }
     {
         network.known();
-        self.put_item(c, item);
-        self.wrote(network, p);
-        self.wake_reader(network, c)
+        let channel = &mut self.channels[c];
+        channel.put(item);
+        let frame = &mut self.frames[p];
+        frame.pass_write(network.program(p));
+        wake(&mut self.waits, network.reader_of(c), Wait::Empty(c))
     }
 
     /// Process `p`, which stands at a read from channel `c`, waits on it as empty, where nothing is unread.
@@ -89,7 +94,7 @@ impl<A: Allocator> Configuration<A> {
             → IsRun network.now (H ++ event.WaitEmpty p c ∷ []) self.new }
     {
         network.known();
-        self.set_wait(p, Wait::Empty(c));
+        self.waits.set(p, Wait::Empty(c));
     }
 
     /// Process `p`, which stands at a write to channel `c`, waits on it as full, where it is full.
@@ -105,7 +110,7 @@ impl<A: Allocator> Configuration<A> {
             → IsRun network.now (H ++ event.WaitFull p c ∷ []) self.new }
     {
         network.known();
-        self.set_wait(p, Wait::Full(c));
+        self.waits.set(p, Wait::Full(c));
     }
 
     /// Process `p`, which stands at this end, has ended. Each channel that it reads is retired, in order of
@@ -124,8 +129,14 @@ impl<A: Allocator> Configuration<A> {
             → IsRun network.now (H ++ event.Ended p how ∷ []) self.new }
     {
         network.known();
-        self.set_end(p, how);
-        self.retire_ins(network, p)
+        self.ends[p] = Some(how);
+        let mut woken = ArrayVec::new();
+        let ins = network.ins(p);
+        'ports: for port in 0..ins.len() {
+            let c = ins[port];
+            self.retire_in(network, c, &mut woken);
+        }
+        woken
     }
 
     /// Retires a channel, and puts its writer behind those that were woken, if this wakes it.
@@ -140,38 +151,10 @@ impl<A: Allocator> Configuration<A> {
             → EndSoFar t before self.new (ports ++ c ∷ []) woken.new.items }
         ensures len { array_vec_len woken.new ≤ array_vec_len woken.old + 1 }
     {
-        self.retire(c);
-        let told = self.wake_writer(network, c);
+        let channel = &mut self.channels[c];
+        channel.retire();
+        let told = wake(&mut self.waits, network.writer_of(c), Wait::Full(c));
         add(woken, told);
-    }
-
-    /// Retires each channel that process `p` reads, and tells whom this woke.
-    fn retire_ins(&mut self, network: &Network, p: usize) -> ArrayVec<usize, MAX_PORTS>
-        requires channels { length self.old.channels ≡ length network.now.channels }
-        requires waits { AreWaits network.now self.old.waits }
-        requires process { p < length network.now.instances }
-        ensures { let t = network.now in
-            EndSoFar t self.old self.new (instance_at t p).ins result.items }
-    {
-        network.known();
-        let mut woken = ArrayVec::new();
-        let ins = network.ins(p);
-        'ports: for port in 0..ins.len() {
-            let c = ins[port];
-            self.retire_in(network, c, &mut woken);
-        }
-        woken
-    }
-}
-
-/// The stop at which an end comes: the end of the program, or the fault.
-pub fn stop_of(how: How) -> Stop
-    ensures { result ≡ stop_of how }
-{
-    match how {
-        How::Done => Stop::Done,
-        How::Overflow => Stop::Faulted(Fault::Overflow),
-        How::ZeroDivisor => Stop::Faulted(Fault::ZeroDivisor),
     }
 }
 

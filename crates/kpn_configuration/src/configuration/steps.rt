@@ -30,7 +30,8 @@ impl<A: Allocator> Configuration<A> {
         ensures run { (H : List Event) → IsRun network.now H self.old
             → IsRun network.now H self.new }
     {
-        self.run_frame(network, p, quota)
+        let frame = &mut self.frames[p];
+        frame.run(network.program(p), quota)
     }
 
     /// Process `p` stands where these steps, which began at its frame, have led.
@@ -46,6 +47,7 @@ impl<A: Allocator> Configuration<A> {
             → IsRun network.now H self.new }
     {
         advance.known();
-        self.load_frame(p, advance.to());
+        let frame = &mut self.frames[p];
+        frame.copy_from(advance.to());
     }
 }

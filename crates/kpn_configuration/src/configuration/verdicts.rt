@@ -25,7 +25,12 @@ impl<A: Allocator> Configuration<A> {
             → (IsTrue result ↔ IsQuiet network.now H) }
     {
         network.known();
-        self.all_quiet(network)
+        for p in 0..network.instances() {
+            if !self.is_quiet_at(p) {
+                return false;
+            }
+        }
+        true
     }
 
     /// The verdict on a run: none unless each process has ended or waits, each source is closed, and each
@@ -65,18 +70,6 @@ impl<A: Allocator> Configuration<A> {
         ensures { IsTrue result ↔ IsSettledNow network.now self.now }
     {
         self.all_stopped(network) && self.is_outside_done(network)
-    }
-
-    fn all_quiet(&self, network: &Network) -> bool
-        requires shape { IsConfiguration network.now self.now }
-        ensures { IsTrue result ↔ IsQuietNow network.now self.now }
-    {
-        for p in 0..network.instances() {
-            if !self.is_quiet_at(p) {
-                return false;
-            }
-        }
-        true
     }
 
     fn all_stopped(&self, network: &Network) -> bool

@@ -1,52 +1,23 @@
 //! Who is woken: a channel has one writer and one reader, so that what happens to it wakes one process at most.
-ghost use Rattle.std.specs.Prelude.{◌≡◌, ◌<◌, length};
-ghost use Rattle.kpn_net.specs.Waits.{AreWaits};
-ghost use Rattle.kpn_configuration.specs.Woken.{is_wait_on_full, is_wait_on_empty, AreWoken, waiting_writer, waiting_reader};
+ghost use Rattle.std.specs.Prelude.{◌≡◌, ℕ, ◌<◌, length};
+ghost use Rattle.kpn_net.specs.declared.tables.End.TheVariants.{Process};
+ghost use Rattle.kpn_configuration.specs.Woken.{is_wait, waiting_at, woken_at};
 
 use kpn_cycle::Waits;
-use kpn_net::{End, Network, Wait};
+use kpn_net::{End, Wait};
 use std::alloc::Allocator;
 
-/// Wakes the writer of the channel, if it waits on it as full: it waits for nobody then. Returns it.
-pub(super) fn wake_writer<A: Allocator>(
-    network: &Network,
-    waits: &mut Waits<A>,
-    c: usize,
-) -> Option<usize>
-    requires channel { c < length network.now.channels }
-    requires waits { AreWaits network.now waits.old }
-    ensures waits { AreWaits network.now waits.new }
-    ensures woken { AreWoken (is_wait_on_full c) waits.old waits.new }
-    ensures who { result ≡ waiting_writer network.now waits.old c }
+/// Wakes the process at this end of a channel, if this is what it waits for: it waits for nobody then. Returns it.
+#[inline(always)]
+pub(super) fn wake<A: Allocator>(waits: &mut Waits<A>, end: End, wait: Wait) -> Option<usize>
+    requires { (q : ℕ) → end ≡ Process q → q < length waits.old }
+    ensures who { result ≡ waiting_at (is_wait wait) waits.old end }
+    ensures after { waits.new ≡ woken_at (is_wait wait) waits.old end }
 {
-    network.known();
-    let End::Process(q) = network.writer_of(c) else {
+    let End::Process(q) = end else {
         return None;
     };
-    if waits.get(q) != Wait::Full(c) {
-        return None;
-    }
-    waits.set(q, Wait::Nobody);
-    Some(q)
-}
-
-/// Wakes the reader of the channel, if it waits on it as empty: it waits for nobody then. Returns it.
-pub(super) fn wake_reader<A: Allocator>(
-    network: &Network,
-    waits: &mut Waits<A>,
-    c: usize,
-) -> Option<usize>
-    requires channel { c < length network.now.channels }
-    requires waits { AreWaits network.now waits.old }
-    ensures waits { AreWaits network.now waits.new }
-    ensures woken { AreWoken (is_wait_on_empty c) waits.old waits.new }
-    ensures who { result ≡ waiting_reader network.now waits.old c }
-{
-    network.known();
-    let End::Process(q) = network.reader_of(c) else {
-        return None;
-    };
-    if waits.get(q) != Wait::Empty(c) {
+    if waits.get(q) != wait {
         return None;
     }
     waits.set(q, Wait::Nobody);

@@ -1,4 +1,6 @@
-use Rattle.kpn_configuration.proofs.Made.{Made-closed}
+use Rattle.std.proofs.Common.{ap}
+use Rattle.kpn_configuration.specs.Configuration.{with_closed}
+use Rattle.kpn_configuration.proofs.Calls.{Made-closed}
 use Rattle.kpn_configuration.proofs.Due.{Legal-closed}
 use Rattle.kpn_configuration.proofs.Running.{IsRun-next}
 use Rattle.kpn_configuration.proofs.configuration.Configuration.close.Goals as goal
@@ -8,11 +10,11 @@ returns g c =
     let t = c.args.network.now in
     let s = c.args.self.now in
     let made =
-    Made-closed t s c.requires.shape c.set_closed.new.self c.args.c c.requires.channel c.set_closed.ensures in
+    Made-closed t s c.requires.shape c.args.c c.requires.channel _ (ap (λ x. with_closed c.args.c x) c.self.view_is) in
     record {
       changes = made.changes;
       shape = made.shape;
-      run = λ H run owes. IsRun-next t c.known.ensures H _ s c.set_closed.new.self run
+      run = λ H run owes. IsRun-next t c.known.ensures H _ s _ run
           (Legal-closed t c.known.ensures H s run owes c.args.c c.requires.channel c.requires.source c.requires.open)
           made.changes made.shape;
     }

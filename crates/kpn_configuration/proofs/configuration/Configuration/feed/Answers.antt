@@ -1,32 +1,57 @@
-use Rattle.std.proofs.Common.{◌≡◌, ap, ◌∙◌, subst, w64, SFits, rules}
-use Rattle.kpn_configuration.specs.Woken.{waiting_reader}
+use Rattle.std.proofs.Common.{◌≡◌, to_z, of_z, ap, ◌∙◌, sym, subst, w64, arith, None, false, slice_set}
 use Rattle.std.proofs.lemmas.Int.{to_z-of_z}
-use Rattle.kpn_chan.specs.Channel.{after_put}
-use Rattle.kpn_configuration.specs.Configuration.{channel_in, with_channel}
-use Rattle.kpn_configuration.proofs.Made.{Made-fed}
+use Rattle.kpn_net.specs.declared.wait.Wait.TheVariants.{Empty}
+use Rattle.kpn_net.specs.Waits.{AreWaits}
+use Rattle.kpn_chan.specs.Channel.{opened, after_put}
+use Rattle.kpn_configuration.specs.Configuration.{Configuration, channel_in}
+use Rattle.kpn_configuration.specs.Woken.{is_wait}
+use Rattle.kpn_configuration.proofs.Calls.{element, Made-fed}
 use Rattle.kpn_configuration.proofs.Due.{Legal-fed}
+use Rattle.kpn_configuration.proofs.Mirror.{mirror_kept}
 use Rattle.kpn_configuration.proofs.Running.{IsRun-next}
+use Rattle.kpn_configuration.proofs.Woken.{below, woken_same, told_same}
 use Rattle.kpn_configuration.proofs.configuration.Configuration.feed.Goals as goal
+
+pub wake-requires : goal.wake-requires
+wake-requires g c =
+    below c.args.network.now c.self.inside.waits
+    (subst (λ s. AreWaits c.args.network.now s.waits) (sym c.self.view_is) c.requires.shape.waits) (Empty c.args.c)
+    c.reader_of.result c.reader_of.ensures
+
+pub invariant_of-self : goal.invariant_of-self
+invariant_of-self g c =
+    mirror_kept c.self.inside.channels.items c.self.inside.capacities.items c.args.c c.put.new.self
+    c.index_mut-channel.result.now c.self.invariant (ap (λ x. x.capacity) c.put.ensures)
+    c.index_mut-channel.ensures.value
 
 pub returns : goal.returns
 returns g c =
-    let fits : SFits w64 c.args.item = search rules in
     let t = c.args.network.now in
     let s = c.args.self.now in
+    let ch = c.put.new.self in
+    let value =
+    element c.self.inside.channels.items s.channels c.args.c c.index_mut-channel.result.now (opened None false)
+    (ap (λ x. x.channels) c.self.view_is) (omega (arith, c.requires.channel, c.requires.shape.channels))
+    c.index_mut-channel.ensures.value in
     let put =
-    subst
-    (λ v. c.put_item.new.self
-    ≡ with_channel c.args.c
-    (after_put v (channel_in c.put_item.new.self c.args.c).is_reserved (channel_in s c.args.c)) s)
-    (to_z-of_z w64 c.args.item fits) c.put_item.ensures in
+    subst (λ v. ch ≡ after_put v ch.is_reserved (channel_in s c.args.c)) (to_z-of_z w64 c.args.item c.ranges.item)
+    (c.put.ensures ∙ ap (λ x. after_put (to_z w64 (of_z w64 c.args.item)) ch.is_reserved x) value) in
+    let same = ap (λ x. x.waits) c.self.view_is in
+    let woke =
+    woken_same (is_wait (Empty c.args.c)) c.reader_of.result _ c.self.inside.waits s.waits c.wake.new.waits
+    c.wake.ensures.after
+    c.reader_of.ensures same in
     let made =
-    Made-fed t s c.requires.shape c.put_item.new.self c.wake_reader.new.self c.args.c c.args.item c.requires.channel
-    put c.wake_reader.ensures.after c.wake_reader.ensures.woken c.wake_reader.ensures.waits in
+    Made-fed t s c.requires.shape c.args.c c.args.item ch c.requires.channel c.wake.new.waits _ put woke
+    (ap (λ (x : Configuration). record x { channels = slice_set x.channels c.args.c ch; waits = c.wake.new.waits })
+    c.self.view_is) in
     record {
-      woken = c.wake_reader.ensures.who ∙ ap (λ x. waiting_reader t x.waits c.args.c) put;
+      woken =
+          told_same (is_wait (Empty c.args.c)) c.reader_of.result _ c.self.inside.waits s.waits c.wake.result
+          c.wake.ensures.who c.reader_of.ensures same;
       changes = made.changes;
       shape = made.shape;
-      run = λ H run owes. IsRun-next t c.known.ensures H _ s c.wake_reader.new.self run
+      run = λ H run owes. IsRun-next t c.known.ensures H _ s _ run
           (Legal-fed t c.known.ensures H s run owes c.args.c c.requires.channel c.args.item c.requires.source
           c.requires.open)
           made.changes made.shape;

@@ -1,38 +1,69 @@
-use Rattle.std.proofs.Common.{ap, ◌∙◌, arith}
-use Rattle.kpn_configuration.specs.Woken.{waiting_writer}
+use Rattle.std.proofs.Common.{◌<◌, length, IsTrue, sym, ap, ◌∙◌, subst, arith, slice_set}
+use Rattle.kpn_net.specs.declared.wait.Wait.TheVariants.{Full}
+use Rattle.kpn_net.specs.Waits.{AreWaits}
+use Rattle.kpn_chan.specs.Channel.{MayGrow, grown}
+use Rattle.kpn_configuration.specs.Configuration.{Configuration, channel_in}
+use Rattle.kpn_configuration.specs.Woken.{is_wait}
 use Rattle.kpn_configuration.proofs.Growing.{owed_below, owed_may_grow, Made-grown, Legal-grown}
 use Rattle.kpn_configuration.proofs.Running.{IsRun-next}
+use Rattle.kpn_configuration.proofs.Woken.{below, woken_same, told_same}
 use Rattle.kpn_configuration.proofs.configuration.Configuration.grow.Goals as goal
+
+pub writer_of-requires : goal.writer_of-requires
+writer_of-requires g c =
+    owed_below c.args.network.now c.known.ensures c.args.self.now c.requires.shape c.args.p c.args.d c.requires.owed
+
+pub wake-woken-requires : goal.wake-woken-requires
+wake-woken-requires g c =
+    below c.args.network.now c.self.inside.waits
+    (subst (λ s. AreWaits c.args.network.now s.waits) (sym c.self.view_is) c.requires.shape.waits) (Full c.args.d)
+    c.writer_of.result c.writer_of.ensures
 
 pub enlarge-requires-clause-channel : goal.enlarge-requires-clause-channel
 enlarge-requires-clause-channel g c =
     let below =
     owed_below c.args.network.now c.known.ensures c.args.self.now c.requires.shape c.args.p c.args.d
     c.requires.owed in
-    omega (arith, c.requires.shape.channels)
+    let there : c.args.d < length c.args.self.now.channels = omega (arith, c.requires.shape.channels) in
+    subst (λ x. c.args.d < length x.channels) (sym c.self.view_is) there
 
 pub enlarge-requires-clause-capacity : goal.enlarge-requires-clause-capacity
 enlarge-requires-clause-capacity g c =
-    owed_may_grow c.args.network.now c.known.ensures c.args.self.now c.requires.shape c.args.p c.args.d
-    c.requires.owed
-
-pub wake_writer-requires-clause-channel : goal.wake_writer-requires-clause-channel
-wake_writer-requires-clause-channel g c =
-    owed_below c.args.network.now c.known.ensures c.args.self.now c.requires.shape c.args.p c.args.d c.requires.owed
+    subst (λ x. MayGrow (channel_in x c.args.d)) (sym c.self.view_is)
+    (owed_may_grow c.args.network.now c.known.ensures c.args.self.now c.requires.shape c.args.p c.args.d
+    c.requires.owed)
 
 pub returns : goal.returns
 returns g c =
     let t = c.args.network.now in
     let s = c.args.self.now in
+    let after = c.enlarge.new.self in
+    let reserved = (channel_in after c.args.d).is_reserved in
+    let keep =
+    subst (λ x. IsTrue (channel_in x c.args.d).is_reserved → IsTrue reserved) c.self.view_is
+    c.enlarge.ensures.reserved in
+    let same = ap (λ x. x.waits) c.self.view_is in
+    let woke =
+    woken_same (is_wait (Full c.args.d)) c.writer_of.result _ c.self.inside.waits s.waits c.wake-woken.new.waits
+    c.wake-woken.ensures.after
+    c.writer_of.ensures same in
     let made =
-    Made-grown t c.known.ensures s c.requires.shape c.args.p c.args.d c.requires.owed c.enlarge.new.self
-    c.wake_writer.new.self c.enlarge.ensures.after c.enlarge.ensures.reserved c.wake_writer.ensures.after
-    c.wake_writer.ensures.woken c.wake_writer.ensures.waits in
+    Made-grown t c.known.ensures s c.requires.shape c.args.p c.args.d c.requires.owed reserved keep
+    c.wake-woken.new.waits woke after
+    (c.enlarge.ensures.after
+    ∙ ap
+    (λ (x : Configuration).
+    record x {
+      channels = slice_set x.channels c.args.d (grown reserved (channel_in x c.args.d));
+      waits = c.wake-woken.new.waits;
+    }) c.self.view_is) in
     record {
-      woken = c.wake_writer.ensures.who ∙ ap (λ x. waiting_writer t x.waits c.args.d) c.enlarge.ensures.after;
+      woken =
+          told_same (is_wait (Full c.args.d)) c.writer_of.result _ c.self.inside.waits s.waits c.wake-woken.result
+          c.wake-woken.ensures.who c.writer_of.ensures same;
       changes = made.changes;
       shape = made.shape;
-      run = λ H run owes. IsRun-next t c.known.ensures H _ s c.wake_writer.new.self run
+      run = λ H run owes. IsRun-next t c.known.ensures H _ s after run
           (Legal-grown t c.known.ensures s c.requires.shape c.args.p c.args.d c.requires.owed H c.requires.process run
           owes)
           made.changes made.shape;

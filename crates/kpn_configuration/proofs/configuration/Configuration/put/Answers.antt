@@ -1,62 +1,79 @@
-use Rattle.std.proofs.Common.{◌≡◌, ap, ◌∙◌, subst, w64, SFits, rules}
-use Rattle.kpn_configuration.specs.Woken.{waiting_reader}
+use Rattle.std.proofs.Common.{◌≡◌, to_z, of_z, ap, ◌∙◌, sym, subst, w64, arith, None, false, slice_set}
 use Rattle.std.proofs.lemmas.Int.{to_z-of_z}
-use Rattle.kpn_chan.specs.Channel.{after_put}
-use Rattle.kpn_configuration.specs.Configuration.{channel_in, with_channel}
-use Rattle.std.proofs.Common.{arith, sym}
-use Rattle.kpn_net.specs.Tables.{program_of}
-use Rattle.kpn_step.specs.Stops.{StandsAtWrite}
-use Rattle.kpn_configuration.specs.Configuration.{frame_in}
-use Rattle.kpn_configuration.proofs.Ports.{writes_below, at_write}
-use Rattle.kpn_configuration.proofs.Made.{Made-put}
+use Rattle.kpn_net.specs.declared.wait.Wait.TheVariants.{Empty}
+use Rattle.kpn_net.specs.Waits.{AreWaits}
+use Rattle.kpn_step.specs.Frame.{passed}
+use Rattle.kpn_chan.specs.Channel.{opened, after_put}
+use Rattle.kpn_configuration.specs.Configuration.{Configuration, channel_in, no_frame}
+use Rattle.kpn_configuration.specs.Woken.{is_wait}
+use Rattle.kpn_configuration.proofs.Calls.{element, Made-put}
 use Rattle.kpn_configuration.proofs.Due.{Legal-put}
+use Rattle.kpn_configuration.proofs.Mirror.{mirror_kept}
+use Rattle.kpn_configuration.proofs.Ports.{writes_below}
 use Rattle.kpn_configuration.proofs.Running.{IsRun-next}
+use Rattle.kpn_configuration.proofs.Woken.{below, woken_same, told_same}
 use Rattle.kpn_configuration.proofs.configuration.Configuration.put.Goals as goal
 
-pub put_item-requires-clause-channel : goal.put_item-requires-clause-channel
-put_item-requires-clause-channel g c =
-    let below =
-    writes_below c.args.network.now c.known.ensures c.args.self.now c.args.p c.requires.process c.args.c c.args.item
-    c.requires.writes in
-    omega (arith, c.requires.shape.channels)
+pub wake-requires : goal.wake-requires
+wake-requires g c =
+    below c.args.network.now c.self.inside.waits
+    (subst (λ s. AreWaits c.args.network.now s.waits) (sym c.self.view_is) c.requires.shape.waits) (Empty c.args.c)
+    c.reader_of.result c.reader_of.ensures
 
-pub wrote-requires-clause-write : goal.wrote-requires-clause-write
-wrote-requires-clause-write g c =
-    subst (λ x. StandsAtWrite (program_of c.args.network.now c.args.p).blocks (frame_in x c.args.p))
-    (sym c.put_item.ensures)
-    (at_write c.args.network.now c.known.ensures c.args.self.now c.args.p c.requires.process c.args.c c.args.item
-    c.requires.writes)
-
-pub wake_reader-requires-clause-channel : goal.wake_reader-requires-clause-channel
-wake_reader-requires-clause-channel g c =
-    writes_below c.args.network.now c.known.ensures c.args.self.now c.args.p c.requires.process c.args.c c.args.item
-    c.requires.writes
+pub invariant_of-self : goal.invariant_of-self
+invariant_of-self g c =
+    mirror_kept c.self.inside.channels.items c.self.inside.capacities.items c.args.c c.put.new.self
+    c.index_mut-channel.result.now c.self.invariant (ap (λ x. x.capacity) c.put.ensures)
+    c.index_mut-channel.ensures.value
 
 pub returns : goal.returns
 returns g c =
-    let fits : SFits w64 c.args.item = search rules in
     let t = c.args.network.now in
     let s = c.args.self.now in
-    let below =
+    let ch = c.put.new.self in
+    let there =
     writes_below t c.known.ensures s c.args.p c.requires.process c.args.c c.args.item c.requires.writes in
+    let value =
+    element c.self.inside.channels.items s.channels c.args.c c.index_mut-channel.result.now (opened None false)
+    (ap (λ x. x.channels) c.self.view_is) (omega (arith, c.requires.shape.channels)) c.index_mut-channel.ensures.value
+    in
+    let frame =
+    element c.self.inside.frames.items s.frames c.args.p c.index_mut-frame.result.now no_frame
+    (ap (λ x. x.frames) c.self.view_is) (omega (arith, c.requires.process, c.requires.shape.frames))
+    c.index_mut-frame.ensures.value in
     let put =
-    subst
-    (λ v. c.put_item.new.self
-    ≡ with_channel c.args.c
-    (after_put v (channel_in c.put_item.new.self c.args.c).is_reserved (channel_in s c.args.c)) s)
-    (to_z-of_z w64 c.args.item fits) c.put_item.ensures in
+    subst (λ v. ch ≡ after_put v ch.is_reserved (channel_in s c.args.c)) (to_z-of_z w64 c.args.item c.ranges.item)
+    (c.put.ensures ∙ ap (λ x. after_put (to_z w64 (of_z w64 c.args.item)) ch.is_reserved x) value) in
+    let same = ap (λ x. x.waits) c.self.view_is in
+    let woke =
+    woken_same (is_wait (Empty c.args.c)) c.reader_of.result _ c.self.inside.waits s.waits c.wake.new.waits
+    c.wake.ensures.after
+    c.reader_of.ensures same in
     let made =
-    Made-put t s c.requires.shape c.put_item.new.self c.wrote.new.self c.wake_reader.new.self c.args.p c.args.c
-    c.args.item c.requires.process below c.requires.free c.requires.writes put c.wrote.ensures
-    c.wake_reader.ensures.after c.wake_reader.ensures.woken c.wake_reader.ensures.waits in
+    Made-put t s c.requires.shape c.args.c c.args.item ch there c.wake.new.waits _ put woke c.args.p c.requires.process
+    c.requires.free c.requires.writes
+    (ap
+    (λ (x : Configuration).
+    record x {
+      channels = slice_set x.channels c.args.c ch;
+      waits = c.wake.new.waits;
+      frames = slice_set x.frames c.args.p c.pass_write.new.self;
+    }) c.self.view_is
+    ∙ ap
+    (λ f.
+    record s {
+      channels = slice_set s.channels c.args.c ch;
+      waits = c.wake.new.waits;
+      frames = slice_set s.frames c.args.p f;
+    }) (c.pass_write.ensures.passed ∙ ap passed frame)) in
     record {
       woken =
-          c.wake_reader.ensures.who
-          ∙ ap (λ ws. waiting_reader t ws c.args.c) (ap (λ x. x.waits) c.wrote.ensures ∙ ap (λ x. x.waits) put);
+          told_same (is_wait (Empty c.args.c)) c.reader_of.result _ c.self.inside.waits s.waits c.wake.result
+          c.wake.ensures.who c.reader_of.ensures same;
       changes = made.changes;
       shape = made.shape;
-      run = λ H run owes. IsRun-next t c.known.ensures H _ s c.wake_reader.new.self run
+      run = λ H run owes. IsRun-next t c.known.ensures H _ s _ run
           (Legal-put t c.known.ensures H s run owes c.args.p c.requires.process c.requires.free c.args.c c.args.item
-          below c.requires.writes c.requires.ready)
+          there c.requires.writes c.requires.ready)
           made.changes made.shape;
     }

@@ -1,13 +1,32 @@
-use Rattle.std.proofs.Common.{is_ok}
-use Rattle.kpn_configuration.proofs.Reserving.{IsConfiguration-reserved, IsRun-reserved}
+use Rattle.std.proofs.Common.{is_ok, None, false, IsTrue, sym, ap, ◌∙◌, subst}
+use Rattle.kpn_chan.specs.Channel.{opened}
+use Rattle.kpn_configuration.specs.Configuration.{with_channel}
+use Rattle.kpn_configuration.proofs.Calls.{element}
+use Rattle.kpn_configuration.proofs.Mirror.{mirror_kept, room_same}
+use Rattle.kpn_configuration.proofs.Reserving.{IsConfiguration-reserved, IsRun-reserved, room_made}
 use Rattle.kpn_configuration.proofs.configuration.Configuration.reserve_one.Goals as goal
 
-pub returns-clause-shape : goal.returns-clause-shape
-returns-clause-shape g c t h =
-    IsConfiguration-reserved c.args.self.now c.args.c c.requires t (is_ok c.reserve.result) c.reserve.new.self
-    c.reserve.ensures.after h
+pub invariant_of-self : goal.invariant_of-self
+invariant_of-self g c =
+    mirror_kept c.self.inside.channels.items c.self.inside.capacities.items c.args.c c.reserve_one.new.self
+    c.index_mut-channel.result.now c.self.invariant
+    (ap (λ x. x.capacity) c.reserve_one.ensures.after
+    ∙ room_same (is_ok c.reserve_one.result) c.index_mut-channel.result.now) c.index_mut-channel.ensures.value
 
-pub returns-clause-run : goal.returns-clause-run
-returns-clause-run g c t H run =
-    IsRun-reserved c.args.self.now c.args.c c.requires t H (is_ok c.reserve.result) c.reserve.new.self
-    c.reserve.ensures.after run
+pub returns : goal.returns
+returns g c =
+    let s = c.args.self.now in
+    let done = is_ok c.reserve_one.result in
+    let value =
+    element c.self.inside.channels.items s.channels c.args.c c.index_mut-channel.result.now (opened None false)
+    (ap (λ x. x.channels) c.self.view_is) c.requires c.index_mut-channel.ensures.value in
+    let after =
+    ap (λ x. with_channel c.args.c c.reserve_one.new.self x) c.self.view_is
+    ∙ room_made s c.args.c c.requires done c.reserve_one.new.self c.index_mut-channel.result.now
+    c.reserve_one.ensures.after value in
+    record {
+      after = after;
+      already = λ room. c.reserve_one.ensures.already (subst (λ x. IsTrue x.is_reserved) (sym value) room);
+      shape = λ t h. IsConfiguration-reserved s c.args.c c.requires t done _ after h;
+      run = λ t H run. IsRun-reserved s c.args.c c.requires t H done _ after run;
+    }
