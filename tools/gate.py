@@ -173,7 +173,6 @@ def table(spent, crates):
 def row(name, it):
     edits = (it.number_of_edits, minutes(it.edits)) if it.number_of_edits else ('', '')
     tests = (it.number_of_tests, minutes(it.tests)) if it.number_of_tests else ('', '')
-    # A crate of tests alone has no other cost to speak of.
     return '| ' + ' | '.join(map(str, [name, minutes(it.proof), *edits, *tests])) + ' |'
 
 
