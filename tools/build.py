@@ -108,24 +108,21 @@ class Build:
         return None
 
     def start_ready(self):
-        """Starts what may run now, longest chain first. A crate can use several processors, but not all the time, so
-        half as many jobs more than processors are handed out, at least two to each crate, and to the one with the
-        longest chain of all as many as there are processors."""
+        """Starts what may run now, longest chain first. The crate with the longest chain of all gets as many jobs as
+        there are processors, and the others share them: a second job shortens a check, but takes half as much
+        processor time again."""
         ready = [it for it in self.waiting if all(below.sum for below in it.direct)]
         ready = sorted(ready, key=self.height.get, reverse=True)[: self.most - len(self.running)]
-        free = self.most * 3 // 2 - sum(it.jobs for it in self.running)
+        share = self.most // max(1, len(ready) + len(self.running))
         longest = max(map(self.height.get, self.waiting + self.running), default=0)
-        for place, crate in enumerate(ready):
+        for crate in ready:
             self.waiting.remove(crate)
             # What is below may have come out as it was.
             if crate.look(self.kit):
                 unpack(crate, self.room)
                 self.progress.add(crate.name)
-                continue
-            least = self.most if self.height[crate] == longest else min(2, self.most)
-            jobs = min(4, max(least, -(-free // (len(ready) - place))))
-            free -= jobs
-            self.start(crate, jobs)
+            else:
+                self.start(crate, min(4, self.most if self.height[crate] == longest else share))
 
     def start(self, crate, jobs):
         crate.stamp.unlink(missing_ok=True)
