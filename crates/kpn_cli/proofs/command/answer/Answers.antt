@@ -18,8 +18,8 @@ returns-in-Rounds g c = rounds _ _ _ refl refl c.rounds_command.ensures
 pub returns-in-None : goal.returns-in-None
 returns-in-None g c = run _ _ _ _ _ refl c.run_command.ensures
 
-pub returns-in-Some : goal.returns-in-Some
-returns-in-Some g c = run _ _ _ _ _ refl c.run_command_by_workers.ensures
+pub returns-in-Run : goal.returns-in-Run
+returns-in-Run g c = run _ _ _ _ _ refl c.run_command_by_workers.ensures
 
-pub returns-in-Audit : goal.returns-in-Audit
-returns-in-Audit g c = audit _ _ _ refl refl c.audit_command.ensures
+pub returns : goal.returns
+returns g c = audit _ _ _ refl refl c.audit_command.ensures
