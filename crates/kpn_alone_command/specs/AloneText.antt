@@ -1,18 +1,19 @@
 -- The text that `kpn alone` writes, as a function of the process's name, its talk and its stop.
 use Rattle.std.specs.Prelude.{ℕ, List, [], ◌++◌}
+use Rattle.kpn_lang.specs.declared.value.Fault.TheVariants as fault
 use Rattle.kpn_lang.specs.declared.talk.Said.{Said}
 use Rattle.kpn_lang.specs.Alone.{put_at}
 use Rattle.kpn_step.specs.declared.stop.AloneStop.{AloneStop}
-use Rattle.kpn_step.specs.declared.stop.AloneStop.TheVariants.{Done, Faulted, Starved, Paused}
+use Rattle.kpn_step.specs.declared.stop.AloneStop.TheVariants.{Faulted}
+use Rattle.kpn_trace.specs.declared.event.How.TheVariants as how
 use Rattle.kpn_items.specs.ItemFile.{item_text}
 use Rattle.kpn_answers.specs.Faulted.{faulted_line}
 
 -- the line `fault NAME CAUSE` where the process faulted, and nothing where it did not
 abbrev pub fault_text : (name : List ℕ) → AloneStop → List ℕ
-fault_text name (Faulted fault) = faulted_line name fault
-fault_text name Done = []
-fault_text name (Starved port) = []
-fault_text name Paused = []
+fault_text name (Faulted fault.Overflow) = faulted_line name how.Overflow
+fault_text name (Faulted fault.ZeroDivisor) = faulted_line name how.ZeroDivisor
+fault_text name other = []
 
 -- the items put on the one out port, each on a line of its own, and then how the process faulted
 abbrev pub alone_text : (name : List ℕ) → List Said → AloneStop → List ℕ

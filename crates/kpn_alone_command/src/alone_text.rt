@@ -1,12 +1,13 @@
 //! The text that `kpn alone` writes of a run.
 ghost use Rattle.std.specs.Prelude.{◌≡◌, ◌++◌, ◌∷◌, [], IfOk, OnOk};
 ghost use Rattle.kpn_items.specs.ItemFile.{item_line};
-ghost use Rattle.kpn_alone_command.specs.AloneText.{alone_text};
+ghost use Rattle.kpn_alone_command.specs.AloneText.{alone_text, fault_text};
 
 use itoa::Buffer;
 use kpn_answers::faulted::push_faulted;
-use kpn_lang::Said;
+use kpn_lang::{Fault, Said};
 use kpn_step::AloneStop;
+use kpn_trace::How;
 use std::alloc::{AllocError, Global};
 
 // The port whose items are written.
@@ -28,10 +29,19 @@ pub fn text_of(
             push_item(&mut text, *item)?;
         }
     }
-    if let AloneStop::Faulted(fault) = stop {
-        push_faulted(&mut text, name.as_bytes(), fault)?;
-    }
+    push_fault(&mut text, name.as_bytes(), stop)?;
     Ok(text)
+}
+
+// How the process faulted, if it did.
+fn push_fault(text: &mut Vec<u8>, name: &[u8], stop: AloneStop) -> Result<(), AllocError>
+    ensures { OnOk result (text.new.items ≡ text.old.items ++ fault_text name.now stop) }
+{
+    match stop {
+        AloneStop::Faulted(Fault::Overflow) => push_faulted(text, name, How::Overflow),
+        AloneStop::Faulted(Fault::ZeroDivisor) => push_faulted(text, name, How::ZeroDivisor),
+        _ => Ok(()),
+    }
 }
 
 // An item and a line feed.

@@ -1,7 +1,6 @@
 -- The text that `kpn run` writes of a report: what was taken from the sinks, which processes have faulted, which wait,
 -- and the outcome.
 use Rattle.std.specs.Prelude.{ℕ, suc, ℤ, Bool, true, false, if◌then◌else◌, List, [], ◌∷◌, ◌++◌, take, slice_index_or, codes, Option, Some, None}
-use Rattle.kpn_lang.specs.declared.value.Fault.TheVariants as fault
 use Rattle.kpn_net.specs.declared.tables.ChannelSpec.{ChannelSpec}
 use Rattle.kpn_net.specs.Tables.{is_sink}
 use Rattle.kpn_names.specs.Names.{name_at}
@@ -42,8 +41,8 @@ sink_lines names wanted taken k c (channel ∷ channels) =
 
 -- `fault NAME CAUSE` of a process that ended by a fault
 abbrev pub fault_text : (name : List ℕ) → State → List ℕ
-fault_text name (state.Ended how.Overflow) = faulted_line name fault.Overflow
-fault_text name (state.Ended how.ZeroDivisor) = faulted_line name fault.ZeroDivisor
+fault_text name (state.Ended how.Done) = []
+fault_text name (state.Ended how) = faulted_line name how
 fault_text name other = []
 
 -- `waits NAME CHANNEL` of a process that waits, and ` full` where it waits on a full channel

@@ -5,7 +5,7 @@ ghost use Rattle.kpn_run_command.specs.States.{WaitsWithin};
 
 use kpn_answers::faulted::push_faulted;
 use kpn_answers::list_text::push_list;
-use kpn_lang::{Fault, Sequence};
+use kpn_lang::Sequence;
 use kpn_report::{Outcome, Report};
 use kpn_text::Document;
 use kpn_trace::{How, State};
@@ -163,8 +163,8 @@ fn push_fault(text: &mut Vec<u8>, name: &[u8], state: State) -> Result<(), Alloc
     ensures { OnOk result (text.new.items ≡ text.old.items ++ fault_text name.now state) }
 {
     match state {
-        State::Ended(How::Overflow) => push_faulted(text, name, Fault::Overflow),
-        State::Ended(How::ZeroDivisor) => push_faulted(text, name, Fault::ZeroDivisor),
+        State::Ended(How::Done) => Ok(()),
+        State::Ended(how) => push_faulted(text, name, how),
         _ => Ok(()),
     }
 }
