@@ -42,7 +42,7 @@ sink_lines names wanted taken k c (channel ∷ channels) =
 -- `fault NAME CAUSE` of a process that ended by a fault
 abbrev pub fault_text : (name : List ℕ) → State → List ℕ
 fault_text name (state.Ended how.Done) = []
-fault_text name (state.Ended how) = faulted_line name how
+fault_text name (state.Ended end) = faulted_line name end
 fault_text name other = []
 
 -- `waits NAME CHANNEL` of a process that waits, and ` full` where it waits on a full channel
