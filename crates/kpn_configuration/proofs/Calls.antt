@@ -1,5 +1,5 @@
 -- What each call makes of a configuration: its parts are changed as its event changes them.
-use Rattle.std.proofs.Common.{◌≡◌, ◌≢◌, ℕ, ◌+◌, ◌<◌, Bool, true, false, ◌||◌, ℤ, eqb, eq-eqb, IsTrue, List, [], ◌∷◌, ◌++◌, length, get_or, slice_set, Option, Some, None, refl, sym, ap, ◌∙◌, subst, inl, inr, arith, append-nil, add-zero, length-set}
+use Rattle.std.proofs.Common.{◌≡◌, ◌≢◌, ℕ, ◌+◌, ◌<◌, Bool, true, false, ◌||◌, ℤ, eqb, eq-eqb, IsTrue, List, [], ◌∷◌, ◌++◌, length, get_or, slice_set, Option, Some, refl, sym, ap, ◌∙◌, subst, inl, inr, arith, append-nil, add-zero, length-set}
 use Rattle.std.proofs.lemmas.Bool.{cases_eq, ne_eqb, eqb-true}
 use Rattle.std.proofs.lemmas.List.{get_or-set_same, get_or-set_other, get_or_default}
 use Rattle.kpn_net.specs.declared.wait.Wait.{Wait}
@@ -10,7 +10,7 @@ use Rattle.kpn_net.specs.Waits.{wait_at, IsOwnWait, AreWaits}
 use Rattle.kpn_net.proofs.WaitTables.{waits-set}
 use Rattle.kpn_step.specs.Frame.{Frame, passed}
 use Rattle.kpn_step.specs.Stops.{IsGiven}
-use Rattle.kpn_chan.specs.Channel.{ChannelState, opened, after_put, after_get, retired}
+use Rattle.kpn_chan.specs.Channel.{ChannelState, after_put, after_get, retired}
 use Rattle.kpn_trace.specs.declared.event.How.{How}
 use Rattle.kpn_trace.specs.declared.event.Event.{Event}
 use Rattle.kpn_trace.specs.declared.event.Event.TheVariants.{Get, Put, WaitEmpty, WaitFull, Feed, Close, Take, Leave}

@@ -32,7 +32,6 @@ use Rattle.kpn_trace.proofs.OwedGrowth.{owed_as_found}
 use Rattle.kpn_trace.proofs.OneMore.{Legal-exactly}
 use Rattle.kpn_configuration.specs.Configuration.{Configuration, channel_in, IsConfiguration, capacities}
 use Rattle.kpn_configuration.specs.Run.{IsRun}
-use Rattle.kpn_configuration.specs.Changes.{Changes}
 use Rattle.kpn_configuration.specs.Owed.{IsOwed, channel_to_grow}
 use Rattle.kpn_configuration.specs.Woken.{is_wait, woken_at}
 use Rattle.kpn_configuration.proofs.Parts.{or-false, keeps_reader, wakes-grow}

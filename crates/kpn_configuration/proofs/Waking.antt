@@ -1,18 +1,15 @@
 -- Who is woken: the writer of a channel that waits as full on it, its reader that waits as empty on it; and who is
 -- woken is who becomes free.
-use Rattle.std.proofs.Common.{◌≡◌, ◌↔◌, ℕ, ◌<◌, Bool, true, false, cond, eq-eqb, List, [], ◌∷◌, length, Option, Some, None, refl, sym, ap, ◌∙◌, subst, inl, inr, ◌⊎◌}
+use Rattle.std.proofs.Common.{◌≡◌, ◌↔◌, ℕ, ◌<◌, Bool, true, false, cond, List, [], ◌∷◌, length, Option, Some, None, refl, sym, ap, ◌∙◌, subst, inl, inr, ◌⊎◌}
 use Rattle.std.specs.List.{Contains, filter_map, cons_option}
-use Rattle.std.proofs.lemmas.Bool.{false≢true, eqb-true}
+use Rattle.std.proofs.lemmas.Bool.{false≢true}
 use Rattle.kpn_net.specs.declared.wait.Wait.{Wait}
 use Rattle.kpn_net.specs.declared.wait.Wait.TheVariants.{Nobody, Empty, Full}
-use Rattle.kpn_net.specs.declared.tables.End.{End}
-use Rattle.kpn_net.specs.declared.tables.End.TheVariants.{Process, Source, Sink}
-use Rattle.kpn_net.specs.Tables.{Tables, instance_at, reader_of, writer_of}
+use Rattle.kpn_net.specs.Tables.{Tables, instance_at}
 use Rattle.kpn_net.specs.Faults.{IsNetwork}
 use Rattle.kpn_net.specs.Waits.{wait_at, IsOwnWait, AreWaits, AreDistinct}
 use Rattle.kpn_net.proofs.Cycles.{Contains-none, Contains-first, Contains-later, Contains-cases}
 use Rattle.kpn_net.proofs.PortsApart.{reads_its_ins, ins_distinct}
-use Rattle.kpn_net.proofs.Networks.{Writes-writer_of, Reads-reader_of}
 use Rattle.kpn_trace.specs.declared.event.How.{How}
 use Rattle.kpn_trace.specs.declared.event.Event.{Event}
 use Rattle.kpn_trace.specs.declared.event.Event.TheVariants.{Ended}
