@@ -5,7 +5,7 @@ ghost use Rattle.kpn_configuration.specs.Changes.{IsChannelAt};
 ghost use Rattle.kpn_configuration.specs.Due.{stop_of};
 ghost use Rattle.kpn_audit.specs.Judged.{IsReadFrom, IsWriteOf};
 
-use kpn_configuration::stop_of;
+use kpn_lang::Fault;
 use kpn_net::Network;
 use kpn_step::Stop;
 use kpn_trace::How;
@@ -57,5 +57,9 @@ pub(crate) fn is_write_to(network: &Network, p: usize, c: usize, stop: Stop) -> 
 pub(crate) fn is_end(how: How, stop: Stop) -> bool
     ensures { IsTrue result ↔ (stop ≡ stop_of how) }
 {
-    stop == stop_of(how)
+    match how {
+        How::Done => stop == Stop::Done,
+        How::Overflow => stop == Stop::Faulted(Fault::Overflow),
+        How::ZeroDivisor => stop == Stop::Faulted(Fault::ZeroDivisor),
+    }
 }
