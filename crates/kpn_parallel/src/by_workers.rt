@@ -6,7 +6,7 @@ ghost use Rattle.kpn_parallel.specs.Fed.{AreFed};
 
 use crate::ending::conclude;
 use crate::fault::RunFault;
-use crate::serving::Outside;
+use crate::serving::{Outside, Sinks};
 use crate::threads::{Ended, have_abandoned, lack_memory, work_side_by_side};
 use kpn_lang::Sequence;
 use kpn_limits::MAX_WORKERS;
@@ -96,9 +96,11 @@ fn run_job<J: Job + Send + Sync, R: Threads + Wait + Clock + Sync, G: Gate>(
     } = Shared::<J>::new(alloc, blank, network, workers, limits.commits)?;
     let outside = Outside {
         sources,
-        sinks,
         lists,
-        wanted: limits.take,
+        sinks: Sinks {
+            seats: sinks,
+            wanted: limits.take,
+        },
     };
     let quota = limits.quota.max(1);
     let ended = work_side_by_side(rt, alloc, &shared, seats, gate, quota, outside)?;

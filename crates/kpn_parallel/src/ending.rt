@@ -1,8 +1,7 @@
 //! The end of a run, once its workers are gone: what they held is put back, the sinks are emptied, and the report is
 //! written.
-ghost use Rattle.std.specs.Prelude.{◌≡◌, ◌<◌, length, IfOk, IsTrue};
+ghost use Rattle.std.specs.Prelude.{◌≡◌, length, IfOk};
 ghost use Rattle.kpn_net.specs.Iteration.{sources};
-ghost use Rattle.kpn_trace.specs.Channels.{unread_on};
 ghost use Rattle.kpn_book.specs.Book.{held_count};
 ghost use Rattle.kpn_report.specs.Reports.{IsReport};
 ghost use Rattle.kpn_parallel.specs.Ending.{KeepsHeld, Releases};
@@ -95,18 +94,9 @@ fn empty_sinks(book: &mut Book<'_>) -> Result<(), Refused>
 fn empty_sink(book: &mut Book<'_>, sink: usize) -> Result<(), Refused>
     ensures { KeepsHeld book.old book.new }
 {
-    'items: while take(book, sink)? {}
+    book.known();
+    'items: while book.take(sink)?.is_some() {
+        book.known();
+    }
     Ok(())
-}
-
-/// Takes an item from a sink, and tells whether there was one.
-fn take(book: &mut Book<'_>, sink: usize) -> Result<bool, Refused>
-    ensures kept { KeepsHeld book.old book.new }
-    ensures less { IfOk result (λ more. IsTrue more
-        → length (unread_on book.new.history sink) < length (unread_on book.old.history sink)) }
-{
-    book.known();
-    let item = book.take(sink)?;
-    book.known();
-    Ok(item.is_some())
 }

@@ -7,24 +7,22 @@ use std::time::Clock;
 // how many items are fed under one hold of the lock
 const BATCH: usize = 512;
 
-/// The outside of a run: the seats of its sources and sinks, the list of each source, and how many items are wanted of
-/// each sink.
+/// The outside of a run: the seats of its sources, with the list of each, and its sinks.
 #[derive(Drop)]
 pub(crate) struct Outside<'l> {
     pub sources: Vec<SourceSeat>,
-    pub sinks: Vec<SinkSeat>,
     pub lists: &'l [Sequence<i64>],
-    pub wanted: Option<u64>,
+    pub sinks: Sinks,
 }
 
 /// The seats of the sinks, and how many items are wanted of each.
 #[derive(Drop)]
-struct Sinks<'s> {
-    seats: &'s mut [SinkSeat],
-    wanted: Option<u64>,
+pub(crate) struct Sinks {
+    pub seats: Vec<SinkSeat>,
+    pub wanted: Option<u64>,
 }
 
-impl Sinks<'_> {
+impl Sinks {
     /// Whether what is wanted, if anything, was taken of each.
     fn have_enough(&self) -> bool {
         match self.wanted {
@@ -58,18 +56,13 @@ fn feed_and_take<J: Job, R: Wait + Clock>(
 ) -> Result<(), Refused> {
     let Outside {
         sources,
-        sinks,
         lists,
-        wanted,
+        sinks,
     } = outside;
-    let mut sinks = Sinks {
-        seats: sinks.as_mut_slice(),
-        wanted: *wanted,
-    };
     for (seat, list) in sources.iter_mut().zip(*lists) {
-        feed_list(rt, shared, seat, list.as_slice(), &mut sinks)?;
+        feed_list(rt, shared, seat, list.as_slice(), sinks)?;
     }
-    take_items(rt, shared, &mut sinks)
+    take_items(rt, shared, sinks)
 }
 
 /// Feeds a source its whole list and closes it. After each batch it is taken what is there, so that no full sink holds
@@ -79,7 +72,7 @@ fn feed_list<J: Job, R: Wait>(
     shared: &Shared<'_, J>,
     seat: &mut SourceSeat,
     list: &[i64],
-    sinks: &mut Sinks<'_>,
+    sinks: &mut Sinks,
 ) -> Result<(), Refused> {
     for items in list.chunks(BATCH) {
         feed_all(rt, shared, seat, items, usize::MAX)?;
@@ -92,7 +85,7 @@ fn feed_list<J: Job, R: Wait>(
 fn take_items<J: Job, R: Wait + Clock>(
     rt: &R,
     shared: &Shared<'_, J>,
-    sinks: &mut Sinks<'_>,
+    sinks: &mut Sinks,
 ) -> Result<(), Refused> {
     for _ in rt.forever() {
         let rings = shared.rings();
@@ -112,7 +105,7 @@ fn take_items<J: Job, R: Wait + Clock>(
 fn take_unread<J: Job, R: Wait>(
     rt: &R,
     shared: &Shared<'_, J>,
-    sinks: &mut Sinks<'_>,
+    sinks: &mut Sinks,
 ) -> Result<(), Refused> {
     for seat in sinks.seats.iter_mut() {
         take_all(rt, shared, seat)?;

@@ -52,21 +52,9 @@ leaves c before after h = leaves_cases _ c before after h.leaves
 -- ---- what a call tells of the network, whatever has happened
 
 module _ (t : Tables) (b : Book) (same : b.tables ≡ t) (c : ℕ) where
-  there : (is_end : ChannelSpec → Bool) (is : Bool) → is_end (channel_at b.tables c) ≡ is → is_end (channel_at t c) ≡ is
+  pub there : (is_end : ChannelSpec → Bool) (is : Bool) → is_end (channel_at b.tables c) ≡ is
+      → is_end (channel_at t c) ≡ is
   there is_end is h = subst (λ u. is_end (channel_at u c) ≡ is) same h
-
-  pub fed_source : (item : ℤ) (bound : ℕ) (after : Book) → Feeds c item bound b after
-      → is_source (channel_at t c) ≡ true
-  fed_source item bound after h = there is_source true h.source.source
-
-  pub closed_source : (after : Book) → Closes c b after → is_source (channel_at t c) ≡ true
-  closed_source after h = there is_source true h.source
-
-  pub taken_sink : (item : Option ℤ) (after : Book) → Takes c item b after → is_sink (channel_at t c) ≡ true
-  taken_sink item after h = there is_sink true h.sink.sink
-
-  pub left_sink : (after : Book) → Leaves c b after → is_sink (channel_at t c) ≡ true
-  left_sink after h = there is_sink true h.sink
 
   pub feed_refused : (item : ℤ) (bound : ℕ) (cause : Refused) → RefusesFeed c item bound b cause
       → MayRefuseFeed (is_source (channel_at t c)) item cause

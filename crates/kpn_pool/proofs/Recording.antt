@@ -147,17 +147,19 @@ pub takes_on : (item : Option ℤ) (r s t : EndSeat) (a b c : Book) → TakesFir
     → Takes s.channel item b c → TakesFirst r t a c
 takes_on item r s t a b c so_far is takes = taken_then r s t a b c so_far (taken_once item s t b c is takes)
 
--- where an item was taken less is left of the channel, whatever seat names it
+-- where an item was taken less is left of the channel
+pub less_left : (item : Option ℤ) (c : ℕ) (a b : Book) → Takes c item a b → is_some item ≡ true
+    → length (unread (channel_in b.configuration c)) < length (unread (channel_in a.configuration c))
+less_left (Some v) c a b takes some = let long = ap length (first_unread c v a b takes) in omega arith
+less_left None c a b takes some = absurd (false≢true some)
+
+-- the same, whatever seat names the channel
 pub taken_less : (item : Option ℤ) (s t : EndSeat) (a b : Book) → t ≡ with_taken item s → Takes s.channel item a b
     → is_some item ≡ true
     → length (unread (channel_in b.configuration t.channel)) < length (unread (channel_in a.configuration s.channel))
-taken_less (Some v) s t a b is takes some =
-    let long = ap length (first_unread s.channel v a b takes) in
-    let less : length (unread (channel_in b.configuration s.channel))
-    < length (unread (channel_in a.configuration s.channel)) = omega arith in
+taken_less item s t a b is takes some =
     subst (λ n. length (unread (channel_in b.configuration n)) < length (unread (channel_in a.configuration s.channel)))
-    (sym (ap (λ (e : EndSeat). e.channel) is)) less
-taken_less None s t a b is takes some = absurd (false≢true some)
+    (sym (taken_once item s t a b is takes).channel) (less_left item s.channel a b takes some)
 
 -- where none was taken none is left
 pub taken_last : (item : Option ℤ) (r s : EndSeat) (a b : Book) → s.channel ≡ r.channel → Takes s.channel item a b

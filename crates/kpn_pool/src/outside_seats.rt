@@ -57,7 +57,7 @@ impl<A: Allocator> SourceSeat<A> {
     }
 
     /// Feeds an item to the source. It is refused as the book refuses it; memory is wanted for the seat's own list too.
-    #[tactic(auto, using(crate::proofs::Keeping::feeds, crate::proofs::Keeping::fed_source, crate::proofs::Keeping::feed_refused))]
+    #[tactic(auto, using(crate::proofs::Keeping::feeds, crate::proofs::Keeping::there, crate::proofs::Keeping::feed_refused))]
     pub fn feed<J: Job, B: Allocator>(
         &mut self,
         desk: &mut Desk<'_, J, B>,
@@ -113,7 +113,7 @@ impl<A: Allocator> SourceSeat<A> {
     }
 
     /// Closes the source. A second time it changes nothing.
-    #[tactic(auto, using(crate::proofs::Keeping::closes, crate::proofs::Keeping::closed_source, crate::proofs::Keeping::close_refused))]
+    #[tactic(auto, using(crate::proofs::Keeping::closes, crate::proofs::Keeping::there, crate::proofs::Keeping::close_refused))]
     pub fn close<J: Job, B: Allocator>(&self, desk: &mut Desk<'_, J, B>) -> Result<(), Refused>
         ensures done { IfOk result (λ _. Closes self.now.channel desk.old.book desk.new.book) }
         ensures source { OnOk result (is_source (channel_at J.network self.now.channel) ≡ true) }
@@ -172,7 +172,7 @@ impl<A: Allocator> SinkSeat<A> {
 
     /// Takes the next item from the sink; none where nothing is unread. It is refused as the book refuses it; memory is
     /// wanted for the seat's own list too.
-    #[tactic(auto, using(crate::proofs::Keeping::takes, crate::proofs::Keeping::taken_sink, crate::proofs::Keeping::take_refused))]
+    #[tactic(auto, using(crate::proofs::Keeping::takes, crate::proofs::Keeping::there, crate::proofs::Keeping::take_refused))]
     pub fn take<J: Job, B: Allocator>(
         &mut self,
         desk: &mut Desk<'_, J, B>,
@@ -224,7 +224,7 @@ impl<A: Allocator> SinkSeat<A> {
     }
 
     /// Leaves the sink: nothing is taken from it any more, and it is never full. A second time it changes nothing.
-    #[tactic(auto, using(crate::proofs::Keeping::leaves, crate::proofs::Keeping::left_sink, crate::proofs::Keeping::leave_refused))]
+    #[tactic(auto, using(crate::proofs::Keeping::leaves, crate::proofs::Keeping::there, crate::proofs::Keeping::leave_refused))]
     pub fn leave<J: Job, B: Allocator>(&self, desk: &mut Desk<'_, J, B>) -> Result<(), Refused>
         ensures done { IfOk result (λ _. Leaves self.now.channel desk.old.book desk.new.book) }
         ensures sink { OnOk result (is_sink (channel_at J.network self.now.channel) ≡ true) }

@@ -1,10 +1,12 @@
 use Rattle.std.proofs.Common.{length}
-use Rattle.kpn_trace.specs.Channels.{unread_on}
+use Rattle.kpn_chan.specs.Channel.{unread}
+use Rattle.kpn_configuration.specs.Configuration.{channel_in}
+use Rattle.kpn_book.specs.Kept.{IsBook}
 use Rattle.kpn_parallel.specs.Ending.{KeepsHeld}
 use Rattle.kpn_parallel.proofs.ending.empty_sink.Given as goal
 
 abbrev pub invariant-items : goal.invariant-items
-invariant-items l = KeepsHeld l.initial.book l.book
+invariant-items l = record { book : IsBook l.book; kept : KeepsHeld l.initial.book l.book }
 
 abbrev pub decreases-items : goal.decreases-items
-decreases-items l = length (unread_on l.book.history l.sink)
+decreases-items l = length (unread (channel_in l.book.configuration l.sink))
