@@ -9,7 +9,7 @@ use Rattle.kpn_book.specs.Book.{Book}
 use Rattle.kpn_book.specs.Appending.{Appends}
 use Rattle.kpn_book.specs.declared.answers.Refused.{Refused}
 use Rattle.kpn_book.specs.declared.answers.Refused.TheVariants.{NoMemory, NoSuchEnd, SourceClosed, Full, SinkLeft}
-use Rattle.kpn_book.specs.Refusals.{RefusesFeed, RefusesClose, RefusesTake, RefusesLeave, Feeds, Closes, Takes, Leaves, closes_by, takes_item, leaves_by}
+use Rattle.kpn_book.specs.Refusals.{RefusesFeed, RefusesClose, RefusesTake, RefusesLeave, closes_by, takes_item, leaves_by}
 use Rattle.kpn_pool.specs.OutsideSeats.{MayRefuseFeed, MayRefuseEnd, MayRefuseTake}
 
 -- the network and the number of commits are the same
@@ -20,34 +20,20 @@ pub record KeepsCount (before after : Book) : Type 0 where
 stays : (before after : Book) → after ≡ before → KeepsCount before after
 stays before after same = record { tables = ap (λ b. b.tables) same; commits = ap (λ b. b.commits) same }
 
-appends : (e : Event) (before after : Book) → Appends e before after → KeepsCount before after
+pub appends : (e : Event) (before after : Book) → Appends e before after → KeepsCount before after
 appends e before after h = record { tables = h.tables; commits = h.commits }
 
-pub feeds : (c : ℕ) (item : ℤ) (bound : ℕ) (before after : Book) → Feeds c item bound before after
-    → KeepsCount before after
-feeds c item bound before after h = appends _ before after h.appends
+pub closes : (closed : Bool) (c : ℕ) (before after : Book) → closes_by closed c before after → KeepsCount before after
+closes true c before after h = stays before after h
+closes false c before after h = appends _ before after h
 
-closes_cases : (closed : Bool) (c : ℕ) (before after : Book) → closes_by closed c before after → KeepsCount before after
-closes_cases true c before after h = stays before after h
-closes_cases false c before after h = appends _ before after h
+pub takes : (c : ℕ) (item : Option ℤ) (before after : Book) → takes_item c item before after → KeepsCount before after
+takes c None before after h = stays before after h.1
+takes c (Some v) before after h = appends _ before after h.1
 
-pub closes : (c : ℕ) (before after : Book) → Closes c before after → KeepsCount before after
-closes c before after h = closes_cases _ c before after h.closes
-
-takes_cases : (c : ℕ) (item : Option ℤ) (before after : Book) → takes_item c item before after
-    → KeepsCount before after
-takes_cases c None before after h = stays before after h.1
-takes_cases c (Some v) before after h = appends _ before after h.1
-
-pub takes : (c : ℕ) (item : Option ℤ) (before after : Book) → Takes c item before after → KeepsCount before after
-takes c item before after h = takes_cases c item before after h.takes
-
-leaves_cases : (left : Bool) (c : ℕ) (before after : Book) → leaves_by left c before after → KeepsCount before after
-leaves_cases true c before after h = stays before after h
-leaves_cases false c before after h = appends _ before after h
-
-pub leaves : (c : ℕ) (before after : Book) → Leaves c before after → KeepsCount before after
-leaves c before after h = leaves_cases _ c before after h.leaves
+pub leaves : (left : Bool) (c : ℕ) (before after : Book) → leaves_by left c before after → KeepsCount before after
+leaves true c before after h = stays before after h
+leaves false c before after h = appends _ before after h
 
 -- ---- what a call tells of the network, whatever has happened
 

@@ -4,7 +4,6 @@ use Rattle.std.specs.Prelude.{slice_get}
 use Rattle.std.proofs.lemmas.Bool.{false≢true}
 use Rattle.std.proofs.lemmas.List.{append_assoc, map-append}
 use Rattle.std.proofs.lemmas.Option.{slice_get-get_or}
-use Rattle.kpn_net.specs.Tables.{Tables, channel_at, is_source}
 use Rattle.kpn_net.proofs.Networks.{sink_there}
 use Rattle.kpn_chan.specs.Channel.{ChannelState, unread}
 use Rattle.kpn_chan.proofs.Reading.{given, drop-given}
@@ -14,10 +13,9 @@ use Rattle.kpn_trace.proofs.OneMore.{item_here}
 use Rattle.kpn_configuration.specs.Configuration.{channel_in}
 use Rattle.kpn_book.specs.Book.{Book}
 use Rattle.kpn_book.specs.Appending.{Appends, AppendsAll}
-use Rattle.kpn_book.specs.declared.answers.Refused.{Refused}
-use Rattle.kpn_book.specs.Refusals.{Takes, RefusesFeed}
+use Rattle.kpn_book.specs.Refusals.{Takes}
 use Rattle.kpn_pool.specs.Desk.{Desk}
-use Rattle.kpn_pool.specs.OutsideSeats.{EndSeat, with_item, with_taken, AreRecorded, FeedsUntil, TakesFirst, MayRefuseFeed}
+use Rattle.kpn_pool.specs.OutsideSeats.{EndSeat, with_item, with_taken, AreRecorded, FeedsUntil, TakesFirst}
 
 -- ---- some items, and then more
 
@@ -54,34 +52,18 @@ fed_then r s t a b c v same is so_far feeds = record {
       events_more event.Feed r.channel s.channel so_far.more (v ∷ []) a b c same so_far.events (c, feeds, refl);
 }
 
--- the next item is refused
-pub fed_until : (items : List ℤ) (r s t : EndSeat) (k : ℕ) (v : ℤ) (refuses : ℤ → Type 0) → k < length items
-    → v ≡ get_or items k (pos 0) → s.items ≡ r.items ++ take k items → t ≡ s → refuses v
-    → FeedsUntil items r t refuses
-fed_until items r s t k v refuses there is so_far same refused = record {
+-- the next item is refused, for a cause that depends on the channel, the item and the book
+pub fed_until : (items : List ℤ) (r s t : EndSeat) (k : ℕ) (v : ℤ) (refuses : ℕ → ℤ → Book → Type 0) (d e : Desk)
+    → k < length items → v ≡ get_or items k (pos 0) → s.channel ≡ r.channel → s.items ≡ r.items ++ take k items → t ≡ s
+    → e ≡ d → refuses s.channel v d.book → FeedsUntil items r t (λ item. refuses r.channel item e.book)
+fed_until items r s t k v refuses d e there is channel so_far seat desk refused = record {
   count = k;
-  fed = ap (λ (e : EndSeat). e.items) same ∙ so_far;
+  fed = ap (λ (x : EndSeat). x.items) seat ∙ so_far;
   item = v;
   next = slice_get-get_or items k (pos 0) there ∙ ap Some (sym is);
-  refused = refused;
+  refused =
+      subst (λ n. refuses n v e.book) channel (subst (λ (x : Desk). refuses s.channel v x.book) (sym desk) refused);
 }
-
--- the same by the book, and by the network alone
-module _ (items : List ℤ) (r s t : EndSeat) (k : ℕ) (v : ℤ) (cause : Refused) (there : k < length items)
-    (is : v ≡ get_or items k (pos 0)) (channel : s.channel ≡ r.channel) (so_far : s.items ≡ r.items ++ take k items)
-    (same : t ≡ s) where
-  pub refused_there : (bound : ℕ) (d e : Desk) → e ≡ d → RefusesFeed s.channel v bound d.book cause
-      → FeedsUntil items r t (λ item. RefusesFeed r.channel item bound e.book cause)
-  refused_there bound d e desk refused =
-      fed_until items r s t k v (λ item. RefusesFeed r.channel item bound e.book cause) there is so_far same
-      (subst (λ n. RefusesFeed n v bound e.book cause) channel
-      (subst (λ (x : Desk). RefusesFeed s.channel v bound x.book cause) (sym desk) refused))
-
-  pub may_refuse_there : (u : Tables) → MayRefuseFeed (is_source (channel_at u s.channel)) v cause
-      → FeedsUntil items r t (λ item. MayRefuseFeed (is_source (channel_at u r.channel)) item cause)
-  may_refuse_there u refused =
-      fed_until items r s t k v (λ item. MayRefuseFeed (is_source (channel_at u r.channel)) item cause) there is so_far
-      same (subst (λ n. MayRefuseFeed (is_source (channel_at u n)) v cause) channel refused)
 
 -- ---- what is taken
 

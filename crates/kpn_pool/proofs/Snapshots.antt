@@ -1,8 +1,9 @@
 -- What a view that agrees with a legal history shows of its journals, read by itself.
-use Rattle.std.proofs.Common.{◌≡◌, ◌⊎◌, ℕ, ◌<◌, true, cond, List, [], length, get_or, sym, ap, ◌∙◌, subst, inl, inr, arith}
+use Rattle.std.proofs.Common.{◌≡◌, ◌⊎◌, ℕ, ℤ, ◌<◌, true, cond, List, [], length, get_or, sym, ap, ◌∙◌, subst, inl, inr, arith}
 use Rattle.std.proofs.lemmas.List.FromFn.{get_or-map-range_with_len}
 use Rattle.std.proofs.lemmas.List.Elements.{All-get_or}
 use Rattle.std.specs.List.{All}
+use Rattle.kpn_lang.specs.Prefix.{IsPrefix}
 use Rattle.kpn_net.specs.Tables.{Tables, channel_at, is_source}
 use Rattle.kpn_net.specs.Faults.{IsNetwork}
 use Rattle.kpn_net.specs.Iteration.{IsBelowLeast, IsLeast, AgreeOnSources}
@@ -14,7 +15,6 @@ use Rattle.kpn_trace.specs.declared.state.State.TheVariants.{Ready, Held, WaitsE
 use Rattle.kpn_trace.specs.declared.state.View.{View}
 use Rattle.kpn_trace.specs.Channels.{written_on, fed}
 use Rattle.kpn_trace.specs.Legal.{Legal}
-use Rattle.kpn_trace.specs.Stops.{OwesNothing}
 use Rattle.kpn_trace.specs.Talks.{has_ended}
 use Rattle.kpn_trace.specs.Ends.{IsQuiet, WaitsOnEmpty}
 use Rattle.kpn_trace.specs.Views.{Agrees, IsStateOf}
@@ -23,6 +23,7 @@ use Rattle.kpn_trace.proofs.EndsOnce.{ended_by}
 use Rattle.kpn_trace.proofs.Kahn.{below_least, least_if_quiet_given}
 use Rattle.kpn_configuration.specs.Configuration.{channel_in}
 use Rattle.kpn_book.specs.Book.{Book}
+use Rattle.kpn_book.specs.Kept.{IsBook}
 use Rattle.kpn_pool.specs.Snapshot.{ShowsARun, ShowsJournals, shown_on, shown_fed, IsBelowKahn, IsAtRest, IsKahnAtRest}
 
 -- the journal that is shown is what was written
@@ -84,19 +85,22 @@ pub shows_journals : {A : Type 0} (b : Book)
 shows_journals b written view agrees c there =
     shown-written b.tables b.history view agrees c there ∙ sym (written c there)
 
+pub begins_shown : {A : Type 0} (b : Book) (view : View A) → ShowsJournals b view → (c : ℕ)
+    → is_source (channel_at b.tables c) ≡ true → (items : List ℤ) → IsPrefix items (channel_in b.configuration c).journal
+    → IsPrefix items (shown_on view c)
+begins_shown b view shows c source items begins =
+    subst (IsPrefix items) (sym (shows c (source_there b.tables c source))) begins
+
 -- the same where the tables are those of a book
-pub run_of : {A : Type 0} (t : Tables) (b : Book) → b.tables ≡ t → OwesNothing b.tables b.history
-    → Legal b.tables b.history → (view : View A) → Agrees b.tables b.history view → ShowsARun t view
-run_of t b same nothing_owed legal view agrees =
-    subst (λ u. ShowsARun u view) same
-    (record { history = b.history; legal = legal; nothing_owed = nothing_owed; agrees = agrees })
+module _ {A : Type 0} (t : Tables) (b : Book) (same : b.tables ≡ t) (book : IsBook b) (legal : Legal b.tables b.history)
+    (view : View A) (agrees : Agrees b.tables b.history view) where
+  pub run_of : ShowsARun t view
+  run_of =
+      subst (λ u. ShowsARun u view) same
+      (record { history = b.history; legal = legal; nothing_owed = book.kept.nothing_owed; agrees = agrees })
 
-pub below_of : {A : Type 0} (t : Tables) (b : Book) → b.tables ≡ t → IsNetwork b.tables → Legal b.tables b.history
-    → (view : View A) → Agrees b.tables b.history view → IsBelowKahn t view
-below_of t b same network legal view agrees =
-    subst (λ u. IsBelowKahn u view) same (below b.tables network b.history legal view agrees)
+  pub below_of : IsBelowKahn t view
+  below_of = subst (λ u. IsBelowKahn u view) same (below b.tables book.network b.history legal view agrees)
 
-pub at_rest_of : {A : Type 0} (t : Tables) (b : Book) → b.tables ≡ t → IsNetwork b.tables → Legal b.tables b.history
-    → (view : View A) → Agrees b.tables b.history view → IsKahnAtRest t view
-at_rest_of t b same network legal view agrees =
-    subst (λ u. IsKahnAtRest u view) same (at_rest_least b.tables network b.history legal view agrees)
+  pub at_rest_of : IsKahnAtRest t view
+  at_rest_of = subst (λ u. IsKahnAtRest u view) same (at_rest_least b.tables book.network b.history legal view agrees)

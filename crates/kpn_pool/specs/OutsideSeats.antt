@@ -1,10 +1,9 @@
 -- What who feeds a source, or takes from a sink, knows of its own calls.
-use Rattle.std.specs.Prelude.{◌≡◌, ◌≢◌, ◌<◌, ℕ, length, ℤ, Bool, true, false, List, [], ◌∷◌, ◌++◌, map, take, slice_get, Option, Some, None}
+use Rattle.std.specs.Prelude.{◌≡◌, ◌≢◌, ℕ, ℤ, Bool, true, false, List, [], ◌∷◌, ◌++◌, map, take, slice_get, Option, Some, None}
 use Rattle.std.specs.List.{filter}
 use Rattle.kpn_net.specs.declared.tables.ChannelSpec.{ChannelSpec}
-use Rattle.kpn_net.specs.Tables.{Tables, channel_at, is_source}
+use Rattle.kpn_net.specs.Tables.{Tables, channel_at}
 use Rattle.kpn_net.specs.Faults.{channel_numbers}
-use Rattle.kpn_lang.specs.Prefix.{IsPrefix}
 use Rattle.kpn_chan.specs.Channel.{unread}
 use Rattle.kpn_trace.specs.declared.event.Event.{Event}
 use Rattle.kpn_trace.specs.declared.event.Event.TheVariants as event
@@ -93,11 +92,3 @@ MayRefuseTake is_there other = ⊥
 abbrev pub MayRefuseSnapshot : (is_there : Bool) → (fed : List ℤ) → SnapFault → Type 0
 MayRefuseSnapshot is_there fed Foreign = is_there ≡ true → fed ≢ []
 MayRefuseSnapshot is_there fed snap_fault.NoMemory = is_there ≡ true
-
--- ---- what a snapshot for a seat looks at. A reader of the public contracts needs none of it
-
--- there is a source with this number, and its journal begins with these items
-pub record HasFed (b : Book) (c : ℕ) (items : List ℤ) : Type 0 where
-  pub there : c < length b.tables.channels
-  pub source : is_source (channel_at b.tables c) ≡ true
-  pub begins : IsPrefix items (channel_in b.configuration c).journal

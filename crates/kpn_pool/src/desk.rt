@@ -1,6 +1,6 @@
 //! What lies under the lock of a run: each change of it is a call that is lent it.
-ghost use Rattle.std.specs.Prelude.{◌≡◌, ◌≢◌, false, [], IfNone, IfSome, IfOk, IfErr, OnErr, IsTrue};
-ghost use Rattle.kpn_net.specs.Tables.{channel_at, is_source, program_of};
+ghost use Rattle.std.specs.Prelude.{◌≡◌, false, IfNone, IfSome, IfOk, IfErr, OnErr, IsTrue};
+ghost use Rattle.kpn_net.specs.Tables.{program_of};
 ghost use Rattle.kpn_step.specs.Frame.{fits};
 ghost use Rattle.kpn_step.specs.Stops.{IsWithinQuota};
 ghost use Rattle.kpn_trace.specs.declared.state.Counts.{Counts as Tally};
@@ -11,7 +11,6 @@ ghost use Rattle.kpn_book.specs.Kept.{IsBook};
 ghost use Rattle.kpn_book.specs.Refusals.{RefusesPutBack};
 ghost use Rattle.kpn_book.specs.Stepping.{ClaimsNobody};
 ghost use Rattle.kpn_pool.specs.Desk.{with_book, halted, IsReason};
-ghost use Rattle.kpn_pool.specs.OutsideSeats.{HasFed};
 ghost use Rattle.kpn_pool.specs.Snapshot.{ShowsARun, ShowsJournals, IsBelowKahn, IsKahnAtRest};
 ghost use Rattle.kpn_pool.specs.Invariant.{AreBelowLeast, AreReadThenQueued, AreWithinCapacity, AreBlockedCounts, AreOwedGrowths, AreLeastWhenQuiet, HasNoneLeftToGrow};
 
@@ -118,6 +117,7 @@ impl<'n, J: Job, A: Allocator> Desk<'n, J, A> {
     /// The run as it is seen at this moment: a legal history that owes no growth agrees with it; each journal is a
     /// prefix of the least solution for what was fed, and is that solution where each process has ended or waits on an
     /// empty channel. The error is that memory ran out.
+    #[tactic(auto, using(crate::proofs::Snapshots::run_of, crate::proofs::Snapshots::below_of, crate::proofs::Snapshots::shows_journals))]
     pub fn snapshot<B: Allocator + Copy>(&self, alloc: B) -> Result<View<B>, AllocError>
         ensures agrees { IfOk result (λ view.
             Agrees self.now.book.tables self.now.book.history view) }
@@ -130,17 +130,8 @@ impl<'n, J: Job, A: Allocator> Desk<'n, J, A> {
         the_history();
         journals();
         self.book.known();
-        self.book.snapshot(alloc)
-    }
-
-    /// Whether there is a source with this number whose journal begins with these items.
-    pub(crate) fn has_fed(&self, c: usize, items: &[i64]) -> bool
-        ensures fed { IsTrue result → HasFed self.now.book c items.now }
-        ensures source { IsTrue result → IsTrue (is_source (channel_at J.network c)) }
-        ensures foreign { (result ≡ false) → IsTrue (is_source (channel_at J.network c))
-            → items.now ≢ [] }
-    {
-        self.book.network().is_source(c) && self.book.journal_begins(c, items)
+        let view = self.book.snapshot(alloc)?;
+        Ok(view)
     }
 
     /// Why a worker ends here instead of a claim, where `most` commits are allowed: it is told to; else nothing more

@@ -152,6 +152,7 @@ pub fn leave<J: Job, A: Allocator, B: Allocator, R: Wait>(
 /// The run as it is seen at one moment, with all that the seat has fed: a legal history of the run's network that owes
 /// no growth agrees with it; each journal is a prefix of the least solution for what was fed, and is that solution
 /// where each process has ended or waits on an empty channel.
+#[tactic(auto, using(crate::proofs::Snapshots::begins_shown))]
 pub fn snapshot<J: Job, A: Allocator, B: Allocator, C: Allocator + Copy, R: Wait>(
     rt: &R,
     alloc: C,
@@ -168,7 +169,8 @@ pub fn snapshot<J: Job, A: Allocator, B: Allocator, C: Allocator + Copy, R: Wait
 {
     let look = shared.look(rt);
     let desk = look.desk();
-    if !desk.has_fed(seat.channel(), seat.fed()) {
+    let source = seat.channel();
+    if !desk.book.network().is_source(source) || !desk.book.journal_begins(source, seat.fed()) {
         return Err(SnapFault::Foreign);
     }
     Ok(desk.snapshot(alloc)?)

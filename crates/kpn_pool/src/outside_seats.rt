@@ -1,18 +1,17 @@
 //! The seats of the outside: who feeds a source, and who takes from a sink.
-ghost use Rattle.std.specs.Prelude.{◌≡◌, ◌≢◌, ◌<◌, ℤ, true, false, [], ◌++◌, length, IfOk, IfErr, OnErr, OnOk, IsTrue, Some};
+ghost use Rattle.std.specs.Prelude.{◌≡◌, ◌<◌, true, [], ◌++◌, length, IfOk, IfErr, OnErr, OnOk};
 ghost use Rattle.kpn_lang.specs.Prefix.{IsPrefix};
 ghost use Rattle.kpn_net.specs.Tables.{channel_at, is_source, is_sink};
 ghost use Rattle.kpn_chan.specs.Channel.{unread};
 ghost use Rattle.kpn_trace.specs.declared.event.Event.TheVariants as event;
 ghost use Rattle.kpn_configuration.specs.Configuration.{channel_in};
-ghost use Rattle.kpn_book.specs.Book.{Book as Seen};
-ghost use Rattle.kpn_book.specs.Refusals.{RefusesFeed, RefusesClose, RefusesTake, RefusesLeave, Feeds, Closes, Takes, Leaves, IsOpenSink};
+ghost use Rattle.kpn_book.specs.Refusals.{RefusesFeed, RefusesClose, RefusesTake, RefusesLeave, Feeds, Closes, Takes, Leaves};
 ghost use Rattle.kpn_pool.specs.Desk.{with_book};
 ghost use Rattle.kpn_pool.specs.OutsideSeats.{with_item, with_taken, new_end, AreRecorded, FeedsUntil, TakesFirst, MayRefuseFeed, MayRefuseEnd, MayRefuseTake};
 
 use crate::desk::Desk;
 use crate::job::Job;
-use kpn_book::{Book, Refused};
+use kpn_book::Refused;
 use std::alloc::{Allocator, Global};
 use std::marker::Model;
 
@@ -57,7 +56,7 @@ impl<A: Allocator> SourceSeat<A> {
     }
 
     /// Feeds an item to the source. It is refused as the book refuses it; memory is wanted for the seat's own list too.
-    #[tactic(auto, using(crate::proofs::Keeping::feeds, crate::proofs::Keeping::there, crate::proofs::Keeping::feed_refused))]
+    #[tactic(auto, using(crate::proofs::Keeping::appends, crate::proofs::Keeping::there, crate::proofs::Keeping::feed_refused))]
     pub fn feed<J: Job, B: Allocator>(
         &mut self,
         desk: &mut Desk<'_, J, B>,
@@ -188,11 +187,12 @@ impl<A: Allocator> SinkSeat<A> {
             MayRefuseTake (is_sink (channel_at J.network self.old.channel)) cause) }
         ensures as_before { OnErr result ((self.new ≡ self.old) × (desk.new ≡ desk.old)) }
     {
+        let sink = self.channel;
         let has_room = self.taken.reserve(1).is_ok();
-        if !has_room && has_item_at_sink(&desk.book, self.channel) {
+        if !has_room && desk.book.network().is_sink(sink) && desk.book.has_item(sink) {
             return Err(Refused::NoMemory);
         }
-        let item = desk.book.take(self.channel)?;
+        let item = desk.book.take(sink)?;
         desk.book.known();
         if let Some(item) = item {
             self.taken.push_reserved(item);
@@ -239,14 +239,4 @@ impl<A: Allocator> SinkSeat<A> {
         desk.book.known();
         Ok(())
     }
-}
-
-/// Whether an item would be taken from the channel: it is a sink that was not left, and an item is unread there.
-fn has_item_at_sink<A: Allocator>(book: &Book<'_, A>, c: usize) -> bool
-    ensures open { IsTrue result → IsOpenSink book.now c }
-    ensures item { IsTrue result → unread (channel_in book.now.configuration c) ≢ [] }
-    ensures none { (result ≡ false) → (v : ℤ) (after : Seen) → ¬ Takes c (Some v) book.now after }
-{
-    book.known();
-    book.network().is_sink(c) && book.has_item(c)
 }

@@ -1,4 +1,4 @@
-//! What the workers ask of a desk to find out who of them steps, who rests, and who is to be told. Nothing that
+//! Who is to be told of what happened on a desk: a worker that rests, or whoever serves the sinks. Nothing that
 //! contracts see changes.
 ghost use Rattle.std.specs.Prelude.{◌≡◌};
 
@@ -24,7 +24,12 @@ impl<'n, J: Job, A: Allocator> Desk<'n, J, A> {
     pub(crate) fn note_taker(&mut self)
         ensures { self.new ≡ self.old }
     {
-        if self.wants_taker() {
+        let is_wanted = match self.book.history().last() {
+            Some(Event::WaitFull(_, c)) => self.book.network().is_sink(usize::from(c)),
+            Some(Event::Put(_, c, _)) => is_sink_of_one(self.book.network(), usize::from(c)),
+            _ => false,
+        };
+        if is_wanted {
             self.taker_is_wanted = true;
         }
     }
@@ -34,14 +39,6 @@ impl<'n, J: Job, A: Allocator> Desk<'n, J, A> {
         ensures { self.new ≡ self.old }
     {
         mem::replace(&mut self.taker_is_wanted, false)
-    }
-
-    fn wants_taker(&self) -> bool {
-        match self.book.history().last() {
-            Some(Event::WaitFull(_, c)) => self.book.network().is_sink(usize::from(c)),
-            Some(Event::Put(_, c, _)) => is_sink_of_one(self.book.network(), usize::from(c)),
-            _ => false,
-        }
     }
 }
 

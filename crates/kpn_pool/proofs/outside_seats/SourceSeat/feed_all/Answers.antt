@@ -3,8 +3,9 @@ use Rattle.std.proofs.lemmas.Int.{to_z-of_z}
 use Rattle.std.proofs.lemmas.Result.{err_from_is_err_and}
 use Rattle.kpn_net.specs.Tables.{channel_at, is_source}
 use Rattle.kpn_trace.specs.declared.event.Event.TheVariants as event
-use Rattle.kpn_pool.specs.OutsideSeats.{AreRecorded}
-use Rattle.kpn_pool.proofs.Recording.{fed_then, as_before, refused_there, may_refuse_there}
+use Rattle.kpn_book.specs.Refusals.{RefusesFeed}
+use Rattle.kpn_pool.specs.OutsideSeats.{AreRecorded, MayRefuseFeed}
+use Rattle.kpn_pool.proofs.Recording.{as_before, fed_then, fed_until}
 use Rattle.kpn_pool.proofs.Seating.{fed_more, still_with_book}
 use Rattle.kpn_pool.proofs.outside_seats.SourceSeat.feed_all.Goals as goal
 
@@ -47,9 +48,9 @@ returns-in_err-feed-clause-refused g c =
     let fits : SFits w64 item = search rules in
     let p = err_from_is_err_and c.from_residual.result c.from_residual.ensures.1 in
     rw (p.1, p.2)
-    (refused_there c.args.items.now c.args.self.now c.items.self c.feed.new.self c.items.item-index _
-    c.in_err-feed.field-0.0 c.items-test.true (to_z-of_z w64 item fits) so_far.channel so_far.fed kept.0 c.args.bound
-    c.items.desk c.feed.new.desk kept.1 c.in_err-feed.ensures.refused)
+    (fed_until c.args.items.now c.args.self.now c.items.self c.feed.new.self c.items.item-index _
+    (λ n item b. RefusesFeed n item c.args.bound b c.in_err-feed.field-0.0) c.items.desk c.feed.new.desk
+    c.items-test.true (to_z-of_z w64 item fits) so_far.channel so_far.fed kept.0 kept.1 c.in_err-feed.ensures.refused)
 
 pub returns-in_err-feed-clause-may_refuse : goal.returns-in_err-feed-clause-may_refuse
 returns-in_err-feed-clause-may_refuse g c =
@@ -59,6 +60,7 @@ returns-in_err-feed-clause-may_refuse g c =
     let fits : SFits w64 item = search rules in
     let p = err_from_is_err_and c.from_residual.result c.from_residual.ensures.1 in
     rw (p.1, p.2)
-    (may_refuse_there c.args.items.now c.args.self.now c.items.self c.feed.new.self c.items.item-index _
-    c.in_err-feed.field-0.0 c.items-test.true (to_z-of_z w64 item fits) so_far.channel so_far.fed kept.0
-    g.J.Job.network c.in_err-feed.ensures.may_refuse)
+    (fed_until c.args.items.now c.args.self.now c.items.self c.feed.new.self c.items.item-index _
+    (λ n item b. MayRefuseFeed (is_source (channel_at g.J.Job.network n)) item c.in_err-feed.field-0.0) c.items.desk
+    c.feed.new.desk c.items-test.true (to_z-of_z w64 item fits) so_far.channel so_far.fed kept.0 kept.1
+    c.in_err-feed.ensures.may_refuse)
