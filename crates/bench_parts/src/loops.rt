@@ -52,24 +52,36 @@ pub fn counting(alloc: Global) -> Result<Vec<Vec<Stmt>>, AllocError> {
     Ok(vec![in alloc; body, vec![in alloc; add(alloc, TURN, 1)?]?]?)
 }
 
+/// Adds a block to those before.
+fn push(
+    blocks: &mut Vec<Vec<Stmt>>,
+    block: Result<Vec<Stmt>, AllocError>,
+) -> Result<(), AllocError> {
+    blocks.push(block?)?;
+    Ok(())
+}
+
+/// A block that decides by whether the turn is a multiple of a number.
+fn by_multiple(
+    alloc: Global,
+    number: i64,
+    first: usize,
+    second: usize,
+) -> Result<Vec<Stmt>, AllocError> {
+    Ok(vec![in alloc; Stmt::If(is_multiple(alloc, number)?, first, second)]?)
+}
+
 /// `if` inside `if`, by what the turn is a multiple of.
 fn ifs(alloc: Global) -> Result<Vec<Vec<Stmt>>, AllocError> {
-    let two = Stmt::If(is_multiple(alloc, 2)?, 2, 5);
-    let three = Stmt::If(is_multiple(alloc, 3)?, 3, 4);
-    let five = Stmt::If(is_multiple(alloc, 5)?, 6, 7);
-    let seven = Stmt::If(is_multiple(alloc, 7)?, 8, 9);
-    let mut blocks = vec![in alloc;
-        outermost(alloc)?,
-        vec![in alloc; two, add(alloc, TURN, 1)?]?,
-    ]?;
-    blocks.push(vec![in alloc; three]?)?;
-    blocks.push(add_to_total(alloc, 1)?)?;
-    blocks.push(add_to_total(alloc, 2)?)?;
-    blocks.push(vec![in alloc; five]?)?;
-    blocks.push(add_to_total(alloc, 3)?)?;
-    blocks.push(vec![in alloc; seven]?)?;
-    blocks.push(add_to_total(alloc, 4)?)?;
-    blocks.push(add_to_total(alloc, 5)?)?;
+    let mut blocks = each_turn(alloc, Stmt::If(is_multiple(alloc, 2)?, 2, 5))?;
+    push(&mut blocks, by_multiple(alloc, 3, 3, 4))?;
+    push(&mut blocks, add_to_total(alloc, 1))?;
+    push(&mut blocks, add_to_total(alloc, 2))?;
+    push(&mut blocks, by_multiple(alloc, 5, 6, 7))?;
+    push(&mut blocks, add_to_total(alloc, 3))?;
+    push(&mut blocks, by_multiple(alloc, 7, 8, 9))?;
+    push(&mut blocks, add_to_total(alloc, 4))?;
+    push(&mut blocks, add_to_total(alloc, 5))?;
     Ok(blocks)
 }
 
@@ -94,14 +106,11 @@ fn always(first: usize, second: usize) -> Stmt {
 
 /// Four blocks, each in the one before, around `total = (total + 1);`.
 fn deep(alloc: Global) -> Result<Vec<Vec<Stmt>>, AllocError> {
-    let mut blocks = vec![in alloc;
-        outermost(alloc)?,
-        vec![in alloc; always(2, 9), add(alloc, TURN, 1)?]?,
-    ]?;
-    blocks.push(vec![in alloc; always(3, 8)]?)?;
-    blocks.push(vec![in alloc; always(4, 7)]?)?;
-    blocks.push(vec![in alloc; always(5, 6)]?)?;
-    blocks.push(add_to_total(alloc, 1)?)?;
+    let mut blocks = each_turn(alloc, always(2, 9))?;
+    for (first, second) in [(3, 8), (4, 7), (5, 6)] {
+        push(&mut blocks, Ok(vec![in alloc; always(first, second)]?))?;
+    }
+    push(&mut blocks, add_to_total(alloc, 1))?;
     for _ in 0..4 {
         blocks.push(Vec::new(alloc))?;
     }

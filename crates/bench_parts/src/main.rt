@@ -30,7 +30,12 @@ use trace::written;
 /// Does what a line says, and writes what follows.
 fn measure<O: Write>(alloc: Global, out: &mut O, line: &str) -> Result<()> {
     let words: Vec<&str> = line.split_whitespace().collect(alloc)?;
-    match words.as_slice() {
+    measure_part(alloc, out, &words)
+}
+
+/// Does what these words say.
+fn measure_part<O: Write>(alloc: Global, out: &mut O, words: &[&str]) -> Result<()> {
+    match words {
         ["step", name, turns] => {
             let item = computed(alloc, name, turns.parse()?)?;
             writeln!(out, "{item}")?;
