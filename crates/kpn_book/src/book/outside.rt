@@ -13,7 +13,7 @@ use std::alloc::Allocator;
 
 impl<'n, A: Allocator> Book<'n, A> {
     /// Why a feed would be refused, whatever memory there is. `None` where it would be refused for want of memory
-    /// alone. Ask this before reserving memory of your own for the feed.
+    /// alone. Ask this where memory of your own for the feed is missing, since want of memory is told last.
     pub fn feed_fault(&self, source: usize, item: i64, bound: usize) -> Option<Refused>
         ensures cause { IfSome result (λ cause. RefusesFeed source item bound self.now cause) }
         ensures lasts { IfSome result (λ cause. cause ≢ Refused.NoMemory) }
