@@ -20,7 +20,7 @@ pub fn is_as_wanted(
     wanted: &Report,
 ) -> Result<bool> {
     let events = events_of(alloc, &report.history)?;
-    let Ok(audit) = audit(alloc, alloc, network, &events, STEPS) else {
+    let Ok(audit) = audit(alloc, network, &events, STEPS) else {
         return Ok(false);
     };
     let has_items = are_same(

@@ -33,17 +33,19 @@ fn is_legal(
     Ok(audit(alloc, &heap, network, events, 1_000).is_ok())
 }
 
-/// Whether an audit of these events is refused memory where what it finds, and that alone, stands in a heap of this
-/// size.
-fn is_finding_refused(
+/// The size of the first heap, of more and more bytes, in which an audit of these events is not refused memory.
+fn sufficient_size(
     alloc: Global,
     network: &Network,
     events: &[Event],
-    size: usize,
-) -> Result<bool, AllocError> {
-    let heap = LocalHeap::new(alloc, size)?;
-    let found = audit(&heap, alloc, network, events, 1_000);
-    Ok(matches!(found, Err(AuditFault::NoMemory)))
+) -> Result<Option<usize>, AllocError> {
+    for steps in 0..256 {
+        let size = 64 + 16 * steps;
+        if !is_refused(alloc, network, events, size)? {
+            return Ok(Some(size));
+        }
+    }
+    Ok(None)
 }
 
 #[test]
@@ -58,11 +60,9 @@ fn an_audit_is_refused_at_its_start_and_in_its_course(rt: HostRuntime) -> Result
 }
 
 #[test]
-fn what_is_found_is_refused_memory(rt: HostRuntime) -> Result<(), Fail> {
+fn an_audit_is_refused_until_its_heap_holds_all(rt: HostRuntime) -> Result<(), Fail> {
     let network = copying(rt.alloc())?;
-    let many = vec![in rt.alloc(); Event::Feed(0, 5); 1_000]?;
-    assert!(rt; is_finding_refused(rt.alloc(), &network, &ONE, 64)?);
-    assert!(rt; is_finding_refused(rt.alloc(), &network, &many, 4_096)?);
-    assert!(rt; !is_finding_refused(rt.alloc(), &network, &many, 65_536)?);
+    let size = sufficient_size(rt.alloc(), &network, &ONE)?.unwrap_or(0);
+    assert!(rt; is_legal(rt.alloc(), &network, &ONE, size)?);
     Ok(())
 }

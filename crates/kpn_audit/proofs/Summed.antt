@@ -1,25 +1,20 @@
 -- What a configuration shows of the history that led to it.
-use Rattle.std.proofs.Common.{◌≡◌, ◌↔◌, ℕ, zero, suc, ◌+◌, ◌<◌, true, List, [], ◌∷◌, ◌++◌, length, map, slice_index_or, refl, sym, ap, ◌∙◌, subst, arith}
+use Rattle.std.proofs.Common.{◌≡◌, ◌↔◌, ℕ, zero, suc, ◌+◌, ◌<◌, true, List, [], ◌∷◌, length, map, slice_index_or, refl, sym, ap, ◌∙◌, subst, arith}
 use Rattle.std.specs.List.{range_with_len}
-use Rattle.std.proofs.lemmas.List.FromFn.{map-range_with_len_more, get_or-map-range_with_len}
+use Rattle.std.proofs.lemmas.List.FromFn.{get_or-map-range_with_len}
+use Rattle.kpn_chan.specs.Channel.{ChannelState}
 use Rattle.kpn_net.specs.Tables.{Tables}
 use Rattle.kpn_net.specs.Faults.{IsNetwork, channel_numbers}
-use Rattle.kpn_net.specs.Iteration.{lists_of, IsLeast}
+use Rattle.kpn_net.specs.Iteration.{IsLeast}
 use Rattle.kpn_trace.specs.declared.event.Event.{Event}
 use Rattle.kpn_trace.specs.Channels.{written_on, capacity_after, fed}
 use Rattle.kpn_trace.specs.Ends.{IsQuiet}
 use Rattle.kpn_trace.proofs.Kahn.{least_if_quiet}
 use Rattle.kpn_configuration.specs.Configuration.{Configuration, channel_in}
 use Rattle.kpn_configuration.specs.Run.{IsRun}
+use Rattle.kpn_configuration.proofs.Numbered.{by_number}
 use Rattle.kpn_audit.specs.declared.findings.Audit.{Audit}
 use Rattle.kpn_audit.specs.Audit.{IsAudit, AreLeast}
-
--- one more entry
-pub one_more : {X : Type 0} (f : ℕ → X) (xs more : List X) (n : ℕ) (x : X) → xs ≡ map f (range_with_len 0 n)
-    → more ≡ xs ++ x ∷ [] → x ≡ f n → more ≡ map f (range_with_len 0 (n + 1))
-one_more f xs more n x e m is =
-    m ∙ ap (λ ys. ys ++ x ∷ []) e ∙ ap (λ y. map f (range_with_len 0 n) ++ y ∷ []) is
-    ∙ sym (map-range_with_len_more f 0 n n (omega arith))
 
 -- entries that are the same one by one
 same_entries : {X : Type 0} (f g : ℕ → X) (a n m : ℕ) → a + n ≡ m → ((c : ℕ) → c < m → f c ≡ g c)
@@ -31,14 +26,15 @@ same_entries f g a (suc n) m fits same =
 
 -- the entries of a configuration are those of the history
 pub shown : {A : Type 0} (t : Tables) (H : List Event) (s : Configuration) → IsRun t H s → (audit : Audit A)
-    → audit.journals ≡ lists_of t (λ c. (channel_in s c).journal)
+    → audit.journals ≡ map (λ (channel : ChannelState). channel.journal) s.channels
     → audit.caps ≡ map (λ c. (channel_in s c).capacity) (channel_numbers t)
     → ((audit.exact ≡ true) ↔ IsQuiet t H) → IsAudit t H audit
 shown t H s run audit journals caps exact =
     record {
       legal = run.legal;
       journals =
-          journals ∙ same_entries (λ c. (channel_in s c).journal) (written_on H) 0 (length t.channels)
+          journals ∙ by_number (λ (channel : ChannelState). channel.journal) s (length t.channels) (sym run.shape.channels)
+          ∙ same_entries (λ c. (channel_in s c).journal) (written_on H) 0 (length t.channels)
           (length t.channels) (omega arith) (λ c below. (run.leads.channels c below).journal);
       caps =
           caps ∙ same_entries (λ c. (channel_in s c).capacity) (capacity_after t H) 0 (length t.channels)

@@ -19,11 +19,10 @@ use std::alloc::Allocator;
 /// whether the network has its numbers, and whether its process has ended or is blocked. Then the process makes steps,
 /// `quota` of them at most, and where it stops the event has to be due.
 ///
-/// The configuration on which it replays takes its memory from `replay_alloc`, and what it finds from `alloc`. Where
-/// either is refused the answer is [`AuditFault::NoMemory`], and nothing is kept.
-pub fn audit<A: Allocator + Copy, R: Allocator + Copy>(
+/// The configuration on which it replays takes its memory from `alloc`, and so does what it finds; the journals are
+/// moved there, not copied. Where memory is refused the answer is [`AuditFault::NoMemory`], and nothing is kept.
+pub fn audit<A: Allocator + Copy>(
     alloc: A,
-    replay_alloc: R,
     network: &Network,
     events: &[Event],
     quota: u64,
@@ -36,22 +35,22 @@ pub fn audit<A: Allocator + Copy, R: Allocator + Copy>(
         (fault ≡ AuditFault.NoMemory) ⊎ ((k : ℕ) × (fault ≡ AuditFault.Budget k))) }
 {
     network.known();
-    let configuration = replay(replay_alloc, network, events, quota)?;
-    Ok(summary(alloc, network, &configuration)?)
+    let configuration = replay(alloc, network, events, quota)?;
+    Ok(summary(alloc, network, configuration)?)
 }
 
 /// Replays the events on a configuration of its own, from the start.
-fn replay<R: Allocator + Copy>(
-    replay_alloc: R,
+fn replay<A: Allocator + Copy>(
+    alloc: A,
     network: &Network,
     events: &[Event],
     quota: u64,
-) -> Result<Configuration<R>, AuditFault>
+) -> Result<Configuration<A>, AuditFault>
     ensures run { IfOk result (λ made. IsRun network.now events.now made) }
     ensures refused { IfErr result (λ fault. IsFault network.now events.now quota fault) }
 {
     network.known();
-    let mut configuration = Configuration::new(replay_alloc, network)?;
+    let mut configuration = Configuration::new(alloc, network)?;
     let mut owed = None;
     'events: for k in 0..events.len() {
         let event = events[k];

@@ -75,7 +75,7 @@ fn conclusion(
         conclusion.text.items conclusion.status) }
     ensures refused { IfErr result (λ refusal. IsWantOfMemory refusal) }
 {
-    match audit(alloc, alloc, document.network(), events, steps) {
+    match audit(alloc, document.network(), events, steps) {
         Ok(audit) => Ok(Conclusion {
             text: text_of(alloc, document, &audit)?,
             status: 0,

@@ -13,4 +13,3 @@ pub mod Seen
 pub mod Starting
 pub mod Agreeing
 pub mod Journals
-pub mod Moved

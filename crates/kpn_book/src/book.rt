@@ -13,7 +13,7 @@ ghost use Rattle.kpn_book.specs.Kept.{IsBook};
 
 use crate::journal::begins;
 use crate::open_book::OpenBook;
-use crate::view::{copied_journals, moved_journals, view_without_journals};
+use crate::view::{copied_journals, view_without_journals};
 use kpn_configuration::Configuration;
 use kpn_net::Network;
 use kpn_schedule::Schedule;
@@ -198,7 +198,7 @@ impl<'n> Book<'n> {
             &parts.configuration,
             &parts.schedule,
         )?;
-        view.journals = moved_journals(alloc, channels, parts.configuration)?;
+        view.journals = parts.configuration.into_journals(alloc)?;
         Ok((view, parts.history))
     }
 }

@@ -2,16 +2,14 @@
 //! are moved and not copied.
 ghost use Rattle.std.specs.Prelude.{◌≡◌, ◌<◌, ◌∷◌, [], ◌++◌, length, map, IfOk};
 ghost use Rattle.std.specs.List.{range_with_len};
-ghost use Rattle.kpn_chan.specs.Channel.{ChannelState};
 ghost use Rattle.kpn_trace.specs.Views.{AreCounts};
 ghost use Rattle.kpn_configuration.specs.Configuration.{channel_in};
 
-use kpn_chan::Channel;
 use kpn_configuration::Configuration;
 use kpn_lang::Sequence;
 use kpn_schedule::Schedule;
 use kpn_trace::View;
-use std::alloc::{AllocError, Allocator, Global};
+use std::alloc::{AllocError, Allocator};
 
 /// The view of a run with so many channels, but for its journals: there are none in it yet. The error is that memory
 /// ran out.
@@ -84,29 +82,4 @@ pub(crate) fn copied_journals<A: Allocator, B: Allocator + Copy>(
         journals.push(journal)?;
     }
     Ok(journals)
-}
-
-/// The journals of so many channels, moved.
-pub(crate) fn moved_journals(
-    alloc: Global,
-    channels: usize,
-    configuration: Configuration,
-) -> Result<Sequence<Sequence<i64>>, AllocError>
-    requires { channels ≡ length configuration.channels }
-    ensures { let s = configuration in IfOk result (λ journals.
-        journals ≡ map (λ c. (channel_in s c).journal) (range_with_len 0 channels)) }
-{
-    journals_of(alloc, configuration.into_channels())
-}
-
-/// The journals of these channels.
-fn journals_of(alloc: Global, channels: Vec<Channel>) -> Result<Sequence<Sequence<i64>>, AllocError>
-    ensures { IfOk result (λ journals.
-        journals ≡ map (λ (channel : ChannelState). channel.journal) channels.items) }
-{
-    let journals = channels
-        .into_iter()
-        .map(|channel| Sequence::from_vec(channel.into_journal()))
-        .collect(alloc)?;
-    Ok(Sequence::from_vec(journals))
 }

@@ -7,6 +7,7 @@ pub mod Leading
 pub mod Mirror
 pub mod Moments
 pub mod Moving
+pub mod Numbered
 pub mod OneStop
 pub mod Parts
 pub mod Ports

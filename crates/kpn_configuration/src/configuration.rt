@@ -1,6 +1,6 @@
 //! A configuration as it is kept: the channels, and for each process its wait, its end and its frame.
-ghost use Rattle.std.specs.Prelude.{◌≡◌, ◌<◌, List, length, IsTrue, IsOk, IfOk, is_ok, is_some, if◌then◌else◌};
-ghost use Rattle.kpn_chan.specs.Channel.{with_room, next_item};
+ghost use Rattle.std.specs.Prelude.{◌≡◌, ◌<◌, List, length, map, IsTrue, IsOk, IfOk, is_ok, is_some, if◌then◌else◌};
+ghost use Rattle.kpn_chan.specs.Channel.{ChannelState, with_room, next_item};
 ghost use Rattle.kpn_configuration.specs.Configuration.{channel_in, closed_in, wait_in, end_in, frame_in, with_channel, IsConfiguration};
 ghost use Rattle.kpn_configuration.specs.Run.{IsRun};
 ghost use Rattle.kpn_net.specs.Tables.{Tables};
@@ -8,6 +8,7 @@ ghost use Rattle.kpn_trace.specs.declared.event.Event.{Event};
 
 use kpn_chan::Channel;
 use kpn_cycle::Waits;
+use kpn_lang::Sequence;
 use kpn_net::Wait;
 use kpn_step::Frame;
 use kpn_trace::How;
@@ -81,12 +82,18 @@ impl<A: Allocator> Configuration<A> {
         channel.reserve_one()
     }
 
-    /// The channels, in order of number, moved out of the configuration.
-    pub fn into_channels(self) -> Vec<Channel<A>, A>
-        ensures { result.items ≡ self.channels }
+    /// The journals, in order of the channels' numbers, moved out of the configuration. The error is that memory ran
+    /// out.
+    pub fn into_journals(self, alloc: A) -> Result<Sequence<Sequence<i64, A>, A>, AllocError>
+        ensures { let s = self in IfOk result (λ journals.
+            journals ≡ map (λ (channel : ChannelState). channel.journal) s.channels) }
     {
         let Configuration { channels, .. } = self;
-        channels
+        let journals = channels
+            .into_iter()
+            .map(|channel| Sequence::from_vec(channel.into_journal()))
+            .collect(alloc)?;
+        Ok(Sequence::from_vec(journals))
     }
 
     /// A list of all items that were ever put on a channel, oldest first. The error is that memory ran out.

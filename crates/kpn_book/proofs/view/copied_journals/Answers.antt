@@ -1,5 +1,5 @@
 use Rattle.kpn_configuration.specs.Configuration.{channel_in}
-use Rattle.kpn_book.proofs.Moved.{one_more}
+use Rattle.kpn_configuration.proofs.Numbered.{one_more}
 use Rattle.kpn_book.proofs.view.copied_journals.Goals as goal
 
 pub channels-preserved : goal.channels-preserved

@@ -1,7 +1,7 @@
 use Rattle.std.proofs.Common.{sym, ◌∙◌, subst}
 use Rattle.kpn_trace.specs.Views.{AreCounts}
 use Rattle.kpn_configuration.specs.Configuration.{channel_in}
-use Rattle.kpn_book.proofs.Moved.{one_more}
+use Rattle.kpn_configuration.proofs.Numbered.{one_more}
 use Rattle.kpn_book.proofs.view.view_without_journals.Goals as goal
 
 pub channels-preserved : goal.channels-preserved

@@ -1,5 +1,5 @@
 -- Lists with an entry for each channel, by the channels or by their numbers.
-use Rattle.std.proofs.Common.{◌≡◌, ℕ, ◌+◌, ◌<◌, List, [], ◌∷◌, ◌++◌, length, map, Result, Ok, Err, IfOk, ℤ, None, false, sym, ap, ◌∙◌, subst, arith}
+use Rattle.std.proofs.Common.{◌≡◌, ℕ, ◌+◌, ◌<◌, List, [], ◌∷◌, ◌++◌, length, map, None, false, sym, ap, ◌∙◌, subst, arith}
 use Rattle.std.specs.List.{range_with_len}
 use Rattle.std.proofs.lemmas.List.{ext_get_or, length-map, get_or-map}
 use Rattle.std.proofs.lemmas.List.FromFn.{length-map-range_with_len, get_or-map-range_with_len, map-range_with_len_more}
@@ -23,13 +23,3 @@ pub one_more : {A : Type 0} (f : ℕ → A) (n : ℕ) (xs more : List A) → xs 
     → more ≡ xs ++ f n ∷ [] → more ≡ map f (range_with_len 0 (n + 1))
 one_more f n xs more so_far added =
     added ∙ ap (λ ys. ys ++ f n ∷ []) so_far ∙ sym (map-range_with_len_more f 0 n n (omega arith))
-
--- the journals of channels that were moved out of a configuration
-pub moved_if : {E : Type 0} (s : Configuration) (n : ℕ) → n ≡ length s.channels → (channels : List ChannelState)
-    → channels ≡ s.channels → (moved : Result (List (List ℤ)) E)
-    → IfOk moved (λ journals. journals ≡ map (λ (channel : ChannelState). channel.journal) channels)
-    → IfOk moved (λ journals. journals ≡ map (λ c. (channel_in s c).journal) (range_with_len 0 n))
-moved_if s n long channels same (Ok journals) is =
-    is ∙ ap (map (λ (channel : ChannelState). channel.journal)) same
-    ∙ by_number (λ (channel : ChannelState). channel.journal) s n long
-moved_if s n long channels same (Err e) is = tt

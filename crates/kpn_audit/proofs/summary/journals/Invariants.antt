@@ -1,8 +1,0 @@
-use Rattle.std.proofs.Common.{◌≡◌, map}
-use Rattle.std.specs.List.{range_with_len}
-use Rattle.kpn_configuration.specs.Configuration.{channel_in}
-use Rattle.kpn_audit.proofs.summary.journals.Given as goal
-
-abbrev pub invariant-loop-c : goal.invariant-loop-c
-invariant-loop-c g l =
-    l.journals.items ≡ map (λ c. (channel_in l.configuration c).journal) (range_with_len 0 l.c)
