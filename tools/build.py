@@ -5,7 +5,7 @@ It calls the prover itself, side by side for crates that do not depend on one an
 chain of crates above. A library is made with its statements only, which crates above read in less time than its proofs.
 `rt check` wants the proofs, so what is made here stands in out/ at the top, apart from each crate's own out/:
 libraries/ (packed, since the gate refuses sources that no check reads) and logs/. The program is crates/kpn/out/kpn.
-A crate is proved anew where its contents have changed, or what was made of a crate below it came out otherwise. An
+A crate is proved anew if its contents have changed, or if a library below it came out otherwise. An
 interrupted build goes on where it was. The launcher `kpn` calls this; out/needed says afterwards which folders the
 program was made from.
 """
@@ -63,7 +63,7 @@ class Target(Crate):
         return hashlib.sha256(json.dumps([*parts, *(it.sum for it in self.below)]).encode()).hexdigest()
 
     def look(self, kit):
-        """Looks whether it is current, and tells so."""
+        """Returns whether it is current."""
         if all(it.sum for it in self.below) and self.stamp.exists() and self.made.exists():
             was = json.loads(self.stamp.read_text())
             # `rt` may have put a program of its own there.
@@ -73,6 +73,7 @@ class Target(Crate):
 
 
 def unpack(crate, room):
+    """Unpacks a library for the crates above it."""
     if not crate.is_program:
         shutil.unpack_archive(crate.made, room)
 
@@ -92,7 +93,7 @@ class Build:
             self.height[crate] = size + max(above, default=0)
 
     def make_all(self):
-        """Makes all; gives the first crate that is not proved, where there is one."""
+        """Makes all; returns the first crate that is not proved, if there is one."""
         try:
             while self.waiting or self.running:
                 self.start_ready()
@@ -139,7 +140,7 @@ class Build:
         self.running.append(crate)
 
     def finish(self, crate):
-        """Keeps what was made, and tells whether it was made."""
+        """Keeps what was made, and returns whether it was made."""
         self.running.remove(crate)
         if crate.run.returncode == -signal.SIGKILL and crate.jobs > 1:
             # Most likely for want of memory, of which one job takes less.
@@ -154,7 +155,7 @@ class Build:
         return True
 
     def keep(self, crate):
-        """Packs a library, or links the program, and tells whether that succeeded."""
+        """Packs a library, or links the program, and returns whether that succeeded."""
         if not crate.is_program:
             library = self.room / f'{crate.name}.rlib'
             crate.sum = sum_of(library, library.rglob('*'))
@@ -214,7 +215,7 @@ def last_build():
 
 
 def make(kit, crates, number):
-    """Makes what is not current, and tells whether all of it was proved."""
+    """Makes what is not current, and returns whether all of it was proved."""
     progress = Progress(number)
     progress.line(f'kpn: the program is proved and built first, {counted(number)}; {last_build()}')
     room = pathlib.Path(tempfile.mkdtemp(prefix='kpn-build-'))

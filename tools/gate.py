@@ -4,9 +4,9 @@
 usage: tools/gate.py [--no-edits] [--jobs N] [CRATE ..]
 
 In a clean clone of what is committed each crate is proved, tried with its must-fail edits, tested and run by the same
-command lines of the prover as under `rt ci`, N at a time (one a processor, where nothing is said), one job each. What
-is counted is the processor time of the children. With names of crates these alone stand in the table; what lies below
-them is proved too. Since machines differ, the last lines tell how this one compares with the table's.
+command lines of the prover as under `rt ci`, N at a time (one a processor, if N is not given), one job each. What
+is counted is the processor time of the children. With names of crates only these stand in the table; what lies below
+them is proved too. Since machines differ, the last line says how this one compares with the table's.
 """
 import argparse
 import os
@@ -142,13 +142,17 @@ def measure(gate, crates, shown, jobs, with_edits):
             gate.prove(crate, spent[crate])
             tell(f'{crate.name}: proved, {spent[crate].proof:.0f} s')
 
+        def later(task, crate):
+            for it in [*crate.below, crate]:
+                proofs[it].result()
+            task(crate, spent[crate])
+
         # Those below come first, so that none waits for one that has no place.
         for crate in crates:
             proofs[crate] = pool.submit(prove, crate)
-        for crate in crates:
-            if crate.name in shown:
-                rest.append(pool.submit(gate.test, crate, spent[crate]))
-                rest += [pool.submit(gate.try_edits, crate, spent[crate])] * with_edits
+        for crate in [it for it in crates if it.name in shown]:
+            for task in [gate.test, gate.try_edits][: 1 + with_edits]:
+                rest.append(pool.submit(later, task, crate))
         for it in [*proofs.values(), *rest]:
             it.result()
     return spent

@@ -3,7 +3,7 @@
 
 A body counts that is one call, with or without `?`, of which the receiver and each argument is a parameter or a field
 of one, borrowed or not. Not counted are functions in impls of traits, and the calls that the library offers to its
-users, which are named below. With -v it prints each function with its body. It stands on the layout of `rt fmt`.
+users, which are named below. With -v it prints each function with its body. It depends on the layout of `rt fmt`.
 """
 import collections
 import pathlib
@@ -11,7 +11,7 @@ import re
 import sys
 
 TOP = pathlib.Path(__file__).resolve().parent.parent
-BESIDE = re.compile(r'(check_|bench_|test_|worked_|failing_|full_|commit_)')
+BESIDE = re.compile(r'(check_|bench_|test_|commit_)')
 # What the library offers, crate by crate.
 OFFERED = {
     'kpn_lang': 'ins outs pars vars block eval same',

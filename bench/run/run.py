@@ -62,13 +62,12 @@ class Measured:
             sys.exit('what Go computed differs')
         return best
 
-
     def instructions(self, name):
         """All machine instructions of one run."""
         with tempfile.NamedTemporaryFile() as kept:
             words = ['valgrind', '--tool=callgrind', f'--callgrind-out-file={kept.name}', *self.programs[name]]
-            told = subprocess.run(words, check=True, stdout=subprocess.DEVNULL, stderr=subprocess.PIPE, text=True).stderr
-        return int(re.search(r'Collected : (\d+)', told)[1])
+            run = subprocess.run(words, check=True, stdout=subprocess.DEVNULL, stderr=subprocess.PIPE, text=True)
+        return int(re.search(r'Collected : (\d+)', run.stderr)[1])
 
 
 def counts(run):

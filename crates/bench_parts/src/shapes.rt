@@ -1,6 +1,6 @@
 //! Networks in which each process writes to the next, and tables in which each waits for the next.
-ghost use Rattle.std.specs.Prelude.{IsTrue, IfOk, IfSome};
-ghost use Rattle.kpn_net.specs.Waits.{AreWaits, IsOwnWait};
+ghost use Rattle.std.specs.Prelude.{IfOk, IfSome};
+ghost use Rattle.kpn_net.specs.Waits.{AreWaits};
 
 use kpn_cycle::{Wait, Waits};
 use kpn_lang::{Program, Sequence};

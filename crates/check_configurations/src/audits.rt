@@ -1,5 +1,5 @@
-//! Audits in a heap: one that is too small for the configuration on which an audit replays, for the items that come,
-//! or for what is found, refuses.
+//! Audits in a heap: one that is too small for the configuration on which an audit replays, or for the items that come,
+//! refuses, and so does each that is smaller than the first that suffices.
 use crate::feeding::copying;
 use kpn_audit::{AuditFault, audit};
 use kpn_net::Network;
@@ -18,7 +18,7 @@ fn is_refused(
     size: usize,
 ) -> Result<bool, AllocError> {
     let heap = LocalHeap::new(alloc, size)?;
-    let found = audit(alloc, &heap, network, events, 1_000);
+    let found = audit(&heap, network, events, 1_000);
     Ok(matches!(found, Err(AuditFault::NoMemory)))
 }
 
@@ -30,10 +30,11 @@ fn is_legal(
     size: usize,
 ) -> Result<bool, AllocError> {
     let heap = LocalHeap::new(alloc, size)?;
-    Ok(audit(alloc, &heap, network, events, 1_000).is_ok())
+    Ok(audit(&heap, network, events, 1_000).is_ok())
 }
 
-/// The size of the first heap, of more and more bytes, in which an audit of these events is not refused memory.
+/// The size of the first heap, of 64 bytes and then of 16 more each time, in which an audit of these events is not
+/// refused memory.
 fn sufficient_size(
     alloc: Global,
     network: &Network,
@@ -60,9 +61,10 @@ fn an_audit_is_refused_at_its_start_and_in_its_course(rt: HostRuntime) -> Result
 }
 
 #[test]
-fn an_audit_is_refused_until_its_heap_holds_all(rt: HostRuntime) -> Result<(), Fail> {
+fn an_audit_is_refused_until_its_heap_suffices(rt: HostRuntime) -> Result<(), Fail> {
     let network = copying(rt.alloc())?;
     let size = sufficient_size(rt.alloc(), &network, &ONE)?.unwrap_or(0);
+    assert!(rt; size > 64);
     assert!(rt; is_legal(rt.alloc(), &network, &ONE, size)?);
     Ok(())
 }

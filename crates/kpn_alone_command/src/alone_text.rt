@@ -1,5 +1,5 @@
 //! The text that `kpn alone` writes of a run.
-ghost use Rattle.std.specs.Prelude.{◌≡◌, ◌++◌, ◌∷◌, [], IfOk, OnOk};
+ghost use Rattle.std.specs.Prelude.{◌≡◌, ◌++◌, IfOk, OnOk};
 ghost use Rattle.kpn_items.specs.ItemFile.{item_line};
 ghost use Rattle.kpn_alone_command.specs.AloneText.{alone_text, fault_text};
 

@@ -1,5 +1,5 @@
 //! The parts of a book in the midst of a call: all that holds of a book need not hold of them yet.
-ghost use Rattle.std.specs.Prelude.{◌≡◌, ◌↔◌, ◌+◌, ◌-◌, ◌<◌, ◌^◌, length, Option, option_to_list, IsTrue, IfNone};
+ghost use Rattle.std.specs.Prelude.{◌≡◌, ◌↔◌, ◌+◌, ◌-◌, ◌<◌, ◌^◌, Option, option_to_list, IsTrue, IfNone};
 ghost use Rattle.kpn_trace.specs.declared.state.Verdict.{Verdict as Told};
 ghost use Rattle.kpn_configuration.specs.Configuration.{IsConfiguration};
 ghost use Rattle.kpn_configuration.specs.Settled.{IsVerdictNow};

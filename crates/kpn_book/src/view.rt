@@ -1,5 +1,4 @@
-//! A run as it is seen at one moment, copied from its configuration and its schedule; or at its end, where the journals
-//! are moved and not copied.
+//! A run as it is seen at one moment, copied from its configuration and its schedule.
 ghost use Rattle.std.specs.Prelude.{◌≡◌, ◌<◌, ◌∷◌, [], ◌++◌, length, map, IfOk};
 ghost use Rattle.std.specs.List.{range_with_len};
 ghost use Rattle.kpn_trace.specs.Views.{AreCounts};

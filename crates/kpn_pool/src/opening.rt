@@ -31,7 +31,7 @@ pub(crate) fn end_seats<A: Allocator + Copy>(
     Ok(EndSeats { sources, sinks })
 }
 
-/// A seat more where the channel is a source or a sink.
+/// Adds a seat, if the channel is a source or a sink.
 fn add_seat<A: Allocator + Copy>(
     alloc: A,
     network: &Network,

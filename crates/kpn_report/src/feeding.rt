@@ -1,5 +1,5 @@
 //! The sources of a network that is left to itself: each is fed its whole list and closed, in order of number.
-ghost use Rattle.std.specs.Prelude.{◌≡◌, ℕ, ◌+◌, ◌<◌, true, ℤ, List, [], ◌∷◌, ◌++◌, length, take, count_by, IfOk};
+ghost use Rattle.std.specs.Prelude.{◌≡◌, ℕ, ◌+◌, ◌<◌, true, ℤ, List, length, take, count_by, IfOk};
 ghost use Rattle.kpn_net.specs.Tables.{is_source};
 ghost use Rattle.kpn_net.specs.Iteration.{sources, given_by};
 ghost use Rattle.kpn_trace.specs.Channels.{is_closed};

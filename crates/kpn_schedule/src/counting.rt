@@ -1,5 +1,5 @@
 //! Counts of processes by state, kept step by step.
-ghost use Rattle.std.specs.Prelude.{◌≡◌, ℕ, ◌+◌, ◌<◌, ◌^◌};
+ghost use Rattle.std.specs.Prelude.{◌≡◌, ◌+◌, ◌<◌, ◌^◌};
 ghost use Rattle.kpn_schedule.specs.Counting.{count_in, one_more, one_less};
 
 use kpn_trace::{Counts, State};

@@ -1,7 +1,6 @@
 //! The calls of the outside: it feeds sources and closes them, takes from sinks and leaves them. Sources and sinks
 //! go by their channel numbers.
-ghost use Rattle.std.specs.Prelude.{◌≡◌, ◌≢◌, ◌↔◌, ◌<◌, length, IsTrue, IfOk, IfErr, OnErr, IfSome, IfNone};
-ghost use Rattle.kpn_chan.specs.Channel.{ChannelState};
+ghost use Rattle.std.specs.Prelude.{◌≡◌, ◌≢◌, ◌↔◌, IsTrue, IfOk, IfErr, OnErr, IfSome, IfNone};
 ghost use Rattle.kpn_book.specs.Refusals.{AcceptsItem, IsAtBound, RefusesFeed, RefusesClose, RefusesTake, RefusesLeave, Feeds, Closes, Takes, Leaves};
 
 use super::Book;
@@ -13,7 +12,7 @@ use std::alloc::Allocator;
 
 impl<'n, A: Allocator> Book<'n, A> {
     /// Why a feed would be refused, whatever memory there is. `None` where it would be refused for want of memory
-    /// alone. Ask this where memory of your own for the feed is missing, since want of memory is told last.
+    /// alone. Ask this if you have no memory of your own for the feed: want of memory is the last cause.
     pub fn feed_fault(&self, source: usize, item: i64, bound: usize) -> Option<Refused>
         ensures cause { IfSome result (λ cause. RefusesFeed source item bound self.now cause) }
         ensures lasts { IfSome result (λ cause. cause ≢ Refused.NoMemory) }

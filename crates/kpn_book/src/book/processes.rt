@@ -1,10 +1,10 @@
 //! The calls for whoever steps the processes: claim, commit, put back, and all in one for a single owner.
-ghost use Rattle.std.specs.Prelude.{◌≡◌, ◌↔◌, ◌<◌, ◌+◌, ◌-◌, ◌^◌, length, IfOk, IfErr, OnErr, IsTrue, IfSome, IfNone};
+ghost use Rattle.std.specs.Prelude.{◌≡◌, ◌↔◌, IfOk, IfErr, OnErr, IsTrue, IfSome, IfNone};
 ghost use Rattle.kpn_net.specs.Tables.{program_of};
 ghost use Rattle.kpn_step.specs.Frame.{fits};
 ghost use Rattle.kpn_step.specs.Stops.{IsWithinQuota};
 ghost use Rattle.kpn_configuration.specs.Configuration.{frame_in};
-ghost use Rattle.kpn_book.specs.Book.{IsHeld, IsClaimed, held_count, put_back};
+ghost use Rattle.kpn_book.specs.Book.{IsHeld, IsClaimed, put_back};
 ghost use Rattle.kpn_book.specs.Commits.{Commits};
 ghost use Rattle.kpn_book.specs.Refusals.{RefusesCommit, RefusesPutBack};
 ghost use Rattle.kpn_book.specs.Stepping.{ClaimsNobody, IsStep, StepsInVain};

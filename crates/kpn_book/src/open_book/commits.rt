@@ -1,5 +1,5 @@
-//! What a process that is held is answered where it stands: one function for each kind of stop makes the event that is
-//! due there, and after a wait the growth that is owed.
+//! Answers a held process at its stop: one function for each kind of stop makes the event that is due there, and after a
+//! wait the growth that is owed.
 ghost use Rattle.std.specs.Prelude.{◌≡◌, ◌≢◌, ◌<◌, ◌≤◌, ◌+◌, ℕ, ℤ, [], true, length, IsTrue};
 ghost use Rattle.kpn_net.specs.Tables.{instance_at, program_of};
 ghost use Rattle.kpn_step.specs.declared.stop.Stop.{Stop as Place};
@@ -155,6 +155,7 @@ impl<'n, A: Allocator> OpenBook<'n, A> {
         ensures follows { Follows (event.WaitFull p c) (book_of self.old) (book_of self.new) }
         ensures room { self.old.history.room ≤ self.new.history.room + 1 }
     {
+        // The contract alone names the item.
         let _item = item;
         let network = self.network;
         network.known();
