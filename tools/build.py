@@ -109,7 +109,7 @@ class Build:
         return None
 
     def start_ready(self):
-        """Starts what may run now, longest chain first. The crate with the longest chain of all gets as many jobs as
+        """Starts what may run now, longest chain first. A crate whose chain is about the longest gets as many jobs as
         there are processors, and the others share them: a second job shortens a check, but takes half as much
         processor time again."""
         ready = [it for it in self.waiting if all(below.sum for below in it.direct)]
@@ -123,7 +123,7 @@ class Build:
                 unpack(crate, self.room)
                 self.progress.add(crate.name)
             else:
-                self.start(crate, min(4, self.most if self.height[crate] == longest else share))
+                self.start(crate, min(4, self.most if self.height[crate] > 0.9 * longest else share))
 
     def start(self, crate, jobs):
         crate.stamp.unlink(missing_ok=True)

@@ -130,11 +130,12 @@ const FIRST: [(Row, Row); 3] = [
     (Row::Leave(1, Err(Refused::NoMemory)), Row::Leave(1, Ok(()))),
 ];
 
-/// Whether a take, the fourth event of its book, is so refused and repeated.
+/// Whether a take, the fifth event of its book, is so refused and repeated: the first event took memory for four.
 fn is_take_refused(alloc: Global, heap: &LocalHeap, network: &Network) -> Result<bool, AllocError> {
     let mut book = Book::new(heap, network)?;
     let is_put = answers(&mut book, Row::Feed(0, 5, 9, Ok(())))
-        && makes(&mut book, &[Done::Got(5), Done::Put]);
+        && makes(&mut book, &[Done::Got(5), Done::Put])
+        && answers(&mut book, Row::Close(0, Ok(())));
     let refused = Row::Take(1, Err(Refused::NoMemory));
     let repeated = Row::Take(1, Ok(Some(5)));
     let is_repeated = is_refused_and_repeated(alloc, heap, &mut book, refused, repeated)?;
