@@ -120,7 +120,7 @@ def wrong_words(document):
                      for folder in folders for file in folder.rglob(name)]
             words = re.findall(r"`([\w']+)`", re.match(r"(?:`[\w']+`(?:, )?)*", point)[0])
             for word in words if texts else ():
-                defined = re.compile(rf"^(?:  pub |(?:[a-z]+ )*){re.escape(word)}(?![\w'])", re.M)
+                defined = re.compile(rf"^(?:  )?(?:[a-z]+ )*{re.escape(word)}(?![\w'])", re.M)
                 if not any(map(defined.search, texts)):
                     yield f'{word} is not defined in the file that is named'
 

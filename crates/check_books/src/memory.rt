@@ -3,6 +3,7 @@
 use crate::outside::{Row, answers, shows};
 use crate::processes::claimed;
 use kpn_book::{Book, Done, Refused, View};
+use kpn_chan::Journal;
 use kpn_net::Network;
 use kpn_step::Advance;
 use kpn_text::read_network;
@@ -36,8 +37,21 @@ fn seen(alloc: Global, book: &Book<'_, &LocalHeap>) -> Result<Moment, AllocError
     })
 }
 
+/// Whether journals that were copied, each in one piece, are the same.
+fn are_same_journals(before: &[Journal], after: &[Journal]) -> bool {
+    if before.len() != after.len() {
+        return false;
+    }
+    for c in 0..before.len() {
+        if !before[c].is(after[c].piece_at(0)) {
+            return false;
+        }
+    }
+    true
+}
+
 fn is_same_view(before: &View, after: &View) -> bool {
-    before.journals == after.journals
+    are_same_journals(before.journals.as_slice(), after.journals.as_slice())
         && before.read == after.read
         && before.caps == after.caps
         && before.retired == after.retired

@@ -16,7 +16,7 @@ pub enum Row {
 }
 
 /// Whether a call answers so. Why a feed is refused is asked beforehand too.
-pub fn answers<A: Allocator>(book: &mut Book<'_, A>, row: Row) -> bool {
+pub fn answers<A: Allocator + Copy>(book: &mut Book<'_, A>, row: Row) -> bool {
     match row {
         Row::Feed(c, item, bound, wanted) => {
             let fault = book.feed_fault(c, item, bound);
@@ -67,7 +67,7 @@ pub fn shows<A: Allocator>(view: &View<A>, item: i64) -> bool {
     let [source, sink] = view.journals.as_slice() else {
         return false;
     };
-    source.as_slice() == [item].as_slice() && sink.as_slice().is_empty() && view.counts.ready == 1
+    source.is(&[item]) && sink.is(&[]) && view.counts.ready == 1
 }
 
 #[test]

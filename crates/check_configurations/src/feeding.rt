@@ -27,7 +27,7 @@ pub fn copying(alloc: Global) -> Result<Network, Fail> {
 }
 
 /// Feeds an item to source `c`, and tells who was woken.
-pub fn feed<A: Allocator>(
+pub fn feed<A: Allocator + Copy>(
     rt: &impl Abort,
     network: &Network,
     configuration: &mut Configuration<A>,

@@ -12,7 +12,7 @@ use std::test::Fail;
 use test_support::heaps::fill;
 
 /// Feeds as many items as a channel has room for from the beginning.
-fn feed_four<A: Allocator>(
+fn feed_four<A: Allocator + Copy>(
     rt: &impl Abort,
     network: &Network,
     configuration: &mut Configuration<A>,

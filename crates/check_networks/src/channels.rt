@@ -5,12 +5,52 @@ use std::alloc::{AllocError, Allocator, Global};
 use std::test::Fail;
 
 /// Puts items, each into room that is reserved for it.
-fn put_all<A: Allocator>(channel: &mut Channel<A>, items: &[i64]) -> Result<(), AllocError> {
+fn put_all<A: Allocator + Copy>(channel: &mut Channel<A>, items: &[i64]) -> Result<(), AllocError> {
     for item in items {
         channel.reserve_one()?;
         channel.put(*item);
     }
     Ok(())
+}
+
+/// Puts the numbers from `first` to before `end`.
+fn put_numbers<A: Allocator + Copy>(
+    channel: &mut Channel<A>,
+    first: i64,
+    end: i64,
+) -> Result<(), AllocError> {
+    for item in first..end {
+        channel.reserve_one()?;
+        channel.put(item);
+    }
+    Ok(())
+}
+
+/// Whether the next reads give the numbers from `first` to before `end`.
+fn gives_numbers<A: Allocator>(channel: &mut Channel<A>, first: i64, end: i64) -> bool {
+    for item in first..end {
+        if channel.get() != Some(item) {
+            return false;
+        }
+    }
+    true
+}
+
+/// Whether items keep their order if the ring gets more places while they lie around its end.
+fn keeps_order(alloc: Global) -> Result<bool, AllocError> {
+    let mut channel = Channel::new(alloc, None)?;
+    put_numbers(&mut channel, 0, 64)?;
+    let are_first = gives_numbers(&mut channel, 0, 10);
+    put_numbers(&mut channel, 64, 200)?;
+    Ok(are_first && gives_numbers(&mut channel, 10, 200) && channel.is_empty())
+}
+
+/// Whether the items at the ends of the chunks of 4,096 are the numbers of their places.
+fn goes_on_past_chunks<A: Allocator>(channel: &Channel<A>) -> bool {
+    channel.at(4_095) == Some(4_095)
+        && channel.at(4_096) == Some(4_096)
+        && channel.at(8_192) == Some(8_192)
+        && channel.at(8_193).is_none()
 }
 
 /// Whether a channel has this journal, of which so many items were read.
@@ -52,7 +92,7 @@ fn refused_calls_change_nothing(rt: HostRuntime) -> Result<(), Fail> {
     put_all(&mut channel, &[5, 6, 7, 8])?;
     assert_eq!(rt; channel.get(), Some(5));
 
-    let filling = Vec::<u8, &LocalHeap>::with_capacity(&heap, 224)?;
+    let filling = Vec::<u8, &LocalHeap>::with_capacity(&heap, 160)?;
     assert!(rt; Channel::new(&heap, None).is_err());
     assert!(rt; channel.reserve_one().is_err());
     assert!(rt; channel.copy_journal(&heap).is_err());
@@ -64,5 +104,40 @@ fn refused_calls_change_nothing(rt: HostRuntime) -> Result<(), Fail> {
     put_all(&mut channel, &[9])?;
     let copied = channel.copy_journal(&heap)?;
     assert_eq!(rt; copied.as_slice(), [5, 6, 7, 8, 9].as_slice());
+    Ok(())
+}
+
+#[test]
+fn a_journal_goes_on_past_its_chunks(rt: HostRuntime) -> Result<(), Fail> {
+    let mut channel = Channel::new(rt.alloc(), None)?;
+    put_numbers(&mut channel, 0, 8_193)?;
+    assert!(rt; goes_on_past_chunks(&channel));
+    assert!(rt; gives_numbers(&mut channel, 0, 3));
+    assert!(rt; channel.read_count() == 3 && channel.len() == 8_190);
+    channel.retire();
+    put_numbers(&mut channel, 9, 10)?;
+    assert_eq!(rt; channel.get(), None);
+    assert!(rt; channel.len() == 8_191 && channel.at(8_193) == Some(9));
+    let kept = keeps_order(rt.alloc())?;
+    assert!(rt; kept);
+    Ok(())
+}
+
+#[test]
+fn a_growth_that_is_refused_changes_nothing(rt: HostRuntime) -> Result<(), Fail> {
+    let heap = LocalHeap::new(rt.alloc(), 256)?;
+    let mut channel = Channel::new(&heap, Some(2))?;
+    put_all(&mut channel, &[5, 6])?;
+
+    let filling = Vec::<u8, &LocalHeap>::with_capacity(&heap, 208)?;
+    assert_eq!(rt; channel.cap(), Some(2));
+    assert!(rt; channel.grow().is_err());
+    assert_eq!(rt; channel.len(), 2);
+
+    filling.destroy_empty();
+    assert_eq!(rt; channel.cap(), Some(2));
+    channel.grow()?;
+    assert!(rt; channel.cap() == Some(3) && !channel.is_full());
+    assert!(rt; channel.get() == Some(5) && channel.get() == Some(6));
     Ok(())
 }

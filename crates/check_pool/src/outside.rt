@@ -27,7 +27,7 @@ pub fn shows<A: Allocator>(
         return false;
     };
     let journals = view.journals.as_slice();
-    journals.len() == 2 && journals[0].as_slice() == source && journals[1].as_slice() == sink
+    journals.len() == 2 && journals[0].is(source) && journals[1].is(sink)
 }
 
 /// Feeds before anybody works, and closes. Tells whether all is answered as it has to be.

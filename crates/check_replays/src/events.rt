@@ -117,7 +117,10 @@ fn wait_on_full(state: &mut Configuration, network: &Network, p: usize, c: usize
     requires { IsConfiguration network.now state.old }
     ensures { IsConfiguration network.now state.new }
 {
+    ensure!(c < network.channels(), "there is no such channel");
+    state.reserve_one(c)?;
     to_write(state, network, p, c)?;
+    ensure!(state.channel(c).room(), "there is no room");
     ensure!(state.channel(c).is_full(), "the channel is not full");
     state.wait_on_full(network, p, c);
     woken(None)

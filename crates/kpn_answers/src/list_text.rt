@@ -1,6 +1,6 @@
 //! Lists of items in a text: one space before each item.
 ghost use Rattle.std.specs.Prelude.{◌≡◌, ◌++◌, OnOk};
-ghost use Rattle.kpn_answers.specs.ListText.{items_text, list_line, spaced_item};
+ghost use Rattle.kpn_answers.specs.ListText.{items_text, list_line, spaced, spaced_item};
 
 use itoa::Buffer;
 use std::alloc::AllocError;
@@ -18,10 +18,18 @@ pub fn push_items(text: &mut Vec<u8>, items: &[i64]) -> Result<(), AllocError>
     ensures { OnOk result (text.new.items ≡ text.old.items ++ items_text items.now) }
 {
     text.push(b':')?;
+    push_spaced_items(text, items)?;
+    text.push(b'\n')?;
+    Ok(())
+}
+
+/// The items with a space before each.
+pub fn push_spaced_items(text: &mut Vec<u8>, items: &[i64]) -> Result<(), AllocError>
+    ensures { OnOk result (text.new.items ≡ text.old.items ++ spaced items.now) }
+{
     for item in items {
         push_spaced(text, *item)?;
     }
-    text.push(b'\n')?;
     Ok(())
 }
 

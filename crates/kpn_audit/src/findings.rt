@@ -2,6 +2,7 @@
 ghost use Rattle.std.specs.Prelude.{◌≡◌};
 ghost use Rattle.kpn_audit.specs.declared.findings.AuditFault.TheVariants.{NoMemory};
 
+use kpn_chan::Journal;
 use kpn_lang::Sequence;
 use std::alloc::{AllocError, Allocator, Global};
 
@@ -9,7 +10,7 @@ use std::alloc::{AllocError, Allocator, Global};
 #[derive(Debug, Drop)]
 pub struct Audit<A: Allocator = Global> {
     /// All items that were written on the channel, in order.
-    pub journals: Sequence<Sequence<i64, A>, A>,
+    pub journals: Sequence<Journal<A>, A>,
     /// How many may lie unread; None for a source.
     pub caps: Sequence<Option<u32>, A>,
     /// Whether each process has ended or is blocked on an empty channel.

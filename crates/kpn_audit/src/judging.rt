@@ -58,7 +58,7 @@ fn process_of(event: Event) -> Option<usize>
 }
 
 /// Judges an event of a process, which stands at this stop.
-fn judge_at_stop<A: Allocator>(
+fn judge_at_stop<A: Allocator + Copy>(
     configuration: &mut Configuration<A>,
     network: &Network,
     event: Event,
@@ -83,7 +83,7 @@ fn judge_at_stop<A: Allocator>(
             Ok(processes::wait_on_empty(configuration, network, p.into(), c.into(), stop))
         }
         Event::WaitFull(p, c) => {
-            Ok(processes::wait_on_full(configuration, network, p.into(), c.into(), stop))
+            processes::wait_on_full(configuration, network, p.into(), c.into(), stop)
         }
         Event::Ended(p, how) => Ok(processes::end(configuration, network, p.into(), how, stop)),
         _ => Ok(Judged::Illegal),
@@ -91,7 +91,7 @@ fn judge_at_stop<A: Allocator>(
 }
 
 /// Judges an event of process `p`: whether it may go on, where it comes to a stop, and what is due there.
-fn judge_process<A: Allocator>(
+fn judge_process<A: Allocator + Copy>(
     configuration: &mut Configuration<A>,
     network: &Network,
     p: usize,
@@ -114,7 +114,7 @@ fn judge_process<A: Allocator>(
 }
 
 /// Judges an event of the outside. A growth, which nothing owes, may not follow.
-fn judge_outside<A: Allocator>(
+fn judge_outside<A: Allocator + Copy>(
     configuration: &mut Configuration<A>,
     network: &Network,
     event: Event,
@@ -137,7 +137,7 @@ fn judge_outside<A: Allocator>(
 }
 
 /// Judges an event where nothing is owed.
-fn judge_next<A: Allocator>(
+fn judge_next<A: Allocator + Copy>(
     configuration: &mut Configuration<A>,
     network: &Network,
     event: Event,
@@ -161,7 +161,7 @@ fn judge_next<A: Allocator>(
 
 /// Judges the event that comes next, where this is owed, and makes it where it may follow. The error is that memory ran
 /// out.
-pub(crate) fn judge<A: Allocator>(
+pub(crate) fn judge<A: Allocator + Copy>(
     configuration: &mut Configuration<A>,
     network: &Network,
     owed: Option<Growth>,

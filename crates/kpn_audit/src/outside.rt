@@ -25,7 +25,7 @@ fn is_open_source<A: Allocator>(
 }
 
 /// The outside feeds this item to channel `c`. The error is that memory ran out.
-pub(crate) fn feed<A: Allocator>(
+pub(crate) fn feed<A: Allocator + Copy>(
     configuration: &mut Configuration<A>,
     network: &Network,
     c: usize,

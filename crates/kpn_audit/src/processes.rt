@@ -42,7 +42,7 @@ pub(crate) fn get<A: Allocator>(
 }
 
 /// Process `p`, which stands at this stop, puts this item on channel `c`. The error is that memory ran out.
-pub(crate) fn put<A: Allocator>(
+pub(crate) fn put<A: Allocator + Copy>(
     configuration: &mut Configuration<A>,
     network: &Network,
     p: usize,
@@ -89,27 +89,29 @@ pub(crate) fn wait_on_empty<A: Allocator>(
     after_wait(configuration, network, p)
 }
 
-/// Process `p`, which stands at this stop, waits on channel `c` as full.
-pub(crate) fn wait_on_full<A: Allocator>(
+/// Process `p`, which stands at this stop, waits on channel `c` as full. The error is that memory ran out for the item
+/// that a writer reserves before it waits.
+pub(crate) fn wait_on_full<A: Allocator + Copy>(
     configuration: &mut Configuration<A>,
     network: &Network,
     p: usize,
     c: usize,
     stop: Stop,
-) -> Judged
+) -> Result<Judged, AllocError>
     requires shape { IsConfiguration network.now configuration.old }
     requires channel { c < length network.now.channels }
     requires stopped { StandsFree network.now configuration.old p stop }
     ensures shape { IsConfiguration network.now configuration.new }
-    ensures judged { IsFound network.now (event.WaitFull p c)
-        configuration.old configuration.new result }
+    ensures judged { IfOk result
+        (IsFound network.now (event.WaitFull p c) configuration.old configuration.new) }
 {
     network.known();
     if !is_write_to(network, p, c, stop) || !configuration.channel(c).is_full() {
-        return Judged::Illegal;
+        return Ok(Judged::Illegal);
     }
+    configuration.reserve_one(c)?;
     configuration.wait_on_full(network, p, c);
-    after_wait(configuration, network, p)
+    Ok(after_wait(configuration, network, p))
 }
 
 /// Process `p`, which stands at this stop, ends in this way.

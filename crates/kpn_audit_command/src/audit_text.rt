@@ -1,10 +1,12 @@
 //! The texts that `kpn audit` writes.
 ghost use Rattle.std.specs.Prelude.{◌≡◌, ◌≤◌, ◌++◌, length, IfOk, OnOk, codes};
 ghost use Rattle.std.specs.Fmt.{decimal};
+ghost use Rattle.kpn_answers.specs.ListText.{items_text};
 ghost use Rattle.kpn_audit_command.specs.AuditText.{audit_text, exact_line, cap_text, journal_line, finding_line};
 
-use kpn_answers::list_text::push_items;
+use kpn_answers::list_text::push_spaced_items;
 use kpn_audit::Audit;
+use kpn_chan::Journal;
 use kpn_text::Document;
 use std::alloc::{AllocError, Global};
 
@@ -26,7 +28,7 @@ pub(crate) fn text_of(
     let caps = audit.caps.as_slice();
     for (channel, journal) in audit.journals.as_slice().iter().enumerate() {
         let name = document.channel_name(channel);
-        push_channel(&mut text, name, caps[channel], journal.as_slice())?;
+        push_channel(&mut text, name, caps[channel], journal)?;
     }
     Ok(text)
 }
@@ -47,14 +49,29 @@ fn push_channel(
     text: &mut Vec<u8>,
     name: &[u8],
     cap: Option<u32>,
-    journal: &[i64],
+    journal: &Journal,
 ) -> Result<(), AllocError>
     ensures { OnOk result
         (text.new.items ≡ text.old.items ++ journal_line name.now cap journal.now) }
 {
     text.extend_from_slice(name)?;
     push_cap(text, cap)?;
-    push_items(text, journal)
+    push_journal(text, journal)
+}
+
+// `:`, the items of a journal, piece by piece, and a line feed.
+fn push_journal(text: &mut Vec<u8>, journal: &Journal) -> Result<(), AllocError>
+    ensures { OnOk result (text.new.items ≡ text.old.items ++ items_text journal.now) }
+{
+    text.push(b':')?;
+    let mut place = 0;
+    'pieces: while place < journal.len() {
+        let piece = journal.piece_at(place);
+        push_spaced_items(text, piece)?;
+        place += piece.len();
+    }
+    text.push(b'\n')?;
+    Ok(())
 }
 
 // The capacity of a channel that has one.

@@ -11,7 +11,6 @@ ghost use Rattle.kpn_configuration.specs.Configuration.{channel_in, frame_in};
 ghost use Rattle.kpn_schedule.specs.Schedule.{all_ready};
 ghost use Rattle.kpn_book.specs.Kept.{IsBook};
 
-use crate::journal::begins;
 use crate::open_book::OpenBook;
 use crate::view::{copied_journals, view_without_journals};
 use kpn_configuration::Configuration;
@@ -148,7 +147,7 @@ impl<'n, A: Allocator> Book<'n, A> {
         requires { c < length self.now.tables.channels }
         ensures { IsTrue result ↔ IsPrefix items.now (channel_in self.now.configuration c).journal }
     {
-        begins(self.parts.configuration.channel(c), items)
+        self.parts.configuration.channel(c).begins_with(items)
     }
 
     /// How the run has come to a stop, if it has: each process has ended or waits, each source is closed and each sink

@@ -5,7 +5,6 @@
 mod answers;
 mod book;
 mod claim;
-mod journal;
 pub mod laws;
 mod open_book;
 mod view;

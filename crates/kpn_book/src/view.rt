@@ -4,6 +4,7 @@ ghost use Rattle.std.specs.List.{range_with_len};
 ghost use Rattle.kpn_trace.specs.Views.{AreCounts};
 ghost use Rattle.kpn_configuration.specs.Configuration.{channel_in};
 
+use kpn_chan::Journal;
 use kpn_configuration::Configuration;
 use kpn_lang::Sequence;
 use kpn_schedule::Schedule;
@@ -70,14 +71,14 @@ pub(crate) fn copied_journals<A: Allocator, B: Allocator + Copy>(
     alloc: B,
     channels: usize,
     configuration: &Configuration<A>,
-) -> Result<Sequence<Sequence<i64, B>, B>, AllocError>
+) -> Result<Sequence<Journal<B>, B>, AllocError>
     requires { channels ≡ length configuration.now.channels }
     ensures { let s = configuration.now in IfOk result (λ journals.
         journals ≡ map (λ c. (channel_in s c).journal) (range_with_len 0 channels)) }
 {
     let mut journals = Sequence::new(alloc);
     'channels: for c in 0..channels {
-        let journal = Sequence::from_vec(configuration.copy_journal(alloc, c)?);
+        let journal = Journal::from_vec(alloc, configuration.copy_journal(alloc, c)?);
         journals.push(journal)?;
     }
     Ok(journals)

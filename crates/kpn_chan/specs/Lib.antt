@@ -1,1 +1,3 @@
 pub mod Channel
+pub mod Chunks
+pub mod Ring

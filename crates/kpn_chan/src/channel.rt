@@ -1,8 +1,12 @@
-//! A channel with its journal: one vector of all items that were put, and a position up to which they
-//! were read. What waits for the reader is the rest of the vector, so that no item stands twice.
-ghost use Rattle.std.specs.Prelude.{◌≡◌, ◌<◌, ◌≤◌, ◌^◌, length, [], ◌↔◌, IsTrue, IsOk, IfOk, is_ok, if◌then◌else◌, slice_get};
-ghost use Rattle.kpn_chan.specs.Channel.{unread, is_full, next_item, opened, with_room, after_put, after_get, retired, MayGrow, grown};
+//! A channel: the journal of all items that were put, in chunks, and a ring of those that wait for the reader, so that a
+//! read looks into no chunk.
+ghost use Rattle.std.specs.Prelude.{◌≡◌, ◌<◌, ◌≤◌, ◌^◌, length, [], ◌↔◌, IsTrue, true, IsOk, IfOk, is_ok, if◌then◌else◌, slice_get, take, nat_lt, IsSomeAnd};
+ghost use Rattle.kpn_limits.specs.declared.TheConstants.{MAX_CAPACITY};
+ghost use Rattle.kpn_chan.specs.Channel.{unread, is_full, next_item, opened, with_room, after_put, after_get, retired, MayGrow, one_more, grown};
 
+use crate::chunks::Chunks;
+use crate::journal::Journal;
+use circular_buffer::HeapCircularBuffer;
 use std::alloc::{AllocError, Allocator, Global};
 use std::marker::Model;
 
@@ -12,63 +16,107 @@ use std::marker::Model;
 /// gone, and whether the next item is reserved.
 #[derive(Debug, Drop)]
 pub struct Channel<A: Allocator = Global> {
-    journal: Vec<i64, A>,
+    journal: Chunks<A>,
+    // the unread items; none once the reader is gone
+    ring: Option<HeapCircularBuffer<i64, A>>,
     read: usize,
     capacity: Option<u32>,
-    is_retired: bool,
 }
 
 impl<A: Allocator> Model for Channel<A> {
-    ghost use Rattle.std.specs.Prelude.{length, ◌≤◌, nat_lt, vec_len, vec_capacity};
+    ghost use Rattle.std.specs.Prelude.{◌&&◌};
+    ghost use Rattle.std.specs.Option.{is_none};
     ghost use Rattle.kpn_chan.specs.Channel.{ChannelState};
+    ghost use Rattle.kpn_chan.specs.Chunks.{items_of, has_room};
+    ghost use Rattle.kpn_chan.specs.Ring.{has_place, IsLaidOut};
 
     ghost Value = { ChannelState };
 
     ghost view = { λ c. record {
-      journal = c.journal.items;
+      journal = items_of c.journal;
       read = c.read;
       capacity = c.capacity;
-      is_retired = c.is_retired;
-      is_reserved = nat_lt (vec_len c.journal) (vec_capacity c.journal);
+      is_retired = is_none c.ring;
+      is_reserved = has_room c.journal && has_place c.ring;
     } };
 
-    ghost invariant = { λ c. c.read ≤ vec_len c.journal };
+    ghost invariant = { λ c. IsLaidOut c.journal c.read c.ring };
 }
 
-impl<A: Allocator> Channel<A> {
-    /// How many items a channel has room for before its journal first grows.
-    const FIRST_ITEMS: usize = 4;
+impl<A: Allocator + Copy> Channel<A> {
+    /// The most places that a ring begins with, and that of a source has.
+    const FIRST_PLACES: usize = 64;
 
-    /// An empty channel of this capacity; a source has none. The allocator is kept for the journal.
+    /// An empty channel of this capacity; a source has none. The allocator is kept for its items.
     ///
     /// Whether its first item is reserved is not said. The error is that memory ran out.
     pub fn new(alloc: A, cap: Option<u32>) -> Result<Self, AllocError>
         ensures { IfOk result (λ channel. channel ≡ opened cap channel.is_reserved) }
     {
+        let places = match cap {
+            Some(capacity) => Self::FIRST_PLACES.min(capacity as usize),
+            None => Self::FIRST_PLACES,
+        };
         Ok(Channel {
-            journal: Vec::with_capacity(alloc, Self::FIRST_ITEMS)?,
+            journal: Chunks::new(alloc),
+            ring: Some(HeapCircularBuffer::with_capacity(alloc, places)?),
             read: 0,
             capacity: cap,
-            is_retired: false,
         })
     }
 
-    /// Makes room for one more item, so that the next `put` takes no memory. Where an item is reserved
-    /// already, it stays so and nothing is taken.
+    /// Makes room for one more item, so that the next `put` takes no memory, and a `grow` before it neither. If an item
+    /// is reserved already, it stays so and nothing is taken.
     ///
     /// The error is that memory ran out; the channel is then as before.
     pub fn reserve_one(&mut self) -> Result<(), AllocError>
         ensures after { self.new ≡ (if is_ok result then with_room self.old else self.old) }
         ensures already { IsTrue self.old.is_reserved → IsOk result }
     {
-        self.journal.reserve(1)
+        self.journal.reserve_one()?;
+        match &mut self.ring {
+            Some(ring) => reserve_place(ring),
+            None => Ok(()),
+        }
     }
 
+    /// Makes the capacity larger by one. The ring gets a free place if it has none.
+    ///
+    /// The error is that memory ran out; the channel is then as before. If an item is reserved, no memory is taken.
+    /// What was reserved stays so.
+    pub fn grow(&mut self) -> Result<(), AllocError>
+        requires { MayGrow self.old }
+        ensures after { self.new
+            ≡ (if is_ok result then grown self.new.is_reserved self.old else self.old) }
+        ensures reserved { IsTrue self.old.is_reserved → IsTrue self.new.is_reserved }
+        ensures already { IsTrue self.old.is_reserved → IsOk result }
+    {
+        if let Some(ring) = &mut self.ring {
+            reserve_place(ring)?;
+        }
+        raise(&mut self.capacity);
+        Ok(())
+    }
+}
+
+impl<A: Allocator> Channel<A> {
     /// Whether an item is reserved, as after a `reserve_one` that succeeded. Only a `put` may end it.
     pub fn room(&self) -> bool
         ensures { result ≡ self.now.is_reserved }
     {
-        self.journal.len() < self.journal.capacity()
+        match &self.ring {
+            Some(ring) => self.journal.has_room() && ring.len() < ring.capacity(),
+            None => self.journal.has_room(),
+        }
+    }
+
+    /// Makes the capacity larger by one where an item is reserved, so that the ring has a free place: it takes no memory.
+    pub fn grow_reserved(&mut self)
+        requires capacity { MayGrow self.old }
+        requires reserved { IsTrue self.old.is_reserved }
+        ensures { self.new ≡ grown true self.old }
+    {
+        raise(&mut self.capacity);
     }
 
     /// Puts an item at the end of the journal, in the room that is reserved. It takes no memory.
@@ -78,7 +126,10 @@ impl<A: Allocator> Channel<A> {
         requires { IsTrue self.old.is_reserved }
         ensures { self.new ≡ after_put item self.new.is_reserved self.old }
     {
-        self.journal.push_reserved(item);
+        self.journal.last.push_reserved(item);
+        if let Some(ring) = &mut self.ring {
+            let _is_put = ring.try_push_back(item);
+        }
     }
 
     /// The oldest unread item, which is then read. `None` where nothing is unread or the channel is
@@ -90,19 +141,33 @@ impl<A: Allocator> Channel<A> {
         ensures after { self.new ≡ after_get result self.new.is_reserved self.old }
         ensures reserved { IsTrue self.old.is_reserved → IsTrue self.new.is_reserved }
     {
-        if self.is_retired {
+        let Some(ring) = &mut self.ring else {
             return None;
-        }
-        let item = self.at(self.read)?;
+        };
+        let item = ring.pop_front()?;
         self.read += 1;
         Some(item)
     }
 
+    /// The oldest unread item, which stays unread. `None` where nothing is unread or the channel is retired.
+    pub fn peek(&self) -> Option<i64>
+        ensures { result ≡ next_item self.now }
+    {
+        let Some(ring) = &self.ring else {
+            return None;
+        };
+        ring.front().copied()
+    }
+
     /// How many items are unread, on a retired channel too.
+    #[tactic(auto, using(crate::proofs::Places::counted))]
     pub fn len(&self) -> usize
         ensures { result ≡ length (unread self.now) }
     {
-        self.journal.len() - self.read
+        match &self.ring {
+            Some(ring) => ring.len(),
+            None => self.journal.len() - self.read,
+        }
     }
 
     /// Whether nothing is unread.
@@ -117,8 +182,8 @@ impl<A: Allocator> Channel<A> {
     pub fn is_full(&self) -> bool
         ensures { result ≡ is_full self.now }
     {
-        match self.capacity {
-            Some(capacity) if !self.is_retired => capacity as usize <= self.len(),
+        match (&self.ring, self.capacity) {
+            (Some(ring), Some(capacity)) => capacity as usize <= ring.len(),
             _ => false,
         }
     }
@@ -138,63 +203,86 @@ impl<A: Allocator> Channel<A> {
     }
 
     /// The item at a place of the journal, counted from 0, or `None` past its end.
+    #[tactic(auto, using(crate::proofs::Places::counted))]
     pub fn at(&self, place: usize) -> Option<i64>
         ensures { result ≡ slice_get self.now.journal place }
     {
-        self.journal.get(place).copied()
+        self.journal.at(place)
+    }
+
+    /// Whether the journal begins with these items.
+    #[tactic(auto, using(crate::proofs::Places::counted))]
+    pub fn begins_with(&self, items: &[i64]) -> bool
+        ensures { IsTrue result ↔ (items.now ≡ take (length items.now) self.now.journal) }
+    {
+        self.journal.begins_with(items)
     }
 
     /// Marks that the reader is gone: from now on nothing is read, and the channel is never full. The
-    /// journal, the read count and the capacity stay, and what was reserved stays so.
+    /// journal, the read count and the capacity stay, and what was reserved stays so. The ring is given up.
     pub fn retire(&mut self)
         ensures after { self.new ≡ retired self.new.is_reserved self.old }
         ensures reserved { IsTrue self.old.is_reserved → IsTrue self.new.is_reserved }
     {
-        self.is_retired = true;
+        self.ring = None;
     }
 
     /// Whether the reader is gone.
     pub fn is_retired(&self) -> bool
         ensures { result ≡ self.now.is_retired }
     {
-        self.is_retired
-    }
-
-    /// Makes the capacity larger by one. It takes no memory, and so it succeeds. What was reserved stays so.
-    pub fn grow(&mut self) -> Result<(), AllocError>
-        requires { MayGrow self.old }
-        ensures after { self.new
-            ≡ (if is_ok result then grown self.new.is_reserved self.old else self.old) }
-        ensures reserved { IsTrue self.old.is_reserved → IsTrue self.new.is_reserved }
-        ensures succeeds { IsOk result }
-    {
-        if let Some(capacity) = &mut self.capacity {
-            *capacity += 1;
-        }
-        Ok(())
+        self.ring.is_none()
     }
 
     /// A list of all items that were ever put, oldest first. The error is that memory ran out.
+    #[tactic(auto, using(crate::proofs::Places::counted))]
     pub fn copy_journal<B: Allocator>(&self, alloc: B) -> Result<Vec<i64, B>, AllocError>
         ensures { IfOk result (λ items. items.items ≡ self.now.journal) }
     {
-        Vec::from_slice(alloc, self.journal.as_slice())
+        self.journal.copy_first(alloc, self.journal.len())
     }
 
     /// All items that were ever put, oldest first, moved out of the channel.
-    pub fn into_journal(self) -> Vec<i64, A>
-        ensures { result.items ≡ self.journal }
+    #[tactic(auto, using(crate::proofs::Places::counted))]
+    pub fn into_journal(self) -> Journal<A>
+        ensures { result ≡ self.journal }
     {
         let Channel { journal, .. } = self;
-        journal
+        Journal { chunks: journal }
     }
 
     /// Does nothing. It tells a caller's proof what holds of every channel: no more items were read
     /// than were put, and their number is one of the machine's.
+    #[tactic(auto, using(crate::proofs::Places::counted))]
     pub fn known(&self)
         ensures read { self.now.read ≤ length self.now.journal }
         ensures bound { length self.now.journal < 2 ^ 64 }
     {
         let _ = &self.journal;
+    }
+}
+
+/// Makes a free place in a ring that has none, by giving it twice as many. The error is that memory ran out.
+fn reserve_place<A: Allocator + Copy>(
+    ring: &mut HeapCircularBuffer<i64, A>,
+) -> Result<(), AllocError>
+    ensures items { ring.new.items ≡ ring.old.items }
+    ensures place { nat_lt (length ring.new.items) ring.new.capacity ≡ is_ok result }
+    ensures already { length ring.old.items < ring.old.capacity → IsOk result }
+{
+    let places = ring.capacity();
+    if ring.len() < places {
+        return Ok(());
+    }
+    ring.resize((2 * places).max(1))
+}
+
+/// Makes a capacity larger by one.
+fn raise(capacity: &mut Option<u32>)
+    requires { IsSomeAnd capacity.old (λ n. n < MAX_CAPACITY) }
+    ensures { capacity.new ≡ one_more capacity.old }
+{
+    if let Some(capacity) = capacity {
+        *capacity += 1;
     }
 }

@@ -3,6 +3,9 @@
 #![tactic(auto)]
 
 mod channel;
+mod chunks;
+mod journal;
 pub mod laws;
 
 pub use channel::Channel;
+pub use journal::Journal;

@@ -5,7 +5,7 @@ use Rattle.std.proofs.lemmas.List.{get_or-set_same, get_or-set_other, get_or_def
 use Rattle.kpn_net.specs.declared.wait.Wait.{Wait}
 use Rattle.kpn_net.specs.declared.wait.Wait.TheVariants.{Nobody, Empty, Full}
 use Rattle.kpn_net.specs.declared.tables.End.TheVariants.{Process, Sink}
-use Rattle.kpn_net.specs.Tables.{Tables, reader_of, writer_of, program_of}
+use Rattle.kpn_net.specs.Tables.{Tables, channel_at, is_source, reader_of, writer_of, program_of}
 use Rattle.kpn_net.specs.Waits.{wait_at, IsOwnWait, AreWaits}
 use Rattle.kpn_net.proofs.WaitTables.{waits-set}
 use Rattle.kpn_step.specs.Frame.{Frame, passed}
@@ -25,7 +25,7 @@ use Rattle.kpn_configuration.specs.Configuration.{Configuration, channel_in, clo
 use Rattle.kpn_configuration.specs.Changes.{end_then, IsChannelAfter, IsFrameAfter, Changes}
 use Rattle.kpn_configuration.specs.Due.{ReadsFrom, WritesTo}
 use Rattle.kpn_configuration.specs.Woken.{is_wait, woken_at, AreWoken}
-use Rattle.kpn_configuration.proofs.Parts.{or-false, IsUntouched, untouched, keeps_reader, channels_set, waits_of_kind, wakes-get, wakes-take, wakes-leave, wakes-put, wakes-feed, waits_set, wakes-wait_empty, wakes-wait_full, wait_then-close, SameLengths, IsConfiguration-next}
+use Rattle.kpn_configuration.proofs.Parts.{or-false, IsUntouched, untouched, keeps_reader, channels_set, waits_of_kind, wakes-get, wakes-take, wakes-leave, wakes-put, wakes-feed, waits_set, wakes-wait_empty, wakes-wait_full, wait_then-close, KeepsRoom, SameLengths, IsConfiguration-next}
 use Rattle.kpn_configuration.proofs.Woken.{end_of, process_woken, stay}
 
 -- the event makes the second configuration of the first, which stays one of the network
@@ -34,9 +34,10 @@ pub record Made (t : Tables) (e : Event) (before after : Configuration) : Type 0
   pub shape : IsConfiguration t after
 
 pub Made-from : (t : Tables) (e : Event) (before after : Configuration) → IsConfiguration t before
-    → Changes t e before after → SameLengths before after → AreWaits t after.waits → Made t e before after
-Made-from t e before after h a same waits =
-    record { changes = a; shape = IsConfiguration-next t e before after h a same waits }
+    → KeepsRoom t before e → Changes t e before after → SameLengths before after → AreWaits t after.waits
+    → Made t e before after
+Made-from t e before after h keeps a same waits =
+    record { changes = a; shape = IsConfiguration-next t e before after h keeps a same waits }
 
 -- ---- channels
 
@@ -117,14 +118,14 @@ element xs ys i x d same below is = is ∙ ap (λ zs. get_or zs i x) same ∙ ge
 
 module _ (t : Tables) (s : Configuration) (shape : IsConfiguration t s) where
   -- of a configuration that is written out
-  pub made : (e : Event) (final after : Configuration) → after ≡ final → Changes t e s final → SameLengths s final
-      → AreWaits t final.waits → Made t e s after
-  made e final after is changes same waits =
-      subst (λ x. Made t e s x) (sym is) (Made-from t e s final shape changes same waits)
+  pub made : (e : Event) (final after : Configuration) → after ≡ final → KeepsRoom t s e → Changes t e s final
+      → SameLengths s final → AreWaits t final.waits → Made t e s after
+  made e final after is keeps changes same waits =
+      subst (λ x. Made t e s x) (sym is) (Made-from t e s final shape keeps changes same waits)
 
   -- an event on one channel that closes nothing, ends nobody and wakes who waits so
   pub made_on : (e : Event) (c : ℕ) (ch : ChannelState) (wait : Wait) (frames : List Frame)
-      → c < length t.channels → IsChannelAfter t e c (channel_in s c) ch → ((d : ℕ) → d ≢ c → IsUntouched t e d)
+      → c < length t.channels → KeepsRoom t s e → IsChannelAfter t e c (channel_in s c) ch → ((d : ℕ) → d ≢ c → IsUntouched t e d)
       → ((d : ℕ) → is_close_of d e ≡ false) → ((q : ℕ) (end : Option How) → end_then e q end ≡ end)
       → wait ≢ Nobody → ((w : Wait) → wakes t e w ≡ is_wait wait w) → wait_made e ≡ Nobody
       → ((q : ℕ) → is_of q e ≡ true → wait_at s.waits q ≡ Nobody)
@@ -133,9 +134,9 @@ module _ (t : Tables) (s : Configuration) (shape : IsConfiguration t s) where
       → (waits : List Wait) → waits ≡ woken_at (is_wait wait) s.waits (end_of t wait)
       → (after : Configuration)
       → after ≡ record s { channels = slice_set s.channels c ch; waits = waits; frames = frames } → Made t e s after
-  made_on e c ch wait frames below here elsewhere closes ends some wakes_it makes_none free long moved waits woke after
+  made_on e c ch wait frames below keeps here elsewhere closes ends some wakes_it makes_none free long moved waits woke after
       is =
-      made e (record s { channels = slice_set s.channels c ch; waits = waits; frames = frames }) after is
+      made e (record s { channels = slice_set s.channels c ch; waits = waits; frames = frames }) after is keeps
       (record {
         channels = λ d there. channels_set t e s.channels c ch (omega (arith, shape.channels)) here elsewhere d;
         closed = λ d there. sym (ap (λ b. closed_in s d || b) (closes d) ∙ or-false (closed_in s d));
@@ -176,15 +177,15 @@ module _ (t : Tables) (s : Configuration) (shape : IsConfiguration t s) where
       (after : Configuration) where
     module _ (put : ch ≡ after_put v ch.is_reserved (channel_in s c))
         (woke : waits ≡ woken_at (is_wait (Empty c)) s.waits (reader_of t c)) where
-      pub Made-put : (p : ℕ) → p < length t.instances → IsFree s p → WritesTo t s p c v
+      pub Made-put : (p : ℕ) → p < length t.instances → IsFree s p → WritesTo t s p c v → writer_of t c ≡ Process p
           → after ≡ record s {
             channels = slice_set s.channels c ch;
             waits = waits;
             frames = slice_set s.frames p (passed (frame_in s p));
           }
           → Made t (Put p c v) s after
-      Made-put p there free writes is =
-          made_on (Put p c v) c ch (Empty c) (slice_set s.frames p (passed (frame_in s p))) below
+      Made-put p there free writes own is =
+          made_on (Put p c v) c ch (Empty c) (slice_set s.frames p (passed (frame_in s p))) below own
           (subst (λ x. IsChannelAfter t (Put p c v) c (channel_in s c) x) (sym put)
           (channel_put t (Put p c v) c v ch.is_reserved (channel_in s c) (item_here c v) refl
           (keeps_reader t (Put p c v) c (λ r. refl) refl) (λ cap. refl)))
@@ -204,10 +205,11 @@ module _ (t : Tables) (s : Configuration) (shape : IsConfiguration t s) where
           (λ q differ. ((λ same. absurd (differ same)), (λ other. refl))))
           waits woke after is
 
-      pub Made-fed : after ≡ record s { channels = slice_set s.channels c ch; waits = waits }
+      pub Made-fed : is_source (channel_at t c) ≡ true
+          → after ≡ record s { channels = slice_set s.channels c ch; waits = waits }
           → Made t (Feed c v) s after
-      Made-fed is =
-          made_on (Feed c v) c ch (Empty c) s.frames below
+      Made-fed source is =
+          made_on (Feed c v) c ch (Empty c) s.frames below source
           (subst (λ x. IsChannelAfter t (Feed c v) c (channel_in s c) x) (sym put)
           (channel_put t (Feed c v) c v ch.is_reserved (channel_in s c) (item_here c v) refl
           (keeps_reader t (Feed c v) c (λ r. refl) refl) (λ cap. refl)))
@@ -233,7 +235,7 @@ module _ (t : Tables) (s : Configuration) (shape : IsConfiguration t s) where
           }
           → Made t (Get p c v) s after
       Made-got p g there free reads given is =
-          made_on (Get p c v) c ch (Full c) (slice_set s.frames p g) below
+          made_on (Get p c v) c ch (Full c) (slice_set s.frames p g) below tt
           (subst (λ x. IsChannelAfter t (Get p c v) c (channel_in s c) x) (sym read)
           (channel_read t (Get p c v) c v ch.is_reserved (channel_in s c) refl (item_here c v)
           (keeps_reader t (Get p c v) c (λ r. refl) refl) (λ cap. refl) keep))
@@ -256,7 +258,7 @@ module _ (t : Tables) (s : Configuration) (shape : IsConfiguration t s) where
       pub Made-taken : after ≡ record s { channels = slice_set s.channels c ch; waits = waits }
           → Made t (Take c v) s after
       Made-taken is =
-          made_on (Take c v) c ch (Full c) s.frames below
+          made_on (Take c v) c ch (Full c) s.frames below tt
           (subst (λ x. IsChannelAfter t (Take c v) c (channel_in s c) x) (sym read)
           (channel_read t (Take c v) c v ch.is_reserved (channel_in s c) refl (item_here c v)
           (keeps_reader t (Take c v) c (λ r. refl) refl) (λ cap. refl) keep))
@@ -278,7 +280,7 @@ module _ (t : Tables) (s : Configuration) (shape : IsConfiguration t s) where
       → (waits : List Wait) → waits ≡ woken_at (is_wait (Full c)) s.waits (writer_of t c) → (after : Configuration)
       → after ≡ record s { channels = slice_set s.channels c ch; waits = waits } → Made t (Leave c) s after
   Made-left c ch below sink left keep waits woke after is =
-      made_on (Leave c) c ch (Full c) s.frames below
+      made_on (Leave c) c ch (Full c) s.frames below tt
       (record {
         journal = ap (λ x. x.journal) left ∙ sym (append-nil (channel_in s c).journal);
         read = ap (λ x. x.read) left ∙ sym (add-zero (channel_in s c).read);
@@ -301,7 +303,7 @@ module _ (t : Tables) (s : Configuration) (shape : IsConfiguration t s) where
   pub Made-closed : (c : ℕ) → c < length t.channels → (after : Configuration) → after ≡ with_closed c s
       → Made t (Close c) s after
   Made-closed c below after is =
-      made (Close c) (with_closed c s) after is
+      made (Close c) (with_closed c s) after is tt
       (record {
         channels = λ d there. untouched t (Close c) d (channel_in s d) (nothing_on t (Close c) d refl refl (λ cap. refl)
             (keeps_reader t (Close c) d (λ r. refl) refl));
@@ -331,14 +333,14 @@ module _ (t : Tables) (s : Configuration) (shape : IsConfiguration t s) where
 
   -- ---- a process comes to wait
 
-  pub Made-waits : (e : Event) (p : ℕ) (wait : Wait) → p < length t.instances → IsOwnWait t p wait
+  pub Made-waits : (e : Event) (p : ℕ) (wait : Wait) → p < length t.instances → IsOwnWait t p wait → KeepsRoom t s e
       → ((d : ℕ) → IsUntouched t e d) → ((d : ℕ) → is_close_of d e ≡ false)
       → ((q : ℕ) (end : Option How) → end_then e q end ≡ end)
       → ((q : ℕ) → IsFrameAfter t e q (frame_in s q) (frame_in s q))
       → ((q : ℕ) → is_of q e ≡ eqb p q) → wait_made e ≡ wait → ((w : Wait) → wakes t e w ≡ false)
       → (after : Configuration) → after ≡ with_waits (slice_set s.waits p wait) s → Made t e s after
-  Made-waits e p wait there own still closes ends frames is_p made_so none after is =
-      made e (with_waits (slice_set s.waits p wait) s) after is
+  Made-waits e p wait there own keeps still closes ends frames is_p made_so none after is =
+      made e (with_waits (slice_set s.waits p wait) s) after is keeps
       (record {
         channels = λ d below. untouched t e d (channel_in s d) (still d);
         closed = λ d below. sym (ap (λ b. closed_in s d || b) (closes d) ∙ or-false (closed_in s d));
@@ -353,13 +355,14 @@ module _ (t : Tables) (s : Configuration) (shape : IsConfiguration t s) where
   pub Made-wait_empty : (p c : ℕ) → p < length t.instances → reader_of t c ≡ Process p → (after : Configuration)
       → after ≡ with_waits (slice_set s.waits p (Empty c)) s → Made t (WaitEmpty p c) s after
   Made-wait_empty p c there own =
-      Made-waits (WaitEmpty p c) p (Empty c) there own
+      Made-waits (WaitEmpty p c) p (Empty c) there own tt
       (λ d. nothing_on t (WaitEmpty p c) d refl refl (λ cap. refl) (keeps_reader t (WaitEmpty p c) d (λ r. refl) refl))
       (λ d. refl) (λ q end. refl) (λ q. refl) (λ q. refl) refl (wakes-wait_empty t p c)
 
-  pub Made-wait_full : (p c : ℕ) → p < length t.instances → writer_of t c ≡ Process p → (after : Configuration)
+  pub Made-wait_full : (p c : ℕ) → p < length t.instances → writer_of t c ≡ Process p
+      → IsTrue (channel_in s c).is_reserved → (after : Configuration)
       → after ≡ with_waits (slice_set s.waits p (Full c)) s → Made t (WaitFull p c) s after
-  Made-wait_full p c there own =
-      Made-waits (WaitFull p c) p (Full c) there own
+  Made-wait_full p c there own reserved =
+      Made-waits (WaitFull p c) p (Full c) there own reserved
       (λ d. nothing_on t (WaitFull p c) d refl refl (λ cap. refl) (keeps_reader t (WaitFull p c) d (λ r. refl) refl))
       (λ d. refl) (λ q end. refl) (λ q. refl) (λ q. refl) refl (wakes-wait_full t p c)

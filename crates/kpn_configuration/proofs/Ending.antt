@@ -291,7 +291,7 @@ module _ (t : Tables) (network : IsNetwork t) (p : ℕ) (how : How) where
 
     pub Made-ended : Made t (Ended p how) s s2
     Made-ended =
-        Made-from t (Ended p how) s s2 shape Changes-ended
+        Made-from t (Ended p how) s s2 shape tt Changes-ended
         (record {
           channels = h.channels ∙ ap (λ x. length x.channels) ended;
           closed = ap length h.closed ∙ ap (λ x. length x.closed) ended;

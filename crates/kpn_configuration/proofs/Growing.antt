@@ -11,8 +11,9 @@ use Rattle.kpn_net.specs.declared.wait.Wait.{Wait}
 use Rattle.kpn_net.specs.declared.wait.Wait.TheVariants as wait
 use Rattle.kpn_net.specs.Tables.{Tables, channel_at, is_source, capacity, writer_of}
 use Rattle.kpn_net.specs.Faults.{IsNetwork}
-use Rattle.kpn_net.specs.Waits.{AreWaits}
+use Rattle.kpn_net.specs.Waits.{wait_at, full_channel, AreWaits}
 use Rattle.kpn_net.specs.Finding.{Finds}
+use Rattle.kpn_net.proofs.Cycles.{full_at, cycle_below}
 use Rattle.kpn_net.proofs.Findings.{full_is_written, full_below, full_cycle_unique, finding_unique, finding_with_same_capacities}
 use Rattle.kpn_net.proofs.Networks.{Writes-writer_of, source_if_not_written, limit_in_range}
 use Rattle.kpn_cycle.specs.Scan.{cap_in}
@@ -171,12 +172,25 @@ module _ (t : Tables) (network : IsNetwork t) (s : Configuration) (shape : IsCon
           let below : cap_in (capacities s) d < t.limit = owed.below_limit in
           omega arith
 
-  pub Made-grown : (r : Bool) → (IsTrue (channel_in s d).is_reserved → IsTrue r) → (waits : List Wait)
+  full_of : (w : Wait) → full_channel w ≡ Some d → w ≡ wait.Full d
+  full_of wait.Nobody is = absurd cc
+  full_of (wait.Empty c) is = absurd cc
+  full_of (wait.Full c) is = let same : c ≡ d = cc in ap wait.Full same
+
+  -- a process of the cycle waits on the channel as full, so that an item is reserved there
+  pub owed_is_reserved : IsTrue (channel_in s d).is_reserved
+  owed_is_reserved =
+      let at = full_at s.waits (p ∷ owed.smallest.others) d owed.smallest.smallest.among in
+      shape.reserved at.member d
+      (cycle_below t s.waits p owed.smallest.others owed.smallest.cycle at.member at.among) owed_below
+      (full_of (wait_at s.waits at.member) at.full)
+
+  pub Made-grown : (r : Bool) → IsTrue r → (waits : List Wait)
       → waits ≡ woken_at (is_wait (wait.Full d)) s.waits (writer_of t d) → (after : Configuration)
       → after ≡ record s { channels = slice_set s.channels d (grown r (channel_in s d)); waits = waits }
       → Made t (Grow p d) s after
-  Made-grown r keep =
-      made_on t s shape (Grow p d) d (grown r (channel_in s d)) (wait.Full d) s.frames owed_below
+  Made-grown r room =
+      made_on t s shape (Grow p d) d (grown r (channel_in s d)) (wait.Full d) s.frames owed_below tt
       (record {
         journal = sym (append-nil (channel_in s d).journal);
         read = sym (add-zero (channel_in s d).read);
@@ -189,7 +203,7 @@ module _ (t : Tables) (network : IsNetwork t) (s : Configuration) (shape : IsCon
             sym
             (ap (λ b. (channel_in s d).is_retired || b) (keeps_reader t (Grow p d) d (λ r. refl) refl)
             ∙ or-false (channel_in s d).is_retired);
-        reserved = λ none was. keep was;
+        reserved = λ none was. room;
       })
       (λ c differ.
       record {

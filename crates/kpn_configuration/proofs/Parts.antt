@@ -1,14 +1,14 @@
 -- What an event does to the parts of a configuration that it does not touch, and to those that it does.
 use Rattle.std.proofs.Common.{◌≡◌, ◌≢◌, ℕ, ◌+◌, ◌<◌, Bool, true, false, ◌||◌, ℤ, cond, eqb, eq-eqb, IsTrue, List, [], ◌++◌, length, get_or, set, Option, Some, None, is_some, refl, sym, ap, ◌∙◌, subst, inl, inr, append-nil, add-zero}
 use Rattle.std.specs.Option.{option_map}
-use Rattle.std.proofs.lemmas.Bool.{cases_eq, ne_eqb}
+use Rattle.std.proofs.lemmas.Bool.{cases_eq, ne_eqb, both_ways}
 use Rattle.std.proofs.lemmas.List.{get_or-set_same, get_or-set_other}
 use Rattle.kpn_net.specs.declared.wait.Wait.{Wait}
 use Rattle.kpn_net.specs.declared.wait.Wait.TheVariants.{Nobody, Empty, Full}
 use Rattle.kpn_net.specs.declared.tables.End.{End}
 use Rattle.kpn_net.specs.declared.tables.End.TheVariants as end
-use Rattle.kpn_net.specs.Tables.{Tables, reader_of, program_of}
-use Rattle.kpn_net.specs.Waits.{wait_at, AreWaits}
+use Rattle.kpn_net.specs.Tables.{Tables, channel_at, is_source, writer_of, reader_of, program_of}
+use Rattle.kpn_net.specs.Waits.{wait_at, IsOwnWait, AreWaits}
 use Rattle.kpn_step.specs.Frame.{Frame, fits}
 use Rattle.kpn_step.proofs.Places.{fits-passed, fits-passed_with}
 use Rattle.kpn_chan.specs.Channel.{ChannelState, opened}
@@ -19,7 +19,8 @@ use Rattle.kpn_trace.specs.Channels.{written_in, read_in, is_leave_of}
 use Rattle.kpn_trace.specs.WaitsAfter.{wait_made}
 use Rattle.kpn_trace.specs.Waking.{wakes, wait_then}
 use Rattle.kpn_trace.specs.AfterEvent.{capacity_then, takes_end, takes_reader}
-use Rattle.kpn_configuration.specs.Configuration.{Configuration, channel_in, IsConfiguration}
+use Rattle.kpn_trace.proofs.Journals.{no_source, none_elsewhere}
+use Rattle.kpn_configuration.specs.Configuration.{Configuration, channel_in, wait_in, IsConfiguration}
 use Rattle.kpn_configuration.specs.Changes.{IsChannelAfter, PassesRead, PassesWrite, IsFrameAfter, Changes}
 use Rattle.kpn_configuration.specs.Woken.{is_wait_on_full, is_wait_on_empty, AreWoken}
 
@@ -160,6 +161,54 @@ wait_then-close t c q Nobody = refl
 wait_then-close t c q (Empty d) = refl
 wait_then-close t c q (Full d) = refl
 
+-- ---- who waits on a channel as full keeps the item that is reserved there
+
+-- only the writer of a channel puts there, only a source is fed, and who comes to wait as full has an item reserved
+abbrev pub KeepsRoom : Tables → Configuration → Event → Type 0
+KeepsRoom t s (Put p c v) = writer_of t c ≡ end.Process p
+KeepsRoom t s (Feed c v) = is_source (channel_at t c) ≡ true
+KeepsRoom t s (WaitFull p c) = IsTrue (channel_in s c).is_reserved
+KeepsRoom t s event = Unit {0}
+
+-- the event of another writes nothing on a channel that a process writes
+written_by_none : (t : Tables) (s : Configuration) (e : Event) → KeepsRoom t s e → (p c : ℕ)
+    → writer_of t c ≡ end.Process p → is_of p e ≡ false → written_in c e ≡ []
+written_by_none t s (Put q d v) keeps p c own other = none_elsewhere d c v (λ same. both_ways (eqb q p) other
+    (eq-eqb q p
+    (let clash : end.Process q ≡ end.Process p = sym keeps ∙ ap (λ x. writer_of t x) same ∙ own in cc)))
+written_by_none t s (Feed d v) keeps p c own other = none_elsewhere d c v (no_source t c d p own keeps)
+written_by_none t s event keeps p c own other = refl
+
+-- an event after which its own process waits on a channel as full found an item reserved there, and writes nothing
+came_to_wait : (t : Tables) (s : Configuration) (e : Event) → KeepsRoom t s e → (c : ℕ) → wait_made e ≡ Full c
+    → (written_in c e ≡ []) × IsTrue (channel_in s c).is_reserved
+came_to_wait t s (WaitFull q d) keeps c is = (
+  refl,
+  let same : d ≡ c = cc in subst (λ x. IsTrue (channel_in s x).is_reserved) same keeps,
+)
+came_to_wait t s (WaitEmpty q d) keeps c is = absurd cc
+came_to_wait t s event keeps c is = absurd cc
+
+waited_before : (b : Bool) (w : Wait) (c : ℕ) → cond b Nobody w ≡ Full c → w ≡ Full c
+waited_before true w c is = absurd cc
+waited_before false w c is = is
+
+-- who waits as full after an event has its item reserved before it, and the event does not write there
+room_before : (t : Tables) (s : Configuration) (e : Event) → IsConfiguration t s → KeepsRoom t s e → (p c : ℕ)
+    → p < length t.instances → c < length t.channels → wait_then t e p (wait_in s p) ≡ Full c
+    → (written_in c e ≡ []) × IsTrue (channel_in s c).is_reserved
+room_before t s e shape keeps p c process channel is = by_own (is_of p e) refl is
+  where
+    by_own : (own : Bool) → is_of p e ≡ own
+        → cond own (wait_made e) (cond (wakes t e (wait_in s p)) Nobody (wait_in s p)) ≡ Full c
+        → (written_in c e ≡ []) × IsTrue (channel_in s c).is_reserved
+    by_own true own waits = came_to_wait t s e keeps c waits
+    by_own false own waits =
+        let before = waited_before (wakes t e (wait_in s p)) (wait_in s p) c waits in (
+          written_by_none t s e keeps p c (subst (λ w. IsOwnWait t p w) before (shape.waits.own p process)) own,
+          shape.reserved p c process channel before,
+        )
+
 -- ---- it stays a configuration of the network
 
 pub record SameLengths (before after : Configuration) : Type 0 where
@@ -205,8 +254,9 @@ fits-next t (Put q c v) p f g a h =
 fits-next t event p f g a h = subst (λ x. IsTrue (fits (program_of t p) x)) (sym a) h
 
 pub IsConfiguration-next : (t : Tables) (e : Event) (before after : Configuration) → IsConfiguration t before
-    → Changes t e before after → SameLengths before after → AreWaits t after.waits → IsConfiguration t after
-IsConfiguration-next t e before after h a same waits =
+    → KeepsRoom t before e → Changes t e before after → SameLengths before after → AreWaits t after.waits
+    → IsConfiguration t after
+IsConfiguration-next t e before after h keeps a same waits =
     record {
       channels = same.channels ∙ h.channels;
       closed = same.closed ∙ h.closed;
@@ -217,4 +267,8 @@ IsConfiguration-next t e before after h a same waits =
           λ c below. ap is_some (a.channels c below).capacity ∙ some_or_none c e (channel_in before c).capacity
           ∙ h.bounded c below;
       fit = λ p below. fits-next t e p _ _ (a.frames p below) (h.fit p below);
+      reserved =
+          λ p c process channel is.
+          let room = room_before t before e h keeps p c process channel (sym (a.waits p process) ∙ is) in
+          (a.channels c channel).reserved room.0 room.1;
     }

@@ -1,11 +1,12 @@
 -- A reservation changes nothing that a history tells of.
-use Rattle.std.proofs.Common.{◌≡◌, ℕ, ◌<◌, Bool, true, false, not, cond, List, length, None, is_some, sym, ap, ◌∙◌, subst, inl, inr, length-set}
+use Rattle.std.proofs.Common.{◌≡◌, ℕ, ◌<◌, Bool, true, false, not, cond, IsTrue, List, length, None, is_some, refl, sym, ap, ◌∙◌, subst, inl, inr, length-set}
 use Rattle.std.proofs.lemmas.Bool.{cases_eq}
 use Rattle.std.proofs.lemmas.List.{get_or-set_same, get_or-set_other, set-get_or}
+use Rattle.kpn_net.specs.declared.wait.Wait.TheVariants.{Full}
 use Rattle.kpn_net.specs.Tables.{Tables, channel_at, is_source}
 use Rattle.kpn_chan.specs.Channel.{ChannelState, opened, with_room}
 use Rattle.kpn_trace.specs.declared.event.Event.{Event}
-use Rattle.kpn_configuration.specs.Configuration.{Configuration, channel_in, IsConfiguration, with_channel}
+use Rattle.kpn_configuration.specs.Configuration.{Configuration, channel_in, wait_in, IsConfiguration, with_channel}
 use Rattle.kpn_configuration.specs.Run.{HoldsChannel, IsRun}
 
 module _ (s : Configuration) (c : ℕ) (there : c < length s.channels) where
@@ -48,6 +49,10 @@ module _ (s : Configuration) (c : ℕ) (there : c < length s.channels) where
               (λ d channel. d < length t.channels → is_some channel.capacity ≡ not (is_source (channel_at t d)))
               h.bounded (λ q. q);
           fit = h.fit;
+          reserved =
+              λ p d process below is.
+              each_channel (λ d channel. d < length t.channels → wait_in s p ≡ Full d → IsTrue channel.is_reserved)
+              (λ d. h.reserved p d process) (λ was below is. refl) d below is;
         }
 
     with_room_run : (H : List Event) → IsRun t H s → IsRun t H (with_channel c (with_room (channel_in s c)) s)

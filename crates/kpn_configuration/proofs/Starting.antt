@@ -7,7 +7,7 @@ use Rattle.kpn_net.specs.declared.tables.ChannelSpec.{ChannelSpec}
 use Rattle.kpn_net.specs.declared.tables.ChannelSpec.TheVariants as channel
 use Rattle.kpn_net.specs.declared.tables.End.{End}
 use Rattle.kpn_net.specs.declared.tables.End.TheVariants.{Process, Source, Sink}
-use Rattle.kpn_net.specs.declared.wait.Wait.TheVariants.{Nobody}
+use Rattle.kpn_net.specs.declared.wait.Wait.TheVariants.{Nobody, Full}
 use Rattle.kpn_net.specs.Tables.{Tables, channel_at, is_source, capacity, reader_of, instance_at, program_of}
 use Rattle.kpn_net.specs.Faults.{IsNetwork}
 use Rattle.kpn_net.proofs.WaitTables.{waits-nobody}
@@ -20,7 +20,7 @@ use Rattle.kpn_step.proofs.After.{IsAfter-start}
 use Rattle.kpn_chan.specs.Channel.{ChannelState, opened}
 use Rattle.kpn_trace.specs.Channels.{reader_lives, lives}
 use Rattle.kpn_trace.proofs.Legality.{Legal-nil}
-use Rattle.kpn_configuration.specs.Configuration.{Configuration, channel_in, frame_in}
+use Rattle.kpn_configuration.specs.Configuration.{Configuration, channel_in, wait_in, frame_in}
 use Rattle.kpn_configuration.specs.Run.{HoldsChannel, IsEndOf, StandsAfter, IsRun}
 
 -- one more at the end of a list of things by number
@@ -84,6 +84,10 @@ module _ (t : Tables) (network : IsNetwork t) (s : Configuration)
     replicated : {X : Type 0} (x d : X) (n k : ℕ) → k < n → get_or (replicate n x) k d ≡ x
     replicated x d n k below = get_or-replicate n k x d below
 
+    waits_for_nobody : (p : ℕ) → p < length t.instances → wait_in s p ≡ Nobody
+    waits_for_nobody p below =
+        ap (λ ws. get_or ws p Nobody) waits ∙ replicated Nobody Nobody (length t.instances) p below
+
     pub IsRun-start : IsRun t [] s
     IsRun-start =
         record {
@@ -100,13 +104,15 @@ module _ (t : Tables) (network : IsNetwork t) (s : Configuration)
                 subst (λ f. IsTrue (fits (program_of t p) f)) (sym (starts p below))
                 (fits-start (program_of t p) (instance_at t p).pars (IsProgram-of t network p below)
                 (IsInstance-of t network p below).pars);
+            reserved =
+                λ p c below channel is.
+                let none : Full c ≡ Nobody = sym is ∙ waits_for_nobody p below in absurd cc;
           };
           leads = record {
             channels = holds;
             closed =
                 λ c below. ap (λ xs. get_or xs c false) closed ∙ replicated false false (length t.channels) c below;
-            waits =
-                λ p below. ap (λ ws. get_or ws p Nobody) waits ∙ replicated Nobody Nobody (length t.instances) p below;
+            waits = waits_for_nobody;
             ends =
                 λ p below.
                 subst (λ o. IsEndOf [] p o)

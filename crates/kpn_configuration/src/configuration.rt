@@ -6,7 +6,7 @@ ghost use Rattle.kpn_configuration.specs.Run.{IsRun};
 ghost use Rattle.kpn_net.specs.Tables.{Tables};
 ghost use Rattle.kpn_trace.specs.declared.event.Event.{Event};
 
-use kpn_chan::Channel;
+use kpn_chan::{Channel, Journal};
 use kpn_cycle::Waits;
 use kpn_lang::Sequence;
 use kpn_net::Wait;
@@ -59,15 +59,7 @@ impl<A: Allocator> Model for Configuration<A> {
         c.capacities.items ≡ map (λ x. unwrap_or x.capacity 0) c.channels.items };
 }
 
-impl<A: Allocator> Configuration<A> {
-    /// A channel, to be looked at.
-    pub fn channel(&self, c: usize) -> &Channel<A>
-        requires { c < length self.now.channels }
-        ensures { result.now ≡ channel_in self.now c }
-    {
-        &self.channels[c]
-    }
-
+impl<A: Allocator + Copy> Configuration<A> {
     /// Makes room for one more item on a channel, so that the next put or feed there takes no memory. No
     /// history tells of it. The error is that memory ran out; all is then as before.
     pub fn reserve_one(&mut self, c: usize) -> Result<(), AllocError>
@@ -81,17 +73,27 @@ impl<A: Allocator> Configuration<A> {
         let channel = &mut self.channels[c];
         channel.reserve_one()
     }
+}
+
+impl<A: Allocator> Configuration<A> {
+    /// A channel, to be looked at.
+    pub fn channel(&self, c: usize) -> &Channel<A>
+        requires { c < length self.now.channels }
+        ensures { result.now ≡ channel_in self.now c }
+    {
+        &self.channels[c]
+    }
 
     /// The journals, in order of the channels' numbers, moved out of the configuration. The error is that memory ran
     /// out.
-    pub fn into_journals(self, alloc: A) -> Result<Sequence<Sequence<i64, A>, A>, AllocError>
+    pub fn into_journals(self, alloc: A) -> Result<Sequence<Journal<A>, A>, AllocError>
         ensures { let s = self in IfOk result (λ journals.
             journals ≡ map (λ (channel : ChannelState). channel.journal) s.channels) }
     {
         let Configuration { channels, .. } = self;
         let journals = channels
             .into_iter()
-            .map(|channel| Sequence::from_vec(channel.into_journal()))
+            .map(|channel| channel.into_journal())
             .collect(alloc)?;
         Ok(Sequence::from_vec(journals))
     }
@@ -110,8 +112,7 @@ impl<A: Allocator> Configuration<A> {
         requires { c < length self.now.channels }
         ensures { result ≡ is_some (next_item (channel_in self.now c)) }
     {
-        let channel = &self.channels[c];
-        channel.at(channel.read_count()).is_some() && !channel.is_retired()
+        self.channels[c].peek().is_some()
     }
 
     /// Whether a source is closed.

@@ -1,5 +1,5 @@
 //! Whether the sources of a run were fed their lists, as its report shows them.
-ghost use Rattle.std.specs.Prelude.{◌≡◌, ◌↔◌, length, IsTrue};
+ghost use Rattle.std.specs.Prelude.{◌≡◌, length, IsTrue};
 ghost use Rattle.kpn_net.specs.Iteration.{sources};
 ghost use Rattle.kpn_parallel.specs.Fed.{AreFedBelow};
 
@@ -18,18 +18,11 @@ pub(crate) fn were_fed(network: &Network, lists: &[Sequence<i64>], view: &View) 
     let mut source = 0;
     'channels: for c in 0..network.channels() {
         if network.is_source(c) {
-            if !is_fed(journals[c].as_slice(), lists[source].as_slice()) {
+            if !journals[c].is(lists[source].as_slice()) {
                 return false;
             }
             source += 1;
         }
     }
     true
-}
-
-/// Whether a journal is its list.
-fn is_fed(journal: &[i64], list: &[i64]) -> bool
-    ensures { IsTrue result ↔ (journal.now ≡ list.now) }
-{
-    journal == list
 }

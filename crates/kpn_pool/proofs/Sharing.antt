@@ -9,6 +9,9 @@ use Rattle.std.proofs.sync.ledger.Share.TheSendSync as share
 use Rattle.std.specs.contracts.alloc.Global as heap
 use Rattle.std.specs.contracts.impls.GlobalAllocator.TheImpl.{ghosts}
 use Rattle.std.specs.declared.sync.ledger.Ledger as ledger
+use Rattle.circular_buffer.proofs.cells.Base.TheSendSync as base
+use Rattle.circular_buffer.proofs.cells.Cells.TheSendSync as cells
+use Rattle.circular_buffer.proofs.cells.Deed.TheSendSync as deed
 use Rattle.kpn_lang.proofs.syntax.Op.TheSendSync as op
 use Rattle.kpn_lang.proofs.start.Start.TheSendSync as start
 use Rattle.kpn_lang.proofs.link.Link.TheSendSync as link
@@ -23,6 +26,7 @@ use Rattle.kpn_lang.specs.contracts.instruction.Instruction as Instruction
 use Rattle.kpn_lang.specs.contracts.program.Program as Program
 use Rattle.kpn_net.specs.contracts.network.Network as Network
 use Rattle.kpn_step.specs.contracts.frame.Frame as Frame
+use Rattle.kpn_chan.specs.contracts.channel.Channel as Channel
 use Rattle.kpn_trace.specs.contracts.history.History as History
 use Rattle.kpn_configuration.specs.contracts.configuration.Configuration as Configuration
 use Rattle.kpn_schedule.specs.contracts.schedule.Schedule as Schedule
@@ -68,8 +72,11 @@ history_send = search (crosses, sendable) depth 40
 frame_send : IsSend Frame.the_field.row
 frame_send = search (crosses, sendable) depth 40
 
+channel_send : IsSend (Channel.the_field heap.the_row ghosts).row
+channel_send = search (base.the_field_send, cells.the_send, deed.the_send, crosses, sendable) depth 40
+
 configuration_send : IsSend (Configuration.the_field heap.the_row ghosts).row
-configuration_send = let frame = frame_send in search (crosses, sendable) depth 40
+configuration_send = let frame = frame_send in let channel = channel_send in search (crosses, sendable) depth 40
 
 schedule_send : IsSend (Schedule.the_field heap.the_row ghosts).row
 schedule_send = search (crosses, sendable) depth 40

@@ -32,7 +32,7 @@ impl From<AllocError> for SnapFault {
 
 /// Feeds an item to the source of the seat. It is refused as the book refuses it: with the seat of another network
 /// there may be no such source.
-pub fn feed<J: Job, A: Allocator, B: Allocator, R: Wait>(
+pub fn feed<J: Job, A: Allocator + Copy, B: Allocator, R: Wait>(
     rt: &R,
     shared: &Shared<'_, J, A>,
     seat: &mut SourceSeat<B>,
@@ -53,7 +53,7 @@ pub fn feed<J: Job, A: Allocator, B: Allocator, R: Wait>(
 
 /// Feeds these items to the source of the seat, one after the other, under one hold of the lock. Where one is refused
 /// those before it were fed.
-pub fn feed_all<J: Job, A: Allocator, B: Allocator, R: Wait>(
+pub fn feed_all<J: Job, A: Allocator + Copy, B: Allocator, R: Wait>(
     rt: &R,
     shared: &Shared<'_, J, A>,
     seat: &mut SourceSeat<B>,
@@ -152,7 +152,6 @@ pub fn leave<J: Job, A: Allocator, B: Allocator, R: Wait>(
 /// The run as it is seen at one moment, with all that the seat has fed: a legal history of the run's network that owes
 /// no growth agrees with it; each journal is a prefix of the least solution for what was fed, and is that solution
 /// where each process has ended or waits on an empty channel.
-#[tactic(auto, using(crate::proofs::Snapshots::begins_shown))]
 pub fn snapshot<J: Job, A: Allocator, B: Allocator, C: Allocator + Copy, R: Wait>(
     rt: &R,
     alloc: C,

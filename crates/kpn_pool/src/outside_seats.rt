@@ -57,7 +57,7 @@ impl<A: Allocator> SourceSeat<A> {
 
     /// Feeds an item to the source. It is refused as the book refuses it; memory is wanted for the seat's own list too.
     #[tactic(auto, using(crate::proofs::Keeping::appends, crate::proofs::Keeping::there, crate::proofs::Keeping::feed_refused))]
-    pub fn feed<J: Job, B: Allocator>(
+    pub fn feed<J: Job, B: Allocator + Copy>(
         &mut self,
         desk: &mut Desk<'_, J, B>,
         item: i64,
@@ -87,7 +87,7 @@ impl<A: Allocator> SourceSeat<A> {
     /// Feeds these items to the source, one after the other. Where one is refused, as the book refuses it, those before
     /// it were fed.
     #[tactic(auto, using(crate::proofs::Keeping::begins))]
-    pub fn feed_all<J: Job, B: Allocator>(
+    pub fn feed_all<J: Job, B: Allocator + Copy>(
         &mut self,
         desk: &mut Desk<'_, J, B>,
         items: &[i64],

@@ -90,7 +90,7 @@ impl<J: Job> WorkerSeat<J> {
 
     /// Commits the steps of a process that is held, which are steps of its program. The book's commits, the ledger's
     /// total and this seat's share rise together.
-    pub fn commit<A: Allocator>(
+    pub fn commit<A: Allocator + Copy>(
         &mut self,
         desk: &mut Desk<'_, J, A>,
         p: usize,

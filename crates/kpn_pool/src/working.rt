@@ -17,7 +17,7 @@ use std::time::Clock;
 /// A process is claimed, makes at most `quota` steps with the lock free, the gate is asked, and the steps are
 /// committed. Steps that are refused there as of a process that is not held, or of another one, are dropped: the worker
 /// goes on, and counts no commit.
-pub fn work<'n, J: Job, A: Allocator, G: Gate, R: Wait + Clock>(
+pub fn work<'n, J: Job, A: Allocator + Copy, G: Gate, R: Wait + Clock>(
     rt: &R,
     shared: &Shared<'n, J, A>,
     gate: &G,

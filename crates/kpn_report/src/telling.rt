@@ -59,7 +59,7 @@ fn read_of(alloc: Global, view: &View, c: usize) -> Result<Sequence<i64>, AllocE
     requires within { ReadsWithin view.now c }
     ensures { IfOk result (λ items. items ≡ first_read view.now c) }
 {
-    let journal = view.journals.as_slice()[c].as_slice();
+    let journal = &view.journals.as_slice()[c];
     let read = view.read.as_slice()[c];
-    Ok(Sequence::from_vec(Vec::from_slice(alloc, &journal[..read])?))
+    Ok(Sequence::from_vec(journal.copy_first(alloc, read)?))
 }

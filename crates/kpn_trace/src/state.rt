@@ -1,5 +1,6 @@
 //! What can be seen of a run at one moment.
 use crate::event::How;
+use kpn_chan::Journal;
 use kpn_lang::Sequence;
 use std::alloc::{Allocator, Global};
 
@@ -35,7 +36,7 @@ pub struct Counts {
 #[derive(Debug, Drop)]
 pub struct View<A: Allocator = Global> {
     /// All items that were written on the channel, in order.
-    pub journals: Sequence<Sequence<i64, A>, A>,
+    pub journals: Sequence<Journal<A>, A>,
     /// How many of them were read.
     pub read: Sequence<usize, A>,
     /// How many may lie unread; None for a source.

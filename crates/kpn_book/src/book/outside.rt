@@ -35,6 +35,8 @@ impl<'n, A: Allocator> Book<'n, A> {
     /// Puts an item on a source that is not closed and on which fewer items than the bound are unread, or whose reader
     /// has ended.
     pub fn feed(&mut self, source: usize, item: i64, bound: usize) -> Result<(), Refused>
+    where
+        A: Copy,
         ensures done { IfOk result (λ _. Feeds source item bound self.old self.new) }
         ensures refused { IfErr result (λ cause. RefusesFeed source item bound self.old cause) }
         ensures as_before { OnErr result (self.new ≡ self.old) }

@@ -67,6 +67,8 @@ impl<'n, A: Allocator> Book<'n, A> {
     /// an item, waits, ends or is ready again, by where the steps have stopped, and others are woken by that; where it
     /// waits and a growth is owed for this, that growth is made.
     pub fn commit(&mut self, p: usize, advance: &Advance) -> Result<Done, Refused>
+    where
+        A: Copy,
         ensures done { IfOk result (λ answer. Commits p advance.now answer self.old self.new) }
         ensures refused { IfErr result (λ cause. RefusesCommit p advance.now self.old cause) }
         ensures as_before { OnErr result (self.new ≡ self.old) }
@@ -83,6 +85,8 @@ impl<'n, A: Allocator> Book<'n, A> {
     /// Commits the steps of process `p` as `commit` does, for who knows that they are steps of its program, as those of
     /// its claim are: so the programs, which may be long, are not compared.
     pub fn commit_own(&mut self, p: usize, advance: &Advance) -> Result<Done, Refused>
+    where
+        A: Copy,
         requires { advance.now.program ≡ program_of self.old.tables p }
         ensures done { IfOk result (λ answer. Commits p advance.now answer self.old self.new) }
         ensures refused { IfErr result (λ cause. RefusesCommit p advance.now self.old cause) }
@@ -122,6 +126,8 @@ impl<'n, A: Allocator> Book<'n, A> {
     /// `None` where nobody can be claimed. The error is that memory ran out: the process has made its steps and is
     /// ready again, at the tail of the queue.
     pub fn step_next(&mut self, quota: u32) -> Result<Option<Done>, AllocError>
+    where
+        A: Copy,
         ensures step { IfOk result (λ answer. IsStep quota answer self.old self.new) }
         ensures in_vain { OnErr result (StepsInVain quota self.old self.new) }
     {

@@ -29,6 +29,8 @@ use std::alloc::{AllocError, Allocator};
 impl<'n, A: Allocator> OpenBook<'n, A> {
     /// Reserves what process `p`, which stands at this stop, may need: two events, and for a write an item.
     pub(crate) fn reserve(&mut self, p: usize, stop: Stop) -> Result<(), AllocError>
+    where
+        A: Copy,
         requires process { p < length self.old.network.now.instances }
         requires step { IsInStep (book_of self.old) }
         requires port { (f : Frame) × IsAtPort (program_of self.old.network.now p) f stop }
@@ -145,13 +147,15 @@ impl<'n, A: Allocator> OpenBook<'n, A> {
         self.schedule.set(p, State::WaitsEmpty(c));
     }
 
-    /// Process `p`, which stands at a write of this item to channel `c`, waits on it as full.
+    /// Process `p`, which stands at a write of this item to channel `c` and has an item reserved there, waits on it as
+    /// full.
     fn wait_on_full(&mut self, p: usize, c: usize, item: i64)
         requires room { 0 < self.old.history.room }
         requires sound { IsSound (book_of self.old) }
         requires held { IsHeld (book_of self.old) p }
         requires writes { WritesTo self.old.network.now self.old.configuration p c item }
         requires ready { is_full (channel_in self.old.configuration c) ≡ true }
+        requires reserved { IsTrue (channel_in self.old.configuration c).is_reserved }
         ensures follows { Follows (event.WaitFull p c) (book_of self.old) (book_of self.new) }
         ensures room { self.old.history.room ≤ self.new.history.room + 1 }
     {

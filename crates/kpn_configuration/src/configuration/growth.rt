@@ -61,6 +61,8 @@ impl<A: Allocator> Configuration<A> {
 
     /// The capacity of channel `d`, whose growth is owed for the wait of process `p`, becomes 1 larger.
     /// Returns the process that this wakes: the writer of the channel, if it waited on it as full.
+    ///
+    /// It takes no memory: the writer of `d` waits on it as full, and reserved an item there before it came to wait.
     pub fn grow(&mut self, network: &Network, p: usize, d: usize) -> Option<usize>
         requires shape { IsConfiguration network.now self.old }
         requires process { p < length network.now.instances }
@@ -77,19 +79,17 @@ impl<A: Allocator> Configuration<A> {
         woken
     }
 
-    /// Makes the capacity of a channel larger by one.
+    /// Makes the capacity of a channel larger by one. Since an item is reserved there, this takes no memory.
     fn enlarge(&mut self, d: usize)
         requires channel { d < length self.old.channels }
         requires capacity { MayGrow (channel_in self.old d) }
+        requires reserved { IsTrue (channel_in self.old d).is_reserved }
         ensures after { let reserved = (channel_in self.new d).is_reserved in
             self.new ≡ with_channel d (grown reserved (channel_in self.old d)) self.old }
-        ensures reserved { IsTrue (channel_in self.old d).is_reserved
-            → IsTrue (channel_in self.new d).is_reserved }
+        ensures reserved { IsTrue (channel_in self.new d).is_reserved }
     {
         let channel = &mut self.channels[d];
-        let Ok(()) = channel.grow() else {
-            unreachable!();
-        };
+        channel.grow_reserved();
         self.capacities[d] += 1;
     }
 }

@@ -97,13 +97,15 @@ impl<A: Allocator> Configuration<A> {
         self.waits.set(p, Wait::Empty(c));
     }
 
-    /// Process `p`, which stands at a write to channel `c`, waits on it as full, where it is full.
+    /// Process `p`, which stands at a write to channel `c`, waits on it as full, where it is full and an item is
+    /// reserved. That item is what lets the channel grow without memory while `p` waits.
     pub fn wait_on_full(&mut self, network: &Network, p: usize, c: usize)
         requires shape { IsConfiguration network.now self.old }
         requires process { p < length network.now.instances }
         requires free { IsFree self.old p }
         requires writes { (v : ℤ) × WritesTo network.now self.old p c v }
         requires ready { is_full (channel_in self.old c) ≡ true }
+        requires reserved { IsTrue (channel_in self.old c).is_reserved }
         ensures changes { Changes network.now (event.WaitFull p c) self.old self.new }
         ensures shape { IsConfiguration network.now self.new }
         ensures run { (H : List Event) → IsRun network.now H self.old → OwesNothing network.now H

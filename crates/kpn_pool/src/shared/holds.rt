@@ -53,6 +53,8 @@ impl<'n, J: Job, A: Allocator> Shared<'n, J, A> {
         process: usize,
         steps: &mut Advance<'n>,
     ) -> Option<usize>
+    where
+        A: Copy,
         requires { steps.old.program ≡ program_of J.network process }
         ensures number { seat.new.number ≡ seat.old.number }
         ensures commits { seat.old.commits ≤ seat.new.commits }

@@ -58,8 +58,10 @@ returns-in-WaitEmpty-clause-judged g c own =
 pub returns-in-WaitFull-clause-judged : goal.returns-in-WaitFull-clause-judged
 returns-in-WaitFull-clause-judged g c own =
     let same : WaitFull c.into-in-WaitFull.result c.into-in-WaitFull-2.result ≡ c.args.event = cc in
-    subst (λ e. IsFound c.args.network.now e c.args.configuration.now c.wait_on_full.new.configuration
-    c.wait_on_full.result) same c.wait_on_full.ensures.judged
+    subst
+    (λ e.
+    IfOk c.wait_on_full.result (IsFound c.args.network.now e c.args.configuration.now c.wait_on_full.new.configuration))
+    same c.wait_on_full.ensures.judged
 
 pub returns-in-Ended-clause-judged : goal.returns-in-Ended-clause-judged
 returns-in-Ended-clause-judged g c own =

@@ -1,9 +1,10 @@
 -- Where the process stands at a write to the channel and that is full the wait is made; else it may not follow.
-use Rattle.std.proofs.Common.{refl, sym, ◌∙◌, ap}
+use Rattle.std.proofs.Common.{is_ok, refl, sym, ◌∙◌, ap}
 use Rattle.std.proofs.lemmas.Bool.{both_ways, eq-eqb}
-use Rattle.kpn_chan.specs.Channel.{is_full}
+use Rattle.kpn_chan.specs.Channel.{is_full, with_room}
+use Rattle.kpn_configuration.specs.Configuration.{channel_in}
 use Rattle.kpn_trace.specs.declared.event.Event.TheVariants.{WaitFull}
-use Rattle.kpn_audit.proofs.Followed.{goes_made}
+use Rattle.kpn_audit.proofs.Followed.{goes_made, frames_kept, frames_from}
 use Rattle.kpn_audit.proofs.Refused.{full_elsewhere, not_full}
 use Rattle.kpn_audit.proofs.processes.wait_on_full.Goals as goal
 use Rattle.kpn_audit.proofs.processes.wait_on_full.Goals.{then-not-is_write_to-via-then-not-is_write_to, then-not-is_write_to-via-else-not-is_write_to+then-not-is_full}
@@ -21,8 +22,12 @@ returns-then-not-is_write_to-clause-judged g c H run owes legal =
 
 pub returns-clause-judged : goal.returns-clause-judged
 returns-clause-judged g c H run owes =
-    let e = WaitFull c.args.p c.args.c in
+    let t = c.args.network.now in
     let s = c.args.configuration.now in
-    c.after_wait.ensures H e s refl (c.wait_on_full.ensures.run H run owes)
-    (goes_made c.args.network.now s c.wait_on_full.new.self c.args.p c.args.stop c.requires.stopped e
-    (eq-eqb c.args.p c.args.p refl) c.wait_on_full.ensures.changes.frames)
+    let e = WaitFull c.args.p c.args.c in
+    let kept =
+    frames_kept (is_ok c.reserve_one.result) s c.reserve_one.new.self c.args.c (with_room (channel_in s c.args.c))
+    c.reserve_one.ensures.after in
+    c.after_wait.ensures H e s refl (c.wait_on_full.ensures.run H (c.reserve_one.ensures.run t H run) owes)
+    (goes_made t s c.wait_on_full.new.self c.args.p c.args.stop c.requires.stopped e (eq-eqb c.args.p c.args.p refl)
+    (frames_from t e s c.reserve_one.new.self c.wait_on_full.new.self kept c.wait_on_full.ensures.changes.frames))

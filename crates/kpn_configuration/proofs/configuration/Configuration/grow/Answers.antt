@@ -4,7 +4,7 @@ use Rattle.kpn_net.specs.Waits.{AreWaits}
 use Rattle.kpn_chan.specs.Channel.{MayGrow, grown}
 use Rattle.kpn_configuration.specs.Configuration.{Configuration, channel_in}
 use Rattle.kpn_configuration.specs.Woken.{is_wait}
-use Rattle.kpn_configuration.proofs.Growing.{owed_below, owed_may_grow, Made-grown, Legal-grown}
+use Rattle.kpn_configuration.proofs.Growing.{owed_below, owed_may_grow, owed_is_reserved, Made-grown, Legal-grown}
 use Rattle.kpn_configuration.proofs.Running.{IsRun-next}
 use Rattle.kpn_configuration.proofs.Woken.{below, woken_same, told_same}
 use Rattle.kpn_configuration.proofs.configuration.Configuration.grow.Goals as goal
@@ -33,23 +33,26 @@ enlarge-requires-clause-capacity g c =
     (owed_may_grow c.args.network.now c.known.ensures c.args.self.now c.requires.shape c.args.p c.args.d
     c.requires.owed)
 
+pub enlarge-requires-clause-reserved : goal.enlarge-requires-clause-reserved
+enlarge-requires-clause-reserved g c =
+    subst (λ x. IsTrue (channel_in x c.args.d).is_reserved) (sym c.self.view_is)
+    (owed_is_reserved c.args.network.now c.known.ensures c.args.self.now c.requires.shape c.args.p c.args.d
+    c.requires.owed)
+
 pub returns : goal.returns
 returns g c =
     let t = c.args.network.now in
     let s = c.args.self.now in
     let after = c.enlarge.new.self in
     let reserved = (channel_in after c.args.d).is_reserved in
-    let keep =
-    subst (λ x. IsTrue (channel_in x c.args.d).is_reserved → IsTrue reserved) c.self.view_is
-    c.enlarge.ensures.reserved in
     let same = ap (λ x. x.waits) c.self.view_is in
     let woke =
     woken_same (is_wait (Full c.args.d)) c.writer_of.result _ c.self.inside.waits s.waits c.wake-woken.new.waits
     c.wake-woken.ensures.after
     c.writer_of.ensures same in
     let made =
-    Made-grown t c.known.ensures s c.requires.shape c.args.p c.args.d c.requires.owed reserved keep
-    c.wake-woken.new.waits woke after
+    Made-grown t c.known.ensures s c.requires.shape c.args.p c.args.d c.requires.owed reserved
+    c.enlarge.ensures.reserved c.wake-woken.new.waits woke after
     (c.enlarge.ensures.after
     ∙ ap
     (λ (x : Configuration).

@@ -9,7 +9,7 @@ use Rattle.kpn_configuration.specs.Woken.{is_wait}
 use Rattle.kpn_configuration.proofs.Calls.{element, Made-put}
 use Rattle.kpn_configuration.proofs.Due.{Legal-put}
 use Rattle.kpn_configuration.proofs.Mirror.{mirror_kept}
-use Rattle.kpn_configuration.proofs.Ports.{writes_below}
+use Rattle.kpn_configuration.proofs.Ports.{writes_below, writes_own}
 use Rattle.kpn_configuration.proofs.Running.{IsRun-next}
 use Rattle.kpn_configuration.proofs.Woken.{below, woken_same, told_same}
 use Rattle.kpn_configuration.proofs.configuration.Configuration.put.Goals as goal
@@ -33,6 +33,7 @@ returns g c =
     let ch = c.put.new.self in
     let there =
     writes_below t c.known.ensures s c.args.p c.requires.process c.args.c c.args.item c.requires.writes in
+    let own = writes_own t c.known.ensures s c.args.p c.requires.process c.args.c c.args.item c.requires.writes in
     let value =
     element c.self.inside.channels.items s.channels c.args.c c.index_mut-channel.result.now (opened None false)
     (ap (λ x. x.channels) c.self.view_is) (omega (arith, c.requires.shape.channels)) c.index_mut-channel.ensures.value
@@ -51,7 +52,7 @@ returns g c =
     c.reader_of.ensures same in
     let made =
     Made-put t s c.requires.shape c.args.c c.args.item ch there c.wake.new.waits _ put woke c.args.p c.requires.process
-    c.requires.free c.requires.writes
+    c.requires.free c.requires.writes own
     (ap
     (λ (x : Configuration).
     record x {

@@ -16,7 +16,7 @@ returns g c =
     let own = writes_own t c.known.ensures s c.args.p c.requires.process c.args.c c.requires.writes.0
     c.requires.writes.1 in
     let made =
-    Made-wait_full t s c.requires.shape c.args.p c.args.c c.requires.process own _
+    Made-wait_full t s c.requires.shape c.args.p c.args.c c.requires.process own c.requires.reserved _
     (ap (λ x. with_waits c.set.new.self x) c.self.view_is
     ∙ ap (λ ws. with_waits ws s)
     (c.set.ensures ∙ ap (λ x. slice_set x.waits c.args.p (Full c.args.c)) c.self.view_is)) in

@@ -1,0 +1,29 @@
+-- A list of items that lies in chunks: some full ones, and a last one, which may be shorter.
+use Rattle.std.specs.Prelude.{◌≡◌, ◌≤◌, ◌<◌, ◌^◌, ℤ, Bool, nat_lt, List, ◌++◌, length, vec_len, vec_capacity, Vec}
+use Rattle.std.specs.List.{All, flat_map}
+use Rattle.kpn_chan.specs.declared.chunks.Chunks.{Chunks}
+use Rattle.kpn_chan.specs.declared.chunks.TheConstants.{CHUNK, MAX_CHUNKS}
+
+module _ {A : Type 0} where
+  -- the items, oldest first
+  abbrev pub items_of : Chunks A → List ℤ
+  items_of c = flat_map (λ (v : Vec ℤ A). v.items) c.full.items ++ c.last.items
+
+  -- the last chunk has a free place
+  abbrev pub has_room : Chunks A → Bool
+  has_room c = nat_lt (vec_len c.last) (vec_capacity c.last)
+
+  -- each of these chunks is full
+  abbrev pub AreFull : List (Vec ℤ A) → Type 0
+  AreFull chunks = All (λ v. length v.items ≡ CHUNK) chunks
+
+  -- what holds of the chunks of a channel: the last one never has more places than a full one
+  pub record IsChunks (c : Chunks A) : Type 0 where
+    pub full : AreFull c.full.items
+    pub few : vec_len c.full ≤ MAX_CHUNKS
+    pub last : vec_capacity c.last ≤ CHUNK
+
+  -- what holds of any journal: its items can be counted
+  pub record IsCounted (c : Chunks A) : Type 0 where
+    pub full : AreFull c.full.items
+    pub count : length (items_of c) < 2 ^ 64

@@ -1,0 +1,174 @@
+//! A list that lies in chunks, so that an item stays where it is once its chunk is full: all that was put on a channel.
+ghost use Rattle.std.specs.Prelude.{◌≡◌, ◌↔◌, Some, ◌<◌, ◌≤◌, [], length, take, drop, is_ok, IsOk, IfOk, IsTrue, slice_get, vec_len, vec_capacity};
+ghost use Rattle.kpn_chan.specs.Chunks.{items_of, has_room, IsChunks, IsCounted};
+
+use std::alloc::{AllocError, Allocator};
+use std::mem;
+
+/// How many items a full chunk has.
+pub const CHUNK: usize = 4_096;
+
+/// How many full chunks there may be: more than any memory holds, and few enough to count their items.
+pub const MAX_CHUNKS: usize = 1 << 48;
+
+/// How many places the first chunk begins with.
+const FIRST_PLACES: usize = 4;
+
+/// The items in order: those of the full chunks, which are never moved, and those of the last one, which doubles until
+/// it is as long as a full one.
+#[derive(Debug, Drop)]
+pub struct Chunks<A: Allocator> {
+    pub(crate) full: Vec<Vec<i64, A>, A>,
+    pub(crate) last: Vec<i64, A>,
+}
+
+impl<A: Allocator + Copy> Chunks<A> {
+    /// No items. It takes no memory. The allocator is kept for the chunks.
+    pub(crate) fn new(alloc: A) -> Self
+        ensures items { items_of result ≡ [] }
+        ensures chunks { IsChunks result }
+    {
+        Chunks {
+            full: Vec::new(alloc),
+            last: Vec::new(alloc),
+        }
+    }
+
+    /// Makes room for one more item behind the last one. The error is that memory ran out.
+    pub(crate) fn reserve_one(&mut self) -> Result<(), AllocError>
+        requires { IsChunks self.old }
+        ensures items { items_of self.new ≡ items_of self.old }
+        ensures chunks { IsChunks self.new }
+        ensures room { has_room self.new ≡ is_ok result }
+        ensures already { IsTrue (has_room self.old) → IsOk result }
+    {
+        if self.has_room() {
+            return Ok(());
+        }
+        self.extend()
+    }
+
+    /// Makes room for one more item, where there is none.
+    #[cold]
+    #[inline(never)]
+    fn extend(&mut self) -> Result<(), AllocError>
+        requires chunks { IsChunks self.old }
+        requires none { vec_capacity self.old.last ≤ vec_len self.old.last }
+        ensures items { items_of self.new ≡ items_of self.old }
+        ensures chunks { IsChunks self.new }
+        ensures room { has_room self.new ≡ is_ok result }
+    {
+        let len = self.last.len();
+        if len < CHUNK {
+            return self
+                .last
+                .reserve_exact(len.max(FIRST_PLACES).min(CHUNK - len));
+        }
+        if self.full.len() == MAX_CHUNKS {
+            return Err(AllocError);
+        }
+        let next = Vec::with_capacity(*self.full.allocator(), CHUNK)?;
+        self.full.reserve(1)?;
+        let full = mem::replace(&mut self.last, next);
+        self.full.push_reserved(full);
+        Ok(())
+    }
+}
+
+impl<A: Allocator> Chunks<A> {
+    /// Whether there is room for one more item behind the last one.
+    pub(crate) fn has_room(&self) -> bool
+        ensures { result ≡ has_room self.now }
+    {
+        self.last.len() < self.last.capacity()
+    }
+
+    /// How many items there are.
+    pub(crate) fn len(&self) -> usize
+        requires { IsCounted self.now }
+        ensures { result ≡ length (items_of self.now) }
+    {
+        self.full.len() * CHUNK + self.last.len()
+    }
+
+    /// The item at a place, counted from 0, or `None` past the end.
+    pub(crate) fn at(&self, place: usize) -> Option<i64>
+        requires { IsCounted self.now }
+        ensures { result ≡ slice_get (items_of self.now) place }
+    {
+        let chunk = place / CHUNK;
+        if chunk < self.full.len() {
+            return item_at(&self.full[chunk], place % CHUNK);
+        }
+        item_at(&self.last, place - self.full.len() * CHUNK)
+    }
+
+    /// Whether these are the first items.
+    pub(crate) fn begins_with(&self, items: &[i64]) -> bool
+        requires { IsCounted self.now }
+        ensures { IsTrue result ↔ (items.now ≡ take (length items.now) (items_of self.now)) }
+    {
+        'items: for place in 0..items.len() {
+            if !self.has_at(place, &items[place]) {
+                return false;
+            }
+        }
+        true
+    }
+
+    /// Whether this item stands at a place.
+    fn has_at(&self, place: usize, item: &i64) -> bool
+        requires { IsCounted self.now }
+        ensures { IsTrue result ↔ (slice_get (items_of self.now) place ≡ Some item.now) }
+    {
+        self.at(place) == Some(*item)
+    }
+
+    /// The items from a place on that lie side by side: at least one, unless the place is the end.
+    pub(crate) fn piece_at(&self, place: usize) -> &[i64]
+        requires chunks { IsCounted self.now }
+        requires place { place ≤ length (items_of self.now) }
+        ensures items { result.now ≡ take (length result.now) (drop place (items_of self.now)) }
+        ensures more { place < length (items_of self.now) → 0 < length result.now }
+    {
+        let chunk = place / CHUNK;
+        if chunk < self.full.len() {
+            return items_from(&self.full[chunk], place % CHUNK);
+        }
+        items_from(&self.last, place - self.full.len() * CHUNK)
+    }
+
+    /// The first so many items. The error is that memory ran out.
+    pub(crate) fn copy_first<B: Allocator>(
+        &self,
+        alloc: B,
+        count: usize,
+    ) -> Result<Vec<i64, B>, AllocError>
+        requires chunks { IsCounted self.now }
+        requires count { count ≤ length (items_of self.now) }
+        ensures { IfOk result (λ items. items.items ≡ take count (items_of self.now)) }
+    {
+        let mut items = Vec::with_capacity(alloc, count)?;
+        while items.len() < count {
+            let piece = self.piece_at(items.len());
+            let more = piece.len().min(count - items.len());
+            items.extend_from_slice(&piece[..more])?;
+        }
+        Ok(items)
+    }
+}
+
+/// The item at a place of a chunk, or `None` past its end.
+fn item_at(chunk: &[i64], place: usize) -> Option<i64>
+    ensures { result ≡ slice_get chunk.now place }
+{
+    chunk.get(place).copied()
+}
+
+/// The items of a chunk from a place on.
+fn items_from(chunk: &[i64], place: usize) -> &[i64]
+    requires { place ≤ length chunk.now }
+    ensures { result.now ≡ drop place chunk.now }
+{
+    chunk.split_at(place).1
+}

@@ -1,0 +1,82 @@
+//! All items that were ever put on a channel, once they have left it or were copied.
+ghost use Rattle.std.specs.Prelude.{◌≡◌, ◌↔◌, ◌<◌, ◌≤◌, ◌^◌, length, take, drop, IsTrue, IfOk, slice_get};
+ghost use Rattle.kpn_chan.specs.Chunks.{items_of, IsCounted};
+
+use crate::chunks::Chunks;
+use std::alloc::{AllocError, Allocator, Global};
+use std::marker::Model;
+
+/// A list of items, oldest first, in pieces of memory that are handed on and not copied. Contracts see the list.
+#[derive(Debug, Drop)]
+pub struct Journal<A: Allocator = Global> {
+    pub(crate) chunks: Chunks<A>,
+}
+
+impl<A: Allocator> Model for Journal<A> {
+    ghost use Rattle.std.specs.Prelude.{List, ℤ};
+    ghost use Rattle.kpn_chan.specs.Chunks.{items_of, IsCounted};
+
+    ghost Value = { List ℤ };
+
+    ghost view = { λ j. items_of j.chunks };
+
+    ghost invariant = { λ j. IsCounted j.chunks };
+}
+
+impl<A: Allocator + Copy> Journal<A> {
+    /// The items of a `Vec`, in one piece. It takes no memory.
+    pub fn from_vec(alloc: A, items: Vec<i64, A>) -> Self
+        ensures { result ≡ items.items }
+    {
+        Journal {
+            chunks: Chunks {
+                full: Vec::new(alloc),
+                last: items,
+            },
+        }
+    }
+}
+
+impl<A: Allocator> Journal<A> {
+    /// How many items there are.
+    pub fn len(&self) -> usize
+        ensures { result ≡ length self.now }
+    {
+        self.chunks.len()
+    }
+
+    /// The item at a place, counted from 0, or `None` past the end.
+    pub fn at(&self, place: usize) -> Option<i64>
+        ensures { result ≡ slice_get self.now place }
+    {
+        self.chunks.at(place)
+    }
+
+    /// Whether these are exactly the items.
+    pub fn is(&self, items: &[i64]) -> bool
+        ensures { IsTrue result ↔ (self.now ≡ items.now) }
+    {
+        self.chunks.len() == items.len() && self.chunks.begins_with(items)
+    }
+
+    /// The items from a place on that lie side by side in memory: at least one, unless the place is the end.
+    pub fn piece_at(&self, place: usize) -> &[i64]
+        requires { place ≤ length self.now }
+        ensures items { result.now ≡ take (length result.now) (drop place self.now) }
+        ensures more { place < length self.now → 0 < length result.now }
+    {
+        self.chunks.piece_at(place)
+    }
+
+    /// A list of the first so many items. The error is that memory ran out.
+    pub fn copy_first<B: Allocator>(
+        &self,
+        alloc: B,
+        count: usize,
+    ) -> Result<Vec<i64, B>, AllocError>
+        requires { count ≤ length self.now }
+        ensures { IfOk result (λ items. items.items ≡ take count self.now) }
+    {
+        self.chunks.copy_first(alloc, count)
+    }
+}

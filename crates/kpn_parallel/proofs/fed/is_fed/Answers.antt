@@ -1,6 +1,0 @@
-use Rattle.std.proofs.lemmas.Bool.Decides.{Decides-int_eq}
-use Rattle.std.proofs.lemmas.Slice.Eq.{slice_eq-Decides}
-use Rattle.kpn_parallel.proofs.fed.is_fed.Goals as goal
-
-pub returns : goal.returns
-returns c = slice_eq-Decides Decides-int_eq _ _ _ c.eq.ensures
