@@ -5,6 +5,7 @@ pub mod Places
 pub mod Sizes
 pub mod Onward
 pub mod Remains
+mod Rounds
 pub mod Stands
 pub mod Walked
 pub mod After
