@@ -1,13 +1,14 @@
 -- The counts of a list of states, where one of them is replaced by another.
-use Rattle.std.proofs.Common.{◌≡◌, ◌↔◌, ℕ, ◌+◌, ◌<◌, ◌≤◌, Bool, true, false, ◌&&◌, cond, nat_eq, List, length, replicate, set, get_or, count_by, refl, sym, ap, ◌∙◌, arith}
-use Rattle.std.proofs.lemmas.Bool.{and_parts, and_from, eqb-true, eq-eqb, false≢true}
+use Rattle.std.proofs.Common.{◌≡◌, ◌↔◌, ℕ, ◌+◌, ◌<◌, ◌≤◌, Bool, true, false, not, cond, nat_eq, List, [], ◌∷◌, length, replicate, set, get_or, count_by, refl, sym, ap, ◌∙◌, arith}
+use Rattle.std.proofs.lemmas.Bool.{not-false, eqb-true, eq-eqb}
 use Rattle.std.proofs.lemmas.List.{get_or_default}
-use Rattle.std.proofs.lemmas.List.Sums.{sum_by-set, sum_by-le, get_or-le-sum_by}
+use Rattle.std.proofs.lemmas.List.Sums.{sum_by-cons, sum_by-set, sum_by-le, get_or-le-sum_by}
 use Rattle.std.proofs.lemmas.List.Folds.{sum_by-replicate}
 use Rattle.kpn_trace.specs.declared.state.State.{State}
 use Rattle.kpn_trace.specs.declared.state.State.TheVariants.{Ready, Held}
-use Rattle.kpn_trace.specs.declared.state.Counts.{Counts}
-use Rattle.kpn_trace.specs.Views.{AreCounts, is_stopped, is_ready, is_held, waits_empty, waits_full, is_ended}
+use Rattle.kpn_trace.specs.Views.{AreCounts, is_ready, is_held, waits_empty, waits_full, is_ended}
+use Rattle.kpn_schedule.specs.declared.counting.Tally.{Tally}
+use Rattle.kpn_schedule.specs.Counting.{goes, IsTally}
 use Rattle.kpn_schedule.specs.Schedule.{HaveStopped}
 
 -- ---- one count
@@ -32,7 +33,52 @@ AreCounts-ready n = record {
   ended = sym (sum_by-replicate (λ x. cond (is_ended x) 1 0) n Ready ∙ omega arith);
 }
 
--- ---- all have stopped where none is ready and none held
+one_goes : (s : State) → cond {A = ℕ} (goes s) 1 0 ≡ cond (is_ready s) 1 0 + cond (is_held s) 1 0
+one_goes Ready = refl
+one_goes Held = refl
+one_goes state = refl
+
+-- those that go are the ready and the held
+pub going_apart : (xs : List State) → count_by goes xs ≡ count_by is_ready xs + count_by is_held xs
+going_apart [] = refl
+going_apart (x ∷ xs) =
+    let one = one_goes x in
+    let more = going_apart xs in
+    omega (
+      arith,
+      sum_by-cons (λ x. cond (goes x) 1 0) x xs,
+      sum_by-cons (λ x. cond (is_ready x) 1 0) x xs,
+      sum_by-cons (λ x. cond (is_held x) 1 0) x xs,
+    )
+
+pub IsTally-ready : (n : ℕ) → IsTally (replicate n Ready) (record { going = n; empty = 0; full = 0; ended = 0 })
+IsTally-ready n =
+    let are = AreCounts-ready n in
+    record {
+      going = omega (arith, going_apart (replicate n Ready), are.ready, are.held);
+      empty = are.empty;
+      full = are.full;
+      ended = are.ended;
+    }
+
+-- the tally stays where one that goes is replaced by another one
+pub IsTally-goes : (xs : List State) (tally : Tally) (i : ℕ) (y : State) → i < length xs
+    → ((f : State → Bool) → f Ready ≡ f Held → f (get_or xs i Ready) ≡ f y)
+    → IsTally xs tally → IsTally (set xs i y) tally
+IsTally-goes xs tally i y there alike is = record {
+  going = is.going ∙ same goes refl;
+  empty = is.empty ∙ same waits_empty refl;
+  full = is.full ∙ same waits_full refl;
+  ended = is.ended ∙ same is_ended refl;
+}
+  where
+    same : (f : State → Bool) → f Ready ≡ f Held → count_by f xs ≡ count_by f (set xs i y)
+    same f both =
+        let moved = count_set f xs i y there in
+        let one : cond {A = ℕ} (f (get_or xs i Ready)) 1 0 ≡ cond (f y) 1 0 = ap (λ b. cond b 1 0) (alike f both) in
+        omega arith
+
+-- ---- all have stopped where none goes
 
 none_of : (f : State → Bool) (xs : List State) → ((i : ℕ) → i < length xs → f (get_or xs i Ready) ≡ false)
     → count_by f xs ≡ 0
@@ -56,38 +102,9 @@ not_counted f xs none i there = by (f (get_or xs i Ready)) refl
         absurd (omega arith)
     by false e = refl
 
-stopped_apart : (s : State) → is_stopped s ≡ true → (is_ready s ≡ false) × (is_held s ≡ false)
-stopped_apart Ready is = absurd (false≢true is)
-stopped_apart Held is = absurd (false≢true is)
-stopped_apart state is = (refl, refl)
-
-stopped_if : (s : State) → is_ready s ≡ false → is_held s ≡ false → is_stopped s ≡ true
-stopped_if Ready ready held = sym ready
-stopped_if Held ready held = sym held
-stopped_if state ready held = refl
-
-pub stopped_counts : (xs : List State) (counts : Counts) → AreCounts xs counts
-    → HaveStopped xs ↔ ((counts.ready ≡ 0) × (counts.held ≡ 0))
-stopped_counts xs counts are = (
-  λ stopped. (
-    are.ready ∙ none_of is_ready xs (λ i there. (stopped_apart _ (stopped i there)).0),
-    are.held ∙ none_of is_held xs (λ i there. (stopped_apart _ (stopped i there)).1),
-  ),
-  λ none i there.
-      stopped_if (get_or xs i Ready) (not_counted is_ready xs (sym are.ready ∙ none.0) i there)
-      (not_counted is_held xs (sym are.held ∙ none.1) i there),
+-- the test of the code
+pub idle_is : (xs : List State) (going : ℕ) → going ≡ count_by goes xs → (nat_eq going 0 ≡ true) ↔ HaveStopped xs
+idle_is xs going counted = (
+  λ is i there. not-false _ (not_counted goes xs (sym counted ∙ eqb-true going 0 is) i there),
+  λ stopped. eq-eqb going 0 (counted ∙ none_of goes xs (λ i there. ap not (stopped i there))),
 )
-
--- the two tests of the code
-pub idle_is : (xs : List State) (counts : Counts) → AreCounts xs counts
-    → ((nat_eq counts.ready 0 && nat_eq counts.held 0) ≡ true) ↔ HaveStopped xs
-idle_is xs counts are =
-    let exact = stopped_counts xs counts are in (
-      λ is.
-          let both = and_parts (nat_eq counts.ready 0) (nat_eq counts.held 0) is in
-          exact.1 (eqb-true counts.ready 0 both.0, eqb-true counts.held 0 both.1),
-      λ stopped.
-          let none = exact.0 stopped in
-          and_from (nat_eq counts.ready 0) (nat_eq counts.held 0) (eq-eqb counts.ready 0 none.0)
-          (eq-eqb counts.held 0 none.1),
-    )

@@ -2,32 +2,42 @@
 ghost use Rattle.std.specs.Prelude.{◌≡◌, ◌+◌, ◌<◌, ◌^◌};
 ghost use Rattle.kpn_schedule.specs.Counting.{count_in, one_more, one_less};
 
-use kpn_trace::{Counts, State};
+use kpn_trace::State;
+
+/// What is kept of the counts: it stays as it is while a process that is ready is held, and while it is put back.
+#[derive(Debug, Drop)]
+pub(crate) struct Tally {
+    /// How many processes are ready or held.
+    pub(crate) going: usize,
+    /// Those that wait on an empty channel.
+    pub(crate) empty: usize,
+    /// Those that wait on a full channel.
+    pub(crate) full: usize,
+    pub(crate) ended: usize,
+}
 
 /// Counts one process more in this state.
-pub(crate) fn enter(counts: &mut Counts, state: State)
-    requires { count_in state counts.old + 1 < 2 ^ 64 }
-    ensures { counts.new ≡ one_more state counts.old }
+pub(crate) fn enter(tally: &mut Tally, state: State)
+    requires { count_in state tally.old + 1 < 2 ^ 64 }
+    ensures { tally.new ≡ one_more state tally.old }
 {
     match state {
-        State::Ready => counts.ready += 1,
-        State::Held => counts.held += 1,
-        State::WaitsEmpty(_) => counts.empty += 1,
-        State::WaitsFull(_) => counts.full += 1,
-        State::Ended(_) => counts.ended += 1,
+        State::Ready | State::Held => tally.going += 1,
+        State::WaitsEmpty(_) => tally.empty += 1,
+        State::WaitsFull(_) => tally.full += 1,
+        State::Ended(_) => tally.ended += 1,
     }
 }
 
 /// Counts one process less in this state.
-pub(crate) fn leave(counts: &mut Counts, state: State)
-    requires { 0 < count_in state counts.old }
-    ensures { counts.new ≡ one_less state counts.old }
+pub(crate) fn leave(tally: &mut Tally, state: State)
+    requires { 0 < count_in state tally.old }
+    ensures { tally.new ≡ one_less state tally.old }
 {
     match state {
-        State::Ready => counts.ready -= 1,
-        State::Held => counts.held -= 1,
-        State::WaitsEmpty(_) => counts.empty -= 1,
-        State::WaitsFull(_) => counts.full -= 1,
-        State::Ended(_) => counts.ended -= 1,
+        State::Ready | State::Held => tally.going -= 1,
+        State::WaitsEmpty(_) => tally.empty -= 1,
+        State::WaitsFull(_) => tally.full -= 1,
+        State::Ended(_) => tally.ended -= 1,
     }
 }

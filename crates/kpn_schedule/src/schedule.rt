@@ -1,10 +1,11 @@
 //! A schedule as it is kept: the states of the processes, and a queue of those that are ready with room for all.
-ghost use Rattle.std.specs.Prelude.{◌≡◌, ◌↔◌, ℕ, ◌<◌, ◌^◌, true, false, ◌&&◌, nat_eq, [], length, replicate, slice_get, slice_set, IfOk, IfSome, IfNone};
+ghost use Rattle.std.specs.Prelude.{◌≡◌, ◌↔◌, ℕ, ◌<◌, ◌^◌, true, false, [], length, replicate, count_by, slice_get, slice_set, IfOk, IfSome, IfNone};
 ghost use Rattle.kpn_trace.specs.declared.state.State.TheVariants.{Ready};
-ghost use Rattle.kpn_trace.specs.Views.{AreCounts, is_ready};
+ghost use Rattle.kpn_trace.specs.Views.{AreCounts, is_ready, is_held};
+ghost use Rattle.kpn_schedule.specs.Counting.{IsTally};
 ghost use Rattle.kpn_schedule.specs.Schedule.{state_at, IsSchedule, HaveStopped, all_ready, HoldsFirst, made_ready, with_state};
 
-use crate::counting::{enter, leave};
+use crate::counting::{Tally, enter, leave};
 use kpn_trace::{Counts, State};
 use std::alloc::{AllocError, Allocator, Global};
 use std::collections::VecDeque;
@@ -17,15 +18,15 @@ use std::marker::Model;
 #[derive(Debug, Drop)]
 pub struct Schedule<A: Allocator = Global> {
     states: Vec<State, A>,
-    // How many processes are in each state, kept step by step.
-    counts: Counts,
+    // Kept step by step. Those that are ready are counted by the queue.
+    tally: Tally,
     queue: VecDeque<usize, A>,
 }
 
 impl<A: Allocator> Model for Schedule<A> {
     ghost use Rattle.std.specs.Prelude.{◌≤◌, length};
     ghost use Rattle.std.specs.VecDeque.{deque_capacity};
-    ghost use Rattle.kpn_trace.specs.Views.{AreCounts};
+    ghost use Rattle.kpn_schedule.specs.Counting.{IsTally};
     ghost use Rattle.kpn_schedule.specs.Schedule.{Schedule as Seen, IsSchedule};
 
     ghost Value = { Seen };
@@ -33,7 +34,7 @@ impl<A: Allocator> Model for Schedule<A> {
     ghost view = { λ s. record { states = s.states.items; queue = s.queue.items } };
 
     ghost invariant = { λ s. IsSchedule (record { states = s.states.items; queue = s.queue.items })
-        × ((length s.states.items ≤ deque_capacity s.queue) × AreCounts s.states.items s.counts) };
+        × ((length s.states.items ≤ deque_capacity s.queue) × IsTally s.states.items s.tally) };
 }
 
 impl<A: Allocator + Copy> Schedule<A> {
@@ -43,9 +44,8 @@ impl<A: Allocator + Copy> Schedule<A> {
         ensures { IfOk result (λ made. made ≡ all_ready processes) }
     {
         let states = all_ready(alloc, processes)?;
-        let counts = Counts {
-            ready: processes,
-            held: 0,
+        let tally = Tally {
+            going: processes,
             empty: 0,
             full: 0,
             ended: 0,
@@ -56,7 +56,7 @@ impl<A: Allocator + Copy> Schedule<A> {
         }
         Ok(Schedule {
             states,
-            counts,
+            tally,
             queue,
         })
     }
@@ -82,14 +82,28 @@ impl<A: Allocator> Schedule<A> {
     pub fn counts(&self) -> Counts
         ensures { AreCounts self.now.states result }
     {
-        self.counts
+        Counts {
+            ready: self.queue.len(),
+            held: self.held(),
+            empty: self.tally.empty,
+            full: self.tally.full,
+            ended: self.tally.ended,
+        }
+    }
+
+    /// How many processes are held.
+    #[tactic(auto, using(crate::proofs::Tallies::going_apart))]
+    pub fn held(&self) -> usize
+        ensures { result ≡ count_by is_held self.now.states }
+    {
+        self.tally.going - self.queue.len()
     }
 
     /// Whether each process has ended or waits.
     pub fn is_idle(&self) -> bool
         ensures { (result ≡ true) ↔ HaveStopped self.now.states }
     {
-        none_goes(self.counts)
+        self.tally.going == 0
     }
 
     /// The process that is the next to be held, `None` where no process is ready.
@@ -105,13 +119,7 @@ impl<A: Allocator> Schedule<A> {
         ensures none { IfNone result ((self.old.queue ≡ []) × (self.new ≡ self.old)) }
     {
         let p = self.queue.pop_front()?;
-        change(
-            &mut self.states,
-            &mut self.counts,
-            p,
-            State::Ready,
-            State::Held,
-        );
+        self.states[p] = State::Held;
         Some(p)
     }
 
@@ -121,7 +129,9 @@ impl<A: Allocator> Schedule<A> {
         requires state { is_ready (state_at self.old.states p) ≡ false }
         ensures { self.new ≡ made_ready p self.old }
     {
-        self.make_ready_from(p, self.state(p));
+        // As if it were held first: the one call counts it, the other queues it.
+        self.set(p, State::Held);
+        self.put_back(p);
     }
 
     /// Process `p`, which is held, becomes ready, at the tail of the queue.
@@ -130,17 +140,7 @@ impl<A: Allocator> Schedule<A> {
         requires held { state_at self.old.states p ≡ State.Held }
         ensures { self.new ≡ made_ready p self.old }
     {
-        self.make_ready_from(p, State::Held);
-    }
-
-    /// Process `p`, which was in the state `from`, becomes ready, at the tail of the queue.
-    fn make_ready_from(&mut self, p: usize, from: State)
-        requires process { p < length self.old.states }
-        requires from { state_at self.old.states p ≡ from }
-        requires state { is_ready from ≡ false }
-        ensures { self.new ≡ made_ready p self.old }
-    {
-        change(&mut self.states, &mut self.counts, p, from, State::Ready);
+        self.states[p] = State::Ready;
         self.queue.push_back_reserved(p);
     }
 
@@ -151,8 +151,7 @@ impl<A: Allocator> Schedule<A> {
         requires new { is_ready state ≡ false }
         ensures { self.new ≡ with_state p state self.old }
     {
-        let from = self.states[p];
-        change(&mut self.states, &mut self.counts, p, from, state);
+        change(&mut self.states, &mut self.tally, p, state);
     }
 
     /// A list of the states, in order of number. The error is that memory ran out.
@@ -179,29 +178,14 @@ fn all_ready<A: Allocator>(alloc: A, processes: usize) -> Result<Vec<State, A>, 
     Ok(vec![in alloc; State::Ready; processes]?)
 }
 
-/// From now on process `p`, which was in the state `from`, is in the state `to`. It does not look at the state that is
-/// kept.
-fn change<A: Allocator>(
-    states: &mut Vec<State, A>,
-    counts: &mut Counts,
-    p: usize,
-    from: State,
-    to: State,
-)
+/// From now on process `p` is in this state.
+fn change<A: Allocator>(states: &mut Vec<State, A>, tally: &mut Tally, p: usize, state: State)
     requires process { p < length states.old.items }
-    requires from { state_at states.old.items p ≡ from }
-    requires counts { AreCounts states.old.items counts.old }
-    ensures states { states.new.items ≡ slice_set states.old.items p to }
-    ensures counts { AreCounts states.new.items counts.new }
+    requires tally { IsTally states.old.items tally.old }
+    ensures states { states.new.items ≡ slice_set states.old.items p state }
+    ensures tally { IsTally states.new.items tally.new }
 {
-    leave(counts, from);
-    enter(counts, to);
-    states[p] = to;
-}
-
-/// Whether none is counted as ready or held.
-fn none_goes(counts: Counts) -> bool
-    ensures { result ≡ (nat_eq counts.ready 0 && nat_eq counts.held 0) }
-{
-    counts.ready == 0 && counts.held == 0
+    leave(tally, states[p]);
+    enter(tally, state);
+    states[p] = state;
 }

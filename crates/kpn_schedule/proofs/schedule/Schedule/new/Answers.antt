@@ -1,7 +1,7 @@
 use Rattle.std.proofs.Common.{◌≡◌, ◌+◌, [], ◌∷◌, ◌++◌, ap, sym, ◌∙◌, arith}
 use Rattle.std.proofs.lemmas.List.{length-replicate}
 use Rattle.kpn_trace.specs.declared.state.State.TheVariants.{Ready}
-use Rattle.kpn_schedule.proofs.Tallies.{AreCounts-ready}
+use Rattle.kpn_schedule.proofs.Tallies.{IsTally-ready}
 use Rattle.kpn_schedule.proofs.Queueing.{range_next, IsSchedule-ready}
 use Rattle.kpn_schedule.proofs.schedule.Schedule.new.Goals as goal
 
@@ -20,5 +20,5 @@ invariant_of-result g c =
     let end : c.loop-p.p ≡ c.args.processes = omega (arith, c.loop-p-test.false, c.loop-p.auto.p-end) in
     rw (c.in_ok-states.ensures, c.loop-p.invariant.items, end) (
       IsSchedule-ready c.args.processes,
-      (omega (arith, length-replicate c.args.processes Ready, c.loop-p.invariant.room), AreCounts-ready c.args.processes),
+      (omega (arith, length-replicate c.args.processes Ready, c.loop-p.invariant.room), IsTally-ready c.args.processes),
     )

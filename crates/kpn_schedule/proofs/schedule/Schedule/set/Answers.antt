@@ -14,6 +14,6 @@ invariant_of-self g c =
           c.args.state c.requires.new,
       (
         omega (arith, length-set c.self.inside.states.items c.args.p c.args.state, c.self.invariant.1.0),
-        rw c.change.ensures.states at c.change.ensures.counts,
+        rw c.change.ensures.states at c.change.ensures.tally,
       ),
     )
