@@ -69,6 +69,7 @@ impl<A: Allocator + Copy> Channel<A> {
     /// is reserved already, it stays so and nothing is taken.
     ///
     /// The error is that memory ran out; the channel is then as before.
+    #[inline(always)]
     pub fn reserve_one(&mut self) -> Result<(), AllocError>
         ensures after { self.new ≡ (if is_ok result then with_room self.old else self.old) }
         ensures already { IsTrue self.old.is_reserved → IsOk result }
@@ -263,6 +264,7 @@ impl<A: Allocator> Channel<A> {
 }
 
 /// Makes a free place in a ring that has none, by giving it twice as many. The error is that memory ran out.
+#[inline(always)]
 fn reserve_place<A: Allocator + Copy>(
     ring: &mut HeapCircularBuffer<i64, A>,
 ) -> Result<(), AllocError>

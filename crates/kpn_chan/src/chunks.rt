@@ -35,6 +35,7 @@ impl<A: Allocator + Copy> Chunks<A> {
     }
 
     /// Makes room for one more item behind the last one. The error is that memory ran out.
+    #[inline(always)]
     pub(crate) fn reserve_one(&mut self) -> Result<(), AllocError>
         requires { IsChunks self.old }
         ensures items { items_of self.new ≡ items_of self.old }

@@ -62,6 +62,7 @@ impl<A: Allocator> Model for Configuration<A> {
 impl<A: Allocator + Copy> Configuration<A> {
     /// Makes room for one more item on a channel, so that the next put or feed there takes no memory. No
     /// history tells of it. The error is that memory ran out; all is then as before.
+    #[inline(always)]
     pub fn reserve_one(&mut self, c: usize) -> Result<(), AllocError>
         requires { c < length self.old.channels }
         ensures after { self.new ≡ (if is_ok result then
