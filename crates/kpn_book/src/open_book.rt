@@ -53,7 +53,7 @@ impl<'n, A: Allocator> OpenBook<'n, A> {
         requires { self.now.commits + held_count (book_of self.now) < 2 ^ 64 }
         ensures { IsTrue result ↔ (self.now.commits + held_count (book_of self.now) ≡ 2 ^ 64 - 1) }
     {
-        self.commits + self.schedule.counts().held as u64 == u64::MAX
+        self.commits + self.schedule.held() as u64 == u64::MAX
     }
 
     /// The verdict of the configuration. Apart, so that a verdict is asked for at each step by one look at the counts.

@@ -42,24 +42,15 @@ one_goes state = refl
 pub going_apart : (xs : List State) → count_by goes xs ≡ count_by is_ready xs + count_by is_held xs
 going_apart [] = refl
 going_apart (x ∷ xs) =
-    let one = one_goes x in
-    let more = going_apart xs in
-    omega (
-      arith,
-      sum_by-cons (λ x. cond (goes x) 1 0) x xs,
-      sum_by-cons (λ x. cond (is_ready x) 1 0) x xs,
-      sum_by-cons (λ x. cond (is_held x) 1 0) x xs,
-    )
+    let first : (f : State → Bool) → count_by f (x ∷ xs) ≡ cond (f x) 1 0 + count_by f xs =
+    λ f. sum_by-cons (λ x. cond (f x) 1 0) x xs in
+    omega (arith, one_goes x, going_apart xs, first goes, first is_ready, first is_held)
 
 pub IsTally-ready : (n : ℕ) → IsTally (replicate n Ready) (record { going = n; empty = 0; full = 0; ended = 0 })
 IsTally-ready n =
     let are = AreCounts-ready n in
-    record {
-      going = omega (arith, going_apart (replicate n Ready), are.ready, are.held);
-      empty = are.empty;
-      full = are.full;
-      ended = are.ended;
-    }
+    let going = going_apart (replicate n Ready) in
+    record { going = omega (arith, are.ready, are.held); empty = are.empty; full = are.full; ended = are.ended }
 
 -- the tally stays where one that goes is replaced by another one
 pub IsTally-goes : (xs : List State) (tally : Tally) (i : ℕ) (y : State) → i < length xs

@@ -4,7 +4,7 @@ ghost use Rattle.kpn_schedule.specs.Counting.{count_in, one_more, one_less};
 
 use kpn_trace::State;
 
-/// What is kept of the counts: it stays as it is while a process that is ready is held, and while it is put back.
+/// The counts that are kept: those that stay where a process that is ready is held and where it is put back.
 #[derive(Debug, Drop)]
 pub(crate) struct Tally {
     /// How many processes are ready or held.

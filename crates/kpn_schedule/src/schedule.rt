@@ -18,7 +18,7 @@ use std::marker::Model;
 #[derive(Debug, Drop)]
 pub struct Schedule<A: Allocator = Global> {
     states: Vec<State, A>,
-    // Kept step by step. Those that are ready are counted by the queue.
+    // Kept step by step. How many are ready is the length of the queue.
     tally: Tally,
     queue: VecDeque<usize, A>,
 }
