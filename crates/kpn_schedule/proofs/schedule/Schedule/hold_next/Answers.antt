@@ -7,23 +7,23 @@ use Rattle.kpn_schedule.proofs.schedule.Schedule.hold_next.Goals as goal
 
 pub index_mut-requires : goal.index_mut-requires
 index_mut-requires g c =
-    let there =
-    first_there c.self.inside.states.items c.in_ok-p.p c.pop_front.new.self.items
-    (popped c.self.inside.states.items c.self.inside.queue.items c.in_ok-p.p c.pop_front.new.self.items c.self.invariant.0
-    c.in_ok-p.ensures.items) in
+    let states = c.self.inside.states.items in
+    let rest = c.pop_front.new.self.items in
+    let apart = popped states c.self.inside.queue.items c.in_ok-p.p rest c.self.invariant.0 c.in_ok-p.ensures.items in
+    let there = first_there states c.in_ok-p.p rest apart in
     search rules
 
 pub invariant_of-self-2 : goal.invariant_of-self-2
 invariant_of-self-2 g c =
-    let apart =
-    popped c.self.inside.states.items c.self.inside.queue.items c.in_ok-p.p c.pop_front.new.self.items c.self.invariant.0
-    c.in_ok-p.ensures.items in
-    let there = first_there c.self.inside.states.items c.in_ok-p.p c.pop_front.new.self.items apart in
-    let ready = first_ready c.self.inside.states.items c.in_ok-p.p c.pop_front.new.self.items apart in (
-      IsSchedule-held c.self.inside.states.items c.in_ok-p.p c.pop_front.new.self.items apart,
+    let states = c.self.inside.states.items in
+    let rest = c.pop_front.new.self.items in
+    let apart = popped states c.self.inside.queue.items c.in_ok-p.p rest c.self.invariant.0 c.in_ok-p.ensures.items in
+    let there = first_there states c.in_ok-p.p rest apart in
+    let ready = first_ready states c.in_ok-p.p rest apart in (
+      IsSchedule-held states c.in_ok-p.p rest apart,
       (
-        omega (arith, length-set c.self.inside.states.items c.in_ok-p.p Held, c.self.invariant.1.0, c.pop_front.ensures.capacity),
-        IsTally-goes c.self.inside.states.items c.self.inside.tally c.in_ok-p.p Held there (λ f same. ap f ready ∙ same)
+        omega (arith, length-set states c.in_ok-p.p Held, c.self.invariant.1.0, c.pop_front.ensures.capacity),
+        IsTally-goes states c.self.inside.tally c.in_ok-p.p Held there (λ f same. ap f ready ∙ same)
             c.self.invariant.1.1,
       ),
     )
