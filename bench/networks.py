@@ -134,10 +134,11 @@ class Words:
 
 
 def as_words(text):
-    """What the plain program reads: the limit, the processes, the channels and the instances."""
-    processes, (channels, instances, limit) = rounds.Parser(text).description()
+    """What the plain program reads: policy, growth and limit, the processes, the channels and the instances."""
+    processes, (channels, instances, growing) = rounds.Parser(text).description()
     numbers = {name: str(number) for number, name in enumerate(channels)}
-    lines = [str(limit), str(len(processes)), *(Words(*process).text() for process in processes.values())]
+    lines = [' '.join(map(str, growing)), str(len(processes))]
+    lines += [Words(*process).text() for process in processes.values()]
     lines.append(str(len(channels)))
     lines += [f'{name} {kind} {capacity}' for name, (kind, capacity) in channels.items()]
     lines.append(str(len(instances)))

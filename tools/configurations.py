@@ -20,14 +20,6 @@ def truth(value):
     return 'true' if value else 'false'
 
 
-def waits(audit):
-    return [audit.blocked(p) for p in range(len(audit.processes))]
-
-
-def capacities(audit):
-    return [audit.capacity(c) for c in range(len(audit.written))]
-
-
 def woken(audit, before, event):
     """The processes that were blocked before the event and are not after it. Those that an end wakes come in the order
     of its process's ports."""
@@ -37,25 +29,12 @@ def woken(audit, before, event):
     return found
 
 
-def owed(audit, p):
-    """The channel that has to grow where process p has just come to wait."""
-    d = histories.smallest_full(audit.network, waits(audit), capacities(audit), p)
-    return d if d is not None and audit.capacity(d) < audit.network.limit else None
-
-
-def is_settled(audit):
-    """Whether nothing happens any more unless the outside feeds, or takes from what it has left."""
-    network = audit.network
-    return (all(audit.has_ended(p) or audit.blocked(p) for p in range(len(audit.processes)))
-            and all(c in audit.closed for c in network.of_kind('source'))
-            and all(audit.is_empty(c) or c in audit.left for c in network.of_kind('sink')))
-
-
 def verdict(audit):
-    if not is_settled(audit):
+    """None under `policy all` as long as a channel has to grow."""
+    if not audit.is_settled() or audit.owed_when_settled() is not None:
         return None
-    now = waits(audit)
-    found = [histories.smallest_full(audit.network, now, capacities(audit), p) for p in range(len(now))]
+    now = audit.waits()
+    found = [histories.smallest_full(audit.network, now, audit.capacities, p) for p in range(len(now))]
     if any(c is not None for c in found):
         return 'Jammed'
     return 'Clogged' if any(wait and wait[0] == 'full' for wait in now) else 'Ended'
@@ -64,13 +43,15 @@ def verdict(audit):
 def state_text(audit):
     lines = []
     for c, items in enumerate(audit.written):
-        lines.append(f'  channel {c}: {items} read {audit.read_count[c]} cap {some(audit.capacity(c))}'
+        lines.append(f'  channel {c}: {items} read {audit.read_count[c]} cap {some(audit.capacities[c])}'
                      f' closed {truth(c in audit.closed)} left {truth(not audit.reader_lives(c))}')
-    for p, wait in enumerate(waits(audit)):
+    for p, wait in enumerate(audit.waits()):
         wait = f'{wait[0].capitalize()}({wait[1]})' if wait else 'Nobody'
         end = CAUSES[audit.last_of[p][2]] if audit.has_ended(p) else None
-        lines.append(f'  process {p}: wait {wait} end {some(end)} owes {some(owed(audit, p))}')
+        lines.append(f'  process {p}: wait {wait} end {some(end)} owes {some(audit.owed_by_cycle(p))}')
     lines.append(f'  quiet {truth(audit.is_quiet())} verdict {some(verdict(audit))}')
+    if audit.network.growing.policy == 'all':
+        lines.append(f'  owes when settled {some(audit.owed_when_settled())}')
     return ''.join(f'{line}\n' for line in lines)
 
 
@@ -79,7 +60,7 @@ def replayed(section):
     audit = histories.Audit(histories.Network(description))
     text = description + state_text(audit)
     for event in histories.read_trace((head + lines).encode()):
-        before = waits(audit)
+        before = audit.waits()
         audit.accept(event)
         text += f'{histories.event_text(event)}\n  wakes {woken(audit, before, event)}\n{state_text(audit)}'
     return text

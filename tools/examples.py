@@ -44,11 +44,11 @@ def load(file):
 
 def description(file):
     text = load(file)
-    processes, (channels, instances, limit) = rounds.Parser(text).description()
+    processes, (channels, instances, growing) = rounds.Parser(text).description()
     for c, (_, capacity) in enumerate(channels.values()):
-        if capacity is not None and not 1 <= capacity <= limit:
+        if capacity is not None and not 1 <= capacity <= growing.limit:
             raise Refused(f'kpn: 17 Capacity at {c}')
-    return text, processes, channels, instances, limit
+    return text, processes, channels, instances, growing
 
 
 # ---- the canonical text
@@ -79,14 +79,18 @@ def block(statements, indent):
     return lines
 
 
-def canonical(processes, channels, instances, limit):
+def canonical(processes, channels, instances, growing):
     lines = []
     for name, (parts, body) in processes.items():
         head = '; '.join(f'{part} {", ".join(names)}' for part, names in parts.items() if names)
         lines += [f'process {name}({head}) {{', *block(body, '  '), '}']
     lines.append('network {')
-    if limit < rounds.LARGEST_CAPACITY:
-        lines.append(f'  limit {limit};')
+    if growing.limit < rounds.LARGEST_CAPACITY:
+        lines.append(f'  limit {growing.limit};')
+    if growing.policy != 'cycles':
+        lines.append(f'  policy {growing.policy};')
+    if growing.growth != 'one':
+        lines.append(f'  grow {growing.growth};')
     for name, (kind, capacity) in channels.items():
         lines.append(f'  {kind} {name};' if kind == 'source' else f'  {kind} {name} cap {capacity};')
     for name, (program, ins, outs, values) in instances.items():

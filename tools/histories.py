@@ -79,7 +79,7 @@ class Network:
     """The tables of a network, by number; and its processes at their beginnings."""
 
     def __init__(self, text):
-        self.processes, (channels, instances, self.limit) = rounds.Parser(text).description()
+        self.processes, (channels, instances, self.growing) = rounds.Parser(text).description()
         self.channels, self.instances = list(channels), list(instances)
         self.kinds = [kind for kind, _ in channels.values()]
         self.capacities = [capacity for _, capacity in channels.values()]
@@ -104,10 +104,19 @@ class Network:
     def of_kind(self, kind):
         return [c for c, other in enumerate(self.kinds) if other == kind]
 
+    def may_grow(self, c, capacities):
+        """Whether there is this channel, and it is below the limit."""
+        return c is not None and capacities[c] < self.growing.limit
+
+
+def smallest(channels, capacities):
+    """The channel of least capacity, and then of least number, if there is one."""
+    return min(channels, key=lambda c: (capacities[c], c), default=None)
+
 
 def smallest_full(network, waits, capacities, p):
-    """The full channel of least capacity, and then of least number, in the cycle of waits through p, if there is one.
-    A wait is a pair of `empty` or `full` and a channel, or None."""
+    """The smallest full channel in the cycle of waits through p, if there is one. A wait is a pair of `empty` or `full`
+    and a channel, or None."""
     full, met, q = [], set(), p
     while q is not None and waits[q] is not None and q not in met:
         met.add(q)
@@ -115,9 +124,12 @@ def smallest_full(network, waits, capacities, p):
         if why == 'full':
             full.append(c)
         q = (network.readers if why == 'full' else network.writers)[c]
-    if q != p or not met or not full:
-        return None
-    return min(full, key=lambda c: (capacities[c], c))
+    return smallest(full, capacities) if q == p and met else None
+
+
+def smallest_waited(waits, capacities):
+    """The smallest channel on which a process waits as full, if there is one."""
+    return smallest([wait[1] for wait in waits if wait is not None and wait[0] == 'full'], capacities)
 
 
 class Run:
@@ -162,10 +174,21 @@ class Run:
         self.history.append((f'wait-{why}', p, c))
         self.waits[p] = why, c
         d = smallest_full(self.network, self.waits, self.capacities, p)
-        if d is not None and self.capacities[d] < self.network.limit:
-            self.history.append(('grow', p, d))
-            self.capacities[d] += 1
-            self.wake(self.network.writers[d], 'full', d)
+        if self.network.may_grow(d, self.capacities):
+            self.grow(p, d)
+        self.grow_if_settled()
+
+    def grow(self, p, d):
+        self.history.append(('grow', p, d))
+        self.capacities[d] = self.network.growing.grown(self.capacities[d])
+        self.wake(self.network.writers[d], 'full', d)
+
+    def grow_if_settled(self):
+        """The growth of `policy all`. The sinks are empty and the sources closed."""
+        if self.network.growing.policy == 'all' and not self.ready:
+            d = smallest_waited(self.waits, self.capacities)
+            if self.network.may_grow(d, self.capacities):
+                self.grow(self.network.writers[d], d)
 
     def end(self, p, cause):
         self.history.append(('end', p, cause))
@@ -173,6 +196,7 @@ class Run:
         for c in self.network.ins(p):
             self.retired[c] = True
             self.wake(self.network.writers[c], 'full', c)
+        self.grow_if_settled()
 
     def read(self, p, c):
         if not self.unread[c]:
@@ -306,19 +330,15 @@ class Wrong(Exception):
 
 
 class Audit:
-    """What a history so far says of channels and processes: what was written and how much of it read, how many
-    growths there were, what was closed and left, and the last event of each process."""
+    """What a history so far says of channels and processes: what was written and how much of it read, the capacities
+    that the growths led to, what was closed and left, and the last event of each process."""
 
     def __init__(self, network, quota=MOST_STEPS):
         self.network, self.quota, self.processes = network, quota, network.start()
         self.written = [[] for _ in network.channels]
-        self.read_count, self.growths = [0] * len(network.channels), [0] * len(network.channels)
+        self.read_count, self.capacities = [0] * len(network.channels), list(network.capacities)
         self.closed, self.left = set(), set()
         self.last_event, self.last_of = None, [None] * len(self.processes)
-
-    def capacity(self, c):
-        first = self.network.capacities[c]
-        return None if first is None else first + self.growths[c]
 
     def has_ended(self, p):
         return self.last_of[p] is not None and self.last_of[p][0] == 'end'
@@ -336,7 +356,7 @@ class Audit:
     def is_full(self, c):
         if self.network.kinds[c] == 'source' or not self.reader_lives(c):
             return False
-        return len(self.written[c]) - self.read_count[c] >= self.capacity(c)
+        return len(self.written[c]) - self.read_count[c] >= self.capacities[c]
 
     def blocked(self, p):
         """What p is blocked on: its last event is a wait whose cause still stands."""
@@ -346,19 +366,41 @@ class Audit:
         why, c = last[0].removeprefix('wait-'), last[2]
         return (why, c) if (self.is_empty(c) if why == 'empty' else self.is_full(c)) else None
 
+    def waits(self):
+        return [self.blocked(p) for p in range(len(self.processes))]
+
     def owed(self):
-        """The growth that has to follow, if one has."""
-        if self.last_event is None or self.last_event[0] not in ('wait-empty', 'wait-full'):
+        """The growth that has to follow, if one has: that of the cycle that a wait has closed, or else the one that is
+        owed where all stand still."""
+        if self.last_event is not None and self.last_event[0] in ('wait-empty', 'wait-full'):
+            p = self.last_event[1]
+            d = self.owed_by_cycle(p)
+            if d is not None:
+                return 'grow', p, d
+        d = self.owed_when_settled()
+        return None if d is None else ('grow', self.network.writers[d], d)
+
+    def owed_by_cycle(self, p):
+        """The channel that has to grow where p has just come to wait."""
+        d = smallest_full(self.network, self.waits(), self.capacities, p)
+        return d if self.network.may_grow(d, self.capacities) else None
+
+    def owed_when_settled(self):
+        """The channel that has to grow under `policy all`, unless one of a cycle has to."""
+        if self.network.growing.policy != 'all' or not self.is_settled():
             return None
-        p = self.last_event[1]
-        waits = [self.blocked(q) for q in range(len(self.processes))]
-        capacities = [self.capacity(c) for c in range(len(self.network.channels))]
-        d = smallest_full(self.network, waits, capacities, p)
-        return ('grow', p, d) if d is not None and capacities[d] < self.network.limit else None
+        d = smallest_waited(self.waits(), self.capacities)
+        return d if self.network.may_grow(d, self.capacities) else None
 
     def is_quiet(self):
         states = [(self.has_ended(p), self.blocked(p)) for p in range(len(self.processes))]
         return all(ended or (wait is not None and wait[0] == 'empty') for ended, wait in states)
+
+    def is_settled(self):
+        """Whether nothing happens any more unless the outside feeds, or takes from what it has left."""
+        return (all(self.has_ended(p) or self.blocked(p) for p in range(len(self.processes)))
+                and all(c in self.closed for c in self.network.of_kind('source'))
+                and all(self.is_empty(c) or c in self.left for c in self.network.of_kind('sink')))
 
     def accept(self, event):
         """Goes on by an event. `Wrong` says why there is no going on."""
@@ -366,7 +408,7 @@ class Audit:
         if (owed is not None or word == 'grow') and event != owed:
             raise Wrong('illegal')
         if word == 'grow':
-            self.growths[event[2]] += 1
+            self.capacities[event[2]] = self.network.growing.grown(self.capacities[event[2]])
         elif word in ('feed', 'close', 'take', 'leave'):
             self.accept_of_outside(word, *event[1:])
         else:
@@ -425,7 +467,7 @@ class Audit:
     def text(self):
         lines = ['legal', f'exact {"yes" if self.is_quiet() else "no"}']
         for c, name in enumerate(self.network.channels):
-            capacity = '' if self.network.kinds[c] == 'source' else f' cap {self.capacity(c)}'
+            capacity = '' if self.network.kinds[c] == 'source' else f' cap {self.capacities[c]}'
             lines.append(f'{name}{capacity}:{items_text(self.written[c])}')
         return ''.join(f'{line}\n' for line in lines)
 

@@ -7,6 +7,7 @@ Words: the description's file, n, and NAME=FILE for each source that has items. 
 import pathlib
 import re
 import sys
+import typing
 
 TOKEN = re.compile(r'\s+|#[^\n]*|([A-Za-z_]\w*|\d+|<=|>=|==|!=|&&|\|\||[-(){};,=+*/%<>!])')
 SMALLEST, LARGEST = -2**63, 2**63 - 1
@@ -23,6 +24,18 @@ class Starved(Exception):
 
 class Cut(Exception):
     """A loop has no turns left."""
+
+
+class Growing(typing.NamedTuple):
+    """Which channels grow, by how much, and up to which capacity. Under both policies the smallest full channel of a
+    blocked cycle grows; under `all` also, where all stand still, the smallest on which a process waits as full."""
+    policy: str
+    growth: str
+    limit: int
+
+    def grown(self, capacity):
+        """What a capacity below the limit becomes."""
+        return capacity + 1 if self.growth == 'one' else min(2 * capacity, self.limit)
 
 
 class Parser:
@@ -106,10 +119,7 @@ class Parser:
     def network(self):
         self.next('network')
         self.next('{')
-        channels, instances, limit = {}, {}, LARGEST_CAPACITY
-        if self.took('limit'):
-            limit = int(self.next())
-            self.next(';')
+        growing, channels, instances = self.growing(), {}, {}
         while not self.took('}'):
             word = self.next()
             if word in ('channel', 'sink', 'source'):
@@ -119,7 +129,23 @@ class Parser:
                 self.next('=')
                 instances[word] = self.instance()
             self.next(';')
-        return channels, instances, limit
+        return channels, instances, growing
+
+    def growing(self):
+        limit = LARGEST_CAPACITY
+        if self.took('limit'):
+            limit = int(self.next())
+            self.next(';')
+        return Growing(self.choice('policy', 'cycles', 'all'), self.choice('grow', 'one', 'double'), limit)
+
+    def choice(self, word, *names):
+        """The name behind the word, where that is next; the first of the names goes without saying."""
+        if not self.took(word):
+            return names[0]
+        found = self.next()
+        assert found in names, found
+        self.next(';')
+        return found
 
     def instance(self):
         program = self.next()

@@ -1,7 +1,7 @@
 //! Command lines, run over shelves and devices in memory.
 
-use kpn_answers::shelf::{MemoryShelf, Shelf};
 use kpn_cli::command::command;
+use kpn_cli::{MemoryShelf, Shelf};
 use std::alloc::{AllocError, Global};
 use std::sync::Wait;
 use std::test::Fail;

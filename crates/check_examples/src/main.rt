@@ -14,8 +14,8 @@
 #![tactic(auto)]
 
 use anyhow::Result;
-use kpn_answers::shelf::{FileShelf, Shelf};
 use kpn_cli::command::command;
+use kpn_cli::{FileShelf, Shelf};
 use std::alloc::Global;
 use std::io::Write;
 use std::sync::Wait;

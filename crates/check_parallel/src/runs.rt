@@ -155,7 +155,7 @@ fn runs_as_here<R: Threads + Wait + Clock + Sync, G: Gate>(
 }
 
 #[test]
-fn run_always_refuses(rt: HostRuntime) -> Result<(), Fail> {
+fn refutes_run_always_refuses(rt: HostRuntime) -> Result<(), Fail> {
     let alloc = rt.alloc();
     let items = Sequence::from_vec(vec![in alloc; 1, 2, 3]?);
     let lists = vec![in alloc; items]?;
@@ -291,7 +291,7 @@ fn first_event<R: Threads + Wait + Clock + Sync>(
 
 /// Both processes stand at the gate at once, whichever call is held.
 #[test]
-fn one_worker_steps_everything(rt: HostRuntime) -> Result<(), Fail> {
+fn refutes_one_worker_steps_everything(rt: HostRuntime) -> Result<(), Fail> {
     for process in [None, Some(0), Some(1)] {
         let held = Held { process, until: 1 };
         assert!(rt;

@@ -121,7 +121,7 @@ fn workers_meet<R: Threads + Wait + Clock + Sync>(
 
 /// Both are at work at once, with the lock free while the gate is asked.
 #[test]
-fn one_worker_steps_everything(rt: HostRuntime) -> Result<(), Fail> {
+fn refutes_one_worker_steps_everything(rt: HostRuntime) -> Result<(), Fail> {
     let held = Held {
         process: None,
         until: 1,

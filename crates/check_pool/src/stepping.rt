@@ -75,7 +75,7 @@ fn seen_while_stepping<J: Job + Send + Sync, R: Threads + Wait + Clock + Sync>(
 
 /// A worker makes 100,000,000 steps, and many snapshots are given meanwhile.
 #[test]
-fn holds_the_lock_while_stepping(rt: HostRuntime) -> Result<(), Fail> {
+fn refutes_holds_the_lock_while_stepping(rt: HostRuntime) -> Result<(), Fail> {
     let network = spinning(rt.alloc())?;
     let (held, why) = seen_while_stepping::<Brand, HostRuntime>(
         &rt,

@@ -1,6 +1,7 @@
 //! Item files: inputs that fail, stop or never end, and an output that fails.
 
-use kpn_items::{ItemFault, WriteFault, read_all, read_items, read_up_to, write_items};
+use kpn_items::read_up_to;
+use kpn_text::{ItemFault, WriteFault, read_all, read_items, write_items};
 use std::io;
 use std::io::Read;
 use std::test::Fail;

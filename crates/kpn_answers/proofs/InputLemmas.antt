@@ -7,8 +7,9 @@ use Rattle.kpn_answers.specs.Description.{IsDescribed, IsRefusalOfDescription}
 use Rattle.kpn_answers.specs.Sources.{HasEquals, name_in, file_in, sources_named}
 use Rattle.kpn_answers.specs.SourceRefusals.{IsRefusalOfNames, IsRefusalOfItems}
 use Rattle.kpn_answers.specs.Inputs.{IsRefusalOfInputs}
+use Rattle.kpn_answers.specs.Shelf.{Loads}
 
-module _ (may_give : List ℕ → List ℕ → Type 0) (file : List ℕ) (words : List (List ℕ)) where
+module _ (may_give : Loads) (file : List ℕ) (words : List (List ℕ)) where
   module _ (cut : All HasEquals words) where
     pub description_refused : (refusal : Refusal) → IsRefusalOfDescription may_give file refusal
         → IsRefusalOfInputs may_give file words refusal

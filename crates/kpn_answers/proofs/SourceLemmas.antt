@@ -9,6 +9,7 @@ use Rattle.kpn_answers.specs.declared.refusal.Refusal.{Refusal}
 use Rattle.kpn_answers.specs.declared.refusal.Refusal.TheVariants.{Input}
 use Rattle.kpn_answers.specs.SourceRefusals.{IsRefusalOfFile, IsRefusalOfItems}
 use Rattle.kpn_answers.specs.Sources.{with_source, placed, IsItemFile, AreGiven}
+use Rattle.kpn_answers.specs.Shelf.{Loads}
 
 -- one more list is put in the place of its source
 pub placed-more : (named : List ℕ) (lists given : List (List ℤ)) (source : ℕ) (items : List ℤ)
@@ -48,7 +49,7 @@ module _ {F : Type 0} (source : F → ℕ) (feeds : List F) (n : ℕ) (found : O
       → with_source (map source feeds) found ≡ Ok (map source feeds ++ n ∷ [])
   named_now any = named_if false any
 
-module _ {F : Type 0} (source : F → ℕ) (file : F → List ℕ) (may_give : List ℕ → List ℕ → Type 0) (count : ℕ)
+module _ {F : Type 0} (source : F → ℕ) (file : F → List ℕ) (may_give : Loads) (count : ℕ)
     (feeds : List F) (i : ℕ) (d : F) (given : List (List ℤ)) (below : i < length feeds)
     (before : AreGiven may_give count (map source (take i feeds)) (map file (take i feeds)) given) where
   -- one more file is read, and its items are put in the place of their source

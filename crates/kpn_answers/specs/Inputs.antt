@@ -2,7 +2,6 @@
 use Rattle.std.specs.Prelude.{◌≡◌, ◌⊎◌, ℕ, ℤ, List, All, map, Ok, Err, ⊤}
 use Rattle.std.specs.List.{Any}
 use Rattle.kpn_items.specs.declared.fault.ItemFault.{ItemFault}
-use Rattle.kpn_items.specs.Input.{NamesNoLine}
 use Rattle.kpn_net.specs.Iteration.{sources}
 use Rattle.kpn_text.specs.Document.{Document}
 use Rattle.kpn_answers.specs.declared.refusal.Refusal.{Refusal}
@@ -10,10 +9,11 @@ use Rattle.kpn_answers.specs.declared.refusal.Refusal.TheVariants.{SourceWord, I
 use Rattle.kpn_answers.specs.declared.sources.SourceFault.{SourceFault}
 use Rattle.kpn_answers.specs.Description.{IsDescribed, IsRefused}
 use Rattle.kpn_answers.specs.Sources.{HasEquals, LacksEquals, name_in, file_in, sources_named, AreGiven, IsFaultOfItems}
+use Rattle.kpn_answers.specs.Shelf.{Loads, IsRefusalOfLoad}
 
 -- the file may give bytes that spell this document, and each of its sources has the items of the file that one of the
 -- words gives it, and else none
-pub record AreInputs (may_give : List ℕ → List ℕ → Type 0) (file : List ℕ) (words : List (List ℕ)) (d : Document)
+pub record AreInputs (may_give : Loads) (file : List ℕ) (words : List (List ℕ)) (d : Document)
     (given : List (List ℤ)) : Type 0 where
   pub cut : All HasEquals words
   pub described : IsDescribed may_give file d
@@ -22,14 +22,14 @@ pub record AreInputs (may_give : List ℕ → List ℕ → Type 0) (file : List 
   pub are_given : AreGiven may_give (sources d.tables) named (map file_in words) given
 
 -- a document was read, and then a name in these words was refused
-pub record AreRefusedNames (may_give : List ℕ → List ℕ → Type 0) (file : List ℕ) (words : List (List ℕ))
+pub record AreRefusedNames (may_give : Loads) (file : List ℕ) (words : List (List ℕ))
     (fault : SourceFault) : Type 0 where
   pub document : Document
   pub described : IsDescribed may_give file document
   pub refused : sources_named document (map name_in words) ≡ Err fault
 
 -- a document was read, all names were taken, and then a file of items was refused
-pub record AreRefusedItems (may_give : List ℕ → List ℕ → Type 0) (file : List ℕ) (words : List (List ℕ))
+pub record AreRefusedItems (may_give : Loads) (file : List ℕ) (words : List (List ℕ))
     (fault : ItemFault) : Type 0 where
   pub document : Document
   pub described : IsDescribed may_give file document
@@ -38,13 +38,13 @@ pub record AreRefusedItems (may_give : List ℕ → List ℕ → Type 0) (file :
   pub refused : IsFaultOfItems may_give (map file_in words) fault
 
 -- why there is nothing to run: the words are looked at first, then the description, then the names, then the files
-abbrev pub IsRefusalOfInputs : (may_give : List ℕ → List ℕ → Type 0) (file : List ℕ) (words : List (List ℕ)) → Refusal
+abbrev pub IsRefusalOfInputs : (may_give : Loads) (file : List ℕ) (words : List (List ℕ)) → Refusal
     → Type 0
 IsRefusalOfInputs may_give file words SourceWord = Any LacksEquals words
 IsRefusalOfInputs may_give file words (Description fault) = All HasEquals words × IsRefused may_give file fault
 IsRefusalOfInputs may_give file words (Sources fault) =
     All HasEquals words × AreRefusedNames may_give file words fault
 IsRefusalOfInputs may_give file words (Input fault) =
-    All HasEquals words × (NamesNoLine fault ⊎ AreRefusedItems may_give file words fault)
+    All HasEquals words × (IsRefusalOfLoad may_give file fault ⊎ AreRefusedItems may_give file words fault)
 IsRefusalOfInputs may_give file words NoMemory = ⊤
 IsRefusalOfInputs may_give file words other = ⊥

@@ -5,6 +5,7 @@ use Rattle.kpn_text.specs.Document.{Document}
 use Rattle.kpn_answers.specs.declared.refusal.Refusal.{Refusal}
 use Rattle.kpn_answers.specs.declared.refusal.Refusal.TheVariants.{SourceWord, Input, Sources, NoMemory}
 use Rattle.kpn_answers.specs.Sources.{LacksEquals, sources_named, IsFaultOfFile, IsFaultOfItems}
+use Rattle.kpn_answers.specs.Shelf.{Loads}
 
 -- a word has no `=`
 abbrev pub IsRefusalOfWords : (words : List (List ℕ)) → Refusal → Type 0
@@ -19,12 +20,12 @@ IsRefusalOfNames d names NoMemory = ⊤
 IsRefusalOfNames d names other = ⊥
 
 -- a file gives no items
-abbrev pub IsRefusalOfFile : (may_give : List ℕ → List ℕ → Type 0) (file : List ℕ) → Refusal → Type 0
+abbrev pub IsRefusalOfFile : (may_give : Loads) (file : List ℕ) → Refusal → Type 0
 IsRefusalOfFile may_give file (Input fault) = IsFaultOfFile may_give file fault
 IsRefusalOfFile may_give file other = ⊥
 
 -- one of these files gives no items, and those before it do
-abbrev pub IsRefusalOfItems : (may_give : List ℕ → List ℕ → Type 0) (files : List (List ℕ)) → Refusal → Type 0
+abbrev pub IsRefusalOfItems : (may_give : Loads) (files : List (List ℕ)) → Refusal → Type 0
 IsRefusalOfItems may_give files (Input fault) = IsFaultOfItems may_give files fault
 IsRefusalOfItems may_give files NoMemory = ⊤
 IsRefusalOfItems may_give files other = ⊥

@@ -5,14 +5,13 @@ use Rattle.std.specs.Str.{bytes_eq}
 use Rattle.kpn_net.specs.declared.tables.ChannelSpec.{ChannelSpec}
 use Rattle.kpn_net.specs.Tables.{is_source}
 use Rattle.kpn_items.specs.declared.fault.ItemFault.{ItemFault}
-use Rattle.kpn_items.specs.Input.{NamesNoLine}
 use Rattle.kpn_items.specs.ItemFile.{Spells, TellsFirstBadLine}
 use Rattle.kpn_tokens.specs.Results.{and_then}
 use Rattle.kpn_names.specs.Names.{name_at}
 use Rattle.kpn_text.specs.Document.{Document}
 use Rattle.kpn_answers.specs.declared.sources.SourceFault.{SourceFault}
 use Rattle.kpn_answers.specs.declared.sources.SourceFault.TheVariants.{Unknown, Double}
-use Rattle.kpn_answers.specs.Shelf.{IsLoadedAs}
+use Rattle.kpn_answers.specs.Shelf.{Loads, IsRefusalOfLoad, IsLoadedAs}
 
 -- a word has an `=` (byte 61), or has none
 abbrev pub HasEquals : (word : List ℕ) → Type 0
@@ -69,11 +68,11 @@ placed (source ∷ named) [] given = given
 placed (source ∷ named) (items ∷ lists) given = placed named lists (slice_set given source items)
 
 -- a file may give bytes that spell these items
-abbrev pub IsItemFile : (may_give : List ℕ → List ℕ → Type 0) (file : List ℕ) → List ℤ → Type 0
+abbrev pub IsItemFile : (may_give : Loads) (file : List ℕ) → List ℤ → Type 0
 IsItemFile may_give file items = IsLoadedAs Spells may_give file items
 
 -- a list for each source of a network: for those that are named the items of their files, and else the empty list
-pub record AreGiven (may_give : List ℕ → List ℕ → Type 0) (sources : ℕ) (named : List ℕ) (files : List (List ℕ))
+pub record AreGiven (may_give : Loads) (sources : ℕ) (named : List ℕ) (files : List (List ℕ))
     (given : List (List ℤ)) : Type 0 where
   pub lists : List (List ℤ)
   pub read : AllZip (IsItemFile may_give) files lists
@@ -81,12 +80,13 @@ pub record AreGiven (may_give : List ℕ → List ℕ → Type 0) (sources : ℕ
 
 -- ---- files that give no items
 
--- a file can't be read, or has a line that spells no item
-abbrev pub IsFaultOfFile : (may_give : List ℕ → List ℕ → Type 0) (file : List ℕ) → ItemFault → Type 0
-IsFaultOfFile may_give file fault = NamesNoLine fault ⊎ IsLoadedAs TellsFirstBadLine may_give file fault
+-- a file is not loaded, or has a line that spells no item
+abbrev pub IsFaultOfFile : (may_give : Loads) (file : List ℕ) → ItemFault → Type 0
+IsFaultOfFile may_give file fault =
+    IsRefusalOfLoad may_give file fault ⊎ IsLoadedAs TellsFirstBadLine may_give file fault
 
 -- of these files, those before one spell items, and that one does not
-pub record IsFaultOfItems (may_give : List ℕ → List ℕ → Type 0) (files : List (List ℕ)) (fault : ItemFault) : Type 0
+pub record IsFaultOfItems (may_give : Loads) (files : List (List ℕ)) (fault : ItemFault) : Type 0
   where
     pub before : List (List ℕ)
     pub file : List ℕ

@@ -1,11 +1,11 @@
 -- What holds once an event was made, and once a process was stepped.
-use Rattle.std.proofs.Common.{◌≡◌, ℕ, ◌+◌, ◌<◌, Bool, true, false, cond, eqb, ℤ, List, [], ◌∷◌, ◌++◌, length, None, SFits, w64, to_z, of_z, refl, sym, ap, ◌∙◌, subst}
+use Rattle.std.proofs.Common.{◌≡◌, ◌≢◌, ℕ, ◌+◌, ◌<◌, Bool, true, false, cond, eqb, ℤ, List, [], ◌∷◌, ◌++◌, length, None, SFits, w64, to_z, of_z, refl, sym, ap, ◌∙◌, subst}
 use Rattle.std.proofs.lemmas.Bool.{eqb-true, eq-eqb, both_ways, false≢true}
 use Rattle.std.proofs.lemmas.Int.{to_z-of_z}
 use Rattle.kpn_net.specs.Tables.{Tables, program_of}
 use Rattle.kpn_step.specs.declared.stop.Stop.{Stop}
 use Rattle.kpn_step.specs.Frame.{Frame}
-use Rattle.kpn_step.specs.Step.{Steps}
+use Rattle.kpn_step.specs.Step.{Goes, step_of, Steps}
 use Rattle.kpn_step.proofs.StepCases.{Steps-append}
 use Rattle.kpn_chan.specs.Channel.{ChannelState}
 use Rattle.kpn_trace.specs.declared.event.Event.{Event}
@@ -57,10 +57,15 @@ goes_made t before after p stop at e own frames q below =
           record {
             steps = 0;
             there = frame_in before q;
-            reached = refl;
-            stop = stop;
-            stands = subst (λ x. Stands t before x stop) (sym is) at.stands;
-            is_no_pause = at.is_no_pause;
+            comes = record {
+              reached = refl;
+              stop = stop;
+              stands = subst (λ x. Stands t before x stop) (sym is) at.stands;
+              is_no_pause = at.is_no_pause;
+              ends =
+                  subst (λ x. (next : Frame) → step_of (program_of t x).blocks (frame_in before x) ≢ Goes next)
+                  (sym is) at.ends;
+            };
             passes = frames q below;
           };
       other = λ differs. kept t e q (frame_in before q) (frame_in after q) differs (frames q below);
@@ -118,15 +123,18 @@ module _ (t : Tables) (H : List Event) (e : Event) (p : ℕ) (own : is_of p e �
             record {
               steps = moved.steps + makes.steps;
               there = makes.there;
-              reached =
-                  Steps-append (program_of t q).blocks moved.steps makes.steps (frame_in before q)
-                  (frame_in middle q) makes.there
-                  (subst (λ x. Steps (program_of t x).blocks moved.steps (frame_in before x) (frame_in middle x))
-                  (sym is) moved.reached)
-                  makes.reached;
-              stop = makes.stop;
-              stands = makes.stands;
-              is_no_pause = makes.is_no_pause;
+              comes = record {
+                reached =
+                    Steps-append (program_of t q).blocks moved.steps makes.steps (frame_in before q)
+                    (frame_in middle q) makes.there
+                    (subst (λ x. Steps (program_of t x).blocks moved.steps (frame_in before x) (frame_in middle x))
+                    (sym is) moved.reached)
+                    makes.comes.reached;
+                stop = makes.comes.stop;
+                stands = makes.comes.stands;
+                is_no_pause = makes.comes.is_no_pause;
+                ends = makes.comes.ends;
+              };
               passes = makes.passes;
             };
         other = λ differs.

@@ -1,3 +1,5 @@
+pub mod InTime
+pub mod OneFinding
 pub mod Refused
 pub mod Followed
 pub mod Summed

@@ -1,20 +1,27 @@
 -- A list of events, one after another.
-use Rattle.std.proofs.Common.{◌≡◌, ℕ, zero, suc, ◌+◌, ◌<◌, List, [], ◌∷◌, ◌++◌, length, take, get_or, Option, Some, slice_get, refl, sym, ap, ◌∙◌, subst, add-one, suc-add, arith}
+use Rattle.std.proofs.Common.{◌≡◌, ◌≢◌, inl, inr, Result, Ok, ℕ, zero, suc, ◌+◌, ◌<◌, true, List, [], ◌∷◌, ◌++◌, length, take, get_or, Option, Some, None, slice_get, refl, sym, ap, ◌∙◌, subst, add-one, suc-add, arith}
+use Rattle.std.proofs.lemmas.Bool.{cases_order, eqb-true, both_ways, false≢true}
 use Rattle.kpn_lang.specs.Prefix.{IsPrefix}
 use Rattle.kpn_net.specs.Tables.{Tables, instance_at, program_of}
 use Rattle.kpn_net.specs.Faults.{IsNetwork}
 use Rattle.kpn_step.specs.Frame.{Frame, start_frame}
 use Rattle.kpn_trace.specs.declared.event.Event.{Event}
-use Rattle.kpn_trace.specs.Legal.{Legal}
+use Rattle.kpn_trace.specs.declared.event.Event.TheVariants.{Get, Put, WaitEmpty, WaitFull, Ended}
+use Rattle.kpn_trace.specs.declared.event.How.{How}
+use Rattle.kpn_trace.specs.Talks.{is_of}
+use Rattle.kpn_trace.specs.Legal.{HasNumbers, CanGo, Legal}
 use Rattle.kpn_trace.specs.Stops.{OwesNothing}
+use Rattle.kpn_trace.proofs.EndsOnce.{ended_exactly}
 use Rattle.kpn_trace.proofs.Legality.{Legal-prefix}
-use Rattle.kpn_configuration.specs.Configuration.{Configuration, frame_in}
-use Rattle.kpn_configuration.specs.Run.{IsRun}
+use Rattle.kpn_configuration.specs.Configuration.{Configuration, end_in, frame_in, IsFree}
+use Rattle.kpn_configuration.specs.Run.{IsEndOf, IsRun}
 use Rattle.kpn_configuration.proofs.Due.{may_go}
 use Rattle.kpn_audit.specs.declared.judged.Growth.{Growth}
+use Rattle.kpn_audit.specs.declared.judged.Judged.{Judged}
+use Rattle.kpn_audit.specs.declared.judged.Judged.TheVariants.{Follows, Illegal, Budget}
 use Rattle.kpn_audit.specs.Place.{GoesBy, ComesBy, IsPlaceAfter}
-use Rattle.kpn_audit.specs.Judged.{Owes, IsFollowed, IsUnreached}
-use Rattle.kpn_audit.specs.Audit.{IsIllegalAt, IsBudgetAt}
+use Rattle.kpn_audit.specs.Judged.{Owes, IsInTime, IsFollowed, IsUnreached}
+use Rattle.kpn_audit.specs.Audit.{IsWithinSteps, AreWithinSteps, IsIllegalAt, IsBudgetAt}
 
 -- the events before one, and it
 pub one_event_more : (H : List Event) (k : ℕ) (e d : Event) → k < length H → e ≡ get_or H k d
@@ -93,6 +100,73 @@ budget_at t network H quota k e d s run places below is found =
         between = found.1.between;
       };
     }
+
+-- ---- within the steps
+
+-- a process that can go is free
+free_there : (t : Tables) (H : List Event) (s : Configuration) → IsRun t H s → (p : ℕ) → p < length t.instances
+    → CanGo t H p → IsFree s p
+free_there t H s run p there go =
+    record { lives = unended (end_in s p) (run.leads.ends p there); free = run.leads.waits p there ∙ go.free }
+  where
+    unended : (end : Option How) → IsEndOf H p end → end ≡ None
+    unended None h = refl
+    unended (Some how) h = absurd (both_ways _ go.lives ((ended_exactly H p).1 (how, h)))
+
+-- the process of an event is one of the network
+process_there : (t : Tables) (e : Event) (p : ℕ) → is_of p e ≡ true → HasNumbers t e → p < length t.instances
+process_there t (Get q c v) p own numbers = subst (λ x. x < length t.instances) (eqb-true q p own) numbers.0
+process_there t (Put q c v) p own numbers = subst (λ x. x < length t.instances) (eqb-true q p own) numbers.0
+process_there t (WaitEmpty q c) p own numbers = subst (λ x. x < length t.instances) (eqb-true q p own) numbers.0
+process_there t (WaitFull q c) p own numbers = subst (λ x. x < length t.instances) (eqb-true q p own) numbers.0
+process_there t (Ended q how) p own numbers = subst (λ x. x < length t.instances) (eqb-true q p own) numbers
+process_there t e p own numbers = absurd (false≢true own)
+
+-- what owes nothing has no growth beside it
+nothing_kept : (t : Tables) (H : List Event) (s : Configuration) (owed : Option Growth) → Owes t H s owed
+    → OwesNothing t H → owed ≡ None
+nothing_kept t H s None owes nothing = refl
+nothing_kept t H s (Some growth) owes nothing = absurd (nothing growth.process growth.channel owes.owed)
+
+same_event : (o : Option Event) (e f : Event) → o ≡ Some e → o ≡ Some f → e ≡ f
+same_event o e f a b = let g : ◌≡◌ {A = Option Event} (Some e) (Some f) = sym a ∙ b in cc
+
+-- the event that was judged in time is within its steps
+within_at : (t : Tables) (H : List Event) (quota k : ℕ) (e d : Event) (s : Configuration) (owed : Option Growth)
+    → IsRun t (take k H) s → Owes t (take k H) s owed → ArePlaces t (take k H) s → k < length H → e ≡ get_or H k d
+    → (owed ≡ None → IsInTime t s quota e) → IsWithinSteps t H quota k
+within_at t H quota k e d s owed run owes places below is in_time event p at own numbers nothing go =
+    let same = same_event (slice_get H k) event e at (event_at H k e d below is) in
+    let there = process_there t event p own numbers in
+    record {
+      place = frame_in s p;
+      is_place = places p there;
+      stops =
+          in_time (nothing_kept t (take k H) s owed owes nothing) p (subst (λ x. is_of p x ≡ true) same own)
+          (subst (λ x. HasNumbers t x) same numbers) (free_there t (take k H) s run p there go);
+    }
+
+pub none_within : (t : Tables) (H : List Event) (quota : ℕ) → AreWithinSteps t H quota 0
+none_within t H quota k below = absurd (omega (arith, below))
+
+pub within_more : (t : Tables) (H : List Event) (quota k : ℕ) (e d : Event) (s : Configuration) (owed : Option Growth)
+    → IsRun t (take k H) s → Owes t (take k H) s owed → ArePlaces t (take k H) s → k < length H → e ≡ get_or H k d
+    → (owed ≡ None → IsInTime t s quota e) → AreWithinSteps t H quota k → AreWithinSteps t H quota (suc k)
+within_more t H quota k e d s owed run owes places below is in_time within j less =
+    elim (cases_order j k) [
+      | inl same ↦ subst (λ n. IsWithinSteps t H quota n) (sym same)
+          (within_at t H quota k e d s owed run owes places below is in_time)
+      | inr (inl earlier) ↦ within j earlier
+      | inr (inr later) ↦ absurd (omega (arith, less, later))
+    ]
+
+-- what follows or is illegal is not out of steps
+pub follows_in_time : {E : Type 0} (j : Judged) (owed : Option Growth) → j ≡ Follows owed
+    → ◌≢◌ {A = Result Judged E} (Ok j) (Ok Budget)
+follows_in_time j owed is e = absurd cc
+
+pub illegal_in_time : {E : Type 0} (j : Judged) → j ≡ Illegal → ◌≢◌ {A = Result Judged E} (Ok j) (Ok Budget)
+illegal_in_time j is e = absurd cc
 
 -- a legal list has no event that is illegal
 prefix_of : (H : List Event) (n : ℕ) → IsPrefix (take n H) H

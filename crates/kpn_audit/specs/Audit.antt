@@ -14,7 +14,7 @@ use Rattle.kpn_trace.specs.Ends.{IsQuiet}
 use Rattle.kpn_trace.specs.Legal.{HasNumbers, CanGo, Legal}
 use Rattle.kpn_trace.specs.Stops.{OwesNothing}
 use Rattle.kpn_configuration.specs.Run.{StandsAfter}
-use Rattle.kpn_audit.specs.Place.{IsPlaceAfter}
+use Rattle.kpn_audit.specs.Place.{IsPlaceAfter, StopsWithin}
 use Rattle.kpn_audit.specs.declared.findings.Audit.{Audit}
 use Rattle.kpn_audit.specs.declared.findings.AuditFault.{AuditFault}
 use Rattle.kpn_audit.specs.declared.findings.AuditFault.TheVariants.{Illegal, NoMemory, Budget}
@@ -60,8 +60,26 @@ pub record IsBudgetAt (t : Tables) (H : List Event) (quota k : ℕ) : Type 0 whe
   pub nothing_owed : OwesNothing t (take k H)
   pub out_of_steps : IsOutOfSteps t (take k H) event quota
 
--- what each fault says
+-- process p comes to its next stop after a history within the steps that it is allowed
+pub record ComesInTime (t : Tables) (H : List Event) (quota p : ℕ) : Type 0 where
+  pub place : Frame
+  pub is_place : IsPlaceAfter t H p place
+  pub stops : StopsWithin (program_of t p).blocks quota place
+
+-- event k needs no more steps than are allowed: where it is judged by where its process stops, that process comes
+-- there in time. Else it needs none: it is of no process, its numbers are not there, a growth is owed before it, or its
+-- process has ended or is blocked
+abbrev pub IsWithinSteps : Tables → List Event → (quota k : ℕ) → Type 0
+IsWithinSteps t H quota k =
+    (event : Event) (p : ℕ) → slice_get H k ≡ Some event → is_of p event ≡ true → HasNumbers t event
+    → OwesNothing t (take k H) → CanGo t (take k H) p → ComesInTime t (take k H) quota p
+
+-- the same of each of the first n events
+abbrev pub AreWithinSteps : Tables → List Event → (quota n : ℕ) → Type 0
+AreWithinSteps t H quota n = (k : ℕ) → k < n → IsWithinSteps t H quota k
+
+-- what each fault says. No event before k is out of steps, and an illegal one is not either
 abbrev pub IsFault : Tables → List Event → (quota : ℕ) → AuditFault → Type 0
-IsFault t H quota (Illegal k) = IsIllegalAt t H k
+IsFault t H quota (Illegal k) = IsIllegalAt t H k × AreWithinSteps t H quota (suc k)
 IsFault t H quota NoMemory = Unit {0}
-IsFault t H quota (Budget k) = IsBudgetAt t H quota k
+IsFault t H quota (Budget k) = IsBudgetAt t H quota k × AreWithinSteps t H quota k

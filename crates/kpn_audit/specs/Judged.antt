@@ -4,7 +4,7 @@ use Rattle.kpn_net.specs.Tables.{Tables, program_of}
 use Rattle.kpn_step.specs.declared.stop.Stop.{Stop}
 use Rattle.kpn_step.specs.declared.stop.Stop.TheVariants.{WantRead, WantWrite, Paused}
 use Rattle.kpn_step.specs.Frame.{Frame}
-use Rattle.kpn_step.specs.Step.{step_of, Steps}
+use Rattle.kpn_step.specs.Step.{Goes, step_of, Steps}
 use Rattle.kpn_step.specs.Stops.{IsBetween}
 use Rattle.kpn_trace.specs.declared.event.Event.{Event}
 use Rattle.kpn_trace.specs.Talks.{is_of}
@@ -18,7 +18,7 @@ use Rattle.kpn_configuration.specs.Run.{IsRun}
 use Rattle.kpn_audit.specs.declared.judged.Growth.{Growth}
 use Rattle.kpn_audit.specs.declared.judged.Judged.{Judged}
 use Rattle.kpn_audit.specs.declared.judged.Judged.TheVariants.{Follows, Illegal, Budget}
-use Rattle.kpn_audit.specs.Place.{GoesBy}
+use Rattle.kpn_audit.specs.Place.{StopsWithin, GoesBy}
 
 -- the stop is a read at a port where this channel is
 abbrev pub IsReadFrom : (ports : List ℕ) → (c : ℕ) → Stop → Type 0
@@ -28,12 +28,13 @@ IsReadFrom ports c stop = (port : ℕ) × IsChannelAt ports port c × (stop ≡ 
 abbrev pub IsWriteOf : (ports : List ℕ) → (c : ℕ) → (v : ℤ) → Stop → Type 0
 IsWriteOf ports c v stop = (port : ℕ) × IsChannelAt ports port c × (stop ≡ WantWrite port v)
 
--- a free process stands at this stop, which is no pause
+-- a free process stands at this stop, which is no pause, and where it can make no step
 pub record StandsFree (t : Tables) (s : Configuration) (p : ℕ) (stop : Stop) : Type 0 where
   pub there : p < length t.instances
   pub free : IsFree s p
   pub stands : Stands t s p stop
   pub is_no_pause : stop ≢ Paused
+  pub ends : (next : Frame) → step_of (program_of t p).blocks (frame_in s p) ≢ Goes next
 
 -- a growth that is owed after a history, by the history and by the configuration
 pub record IsOwing (t : Tables) (H : List Event) (s : Configuration) (growth : Growth) : Type 0 where
@@ -74,6 +75,14 @@ pub record IsMoved (t : Tables) (p : ℕ) (before after : Configuration) : Type 
   pub steps : ℕ
   pub reached : Steps (program_of t p).blocks steps (frame_in before p) (frame_in after p)
   pub others : (q : ℕ) → q ≢ p → frame_in after q ≡ frame_in before q
+
+-- a process that is free comes to its next stop within the steps that it is allowed
+abbrev pub StopsInTime : Tables → Configuration → (quota p : ℕ) → Type 0
+StopsInTime t s quota p = IsFree s p → StopsWithin (program_of t p).blocks quota (frame_in s p)
+
+-- so does the process of an event, if it is one of a process and has its numbers
+abbrev pub IsInTime : Tables → Configuration → (quota : ℕ) → Event → Type 0
+IsInTime t s quota event = (p : ℕ) → is_of p event ≡ true → HasNumbers t event → StopsInTime t s quota p
 
 -- the process of an event is free, and so many steps from where it stands it is between two of them
 pub record IsUnreached (t : Tables) (before : Configuration) (event : Event) (quota : ℕ) : Type 0 where

@@ -1,8 +1,8 @@
 //! The auditor.
-ghost use Rattle.std.specs.Prelude.{◌≡◌, ◌⊎◌, ℕ, true, IfOk, IfErr};
+ghost use Rattle.std.specs.Prelude.{◌≡◌, ◌⊎◌, ℕ, true, length, IfOk, IfErr};
 ghost use Rattle.kpn_trace.specs.Legal.{Legal};
 ghost use Rattle.kpn_configuration.specs.Run.{IsRun};
-ghost use Rattle.kpn_audit.specs.Audit.{IsAudit, AreLeast, IsFault};
+ghost use Rattle.kpn_audit.specs.Audit.{IsAudit, AreLeast, AreWithinSteps, IsFault};
 
 use crate::findings::{Audit, AuditFault};
 use crate::judged::Judged;
@@ -30,6 +30,8 @@ pub fn audit<A: Allocator + Copy>(
     ensures legal { IfOk result (λ audit. IsAudit network.now events.now audit) }
     ensures least { IfOk result (λ audit.
         audit.exact ≡ true → AreLeast network.now events.now audit) }
+    ensures within { IfOk result (λ audit.
+        AreWithinSteps network.now events.now quota (length events.now)) }
     ensures refused { IfErr result (λ fault. IsFault network.now events.now quota fault) }
     ensures accepted { Legal network.now events.now → IfErr result (λ fault.
         (fault ≡ AuditFault.NoMemory) ⊎ ((k : ℕ) × (fault ≡ AuditFault.Budget k))) }
@@ -47,6 +49,8 @@ fn replay<A: Allocator + Copy>(
     quota: u64,
 ) -> Result<Configuration<A>, AuditFault>
     ensures run { IfOk result (λ made. IsRun network.now events.now made) }
+    ensures within { IfOk result (λ made.
+        AreWithinSteps network.now events.now quota (length events.now)) }
     ensures refused { IfErr result (λ fault. IsFault network.now events.now quota fault) }
 {
     network.known();

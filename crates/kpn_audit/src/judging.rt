@@ -1,6 +1,6 @@
 //! One event judged: first what can be judged before any step, then, once its process has come to a stop, whether it
 //! is due there.
-ghost use Rattle.std.specs.Prelude.{◌≡◌, ◌↔◌, ◌<◌, ℕ, true, false, List, length, IsTrue, IfOk, IfSome, IfNone, Some};
+ghost use Rattle.std.specs.Prelude.{◌≡◌, ◌≢◌, ◌↔◌, ◌<◌, ℕ, true, false, List, length, IsTrue, IfOk, IfSome, IfNone, Some, None, Ok};
 ghost use Rattle.kpn_trace.specs.declared.event.Event.{Event};
 ghost use Rattle.kpn_trace.specs.Talks.{is_of, is_of_process};
 ghost use Rattle.kpn_trace.specs.Legal.{HasNumbers};
@@ -8,7 +8,8 @@ ghost use Rattle.kpn_trace.specs.Stops.{OwesNothing};
 ghost use Rattle.kpn_configuration.specs.Configuration.{IsConfiguration};
 ghost use Rattle.kpn_configuration.specs.Owed.{IsOwed};
 ghost use Rattle.kpn_configuration.specs.Run.{IsRun};
-ghost use Rattle.kpn_audit.specs.Judged.{StandsFree, Owes, IsFound, IsJudged};
+ghost use Rattle.kpn_audit.specs.declared.judged.Judged.TheVariants.{Budget};
+ghost use Rattle.kpn_audit.specs.Judged.{StandsFree, Owes, IsFound, IsJudged, StopsInTime, IsInTime};
 
 use crate::growth::judge_owed;
 use crate::judged::{Growth, Judged};
@@ -102,6 +103,7 @@ fn judge_process<A: Allocator + Copy>(
     requires numbers { HasNumbers network.now event }
     requires own { is_of p event ≡ true }
     ensures shape { IsConfiguration network.now configuration.new }
+    ensures in_time { result ≢ Ok Budget → StopsInTime network.now configuration.old quota p }
     ensures judged { (H : List Event) → IsRun network.now H configuration.old
         → OwesNothing network.now H
         → IfOk result
@@ -145,6 +147,7 @@ fn judge_next<A: Allocator + Copy>(
 ) -> Result<Judged, AllocError>
     requires shape { IsConfiguration network.now configuration.old }
     ensures shape { IsConfiguration network.now configuration.new }
+    ensures in_time { result ≢ Ok Budget → IsInTime network.now configuration.old quota event }
     ensures judged { (H : List Event) → IsRun network.now H configuration.old
         → OwesNothing network.now H
         → IfOk result
@@ -173,6 +176,8 @@ pub(crate) fn judge<A: Allocator + Copy>(
         → (growth.process < length network.now.instances)
         × IsOwed network.now configuration.old growth.process growth.channel }
     ensures shape { IsConfiguration network.now configuration.new }
+    ensures in_time { owed ≡ None → result ≢ Ok Budget
+        → IsInTime network.now configuration.old quota event }
     ensures judged { (H : List Event) → IsRun network.now H configuration.old
         → Owes network.now H configuration.old owed
         → IfOk result

@@ -7,6 +7,7 @@ mod findings;
 mod growth;
 mod judged;
 mod judging;
+pub mod laws;
 mod outside;
 mod ports;
 mod processes;

@@ -1,7 +1,8 @@
 //! A process stepped to its next stop.
 ghost use Rattle.std.specs.Prelude.{◌≡◌, ◌≤◌, ◌+◌, ◌↔◌, ◌≢◌, ◌<◌, ℕ, true, List, length, IsTrue, IfOk, IfErr, Result, Ok, Err};
 ghost use Rattle.kpn_net.specs.Tables.{program_of};
-ghost use Rattle.kpn_step.specs.Step.{Steps};
+ghost use Rattle.kpn_step.specs.Frame.{Frame};
+ghost use Rattle.kpn_step.specs.Step.{Goes, step_of, Steps};
 ghost use Rattle.kpn_step.specs.declared.stop.Stop.TheVariants.{Paused};
 ghost use Rattle.kpn_trace.specs.declared.event.Event.{Event};
 ghost use Rattle.kpn_trace.specs.Talks.{is_of};
@@ -10,7 +11,9 @@ ghost use Rattle.kpn_trace.specs.Stops.{OwesNothing};
 ghost use Rattle.kpn_configuration.specs.Configuration.{frame_in, IsConfiguration, IsFree};
 ghost use Rattle.kpn_configuration.specs.Run.{IsRun};
 ghost use Rattle.kpn_configuration.specs.Due.{Stands};
-ghost use Rattle.kpn_audit.specs.Judged.{StandsFree, IsMoved, IsJudged};
+ghost use Rattle.kpn_audit.specs.declared.judged.Judged.TheVariants.{Budget};
+ghost use Rattle.kpn_audit.specs.Place.{StopsWithin};
+ghost use Rattle.kpn_audit.specs.Judged.{StandsFree, StopsInTime, IsMoved, IsJudged};
 
 use crate::judged::Judged;
 use kpn_configuration::Configuration;
@@ -53,6 +56,10 @@ fn step_on<A: Allocator>(
     ensures moved { IsMoved network.now p configuration.old configuration.new }
     ensures paused { result ≡ Paused → Steps (program_of network.now p).blocks quota
         (frame_in configuration.old p) (frame_in configuration.new p) }
+    ensures ends { result ≢ Paused → (next : Frame)
+        → step_of (program_of network.now p).blocks (frame_in configuration.new p) ≢ Goes next }
+    ensures in_time { result ≢ Paused
+        → StopsWithin (program_of network.now p).blocks quota (frame_in configuration.old p) }
 {
     let mut remaining = quota;
     'steps: loop {
@@ -79,6 +86,7 @@ pub(crate) fn come_to_stop<A: Allocator>(
     ensures stopped { IfOk result (λ stop. StandsFree network.now configuration.new p stop) }
     ensures run { (H : List Event) → IsRun network.now H configuration.old
         → IsRun network.now H configuration.new }
+    ensures in_time { result ≢ Err Budget → StopsInTime network.now configuration.old quota p }
     ensures judged { (H : List Event) → IsRun network.now H configuration.old
         → OwesNothing network.now H → (event : Event) → is_of p event ≡ true
         → HasNumbers network.now event

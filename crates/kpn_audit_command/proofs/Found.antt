@@ -6,7 +6,8 @@ use Rattle.kpn_trace.specs.declared.event.Event.{Event}
 use Rattle.kpn_trace.specs.Channels.{written_on}
 use Rattle.std.specs.declared.alloc.Global.{Global}
 use Rattle.kpn_audit.specs.declared.findings.Audit.{Audit}
-use Rattle.kpn_audit.specs.Audit.{IsAudit, AreLeast, IsIllegalAt, IsBudgetAt}
+use Rattle.kpn_audit.specs.declared.findings.AuditFault.TheVariants.{Illegal, Budget}
+use Rattle.kpn_audit.specs.Audit.{IsAudit, AreLeast, AreWithinSteps, IsFault}
 use Rattle.kpn_audit_command.specs.AuditText.{audit_text, finding_line}
 use Rattle.kpn_audit_command.specs.Answers.{IsConclusion, legal, illegal, budget}
 
@@ -21,15 +22,17 @@ journals_within t own H audit same is =
 
 module _ (t own : Tables) (same : own ≡ t) (names : List (List ℕ)) (H : List Event) (steps : ℕ) (text : List ℕ) where
   pub concludes_legal : (audit : Audit Global) → IsAudit own H audit → (audit.exact ≡ true → AreLeast own H audit)
+      → AreWithinSteps own H steps (length H)
       → text ≡ audit_text names audit → IsConclusion t names H steps text 0
-  concludes_legal audit is least made =
+  concludes_legal audit is least within made =
       legal audit (subst (λ n. IsAudit n H audit) same is)
-      (λ exact. subst (λ n. AreLeast n H audit) same (least exact)) made refl
+      (λ exact. subst (λ n. AreLeast n H audit) same (least exact))
+      (subst (λ n. AreWithinSteps n H steps (length H)) same within) made refl
 
-  pub concludes_illegal : (k : ℕ) → IsIllegalAt own H k → text ≡ finding_line (codes "illegal") k
+  pub concludes_illegal : (k : ℕ) → IsFault own H steps (Illegal k) → text ≡ finding_line (codes "illegal") k
       → IsConclusion t names H steps text 1
-  concludes_illegal k at made = illegal k (subst (λ n. IsIllegalAt n H k) same at) made refl
+  concludes_illegal k at made = illegal k (subst (λ n. IsFault n H steps (Illegal k)) same at) made refl
 
-  pub concludes_budget : (k : ℕ) → IsBudgetAt own H steps k → text ≡ finding_line (codes "budget") k
+  pub concludes_budget : (k : ℕ) → IsFault own H steps (Budget k) → text ≡ finding_line (codes "budget") k
       → IsConclusion t names H steps text 5
-  concludes_budget k at made = budget k (subst (λ n. IsBudgetAt n H steps k) same at) made refl
+  concludes_budget k at made = budget k (subst (λ n. IsFault n H steps (Budget k)) same at) made refl

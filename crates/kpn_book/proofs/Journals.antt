@@ -1,5 +1,5 @@
 -- A list begins with another exactly if its first items, as many as the other has, are the other.
-use Rattle.std.proofs.Common.{◌≡◌, List, [], ◌∷◌, length, take, refl, sym, ap, ◌∙◌}
+use Rattle.std.proofs.Common.{◌≡◌, List, [], ◌∷◌, length, take, refl, ap, ◌∙◌}
 use Rattle.kpn_lang.specs.Prefix.{IsPrefix}
 
 pub prefix_from_take : {A : Type 0} (xs ys : List A) → xs ≡ take (length xs) ys → IsPrefix xs ys

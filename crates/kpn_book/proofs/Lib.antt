@@ -13,3 +13,4 @@ pub mod Seen
 pub mod Starting
 pub mod Agreeing
 pub mod Journals
+pub mod Snapshots

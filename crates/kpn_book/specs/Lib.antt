@@ -5,3 +5,4 @@ pub mod Refusals
 pub mod Stepping
 pub mod Kept
 pub mod Open
+pub mod Snapshot

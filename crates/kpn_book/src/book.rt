@@ -10,6 +10,7 @@ ghost use Rattle.kpn_trace.specs.Ends.{IsVerdict};
 ghost use Rattle.kpn_configuration.specs.Configuration.{channel_in, frame_in};
 ghost use Rattle.kpn_schedule.specs.Schedule.{all_ready};
 ghost use Rattle.kpn_book.specs.Kept.{IsBook};
+ghost use Rattle.kpn_book.specs.Snapshot.{ShowsARun, IsBelowKahn, IsKahnAtRest};
 
 use crate::open_book::OpenBook;
 use crate::view::{copied_journals, view_without_journals};
@@ -162,9 +163,24 @@ impl<'n, A: Allocator> Book<'n, A> {
         self.parts.judge()
     }
 
-    /// The run as it is seen at this moment, in lists of an allocator that the caller names. The error is that memory
-    /// ran out.
+    /// The run as it is seen at this moment, in lists of an allocator that the caller names: a legal history that owes
+    /// no growth agrees with it; each journal is a prefix of the least solution for what was fed, and is that solution
+    /// where each process has ended or waits on an empty channel. The error is that memory ran out.
+    #[tactic(auto, using(crate::proofs::Snapshots::run_shown, crate::proofs::Snapshots::below_shown))]
     pub fn snapshot<B: Allocator + Copy>(&self, alloc: B) -> Result<View<B>, AllocError>
+        ensures agrees { IfOk result (λ view. Agrees self.now.tables self.now.history view) }
+        ensures states { IfOk result (λ view. view.states ≡ self.now.schedule.states) }
+        ensures run { IfOk result (λ view. ShowsARun self.now.tables view) }
+        ensures below { IfOk result (λ view. IsBelowKahn self.now.tables view) }
+        ensures quiet { IfOk result (λ view. IsKahnAtRest self.now.tables view) }
+    {
+        self.known();
+        let view = self.seen(alloc)?;
+        Ok(view)
+    }
+
+    /// The run as it is seen at this moment.
+    fn seen<B: Allocator + Copy>(&self, alloc: B) -> Result<View<B>, AllocError>
         ensures agrees { IfOk result (λ view. Agrees self.now.tables self.now.history view) }
         ensures states { IfOk result (λ view. view.states ≡ self.now.schedule.states) }
     {

@@ -3,3 +3,7 @@
 #![tactic(auto)]
 
 pub mod command;
+pub mod here;
+mod told;
+
+pub use kpn_answers::shelf::{FileShelf, MemoryShelf, Shelf};

@@ -4,10 +4,11 @@ use Rattle.kpn_net.specs.Iteration.{given_by, iterate, lists_of}
 use Rattle.kpn_text.specs.Document.{Document}
 use Rattle.kpn_answers.specs.Inputs.{AreInputs}
 use Rattle.kpn_description_commands.specs.RoundsText.{rounds_text}
+use Rattle.kpn_answers.specs.Shelf.{Loads}
 
 -- the n-th iterate of the network of a document that the file spells, where each source has the items of the file
 -- that one of these words gives it, and else none
-pub record IsRounds (may_give : List ℕ → List ℕ → Type 0) (file : List ℕ) (n : ℕ) (words : List (List ℕ))
+pub record IsRounds (may_give : Loads) (file : List ℕ) (n : ℕ) (words : List (List ℕ))
     (text : List ℕ) : Type 0 where
   pub document : Document
   pub given : List (List ℤ)

@@ -7,3 +7,4 @@ mod Heads
 mod Trees
 pub mod KnownNames
 pub mod Counts
+mod Once

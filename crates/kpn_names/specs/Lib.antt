@@ -6,6 +6,7 @@ pub mod Blocks
 pub mod Network
 pub mod Named
 pub mod NetworkNames
+pub mod Once
 pub mod Writer
 pub mod View
 pub mod Laws

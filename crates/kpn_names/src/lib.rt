@@ -18,7 +18,7 @@ mod writer;
 
 pub use document::{Named, resolve};
 pub use fault::NameFault;
-pub use laws::blocks_are_the_tree;
+pub use laws::{blocks_are_the_tree, names_stand_once};
 pub use names::NameTable;
 pub use network_names::{NetworkNames, ProcessNames};
 pub use process::ProgramParts;

@@ -4,7 +4,7 @@ use Rattle.std.proofs.lemmas.Bool.{cases_eq, both_ways}
 use Rattle.kpn_net.specs.Tables.{Tables, channel_at, is_source}
 use Rattle.kpn_net.specs.Iteration.{given_by}
 use Rattle.kpn_trace.specs.declared.state.View.{View}
-use Rattle.kpn_pool.specs.Snapshot.{shown_on}
+use Rattle.kpn_book.specs.Snapshot.{shown_on}
 use Rattle.kpn_parallel.specs.Fed.{AreFedBelow}
 
 module _ {A : Type 0} (t : Tables) (lists : List (List ℤ)) (view : View A) where

@@ -4,7 +4,7 @@ use Rattle.kpn_net.specs.Tables.{Tables, channel_at, is_source}
 use Rattle.kpn_net.specs.Iteration.{AgreeOnSources, given_by}
 use Rattle.kpn_trace.specs.declared.state.View.{View}
 use Rattle.kpn_trace.specs.Channels.{written_on}
-use Rattle.kpn_pool.specs.Snapshot.{shown_on}
+use Rattle.kpn_book.specs.Snapshot.{shown_on}
 use Rattle.kpn_report.specs.declared.report.Report.{Report}
 use Rattle.kpn_report.specs.Reports.{events_of}
 

@@ -1,4 +1,3 @@
-pub mod Snapshots
 pub mod Keeping
 pub mod Recording
 pub mod Seating

@@ -11,7 +11,7 @@ ghost use Rattle.kpn_book.specs.Kept.{IsBook};
 ghost use Rattle.kpn_book.specs.Refusals.{RefusesPutBack};
 ghost use Rattle.kpn_book.specs.Stepping.{ClaimsNobody};
 ghost use Rattle.kpn_pool.specs.Desk.{with_book, halted, IsReason};
-ghost use Rattle.kpn_pool.specs.Snapshot.{ShowsARun, ShowsJournals, IsBelowKahn, IsKahnAtRest};
+ghost use Rattle.kpn_book.specs.Snapshot.{ShowsARun, ShowsJournals, IsBelowKahn, IsKahnAtRest};
 ghost use Rattle.kpn_pool.specs.Invariant.{AreBelowLeast, AreReadThenQueued, AreWithinCapacity, AreBlockedCounts, AreOwedGrowths, AreLeastWhenQuiet, HasNoneLeftToGrow};
 
 use crate::crew::Crew;
@@ -117,7 +117,7 @@ impl<'n, J: Job, A: Allocator> Desk<'n, J, A> {
     /// The run as it is seen at this moment: a legal history that owes no growth agrees with it; each journal is a
     /// prefix of the least solution for what was fed, and is that solution where each process has ended or waits on an
     /// empty channel. The error is that memory ran out.
-    #[tactic(auto, using(crate::proofs::Snapshots::run_of, crate::proofs::Snapshots::below_of, crate::proofs::Snapshots::shows_journals))]
+    #[tactic(auto, using(kpn_book::proofs::Snapshots::run_of, kpn_book::proofs::Snapshots::below_of, kpn_book::proofs::Snapshots::shows_journals))]
     pub fn snapshot<B: Allocator + Copy>(&self, alloc: B) -> Result<View<B>, AllocError>
         ensures agrees { IfOk result (λ view.
             Agrees self.now.book.tables self.now.book.history view) }

@@ -4,7 +4,7 @@ ghost use Rattle.kpn_lang.specs.Prefix.{IsPrefix};
 ghost use Rattle.kpn_net.specs.Tables.{channel_at, is_source, is_sink};
 ghost use Rattle.kpn_pool.specs.declared.outside_calls.SnapFault.TheVariants.{NoMemory};
 ghost use Rattle.kpn_pool.specs.OutsideSeats.{with_item, with_taken, FeedsUntil, MayRefuseFeed, MayRefuseEnd, MayRefuseTake, MayRefuseSnapshot};
-ghost use Rattle.kpn_pool.specs.Snapshot.{ShowsARun, shown_on, IsBelowKahn, IsKahnAtRest};
+ghost use Rattle.kpn_book.specs.Snapshot.{ShowsARun, shown_on, IsBelowKahn, IsKahnAtRest};
 
 use crate::job::Job;
 use crate::outside_seats::{SinkSeat, SourceSeat};

@@ -2,7 +2,7 @@
 ghost use Rattle.std.specs.Prelude.{◌≡◌, ◌<◌, ◌≤◌, IfOk, IfSome};
 ghost use Rattle.kpn_net.specs.Tables.{is_source, is_sink};
 ghost use Rattle.kpn_pool.specs.OutsideSeats.{new_ends};
-ghost use Rattle.kpn_pool.specs.Snapshot.{ShowsARun, IsBelowKahn, IsKahnAtRest};
+ghost use Rattle.kpn_book.specs.Snapshot.{ShowsARun, IsBelowKahn, IsKahnAtRest};
 ghost use Rattle.kpn_pool.specs.Seat.{AreNewSeats};
 
 use crate::desk::Desk;

@@ -6,3 +6,4 @@ pub mod Supplying
 pub mod Settling
 pub mod Stepped
 pub mod Told
+pub mod Turning

@@ -1,18 +1,18 @@
 -- What a step of a process does to the sinks, and what a take does then.
-use Rattle.std.proofs.Common.{◌≡◌, ◌↔◌, ℕ, ◌+◌, ◌<◌, ◌≤◌, Bool, true, false, cond, IsTrue, ℤ, List, [], ◌∷◌, ◌++◌, length, Option, Some, None, refl, sym, ap, ◌∙◌, subst, inl, inr, arith, length-append, length-drop}
-use Rattle.std.proofs.lemmas.Bool.{cases_eq, false≢true}
+use Rattle.std.proofs.Common.{◌≡◌, ◌↔◌, ℕ, ◌+◌, ◌<◌, ◌≤◌, max, Bool, true, false, cond, IsTrue, ℤ, List, [], ◌∷◌, ◌++◌, length, drop, slice_get, Option, Some, None, refl, sym, ap, ◌∙◌, subst, inl, inr, arith, length-append, length-drop}
+use Rattle.std.proofs.lemmas.Bool.{cases_eq, both_ways, false≢true}
 use Rattle.kpn_lang.specs.Prefix.{IsPrefix}
 use Rattle.kpn_lang.proofs.Prefixes.{IsPrefix-append, IsPrefix-trans, IsPrefix-refl}
 use Rattle.kpn_net.specs.Tables.{Tables, channel_at, is_source, is_sink}
 use Rattle.kpn_net.specs.Faults.{IsNetwork}
 use Rattle.kpn_trace.specs.declared.event.Event.{Event}
 use Rattle.kpn_trace.specs.declared.event.Event.TheVariants as event
-use Rattle.kpn_trace.specs.Channels.{written_in, read_in, written_on, read_on}
+use Rattle.kpn_trace.specs.Channels.{written_in, read_in, written_on, read_on, unread_on}
 use Rattle.kpn_trace.specs.Legal.{Legal}
 use Rattle.kpn_trace.proofs.Ownership.{IsOwn-last}
 use Rattle.kpn_trace.proofs.Journals.{no_sink, none_elsewhere}
 use Rattle.kpn_trace.proofs.Events.{written_on-push, written_on-same, read_on-push, read_on-same}
-use Rattle.kpn_trace.proofs.OneMore.{item_here}
+use Rattle.kpn_trace.proofs.OneMore.{item_here, unread_length}
 use Rattle.kpn_configuration.specs.Configuration.{channel_in}
 use Rattle.kpn_step.specs.declared.stop.Stop.{Stop}
 use Rattle.kpn_chan.specs.Channel.{unread}
@@ -20,15 +20,18 @@ use Rattle.kpn_book.specs.declared.answers.Done.{Done}
 use Rattle.kpn_book.specs.declared.answers.Done.TheVariants as done
 use Rattle.kpn_book.specs.Book.{Book, held_count, standing_at}
 use Rattle.kpn_book.specs.Kept.{IsBook}
+use Rattle.kpn_book.specs.Appending.{AppendsAll}
 use Rattle.kpn_book.specs.Commits.{HasToWait, IsAnswer}
 use Rattle.kpn_book.specs.Refusals.{Takes, takes_item}
 use Rattle.kpn_book.specs.Stepping.{ClaimsNobody, IsStep, StepsNext}
 use Rattle.kpn_book.proofs.Appended.{commit_tables, commit_history, commit_commits}
 use Rattle.kpn_report.specs.declared.outcome.Limits.{Limits}
 use Rattle.kpn_report.specs.Outcomes.{IsEnough}
-use Rattle.kpn_report.specs.Running.{IsLeftToItself, IsLater, IsCommitted, HasPut, KeepsSinks, sinks_after, has_put, sink_of, ReadsOneMore, IsStepped}
+use Rattle.kpn_report.specs.Running.{IsLeftToItself, IsFrontStepped, IsLater, IsCommitted, HasPut, KeepsSinks, sinks_after, has_put, sink_of, ReadsOneMore, IsStepped}
 use Rattle.kpn_report.proofs.Ends.{AddNothing, nothing_more, sink_there, closed_later}
+use Rattle.kpn_report.specs.RunHere.{takes_of, takes_from_sinks}
 use Rattle.kpn_report.proofs.Held.{held_after_step, held_after_take}
+use Rattle.kpn_report.proofs.Turning.{one, nothing_lies, takes_nothing, takes_there, the_one}
 
 -- ---- what was read
 
@@ -174,23 +177,32 @@ module _ (limits : Limits) (before after : Book) (to_itself : IsLeftToItself bef
     sink_before : (c : ℕ) → is_sink (channel_at after.tables c) ≡ true → is_sink (channel_at before.tables c) ≡ true
     sink_before c sink = subst (λ t. is_sink (channel_at t c) ≡ true) committed.later.tables sink
 
-    pub not_put : KeepsSinks before after → (IsEnough before.tables before.history limits.take → ⊥)
-        → IsStepped limits false before after
-    not_put keeps few = record {
+    left_then : KeepsSinks before after → IsLeftToItself after
+    left_then keeps = record {
+      nobody_held = committed.nobody_held;
+      closed = λ c source.
+          closed_later before.history after.history committed.later.history c
+          (to_itself.closed c (source_before c source));
+      all_read = λ c sink.
+          let is = sink_before c sink in
+          let all = to_itself.all_read c is in
+          let written = ap length (keeps.written c is) in
+          let read = ap length (keeps.read c is) in
+          omega arith;
+    }
+
+    pub not_put : IsFrontStepped (max limits.quota 1) before after → KeepsSinks before after
+        → (IsEnough before.tables before.history limits.take → ⊥) → IsStepped limits false before after
+    not_put front keeps few = record {
+      turn = record {
+        answer = front.0;
+        stepped = after;
+        steps = front.1;
+        takes = takes_nothing after (left_then keeps);
+      };
       later = committed.later;
       commits = committed.commits;
-      to_itself = record {
-        nobody_held = committed.nobody_held;
-        closed = λ c source.
-            closed_later before.history after.history committed.later.history c
-            (to_itself.closed c (source_before c source));
-        all_read = λ c sink.
-            let is = sink_before c sink in
-            let all = to_itself.all_read c is in
-            let written = ap length (keeps.written c is) in
-            let read = ap length (keeps.read c is) in
-            omega arith;
-      };
+      to_itself = left_then keeps;
       decides = (
         λ is. absurd (false≢true is),
         λ enough.
@@ -314,9 +326,55 @@ module _ (limits : Limits) (before now after : Book) (to_itself : IsLeftToItself
             omega arith
       ]
 
-  pub put_taken : (enough : Bool) → (IsTrue enough ↔ IsEnough after.tables after.history limits.take)
-      → IsStepped limits enough before after
-  put_taken enough decides = record {
+  -- what lies in the sinks is the item that was put, and it is taken
+  unread_now : unread (channel_in now.configuration c) ≡ unread_on now.history c
+  unread_now =
+      let holds = book.kept.in_step.run.leads.channels c (sink_there now.tables c takes.sink.sink) in
+      let ch = channel_in now.configuration c in
+      ap (λ n. drop n ch.journal) holds.read ∙ ap (drop (length (read_on now.history c))) holds.journal
+
+  few_unread : length (unread_on now.history c) ≤ 1
+  few_unread =
+      let was =
+      to_itself.all_read c (subst (λ t. is_sink (channel_at t c) ≡ true) committed.later.tables takes.sink.sink) in
+      let written = ap length (put_written before now p c v put) in
+      let one = length-append (written_on before.history c) (v ∷ []) in
+      let read = ap length (put_read before now p c v put c) in
+      let unread = unread_length now.history c in
+      omega arith
+
+  others_empty : (d : ℕ) → (d ≡ c → ⊥) → takes_of now.tables now.history d ≡ []
+  others_empty d other =
+      nothing_lies now.tables now.history d
+      (λ sink.
+      let was = to_itself.all_read d (subst (λ t. is_sink (channel_at t d) ≡ true) committed.later.tables sink) in
+      let written = ap length (put_elsewhere before now p c v put d (λ same. other (sym same))) in
+      let read = ap length (put_read before now p c v put d) in
+      omega arith)
+
+  put_takes : AppendsAll (takes_from_sinks now.tables now.history) now after
+  put_takes = by item takes.takes
+    where
+      there : c < length now.tables.channels
+      there = sink_there now.tables c takes.sink.sink
+
+      by : (item : Option ℤ) → takes_item c item now after
+          → AppendsAll (takes_from_sinks now.tables now.history) now after
+      by None same =
+          takes_there now after c there takes.sink.sink others_empty [] (sym unread_now ∙ same.0) same.1
+      by (Some w) taken =
+          takes_there now after c there takes.sink.sink others_empty (w ∷ [])
+          (sym unread_now
+          ∙ the_one (unread (channel_in now.configuration c)) w
+          (ap (λ b. cond b None (slice_get (unread (channel_in now.configuration c)) 0)) (sym takes.sink.not_left)
+          ∙ taken.0)
+          (subst (λ xs. length xs ≤ 1) (sym unread_now) few_unread))
+          (one (event.Take c w) now after taken.1)
+
+  pub put_taken : IsFrontStepped (max limits.quota 1) before now → (enough : Bool)
+      → (IsTrue enough ↔ IsEnough after.tables after.history limits.take) → IsStepped limits enough before after
+  put_taken front enough decides = record {
+    turn = record { answer = front.0; stepped = now; steps = front.1; takes = put_takes };
     later = IsLater-trans before now after committed.later (record { tables = took.tables; history = took.history });
     commits = took.commits ∙ committed.commits;
     to_itself = record {
@@ -339,7 +397,16 @@ sink_is t p c v sink = by (is_sink (channel_at t c))
     by true e = cc
     by false e = absurd cc
 
-module _ (limits : Limits) (before now : Book) (to_itself : IsLeftToItself before) (committed : IsCommitted before now)
+no_sink_is : (t : Tables) (p c : ℕ) (v : ℤ) → None ≡ sink_of t (event.Put p c v)
+    → is_sink (channel_at t c) ≡ false
+no_sink_is t p c v = by (is_sink (channel_at t c)) refl
+  where
+    by : (b : Bool) → is_sink (channel_at t c) ≡ b → None ≡ cond b (Some c) None → is_sink (channel_at t c) ≡ false
+    by true is e = absurd cc
+    by false is e = is
+
+module _ (limits : Limits) (before now : Book) (to_itself : IsLeftToItself before)
+    (front : IsFrontStepped (max limits.quota 1) before now) (committed : IsCommitted before now)
     (put : HasPut before now) (few : IsEnough before.tables before.history limits.take → ⊥) (last : Event)
     (is_last : (B : List Event) (e : Event) → now.history ≡ B ++ e ∷ [] → Some last ≡ Some e) where
   last_is : last ≡ event.Put put.process put.channel put.item
@@ -357,9 +424,25 @@ module _ (limits : Limits) (before now : Book) (to_itself : IsLeftToItself befor
       sink_is now.tables put.process put.channel put.item sink (at ∙ ap (sink_of now.tables) last_is) in
       let here : now.history ≡ before.history ++ event.Put put.process sink put.item ∷ [] =
       put.history ∙ ap (λ x. before.history ++ event.Put put.process x put.item ∷ []) (sym same) in
-      put_taken limits before now after to_itself committed put.process sink put.item here book item takes enough
+      put_taken limits before now after to_itself committed put.process sink put.item here book item takes front enough
       (decides before.history
       (put_taken_more limits before now after to_itself committed put.process sink put.item here book item takes)
       (λ has.
       few (subst (λ t. IsEnough t before.history limits.take)
       (put_taken_tables limits before now after to_itself committed put.process sink put.item here book item takes) has)))
+
+  -- it was put on a channel between processes
+  pub put_inside_stepped : None ≡ sink_of now.tables last → IsStepped limits false before now
+  put_inside_stepped none =
+      let inside = no_sink_is now.tables put.process put.channel put.item (none ∙ ap (sink_of now.tables) last_is) in
+      not_put limits before now to_itself committed front
+      (record {
+        written = λ d sink.
+            put_elsewhere before now put.process put.channel put.item put.history d
+            (λ same.
+            both_ways (is_sink (channel_at now.tables d))
+            (subst (λ x. is_sink (channel_at now.tables x) ≡ false) same inside)
+            (subst (λ t. is_sink (channel_at t d) ≡ true) (sym committed.later.tables) sink));
+        read = λ d sink. put_read before now put.process put.channel put.item put.history d;
+      })
+      few

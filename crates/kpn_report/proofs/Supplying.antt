@@ -1,5 +1,5 @@
 -- The sources are fed and closed, one after the other.
-use Rattle.std.proofs.Common.{◌≡◌, ℕ, ◌+◌, ◌<◌, Bool, true, false, ℤ, List, [], ◌∷◌, ◌++◌, length, count_by, refl, sym, ap, ◌∙◌, subst, inl, inr, arith, append_assoc}
+use Rattle.std.proofs.Common.{◌≡◌, ℕ, ◌+◌, ◌<◌, Bool, true, false, ℤ, List, [], ◌∷◌, ◌++◌, length, map, count_by, refl, sym, ap, ◌∙◌, subst, inl, inr, arith, append_assoc}
 use Rattle.std.proofs.lemmas.Bool.{cases_eq, both_ways}
 use Rattle.kpn_net.specs.Tables.{Tables, channel_at, is_source, is_sink}
 use Rattle.kpn_net.specs.Process.{Family}
@@ -15,12 +15,14 @@ use Rattle.kpn_schedule.specs.Schedule.{all_ready}
 use Rattle.kpn_schedule.proofs.Tallies.{AreCounts-ready}
 use Rattle.kpn_book.specs.Book.{Book}
 use Rattle.kpn_book.specs.Kept.{IsBook}
+use Rattle.kpn_book.specs.Appending.{Appends, AppendsAll}
 use Rattle.kpn_book.specs.Refusals.{Feeds, Closes, closes_by}
 use Rattle.std.proofs.lemmas.Bool.{eq-eqb, or_right}
 use Rattle.kpn_report.specs.Running.{IsSupplied, IsFedBelow, IsLeftToItself}
 use Rattle.kpn_book.proofs.Committing.{source_there}
 use Rattle.kpn_report.proofs.Ends.{sink_is_no_source, closed_next}
 use Rattle.kpn_report.proofs.Held.{held_after_feed}
+use Rattle.kpn_report.proofs.Turning.{open_elsewhere}
 
 -- ---- one source
 
@@ -85,6 +87,12 @@ closed_then c before after book closes =
     closed_by c before after book (source_there before.tables c closes.source) (closed_in before.configuration c) refl
     closes.closes
 
+pub closes_open : (c : ℕ) (before after : Book) → IsBook before → Closes c before after
+    → is_closed before.history c ≡ false → Appends (Close c) before after
+closes_open c before after book closes unclosed =
+    subst (λ b. closes_by b c before after)
+    (book.kept.in_step.run.leads.closed c (source_there before.tables c closes.source) ∙ unclosed) closes.closes
+
 -- ---- one source after the other
 
 module _ (t : Tables) (given : Family) where
@@ -97,6 +105,7 @@ module _ (t : Tables) (given : Family) where
     fed = λ c below source. absurd (omega arith);
     closed = λ c below source. absurd (omega arith);
     later = λ c past. ap (λ H. written_on H c) history;
+    not_closed = λ c past. ap (λ H. is_closed H c) history;
     others = λ c other. ap (λ H. written_on H c) history;
     commits = commits;
   }
@@ -109,6 +118,7 @@ module _ (t : Tables) (given : Family) where
     fed = λ c below source. so_far.fed c (before c below source) source;
     closed = λ c below source. so_far.closed c (before c below source) source;
     later = λ c past. so_far.later c (omega arith);
+    not_closed = λ c past. so_far.not_closed c (omega arith);
     others = so_far.others;
     commits = so_far.commits;
   }
@@ -122,8 +132,9 @@ module _ (t : Tables) (given : Family) where
           ]
 
   pub IsFedBelow-more : (k : ℕ) (before after : Book) → is_source (channel_at t k) ≡ true → IsFedBelow t given k before
-      → IsSupplied k (given k) before after → is_closed after.history k ≡ true → IsFedBelow t given (k + 1) after
-  IsFedBelow-more k before after is so_far supplied closed = record {
+      → IsSupplied k (given k) before after → is_closed after.history k ≡ true
+      → AppendsAll (map (Feed k) (given k) ++ Close k ∷ []) before after → IsFedBelow t given (k + 1) after
+  IsFedBelow-more k before after is so_far supplied closed appends = record {
     tables = supplied.tables ∙ so_far.tables;
     nobody_held = supplied.held ∙ so_far.nobody_held;
     fed = λ c below source. elim (cases_eq c k) [
@@ -137,6 +148,8 @@ module _ (t : Tables) (given : Family) where
       | inr other ↦ supplied.closed c (so_far.closed c (omega arith) source)
     ];
     later = λ c past. supplied.elsewhere c (λ same. omega arith) ∙ so_far.later c (omega arith);
+    not_closed = λ c past.
+        open_elsewhere c k (λ same. omega arith) (given k) before after appends (so_far.not_closed c (omega arith));
     others = λ c other.
         supplied.elsewhere c
         (λ same.

@@ -1,5 +1,5 @@
 -- What is told of a run that was left to itself is what a report promises.
-use Rattle.std.proofs.Common.{◌≡◌, ℕ, ◌<◌, ◌≤◌, ℤ, List, length, Some, refl, sym, ap, ◌∙◌, subst, arith, [], ◌∷◌, ◌++◌, take, map, get_or, zero, suc, slice_get, IfSome, None, Option, true, count_by}
+use Rattle.std.proofs.Common.{◌≡◌, ℕ, ◌+◌, ◌<◌, ◌≤◌, max, ℤ, List, length, Some, refl, sym, ap, ◌∙◌, subst, arith, [], ◌∷◌, ◌++◌, take, map, get_or, zero, suc, slice_get, IfSome, None, Option, true, count_by}
 use Rattle.std.proofs.lemmas.List.{take_all}
 use Rattle.std.proofs.lemmas.List.FromFn.{length-map-range_with_len, get_or-map-range_with_len}
 use Rattle.kpn_lang.proofs.Prefixes.{IsPrefix-same, length_of_prefix}
@@ -8,7 +8,7 @@ use Rattle.kpn_net.specs.Tables.{Tables, channel_at, is_source}
 use Rattle.kpn_net.specs.Iteration.{given_by, IsPrefixOnSources, AgreeOnSources}
 use Rattle.kpn_net.proofs.RoundLemmas.{list_of}
 use Rattle.kpn_net.specs.Faults.{IsNetwork}
-use Rattle.kpn_trace.specs.Channels.{written_on, read_on}
+use Rattle.kpn_trace.specs.Channels.{written_on, read_on, is_closed}
 use Rattle.kpn_trace.specs.Legal.{Legal, HasNumbers}
 use Rattle.kpn_trace.specs.Stops.{OwesNothing}
 use Rattle.kpn_trace.specs.Talks.{process_events}
@@ -19,17 +19,22 @@ use Rattle.kpn_trace.specs.declared.state.View.{View}
 use Rattle.kpn_trace.proofs.Journals.{reads_begin_writes}
 use Rattle.kpn_trace.proofs.Kahn.{take-prefix}
 use Rattle.kpn_book.specs.Book.{Book, held_count}
+use Rattle.kpn_book.specs.Appending.{AppendsAll}
 use Rattle.kpn_book.specs.Kept.{IsBook}
 use Rattle.kpn_report.specs.declared.outcome.Limits.{Limits}
 use Rattle.kpn_report.specs.declared.outcome.Outcome.{Outcome}
+use Rattle.kpn_report.specs.declared.outcome.Outcome.TheVariants.{Stopped}
 use Rattle.kpn_report.specs.declared.report.Report.{Report}
 use Rattle.kpn_report.specs.Outcomes.{IsOutcome, verdict_of}
-use Rattle.kpn_report.specs.Reports.{events_of, read_of_sinks, IsWrittenFrom, IsReport, sink_numbers}
+use Rattle.kpn_report.specs.Reports.{events_of, read_of_sinks, IsWrittenFrom, AreSupplied, IsReport, sink_numbers}
+use Rattle.kpn_report.specs.RunHere.{supplies, takes_from_sinks, IsTurn, Turns, no_turn, one_turn_more, IsFirst, IsReportHere}
 use Rattle.kpn_report.specs.Running.{IsFedBelow, ComesToOutcome, first_read, ReadsWithin}
 use Rattle.kpn_book.proofs.Agreeing.{same_list}
+use Rattle.kpn_book.proofs.Appended.{commits_stay}
 use Rattle.kpn_book.proofs.Committing.{source_there}
-use Rattle.kpn_report.proofs.Ends.{closed_stays}
+use Rattle.kpn_report.proofs.Ends.{closed_stays, closed_later}
 use Rattle.kpn_report.proofs.Parts.{sink_below}
+use Rattle.kpn_report.proofs.Stepped.{step_commits}
 
 -- ---- the events of a legal history
 
@@ -122,6 +127,53 @@ module _ (t : Tables) (b : Book) (tables : b.tables ≡ t) (book : IsBook b) (ou
         (subst (λ t. IsOutcome t b.history b.commits limits (Some outcome)) tables comes_to)));
   }
 
+-- ---- turns
+
+turn_commits : (quota : ℕ) (before after : Book) → IsTurn quota before after → after.commits ≡ before.commits + 1
+turn_commits quota before after turn =
+    commits_stay (takes_from_sinks turn.stepped.tables turn.stepped.history) turn.stepped after turn.takes
+    ∙ step_commits (max quota 1) turn.answer before turn.stepped turn.steps
+
+-- each turn is a commit
+pub commits_are_turns : (limits : Limits) (first : Book) {n : ℕ} {last : Book} → Turns limits first n last
+    → last.commits ≡ first.commits + n
+commits_are_turns limits first no_turn = omega arith
+commits_are_turns limits first (one_turn_more before after so_far goes_on turn) =
+    let more = turn_commits limits.quota before after turn in
+    let same = commits_are_turns limits first so_far in
+    omega arith
+
+-- no more are made than commits are allowed
+turns_below : (limits : Limits) (first : Book) → first.commits ≡ 0 → {n : ℕ} {last : Book} → Turns limits first n last
+    → n ≤ limits.commits
+turns_below limits first none no_turn = omega arith
+turns_below limits first none (one_turn_more before after so_far goes_on turn) =
+    let below = goes_on.2 in
+    let same = commits_are_turns limits first so_far in
+    omega arith
+
+module _ (t : Tables) (lists : List (List ℤ)) (limits : Limits) (report : Report) (is : IsReportHere t lists limits report)
+  where
+    none_when_fed : is.runs.fed.commits ≡ 0
+    none_when_fed =
+        commits_stay (supplies t (given_by t lists)) is.runs.first is.runs.fed is.runs.supplied
+        ∙ is.runs.begins.commits
+
+    pub turns_within : report.commits ≤ limits.commits
+    turns_within = turns_below limits is.runs.fed none_when_fed is.runs.made
+
+    pub turns_to_limit : report.outcome ≡ Stopped → report.commits ≡ limits.commits
+    turns_to_limit e =
+        let last = is.last in
+        let reached =
+        (subst (λ o. IsOutcome last.tables last.history last.commits limits (Some o)) e is.runs.comes_to).2 in
+        let none = none_when_fed in
+        let same = commits_are_turns limits is.runs.fed is.runs.made in
+        let most = turns_within in
+        omega arith
+
+-- ---- a run that was left to itself
+
 -- the same of a run that was left to itself: its sources were fed their whole lists
 module _ (t : Tables) (network : IsNetwork t) (lists : List (List ℤ)) (limits : Limits) (outcome : Outcome)
     (fed after : Book) (sources : IsFedBelow t (given_by t lists) (length t.channels) fed)
@@ -148,3 +200,38 @@ module _ (t : Tables) (network : IsNetwork t) (lists : List (List ℤ)) (limits 
             IsPrefix-same (written_on (events_of report) c) (given_by t lists c) (whole c source);
       })
       (λ verdict is. record { each = whole })
+
+  -- whatever the outcome
+  pub AreSupplied-told : (report : Report) → IsWrittenFrom after outcome report
+      → AreSupplied t lists (events_of report)
+  AreSupplied-told report tells = record {
+    whole = record { each = λ c source. ap (λ H. written_on H c) tells.history ∙ whole_list c source };
+    closed = λ c source.
+        ap (λ H. is_closed H c) tells.history
+        ∙ closed_later fed.history after.history comes.later.history c
+        (sources.closed c (source_there t c source) source);
+  }
+
+  made_turns : (report : Report) → IsWrittenFrom after outcome report → Turns limits fed report.commits after
+  made_turns report tells =
+      let made = commits_are_turns limits fed comes.made in
+      let none = sources.commits in
+      let same = tells.commits in
+      let turns : comes.turns ≡ report.commits = omega arith in subst (λ n. Turns limits fed n after) turns comes.made
+
+  pub IsReportHere-told : (first : Book) → IsFirst t first → AppendsAll (supplies t (given_by t lists)) first fed
+      → (report : Report) → IsWrittenFrom after outcome report → IsReportHere t lists limits report
+  IsReportHere-told first begins supplied report tells = record {
+    last = after;
+    runs = record {
+      first = first;
+      begins = begins;
+      fed = fed;
+      supplied = supplied;
+      made = made_turns report tells;
+      comes_to =
+          subst (λ o. IsOutcome after.tables after.history after.commits limits (Some o)) (sym tells.is)
+          comes.comes_to;
+    };
+    written = subst (λ o. IsWrittenFrom after o report) (sym tells.is) tells;
+  }

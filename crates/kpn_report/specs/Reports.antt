@@ -1,13 +1,13 @@
 -- What a report of a run promises, whatever the schedule of the run was.
-use Rattle.std.specs.Prelude.{◌≡◌, ℕ, ◌≤◌, ℤ, List, [], map, slice_index_or, Some}
+use Rattle.std.specs.Prelude.{◌≡◌, ℕ, ◌≤◌, true, ℤ, List, [], map, slice_index_or, Some}
 use Rattle.std.specs.List.{filter}
-use Rattle.kpn_net.specs.Tables.{Tables, channel_at, is_sink}
+use Rattle.kpn_net.specs.Tables.{Tables, channel_at, is_source, is_sink}
 use Rattle.kpn_net.specs.Faults.{channel_numbers}
 use Rattle.kpn_net.specs.Iteration.{IsPrefixOnSources, AgreeOnSources, given_by}
 use Rattle.kpn_trace.specs.declared.event.Event.{Event}
 use Rattle.kpn_trace.specs.declared.state.Verdict.{Verdict}
 use Rattle.kpn_trace.specs.Talks.{process_events}
-use Rattle.kpn_trace.specs.Channels.{written_on, read_on}
+use Rattle.kpn_trace.specs.Channels.{written_on, read_on, is_closed}
 use Rattle.kpn_trace.specs.Legal.{Legal}
 use Rattle.kpn_trace.specs.Stops.{OwesNothing}
 use Rattle.kpn_trace.specs.Views.{Agrees}
@@ -53,6 +53,11 @@ pub record IsWrittenFrom (b : Book) (outcome : Outcome) (report : Report) : Type
   pub taken : report.taken ≡ read_of_sinks b.tables b.history
 
 -- ---- what it promises
+
+-- each source was fed its list whole, and is closed
+pub record AreSupplied (t : Tables) (lists : List (List ℤ)) (H : List Event) : Type 0 where
+  pub whole : AgreeOnSources t (written_on H) (given_by t lists)
+  pub closed : (c : ℕ) → is_source (channel_at t c) ≡ true → is_closed H c ≡ true
 
 -- of a run of the network on these lists, one for each source in order of channel number: the history is legal and
 -- owes no growth; the view is that of the history, and nobody is held; each source was fed what its list begins with,

@@ -10,9 +10,11 @@ use Rattle.kpn_trace.specs.Channels.{written_on, read_on, is_closed}
 use Rattle.kpn_book.specs.declared.answers.Done.{Done}
 use Rattle.kpn_book.specs.declared.answers.Done.TheVariants as done
 use Rattle.kpn_book.specs.Book.{Book, held_count}
+use Rattle.kpn_book.specs.Stepping.{StepsNext}
 use Rattle.kpn_report.specs.declared.outcome.Limits.{Limits}
 use Rattle.kpn_report.specs.declared.outcome.Outcome.{Outcome}
 use Rattle.kpn_report.specs.Outcomes.{IsEnough, IsOutcome}
+use Rattle.kpn_report.specs.RunHere.{IsTurn, Turns}
 
 -- ---- the sources are fed
 
@@ -32,6 +34,7 @@ pub record IsFedBelow (t : Tables) (given : Family) (k : ℕ) (b : Book) : Type 
   pub fed : (c : ℕ) → c < k → is_source (channel_at t c) ≡ true → written_on b.history c ≡ given c
   pub closed : (c : ℕ) → c < k → is_source (channel_at t c) ≡ true → is_closed b.history c ≡ true
   pub later : (c : ℕ) → k ≤ c → written_on b.history c ≡ []
+  pub not_closed : (c : ℕ) → k ≤ c → is_closed b.history c ≡ false
   pub others : (c : ℕ) → is_source (channel_at t c) ≡ false → written_on b.history c ≡ []
   pub commits : b.commits ≡ 0
 
@@ -43,6 +46,10 @@ pub record IsLeftToItself (b : Book) : Type 0 where
   pub closed : (c : ℕ) → is_source (channel_at b.tables c) ≡ true → is_closed b.history c ≡ true
   pub all_read : (c : ℕ) → is_sink (channel_at b.tables c) ≡ true
       → length (written_on b.history c) ≤ length (read_on b.history c)
+
+-- the first process of the queue is claimed, makes no more steps than the quota, and is committed
+abbrev pub IsFrontStepped : (quota : ℕ) → (before after : Book) → Type 0
+IsFrontStepped quota before after = (answer : Done) × StepsNext quota answer before after
 
 -- the same run, later
 pub record IsLater (before after : Book) : Type 0 where
@@ -92,13 +99,16 @@ pub record ReadsOneMore (t : Tables) (sink : ℕ) (before after : List Event) : 
 
 -- a step and what the outside takes after it
 pub record IsStepped (limits : Limits) (enough : Bool) (before after : Book) : Type 0 where
+  pub turn : IsTurn limits.quota before after
   pub later : IsLater before after
   pub commits : after.commits ≡ before.commits + 1
   pub to_itself : IsLeftToItself after
   pub decides : IsTrue enough ↔ IsEnough after.tables after.history limits.take
 
--- the run has come to this outcome, and its commits have not gone beyond their limit
+-- the run has come to this outcome by turns, and its commits have not gone beyond their limit
 pub record ComesToOutcome (limits : Limits) (outcome : Outcome) (before after : Book) : Type 0 where
+  pub turns : ℕ
+  pub made : Turns limits before turns after
   pub later : IsLater before after
   pub nobody_held : held_count after ≡ 0
   pub comes_to : IsOutcome after.tables after.history after.commits limits (Some outcome)

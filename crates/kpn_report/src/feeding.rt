@@ -1,9 +1,12 @@
 //! The sources of a network that is left to itself: each is fed its whole list and closed, in order of number.
-ghost use Rattle.std.specs.Prelude.{◌≡◌, ℕ, ◌+◌, ◌<◌, true, ℤ, List, length, take, count_by, IfOk};
+ghost use Rattle.std.specs.Prelude.{◌≡◌, ℕ, ◌+◌, ◌<◌, true, false, ℤ, List, length, map, take, count_by, IfOk};
 ghost use Rattle.kpn_net.specs.Tables.{is_source};
 ghost use Rattle.kpn_net.specs.Iteration.{sources, given_by};
 ghost use Rattle.kpn_trace.specs.Channels.{is_closed};
+ghost use Rattle.kpn_trace.specs.declared.event.Event.TheVariants as event;
 ghost use Rattle.kpn_book.specs.Book.{Book as Seen};
+ghost use Rattle.kpn_book.specs.Appending.{Appends, AppendsAll};
+ghost use Rattle.kpn_report.specs.RunHere.{supply_of, supplies};
 ghost use Rattle.kpn_report.specs.Running.{IsSupplied, IsFedBelow};
 
 use kpn_book::Book;
@@ -19,8 +22,10 @@ pub(crate) fn feed_sources(
 ) -> Result<(), AllocError>
     requires lists { length lists.now ≡ sources network.now }
     requires first { IsFedBelow network.now (given_by network.now lists.now) 0 book.old }
-    ensures { let t = network.now in
+    ensures fed { let t = network.now in
         IfOk result (λ _. IsFedBelow t (given_by t lists.now) (length t.channels) book.new) }
+    ensures supplies { let t = network.now in
+        IfOk result (λ _. AppendsAll (supplies t (given_by t lists.now)) book.old book.new) }
 {
     let mut source = 0;
     'channels: for c in 0..network.channels() {
@@ -46,6 +51,8 @@ fn supply_next(
         next ≡ count_by is_source (take (c + 1) network.now.channels)) }
     ensures more { IfOk result (λ _.
         IsFedBelow network.now (given_by network.now lists.now) (c + 1) book.new) }
+    ensures supplies { let t = network.now in
+        IfOk result (λ _. AppendsAll (supply_of t (given_by t lists.now) c) book.old book.new) }
 {
     if !network.is_source(c) {
         return Ok(source);
@@ -57,7 +64,9 @@ fn supply_next(
 
 /// Feeds these items to source `c`, on which any number of items may be unread.
 fn feed_items(book: &mut Book<'_>, c: usize, items: &[i64]) -> Result<(), AllocError>
-    ensures { IfOk result (λ _. IsSupplied c items.now book.old book.new) }
+    ensures supplied { IfOk result (λ _. IsSupplied c items.now book.old book.new) }
+    ensures feeds { IfOk result (λ _.
+        AppendsAll (map (event.Feed c) items.now) book.old book.new) }
 {
     'items: for item in items {
         book.known();
@@ -73,6 +82,8 @@ fn close(book: &mut Book<'_>, c: usize) -> Result<(), AllocError>
     ensures supplied { IfOk result (λ _. (before : Seen) (items : List ℤ)
         → IsSupplied c items before book.old → IsSupplied c items before book.new) }
     ensures closed { IfOk result (λ _. is_closed book.new.history c ≡ true) }
+    ensures closes { IfOk result (λ _. is_closed book.old.history c ≡ false
+        → Appends (event.Close c) book.old book.new) }
 {
     book.known();
     match book.close_source(c) {

@@ -1,7 +1,8 @@
 //! A run on the calling thread alone.
 ghost use Rattle.std.specs.Prelude.{◌≡◌, ◌≤◌, length, IfOk};
 ghost use Rattle.kpn_net.specs.Iteration.{sources};
-ghost use Rattle.kpn_report.specs.Reports.{IsReport};
+ghost use Rattle.kpn_report.specs.Reports.{events_of, AreSupplied, IsReport};
+ghost use Rattle.kpn_report.specs.RunHere.{IsReportHere};
 ghost use Rattle.kpn_report.specs.Running.{IsLeftToItself, ComesToOutcome};
 
 use crate::feeding::feed_sources;
@@ -28,6 +29,9 @@ pub fn run_here(
 ) -> Result<Report, AllocError>
     requires { length lists.now ≡ sources network.now }
     ensures report { IfOk result (λ report. IsReport network.now lists.now limits.now report) }
+    ensures here { IfOk result (λ report. IsReportHere network.now lists.now limits.now report) }
+    ensures supplied { IfOk result (λ report.
+        AreSupplied network.now lists.now (events_of report)) }
     ensures commits { IfOk result (λ report. report.commits ≤ limits.now.commits) }
 {
     let mut book = Book::new(alloc, network)?;

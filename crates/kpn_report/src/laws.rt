@@ -10,10 +10,11 @@ ghost use Rattle.kpn_trace.specs.Stops.{IsJammedAtLimit, WaitsForBlocked};
 ghost use Rattle.kpn_trace.specs.Waiting.{HasFullCycle};
 ghost use Rattle.kpn_report.specs.declared.outcome.Limits.{Limits};
 ghost use Rattle.kpn_report.specs.declared.outcome.Outcome.{Outcome};
-ghost use Rattle.kpn_report.specs.declared.outcome.Outcome.TheVariants.{Ended, Clogged, Jammed, Enough};
+ghost use Rattle.kpn_report.specs.declared.outcome.Outcome.TheVariants.{Ended, Clogged, Jammed, Enough, Stopped};
 ghost use Rattle.kpn_report.specs.declared.report.Report.{Report};
 ghost use Rattle.kpn_report.specs.Outcomes.{IsOutcome};
 ghost use Rattle.kpn_report.specs.Reports.{events_of, journal_of, taken_of, IsReport};
+ghost use Rattle.kpn_report.specs.RunHere.{IsReportHere};
 
 // ---- Kahn's theorem on reports
 
@@ -88,4 +89,15 @@ pub fn what_an_outcome_means()
     ensures no_cycle { (t : Tables) (lists : List (List ℤ)) (limits : Limits) (report : Report)
         → IsReport t lists limits report → report.outcome ≡ Clogged
         → ¬ HasFullCycle t (events_of report) }
+{}
+
+// ---- on one thread
+
+/// A run on one thread makes no more turns than commits are allowed, and where it was stopped exactly as many.
+pub fn turns_of_a_run_here()
+    ensures within { (t : Tables) (lists : List (List ℤ)) (limits : Limits) (report : Report)
+        → IsReportHere t lists limits report → report.commits ≤ limits.commits }
+    ensures stopped { (t : Tables) (lists : List (List ℤ)) (limits : Limits) (report : Report)
+        → IsReportHere t lists limits report → report.outcome ≡ Stopped
+        → report.commits ≡ limits.commits }
 {}

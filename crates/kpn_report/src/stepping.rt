@@ -1,5 +1,5 @@
 //! A process of a network that is left to itself is stepped, and what it has put on a sink is taken.
-ghost use Rattle.std.specs.Prelude.{◌≡◌, ℕ, ◌+◌, ◌<◌, ◌^◌, ℤ, IfOk, IfSome, List, [], ◌∷◌, ◌++◌, Option, Some, None};
+ghost use Rattle.std.specs.Prelude.{◌≡◌, ℕ, ◌+◌, ◌<◌, ◌^◌, max, ℤ, IfOk, IfSome, List, [], ◌∷◌, ◌++◌, Option, Some, None};
 ghost use Rattle.kpn_trace.specs.declared.event.Event.{Event};
 ghost use Rattle.kpn_trace.specs.Legal.{HasNumbers};
 ghost use Rattle.kpn_trace.specs.Ends.{IsSettled};
@@ -7,7 +7,7 @@ ghost use Rattle.kpn_book.specs.Book.{Book as Seen};
 ghost use Rattle.kpn_book.specs.Kept.{IsBook};
 ghost use Rattle.kpn_book.specs.Refusals.{Takes};
 ghost use Rattle.kpn_report.specs.Outcomes.{IsEnough, IsOutcome};
-ghost use Rattle.kpn_report.specs.Running.{IsLeftToItself, IsStepped, IsCommitted, sinks_after, has_put, HasPut, sink_of};
+ghost use Rattle.kpn_report.specs.Running.{IsLeftToItself, IsFrontStepped, IsStepped, IsCommitted, sinks_after, has_put, HasPut, sink_of};
 
 use crate::outcome::Limits;
 use crate::stopping::has_enough_by;
@@ -19,6 +19,7 @@ use std::alloc::AllocError;
 /// Steps the first process that is ready, by no more steps than the quota, and takes what it has put on a sink. Tells
 /// whether there is enough then.
 pub(crate) fn step(book: &mut Book<'_>, limits: &Limits, quota: u32) -> Result<bool, AllocError>
+    requires quota { quota ≡ max limits.now.quota 1 }
     requires countable { book.old.commits + 1 < 2 ^ 64 }
     requires to_itself { IsLeftToItself book.old }
     requires goes_on { IsOutcome book.old.tables book.old.history book.old.commits limits.now None }
@@ -35,6 +36,7 @@ fn step_first(book: &mut Book<'_>, quota: u32) -> Result<bool, AllocError>
     requires countable { book.old.commits + 1 < 2 ^ 64 }
     requires to_itself { IsLeftToItself book.old }
     requires goes_on { ¬ IsSettled book.old.tables book.old.history }
+    ensures front { IfOk result (λ _. IsFrontStepped quota book.old book.new) }
     ensures committed { IfOk result (λ _. IsCommitted book.old book.new) }
     ensures sinks { IfOk result (λ put. sinks_after put book.old book.new) }
 {
@@ -53,7 +55,8 @@ fn has_put(answer: Option<Done>) -> bool
 
 /// Takes the item that was just put, if it was put on a sink. Tells whether there is enough then.
 fn take_what_was_put(book: &mut Book<'_>, limits: &Limits) -> Result<bool, AllocError>
-    ensures { (before : Seen) → IsLeftToItself before → IsCommitted before book.old
+    ensures { (before : Seen) → IsLeftToItself before
+        → IsFrontStepped (max limits.now.quota 1) before book.old → IsCommitted before book.old
         → HasPut before book.old → (¬ IsEnough before.tables before.history limits.now.take)
         → IfOk result (λ enough. IsStepped limits.now enough before book.new) }
 {

@@ -6,9 +6,10 @@ use Rattle.kpn_answers.specs.declared.refusal.Refusal.{Refusal}
 use Rattle.kpn_answers.specs.declared.refusal.Refusal.TheVariants.{Threads, Abandoned, Foreign, NoMemory}
 use Rattle.kpn_answers.specs.Inputs.{AreInputs, IsRefusalOfInputs}
 use Rattle.kpn_run_command.specs.declared.reporting.Reported.{Reported}
+use Rattle.kpn_answers.specs.Shelf.{Loads}
 
 -- the inputs that the words name, and a report of a run on them under these limits
-pub record IsReported (may_give : List ℕ → List ℕ → Type 0) (file : List ℕ) (words : List (List ℕ)) (limits : Limits)
+pub record IsReported (may_give : Loads) (file : List ℕ) (words : List (List ℕ)) (limits : Limits)
     (reported : Reported) : Type 0 where
   pub are_inputs : AreInputs may_give file words reported.inputs.document reported.inputs.given.items
   pub is_report : IsReport reported.inputs.document.tables reported.inputs.given.items limits reported.report
@@ -22,7 +23,7 @@ IsRefusalOfReport workers Foreign = IsSome workers
 IsRefusalOfReport workers other = ⊥
 
 -- why there is no report: the inputs are refused, or the run gives none
-abbrev pub IsUnreported : (may_give : List ℕ → List ℕ → Type 0) (file : List ℕ) (words : List (List ℕ))
+abbrev pub IsUnreported : (may_give : Loads) (file : List ℕ) (words : List (List ℕ))
     (workers : Option ℕ) → Refusal → Type 0
 IsUnreported may_give file words workers refusal =
     IsRefusalOfInputs may_give file words refusal ⊎ IsRefusalOfReport workers refusal

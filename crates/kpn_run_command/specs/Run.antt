@@ -1,5 +1,5 @@
 -- What `kpn run` answers, and what it leaves on the shelf.
-use Rattle.std.specs.Prelude.{◌≡◌, ℕ, List, Option, Some, None}
+use Rattle.std.specs.Prelude.{◌≡◌, ℕ, List, Option, Some, None, Ok}
 use Rattle.kpn_report.specs.declared.outcome.Limits.{Limits}
 use Rattle.kpn_report.specs.Reports.{events_of}
 use Rattle.kpn_trace.specs.declared.event.Event.{Event}
@@ -8,7 +8,7 @@ use Rattle.kpn_answers.specs.declared.refusal.Refusal.{Refusal}
 use Rattle.kpn_answers.specs.declared.refusal.Refusal.TheVariants.{Output, NoMemory}
 use Rattle.kpn_answers.specs.Refusal.{status_of}
 use Rattle.kpn_answers.specs.Answer.{Concludes}
-use Rattle.kpn_answers.specs.Shelf.{KeepsOthers}
+use Rattle.kpn_answers.specs.Shelf.{Loads, KeepsOthers}
 use Rattle.kpn_run_command.specs.declared.reporting.Reported.{Reported}
 use Rattle.kpn_run_command.specs.ReportText.{report_text, outcome_status}
 use Rattle.kpn_run_command.specs.Reported.{IsReported, IsUnreported}
@@ -17,15 +17,15 @@ use Rattle.kpn_run_command.specs.Reported.{IsReported, IsUnreported}
 
 -- The trace that was asked for is stored: under its name the shelf may give the text of these events, and its other
 -- files are as they were. Where none was asked for the shelf is as it was.
-abbrev pub IsStored : {S : Type 0} → (may_give : S → List ℕ → List ℕ → Type 0) (trace : Option (List ℕ)) → List Event
+abbrev pub IsStored : {S : Type 0} → (may_give : S → Loads) (trace : Option (List ℕ)) → List Event
     → (shelf kept : S) → Type 0
 IsStored may_give None events shelf kept = kept ≡ shelf
 IsStored may_give (Some name) events shelf kept =
-    may_give kept name (trace_text events) × KeepsOthers (may_give shelf) (may_give kept) name
+    may_give kept name (Ok (trace_text events)) × KeepsOthers (may_give shelf) (may_give kept) name
 
 -- Why a trace that was asked for is not stored: there is no memory for its text, and the shelf is as it was; or the
 -- shelf did not take it, and its other files are as they were.
-abbrev pub IsUnstored : {S : Type 0} → (may_give : S → List ℕ → List ℕ → Type 0) (trace : Option (List ℕ)) → Refusal
+abbrev pub IsUnstored : {S : Type 0} → (may_give : S → Loads) (trace : Option (List ℕ)) → Refusal
     → (shelf kept : S) → Type 0
 IsUnstored may_give (Some name) NoMemory shelf kept = kept ≡ shelf
 IsUnstored may_give (Some name) (Output fault) shelf kept = KeepsOthers (may_give shelf) (may_give kept) name
@@ -40,7 +40,7 @@ pub record IsReportText (limits : Limits) (reported : Reported) (text : List ℕ
 
 -- The command tells a report. Given are the shelf, the output and the place for faults, each as it was and as it is
 -- afterwards, and the status.
-pub data TellsReport {S O E : Type 0} (may_give : S → List ℕ → List ℕ → Type 0) (contents : O → Option (List ℕ))
+pub data TellsReport {S O E : Type 0} (may_give : S → Loads) (contents : O → Option (List ℕ))
     (limits : Limits) (trace : Option (List ℕ)) (reported : Reported)
     (shelf kept : S) (out written : O) (err told : E) (status : ℕ) : Type 0 where
   -- the trace is stored, where one was asked for; then the text goes out, or it can't be made or written
@@ -55,7 +55,7 @@ pub data TellsReport {S O E : Type 0} (may_give : S → List ℕ → List ℕ �
 
 -- The command answers, by as many workers as there are, if there are any. It is given the file of the description, the
 -- words behind the `--source` options, the limits and the name of the trace, if there is to be one.
-pub data AnswersRun {S O E : Type 0} (may_give : S → List ℕ → List ℕ → Type 0) (contents : O → Option (List ℕ))
+pub data AnswersRun {S O E : Type 0} (may_give : S → Loads) (contents : O → Option (List ℕ))
     (file : List ℕ) (words : List (List ℕ)) (limits : Limits) (trace : Option (List ℕ)) (workers : Option ℕ)
     (shelf kept : S) (out written : O) (err told : E) (status : ℕ) : Type 0 where
   -- there is a report on a run of what was asked for, and it is told

@@ -1,6 +1,7 @@
 -- A process along its way through whole lists: what it did so far, and that it comes to an end.
 use Rattle.std.proofs.Common.{◌≡◌, ℕ, zero, suc, ◌+◌, ◌-◌, ◌*◌, ◌<◌, ◌≤◌, ℤ, nat_eq, List, [], ◌∷◌, ◌++◌, length, IsTrue, ap, subst, ◌∙◌, arith}
 use Rattle.std.specs.List.{sum_by}
+use Rattle.std.proofs.lemmas.Bool.Decides.{nat_tests}
 use Rattle.std.proofs.lemmas.List.Sums.{sum_by-cons}
 use Rattle.std.proofs.lemmas.Option.{slice_get_within}
 use Rattle.kpn_lang.specs.declared.talk.Said.{Said}
@@ -13,8 +14,8 @@ use Rattle.kpn_step.specs.declared.stop.Stop.{Stop}
 use Rattle.kpn_step.specs.declared.stop.AloneStop.{AloneStop}
 use Rattle.kpn_step.specs.declared.stop.AloneStop.TheVariants.{Done, Faulted, Starved, Paused}
 use Rattle.kpn_step.specs.Frame.{Frame, start_frame, fits}
-use Rattle.kpn_step.specs.Step.{Steps}
-use Rattle.kpn_step.specs.Stops.{StandsAt}
+use Rattle.kpn_step.specs.Step.{step_of, Steps}
+use Rattle.kpn_step.specs.Stops.{StandsAt, stop_at}
 use Rattle.kpn_step.specs.Walk.{Speaks, Walks, AloneGives}
 use Rattle.kpn_step.specs.Stepped.{Walked}
 use Rattle.kpn_lang.specs.Lists.{remaining}
@@ -68,20 +69,31 @@ module _ (parts : Parts) (program : IsProgram parts) (pars : List ℤ) (lists : 
     most : Along-steps.steps ≤ quota
     most = omega (arith, along.counted, walked.most)
 
+    -- the steps of this walk use up what was left exactly where all of them use up the quota
+    same_use : nat_eq steps left ≡ nat_eq (along.steps + steps) quota
+    same_use = grind (arith, nat_tests, along.counted)
+
+    ended_there : (ended : AloneStop) → EndsAs stop (remaining lists taken) ended →
+        EndsAs (stop_at (step_of parts.blocks g) (nat_eq Along-steps.steps quota)) (remaining lists taken) ended
+    ended_there ended e =
+        subst (λ s. EndsAs s (remaining lists taken) ended)
+        (walked.stop_is ∙ ap (stop_at (step_of parts.blocks g)) same_use) e
+
     pub Along-ends : (ended : AloneStop) → EndsAs stop (remaining lists taken) ended →
         AloneGives parts pars lists quota talk ended
     Along-ends Done e =
         AloneGives-done parts program pars lists quota Along-steps.steps most talk g
-        (remaining lists taken) Along-steps.walk (rw e at Along-stands)
+        (remaining lists taken) Along-steps.walk (ended_there Done e) (rw e at Along-stands)
     Along-ends (Faulted fault) e =
         AloneGives-faulted parts program pars lists quota Along-steps.steps most talk g
-        (remaining lists taken) Along-steps.walk fault (rw e at Along-stands)
+        (remaining lists taken) Along-steps.walk fault (ended_there (Faulted fault) e) (rw e at Along-stands)
     Along-ends (Starved port) e =
         AloneGives-starved parts program pars lists quota Along-steps.steps most talk g
-        (remaining lists taken) Along-steps.walk port (rw (e.0) at Along-stands) e.1
+        (remaining lists taken) Along-steps.walk port (ended_there (Starved port) e) (rw (e.0) at Along-stands) e.1
     Along-ends Paused e =
         AloneGives-paused parts program pars lists quota Along-steps.steps most talk g
-        (remaining lists taken) Along-steps.walk (rw e at Along-stands) (omega (arith, walked.paused e, along.counted))
+        (remaining lists taken) Along-steps.walk (ended_there Paused e) (rw e at Along-stands)
+        (omega (arith, walked.paused e, along.counted))
 
 -- ---- it comes to an end
 

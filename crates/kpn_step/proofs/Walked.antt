@@ -1,6 +1,6 @@
 -- Walks: steps, and between them the items got and put. After a walk the process can say and come to whatever the last
 -- frame can, after what the walk said; so what stands at the last frame tells how the process ends.
-use Rattle.std.proofs.Common.{◌≡◌, ◌≢◌, ℕ, ◌+◌, ◌≤◌, ℤ, IsTrue, List, [], ◌∷◌, ◌++◌, length, set, refl, sym, ap, ◌∙◌, arith, append_assoc, append-nil}
+use Rattle.std.proofs.Common.{◌≡◌, ◌≢◌, ℕ, ◌+◌, ◌≤◌, nat_eq, ℤ, IsTrue, List, [], ◌∷◌, ◌++◌, length, set, refl, sym, ap, ◌∙◌, arith, append_assoc, append-nil}
 use Rattle.kpn_lang.specs.declared.value.Fault.{Fault}
 use Rattle.kpn_lang.specs.declared.talk.Said.{Said}
 use Rattle.kpn_lang.specs.declared.talk.Said.TheVariants.{Got, Put}
@@ -14,9 +14,10 @@ use Rattle.kpn_step.specs.declared.stop.Stop.TheVariants as stop
 use Rattle.kpn_step.specs.declared.stop.AloneStop.{AloneStop}
 use Rattle.kpn_step.specs.declared.stop.AloneStop.TheVariants.{Done, Faulted, Starved, Paused}
 use Rattle.kpn_step.specs.Frame.{Frame, start_frame, fits}
-use Rattle.kpn_step.specs.Step.{Steps}
+use Rattle.kpn_step.specs.Step.{step_of, Steps}
 use Rattle.kpn_step.specs.Residual.{residual, SaysTheSame}
-use Rattle.kpn_step.specs.Stops.{StandsAt}
+use Rattle.kpn_step.specs.Stops.{StandsAt, stop_at}
+use Rattle.kpn_step.specs.Ended.{EndsAs}
 use Rattle.kpn_step.specs.After.{GoesOnAs}
 use Rattle.kpn_step.specs.Walk.{Speaks, Walks, IsAloneOutcome, AloneGives}
 use Rattle.kpn_step.proofs.Sameness.{SaysTheSame-equal}
@@ -177,25 +178,31 @@ module _ (parts : Parts) (program : IsProgram parts) (pars : List ℤ) (lists : 
 
   module _ (quota k : ℕ) (most : k ≤ quota) (talk : List Said) (to : Frame) (rest : Lists)
       (walk : Walks parts.blocks k (start_frame parts pars) lists talk to rest) where
-    gives : (stop : AloneStop) → IsAloneOutcome parts pars lists (k ≡ quota) to talk stop →
+    -- how it ends there
+    abbrev HasEnded : AloneStop → Type 0
+    HasEnded stop = EndsAs (stop_at (step_of parts.blocks to) (nat_eq k quota)) rest stop
+
+    gives : (stop : AloneStop) → HasEnded stop → IsAloneOutcome parts pars lists (k ≡ quota) to talk stop →
         AloneGives parts pars lists quota talk stop
-    gives stop outcome =
-        record { steps = k; most = most; to = to; rest = rest; walk = walk; outcome = outcome }
+    gives stop ended outcome =
+        record { steps = k; most = most; to = to; rest = rest; walk = walk; ended = ended; outcome = outcome }
 
-    pub AloneGives-done : StandsAt parts.blocks to stop.Done → AloneGives parts pars lists quota talk Done
-    AloneGives-done at = gives Done (comes_to k talk to rest ending.Done walk (at.ended 0 rest) (λ e. cc))
+    pub AloneGives-done : HasEnded Done → StandsAt parts.blocks to stop.Done →
+        AloneGives parts pars lists quota talk Done
+    AloneGives-done ended at = gives Done ended (comes_to k talk to rest ending.Done walk (at.ended 0 rest) (λ e. cc))
 
-    pub AloneGives-faulted : (fault : Fault) → StandsAt parts.blocks to (stop.Faulted fault) →
-        AloneGives parts pars lists quota talk (Faulted fault)
-    AloneGives-faulted fault at =
-        gives (Faulted fault) (comes_to k talk to rest (ending.Faulted fault) walk (at.faulted 0 rest) (λ e. cc))
+    pub AloneGives-faulted : (fault : Fault) → HasEnded (Faulted fault) →
+        StandsAt parts.blocks to (stop.Faulted fault) → AloneGives parts pars lists quota talk (Faulted fault)
+    AloneGives-faulted fault ended at =
+        gives (Faulted fault) ended
+        (comes_to k talk to rest (ending.Faulted fault) walk (at.faulted 0 rest) (λ e. cc))
 
-    pub AloneGives-starved : (port : ℕ) → StandsAt parts.blocks to (stop.WantRead port) → list_at rest port ≡ [] →
-        AloneGives parts pars lists quota talk (Starved port)
-    AloneGives-starved port at none =
-        gives (Starved port)
+    pub AloneGives-starved : (port : ℕ) → HasEnded (Starved port) → StandsAt parts.blocks to (stop.WantRead port) →
+        list_at rest port ≡ [] → AloneGives parts pars lists quota talk (Starved port)
+    AloneGives-starved port ended at none =
+        gives (Starved port) ended
         (comes_to k talk to rest (ending.Starved port) walk (at.1.starved 0 rest none) (λ e. cc))
 
-    pub AloneGives-paused : StandsAt parts.blocks to stop.Paused → k ≡ quota →
+    pub AloneGives-paused : HasEnded Paused → StandsAt parts.blocks to stop.Paused → k ≡ quota →
         AloneGives parts pars lists quota talk Paused
-    AloneGives-paused at used_up = gives Paused (can_say k talk to rest walk, at, used_up)
+    AloneGives-paused ended at used_up = gives Paused ended (can_say k talk to rest walk, at, used_up)

@@ -4,7 +4,7 @@ pub mod Step
 pub mod Residual
 pub mod Stops
 pub mod After
+pub mod Ended
 pub mod Walk
 pub mod Stepped
-pub mod Ended
 pub mod Codes

@@ -1,5 +1,5 @@
 -- A process stepped alone on whole lists: steps, and between them the items that it gets and puts.
-use Rattle.std.specs.Prelude.{◌≡◌, ℕ, ◌+◌, ◌≤◌, ℤ, List, [], ◌∷◌, Some, slice_set}
+use Rattle.std.specs.Prelude.{◌≡◌, ℕ, ◌+◌, ◌≤◌, nat_eq, ℤ, List, [], ◌∷◌, Some, slice_set}
 use Rattle.kpn_lang.specs.declared.talk.Said.{Said}
 use Rattle.kpn_lang.specs.declared.talk.Said.TheVariants.{Got, Put}
 use Rattle.kpn_lang.specs.declared.talk.Ending.TheVariants as ending
@@ -12,7 +12,8 @@ use Rattle.kpn_step.specs.declared.stop.AloneStop.{AloneStop}
 use Rattle.kpn_step.specs.declared.stop.AloneStop.TheVariants.{Done, Faulted, Starved, Paused}
 use Rattle.kpn_step.specs.Frame.{Frame, passed, passed_with, start_frame}
 use Rattle.kpn_step.specs.Step.{Stops, step_of, statement_at, Steps}
-use Rattle.kpn_step.specs.Stops.{IsBetween}
+use Rattle.kpn_step.specs.Stops.{IsBetween, stop_at}
+use Rattle.kpn_step.specs.Ended.{EndsAs}
 
 -- a frame and the lists that remain, before and after one thing is said
 abbrev pub Speaks : List (List Statement) → Frame → Lists → Said → Frame → Lists → Type 0
@@ -41,7 +42,9 @@ IsAloneOutcome parts pars lists used_up to talk (Starved port) =
 IsAloneOutcome parts pars lists used_up to talk Paused =
     CanSay (alone parts pars) lists talk × IsBetween (step_of parts.blocks to) × used_up
 
--- a program stepped alone from its start: no more steps than the quota, in which this is said, and how it ends
+-- a program stepped alone from its start: no more steps than the quota, in which this is said, and how it ends: as the
+-- stop after exactly these steps says, which is a pause only where they are the quota and it is between two of them;
+-- and so the program comes to that end by itself
 pub record AloneGives (parts : Parts) (pars : List ℤ) (lists : Lists) (quota : ℕ) (talk : List Said)
     (stop : AloneStop) : Type 0 where
   pub steps : ℕ
@@ -49,4 +52,5 @@ pub record AloneGives (parts : Parts) (pars : List ℤ) (lists : Lists) (quota :
   pub to : Frame
   pub rest : Lists
   pub walk : Walks parts.blocks steps (start_frame parts pars) lists talk to rest
+  pub ended : EndsAs (stop_at (step_of parts.blocks to) (nat_eq steps quota)) rest stop
   pub outcome : IsAloneOutcome parts pars lists (steps ≡ quota) to talk stop

@@ -1,7 +1,8 @@
 -- The laws of reading.
 use Rattle.std.specs.Prelude.{◌≡◌, ◌↔◌, ℕ, List, Ok}
+use Rattle.kpn_names.specs.Once.{EachStandsOnce}
 use Rattle.kpn_text.specs.Document.{Document}
-use Rattle.kpn_text.specs.Spells.{Spells}
+use Rattle.kpn_text.specs.Spells.{Spells, IsSpelled}
 use Rattle.kpn_text.specs.Phases.{document_of}
 
 -- The phases give a document exactly where the text spells it.
@@ -11,3 +12,7 @@ PhasesGiveWhatIsSpelled = (text : List ℕ) (d : Document) → (document_of text
 -- A text spells one document at most.
 abbrev pub SpelledOnce : Type 0
 SpelledOnce = (text : List ℕ) (d e : Document) → Spells text d → Spells text e → d ≡ e
+
+-- No name stands twice in a table of names of a document.
+abbrev pub NamesStandOnce : Type 0
+NamesStandOnce = (d : Document) → IsSpelled d → EachStandsOnce d.names

@@ -2,7 +2,7 @@
 //! the proof of the law.
 
 ghost use Rattle.kpn_text.specs.Again.{PrintedTextSpells};
-ghost use Rattle.kpn_text.specs.Laws.{PhasesGiveWhatIsSpelled, SpelledOnce};
+ghost use Rattle.kpn_text.specs.Laws.{NamesStandOnce, PhasesGiveWhatIsSpelled, SpelledOnce};
 
 use kpn_canonical::{description_is_read, read_descriptions_are_proper};
 use kpn_names::blocks_are_the_tree;
@@ -26,4 +26,11 @@ pub fn read_again()
     capacities_are_in_range();
     description_is_read();
     read_descriptions_are_proper();
+}
+
+/// No name stands twice in a table of names of a document: each is found at its own number.
+pub fn names_stand_once()
+    ensures { NamesStandOnce }
+{
+    kpn_names::names_stand_once();
 }

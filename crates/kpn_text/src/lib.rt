@@ -3,6 +3,7 @@
 //! A description is a text. `read_network` gives the one document that it spells, a network with the
 //! names of its parts, or the fault of the first phase that finds one: the tokens, the grammar, the
 //! names, the programs in order, the network. `print_network` gives the canonical text of a document.
+//! Item files are read and written by calls of `kpn_items`, which this crate passes on.
 #![tactic(auto)]
 
 mod document;
@@ -15,6 +16,7 @@ mod reading;
 
 pub use document::Document;
 pub use fault::TextFault;
-pub use laws::{phases_give_what_is_spelled, read_again, spelled_once};
+pub use kpn_items::{ItemFault, WriteFault, read_all, read_items, write_items};
+pub use laws::{names_stand_once, phases_give_what_is_spelled, read_again, spelled_once};
 pub use printing::print_network;
 pub use reading::read_network;

@@ -1,7 +1,10 @@
 //! The words of a command line, read by `clap`: which command they ask for, and what help says.
 #![tactic(auto)]
 
+mod command_line;
 mod help;
+mod request;
 mod words;
 
-pub use words::{Request, read_words};
+pub use request::{Request, RunWords, WordsFault};
+pub use words::read_words;

@@ -1,7 +1,6 @@
 //! A shelf in memory.
-ghost use Rattle.std.specs.Prelude.{◌≡◌, ◌≢◌, ◌≤◌, ℕ, List, Some, None, Err, IfOk, IfErr, OnOk, OnErr, vec_len, length};
-ghost use Rattle.kpn_items.specs.Input.{NamesNoLine};
-ghost use Rattle.kpn_answers.specs.Shelf.{KeepsOthers};
+ghost use Rattle.std.specs.Prelude.{◌≡◌, ◌≤◌, ℕ, List, Some, None, IfOk, IfErr, OnOk, OnErr, vec_len};
+ghost use Rattle.kpn_answers.specs.Shelf.{IsRefusalOfLoad, KeepsOthers};
 ghost use Rattle.kpn_answers.specs.MemoryShelf.{held, may_give_held, HoldsTheSame, HoldsTheSameBut};
 
 use crate::shelf::Shelf;
@@ -47,9 +46,7 @@ impl Shelf for MemoryShelf {
     fn load(&self, alloc: Global, name: &str) -> Result<Vec<u8>, ItemFault>
         ensures given { IfOk result (λ bytes. held self.now name.now ≡ Some bytes.items) }
         ensures within { IfOk result (λ bytes. vec_len bytes ≤ MAX_INPUT_BYTES) }
-        ensures fault { IfErr result NamesNoLine }
-        ensures found { (bytes : List ℕ) → held self.now name.now ≡ Some bytes
-            → length bytes ≤ MAX_INPUT_BYTES → result ≢ Err ItemFault.Read }
+        ensures refused { IfErr result (IsRefusalOfLoad (may_give_held self.now) name.now) }
     {
         let bytes = self.files.get(name).ok_or(ItemFault::Read)?;
         if bytes.len() > MAX_INPUT_BYTES {

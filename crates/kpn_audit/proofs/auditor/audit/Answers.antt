@@ -13,7 +13,7 @@ use Rattle.kpn_audit.proofs.auditor.audit.Goals as goal
 
 by_fault : (t : Tables) (H : List Event) (quota : ℕ) → Legal t H → (fault : AuditFault) → IsFault t H quota fault
     → (fault ≡ NoMemory) ⊎ ((k : ℕ) × (fault ≡ Budget k))
-by_fault t H quota legal (Illegal k) at = absurd (never_illegal t H k legal at)
+by_fault t H quota legal (Illegal k) at = absurd (never_illegal t H k legal at.0)
 by_fault t H quota legal NoMemory at = inl refl
 by_fault t H quota legal (Budget k) at = inr (k, refl)
 

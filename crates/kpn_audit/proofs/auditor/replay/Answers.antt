@@ -1,8 +1,9 @@
 -- What is found of an event is said of the events before it, and of the place where it stands.
-use Rattle.std.proofs.Common.{pos, take, get_or, refl, subst}
+use Rattle.std.proofs.Common.{suc, pos, take, get_or, refl, subst, add-one, arith}
 use Rattle.kpn_trace.specs.declared.event.Event.TheVariants.{Get}
 use Rattle.kpn_audit.specs.Judged.{IsJudged}
-use Rattle.kpn_audit.proofs.Replaying.{followed_by, illegal_at, budget_at}
+use Rattle.kpn_audit.specs.Audit.{AreWithinSteps}
+use Rattle.kpn_audit.proofs.Replaying.{followed_by, illegal_at, budget_at, none_within, within_more, follows_in_time, illegal_in_time}
 use Rattle.kpn_audit.proofs.auditor.replay.Goals as goal
 
 pub returns-in-Illegal-clause-refused : goal.returns-in-Illegal-clause-refused
@@ -13,10 +14,15 @@ returns-in-Illegal-clause-refused g c =
     let e = get_or H k (Get 0 0 (pos 0)) in
     let found : IsJudged t (take k H) e c.args.quota c.events.configuration c.judge.new.configuration
     c.in_ok-growth.field-0 =
-    c.in_ok-growth.ensures.judged (take k H) c.events.invariant.run c.events.invariant.owes in
-    illegal_at t H k e (Get 0 0 (pos 0)) c.events.configuration c.events.invariant.run c.events-test.true refl
-    (subst (λ j. IsJudged t (take k H) e c.args.quota c.events.configuration c.judge.new.configuration j)
-    c.in-Illegal.is found)
+    c.in_ok-growth.ensures.judged (take k H) c.events.invariant.run c.events.invariant.owes in (
+      illegal_at t H k e (Get 0 0 (pos 0)) c.events.configuration c.events.invariant.run c.events-test.true refl
+          (subst (λ j. IsJudged t (take k H) e c.args.quota c.events.configuration c.judge.new.configuration j)
+          c.in-Illegal.is found),
+      within_more t H c.args.quota k e (Get 0 0 (pos 0)) c.events.configuration c.events.owed c.events.invariant.run
+          c.events.invariant.owes c.events.invariant.places c.events-test.true refl
+          (λ none. c.in_ok-growth.ensures.in_time none (illegal_in_time c.in_ok-growth.field-0 c.in-Illegal.is))
+          c.events.invariant.within,
+    )
 
 pub returns-in-Budget-clause-refused : goal.returns-in-Budget-clause-refused
 returns-in-Budget-clause-refused g c =
@@ -26,11 +32,13 @@ returns-in-Budget-clause-refused g c =
     let e = get_or H k (Get 0 0 (pos 0)) in
     let found : IsJudged t (take k H) e c.args.quota c.events.configuration c.judge.new.configuration
     c.in_ok-growth.field-0 =
-    c.in_ok-growth.ensures.judged (take k H) c.events.invariant.run c.events.invariant.owes in
-    budget_at t c.known.ensures H c.args.quota k e (Get 0 0 (pos 0)) c.events.configuration c.events.invariant.run
-    c.events.invariant.places c.events-test.true
-    refl (subst (λ j. IsJudged t (take k H) e c.args.quota c.events.configuration c.judge.new.configuration j)
-    c.in-Budget.is found)
+    c.in_ok-growth.ensures.judged (take k H) c.events.invariant.run c.events.invariant.owes in (
+      budget_at t c.known.ensures H c.args.quota k e (Get 0 0 (pos 0)) c.events.configuration c.events.invariant.run
+          c.events.invariant.places c.events-test.true
+          refl (subst (λ j. IsJudged t (take k H) e c.args.quota c.events.configuration c.judge.new.configuration j)
+          c.in-Budget.is found),
+      c.events.invariant.within,
+    )
 
 pub events-preserved : goal.events-preserved
 events-preserved g c =
@@ -46,4 +54,21 @@ events-preserved g c =
     c.events-test.true refl c.events.invariant.places
     (subst (λ j. IsJudged t (take k H) e c.args.quota c.events.configuration c.judge.new.configuration j)
     c.in-Follows.is found) in
-    record { run = then.run; owes = then.owes; places = then.places }
+    let more : AreWithinSteps t H c.args.quota (suc k) =
+    within_more t H c.args.quota k e (Get 0 0 (pos 0)) c.events.configuration c.events.owed c.events.invariant.run
+    c.events.invariant.owes c.events.invariant.places c.events-test.true refl
+    (λ none. c.in_ok-growth.ensures.in_time none
+    (follows_in_time c.in_ok-growth.field-0 c.in-Follows.growth c.in-Follows.is)) c.events.invariant.within in
+    record { run = then.run; owes = then.owes; places = then.places; within = rw (add-one k) more }
+
+pub events-init : goal.events-init
+events-init g c =
+    record {
+      run = c.in_ok-configuration.ensures.run;
+      owes = λ p d owes. let none = owes.wait in absurd cc;
+      places = c.in_ok-configuration.ensures.frames;
+      within = none_within c.args.network.now c.args.events.now c.args.quota;
+    }
+
+pub returns-clause-within : goal.returns-clause-within
+returns-clause-within g c k below = c.events.invariant.within k (omega arith)

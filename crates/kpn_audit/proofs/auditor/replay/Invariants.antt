@@ -1,8 +1,9 @@
--- The events so far are a legal history, which leads to the configuration and owes what is kept beside it, and each
--- process stands at its place.
+-- The events so far are a legal history, which leads to the configuration and owes what is kept beside it, each
+-- process stands at its place, and none of them was out of steps.
 use Rattle.std.proofs.Common.{take}
 use Rattle.kpn_configuration.specs.Run.{IsRun}
 use Rattle.kpn_audit.specs.Judged.{Owes}
+use Rattle.kpn_audit.specs.Audit.{AreWithinSteps}
 use Rattle.kpn_audit.proofs.Replaying.{ArePlaces}
 use Rattle.kpn_audit.proofs.auditor.replay.Given as goal
 
@@ -12,4 +13,5 @@ invariant-events g l =
       run : IsRun l.network (take l.k l.events) l.configuration;
       owes : Owes l.network (take l.k l.events) l.configuration l.owed;
       places : ArePlaces l.network (take l.k l.events) l.configuration;
+      within : AreWithinSteps l.network l.events l.quota l.k;
     }

@@ -1,12 +1,13 @@
 -- The steps of one call follow those made before.
-use Rattle.std.proofs.Common.{◌≡◌, ◌≢◌, ℕ, ◌+◌, ◌-◌, Bool, true, false, arith, sym, ap, ◌∙◌, subst}
+use Rattle.std.proofs.Common.{◌≡◌, ◌≢◌, ℕ, ◌+◌, ◌-◌, nat_eq, Bool, true, false, arith, sym, ap, ◌∙◌, subst}
 use Rattle.kpn_net.specs.Tables.{program_of}
-use Rattle.kpn_step.specs.Step.{Steps}
+use Rattle.kpn_step.specs.Step.{step_of, Steps}
 use Rattle.kpn_step.proofs.StepCases.{Steps-append}
 use Rattle.kpn_step.specs.Frame.{Frame}
 use Rattle.kpn_configuration.specs.Configuration.{Configuration, frame_in, with_frame}
 use Rattle.kpn_configuration.proofs.Calls.{frame_in-other}
 use Rattle.kpn_audit.proofs.Followed.{stays_free}
+use Rattle.kpn_audit.proofs.InTime.{no_step, stops_within}
 use Rattle.kpn_audit.proofs.stepping.step_on.Goals as goal
 use Rattle.kpn_audit.proofs.stepping.step_on.Goals.{then-remaining-eq0-via-then-remaining-eq0, then-remaining-eq0-via-else-remaining-eq0+then-not-matches, in-Paused, in_default}
 
@@ -75,3 +76,17 @@ steps-preserved g c =
           (frame_in c.steps.configuration p) after
           c.steps.invariant.stepped c.step-steps.ensures.advance.stepped);
     }
+
+pub returns-then-remaining-eq0-clause-ends : goal.returns-then-remaining-eq0-clause-ends
+returns-then-remaining-eq0-clause-ends g c no_pause =
+    no_step (step_of (program_of c.args.network.now c.args.p).blocks (frame_in c.step-steps.new.self c.args.p))
+    (nat_eq c.step-steps.result.0 c.part_of.result) c.step-steps.result.1 c.step-steps.ensures.quota.stop no_pause
+
+pub returns-then-remaining-eq0-clause-in_time : goal.returns-then-remaining-eq0-clause-in_time
+returns-then-remaining-eq0-clause-in_time g c no_pause =
+    let p = c.args.p in
+    stops_within (program_of c.args.network.now p).blocks c.args.quota c.steps.remaining c.part_of.result
+    c.step-steps.result.0 (frame_in c.args.configuration.now p) (frame_in c.steps.configuration p)
+    (frame_in c.step-steps.new.self p) c.step-steps.result.1 c.steps.invariant.remaining c.part_of.ensures.most
+    c.step-steps.ensures.quota.most c.steps.invariant.stepped c.step-steps.ensures.advance.stepped
+    c.step-steps.ensures.advance.stands c.step-steps.ensures.quota.stop no_pause

@@ -11,7 +11,7 @@ pub returns-in_ok-text_of-in-Ok-clause-ok : goal.returns-in_ok-text_of-in-Ok-cla
 returns-in_ok-text_of-in-Ok-clause-ok c =
     let d = c.args.document.now in
     concludes_legal d.tables c.network.result.now c.network.ensures d.names.channels c.args.events.now c.args.steps
-    c.in_ok-text_of-in-Ok.field-0.items c.in-Ok.audit c.in-Ok.ensures.legal c.in-Ok.ensures.least
+    c.in_ok-text_of-in-Ok.field-0.items c.in-Ok.audit c.in-Ok.ensures.legal c.in-Ok.ensures.least c.in-Ok.ensures.within
     c.in_ok-text_of-in-Ok.ensures
 
 pub returns-in_ok-finding_text-in-Err-Illegal-clause-ok : goal.returns-in_ok-finding_text-in-Err-Illegal-clause-ok

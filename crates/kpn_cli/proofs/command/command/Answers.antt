@@ -1,7 +1,35 @@
--- What `clap` has to say is told, and nothing else is touched.
-use Rattle.std.proofs.Common.{refl}
-use Rattle.kpn_cli.specs.Command.{clap}
+-- What was carried out here is carried out; before a run by workers nothing was touched, and it reads no input.
+use Rattle.std.proofs.Common.{◌≡◌, ℕ, List, Option, subst}
+use Rattle.kpn_report.specs.declared.outcome.Limits.{Limits}
+use Rattle.kpn_run_command.specs.Run.{AnswersRun}
+use Rattle.kpn_cli.specs.Command.{here, by_workers}
 use Rattle.kpn_cli.proofs.command.command.Goals as goal
+use Rattle.kpn_answers.specs.Shelf.{Loads}
 
-pub returns-in-Err : goal.returns-in-Err
-returns-in-Err g c = clap refl refl c.show.ensures
+-- an answer stays one where it is said from before steps that touch nothing
+said_from : {S O E : Type 0} (may_give : S → Loads) (contents : O → Option (List ℕ)) (file : List ℕ)
+    (words : List (List ℕ)) (limits : Limits) (trace : Option (List ℕ)) (workers : Option ℕ)
+    (before shelf kept : S) (empty out written : O) (silent err told : E) (status : ℕ)
+    → shelf ≡ before → out ≡ empty → err ≡ silent
+    → AnswersRun may_give contents file words limits trace workers shelf kept out written err told status
+    → AnswersRun may_give contents file words limits trace workers before kept empty written silent told status
+said_from may_give contents file words limits trace workers before shelf kept empty out written silent err told status
+    same_shelf same_out same_err answers =
+    subst (λ s. AnswersRun may_give contents file words limits trace workers s kept empty written silent told status)
+    same_shelf
+    (subst (λ o. AnswersRun may_give contents file words limits trace workers shelf kept o written silent told status)
+    same_out
+    (subst (λ e. AnswersRun may_give contents file words limits trace workers shelf kept out written e told status)
+    same_err answers))
+
+pub returns-in-Ended : goal.returns-in-Ended
+returns-in-Ended g c = here c.in-Ended.ensures
+
+pub returns-in-ByWorkers : goal.returns-in-ByWorkers
+returns-in-ByWorkers g c =
+    let same = c.in-ByWorkers.ensures in
+    by_workers _ _ _ _ _ same.1
+    (said_from g.S.Shelf.may_give g.O.Write.contents _ _ _ _ _ c.args.shelf.now c.command_here.new.shelf
+    c.run_command_by_workers.new.shelf c.args.out.now c.command_here.new.out c.run_command_by_workers.new.out
+    c.args.err.now c.command_here.new.err c.run_command_by_workers.new.err c.run_command_by_workers.result
+    same.0 same.2 same.3 c.run_command_by_workers.ensures)

@@ -2,7 +2,7 @@ use Rattle.std.proofs.Common.{rules, ◌≡◌, true, IsTrue, ap, ◌∙◌}
 use Rattle.kpn_lang.specs.Prefix.{IsPrefix}
 use Rattle.kpn_net.specs.Tables.{channel_at, is_source}
 use Rattle.kpn_configuration.specs.Configuration.{channel_in}
-use Rattle.kpn_pool.proofs.Snapshots.{begins_shown}
+use Rattle.kpn_book.proofs.Snapshots.{begins_shown}
 use Rattle.kpn_pool.proofs.outside_calls.snapshot.Goals as goal
 
 pub returns-clause-fresh : goal.returns-clause-fresh

@@ -1,4 +1,4 @@
-use Rattle.kpn_report.proofs.Supplying.{IsSupplied-closed, closed_then}
+use Rattle.kpn_report.proofs.Supplying.{IsSupplied-closed, closed_then, closes_open}
 use Rattle.kpn_report.proofs.feeding.close.Goals as goal
 
 pub returns-in-Ok-clause-supplied : goal.returns-in-Ok-clause-supplied
@@ -8,3 +8,7 @@ returns-in-Ok-clause-supplied c before items so_far =
 pub returns-in-Ok-clause-closed : goal.returns-in-Ok-clause-closed
 returns-in-Ok-clause-closed c =
     closed_then c.args.c c.args.book.now c.close_source.new.self c.known.ensures c.in-Ok.ensures.done
+
+pub returns-in-Ok-clause-closes : goal.returns-in-Ok-clause-closes
+returns-in-Ok-clause-closes c =
+    closes_open c.args.c c.args.book.now c.close_source.new.self c.known.ensures c.in-Ok.ensures.done

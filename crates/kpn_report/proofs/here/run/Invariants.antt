@@ -1,10 +1,12 @@
-use Rattle.std.proofs.Common.{◌-◌, ◌≤◌}
+use Rattle.std.proofs.Common.{ℕ, ◌-◌, ◌≤◌}
 use Rattle.kpn_report.specs.Outcomes.{IsEnough}
+use Rattle.kpn_report.specs.RunHere.{Turns}
 use Rattle.kpn_report.specs.Running.{IsLeftToItself, IsLater}
 use Rattle.kpn_report.proofs.here.run.Given as goal
 
 abbrev pub invariant-run : goal.invariant-run
 invariant-run l = record {
+  turns : (n : ℕ) × Turns l.limits l.initial.book n l.book;
   later : IsLater l.initial.book l.book;
   to_itself : IsLeftToItself l.book;
   few : ¬ IsEnough l.book.tables l.book.history l.limits.take;

@@ -1,6 +1,13 @@
 use Rattle.kpn_report.proofs.Settling.{somebody}
 use Rattle.kpn_report.proofs.Stepped.{stepped}
+use Rattle.kpn_report.proofs.Turning.{front_stepped}
 use Rattle.kpn_report.proofs.stepping.step_first.Goals as goal
+
+pub returns-clause-front : goal.returns-clause-front
+returns-clause-front c =
+    front_stepped c.args.quota c.in_ok-answer.answer c.args.book.now c.step_next.new.self
+    (somebody c.args.book.now c.known.ensures c.requires.countable c.requires.to_itself c.requires.goes_on)
+    c.in_ok-answer.ensures.step
 
 pub returns-clause-committed : goal.returns-clause-committed
 returns-clause-committed c =

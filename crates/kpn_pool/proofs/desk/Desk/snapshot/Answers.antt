@@ -1,4 +1,4 @@
-use Rattle.kpn_pool.proofs.Snapshots.{at_rest_of}
+use Rattle.kpn_book.proofs.Snapshots.{at_rest_of}
 use Rattle.kpn_pool.proofs.desk.Desk.snapshot.Goals as goal
 
 pub returns-clause-quiet : goal.returns-clause-quiet

@@ -24,7 +24,7 @@ use Rattle.kpn_trace.proofs.Kahn.{below_least, least_if_quiet_given}
 use Rattle.kpn_configuration.specs.Configuration.{channel_in}
 use Rattle.kpn_book.specs.Book.{Book}
 use Rattle.kpn_book.specs.Kept.{IsBook}
-use Rattle.kpn_pool.specs.Snapshot.{ShowsARun, ShowsJournals, shown_on, shown_fed, IsBelowKahn, IsAtRest, IsKahnAtRest}
+use Rattle.kpn_book.specs.Snapshot.{ShowsARun, ShowsJournals, shown_on, shown_fed, IsBelowKahn, IsAtRest, IsKahnAtRest}
 
 -- the journal that is shown is what was written
 shown-written : {A : Type 0} (t : Tables) (H : List Event) (view : View A) → Agrees t H view → (c : ℕ)
@@ -104,3 +104,19 @@ module _ {A : Type 0} (t : Tables) (b : Book) (same : b.tables ≡ t) (book : Is
 
   pub at_rest_of : IsKahnAtRest t view
   at_rest_of = subst (λ u. IsKahnAtRest u view) same (at_rest_least b.tables book.network b.history legal view agrees)
+
+-- of the book that a view is seen of
+module _ {A : Type 0} (b : Book) (book : IsBook b) (view : View A) (agrees : Agrees b.tables b.history view) where
+  pub run_shown : ShowsARun b.tables view
+  run_shown = record {
+    history = b.history;
+    legal = book.kept.in_step.run.legal;
+    nothing_owed = book.kept.nothing_owed;
+    agrees = agrees;
+  }
+
+  pub below_shown : IsBelowKahn b.tables view
+  below_shown = below b.tables book.network b.history book.kept.in_step.run.legal view agrees
+
+  pub at_rest_shown : IsKahnAtRest b.tables view
+  at_rest_shown = at_rest_least b.tables book.network b.history book.kept.in_step.run.legal view agrees

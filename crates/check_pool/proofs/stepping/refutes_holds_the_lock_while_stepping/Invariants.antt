@@ -1,4 +1,4 @@
-use Rattle.check_pool.proofs.stepping.holds_the_lock_while_stepping.Given as goal
+use Rattle.check_pool.proofs.stepping.refutes_holds_the_lock_while_stepping.Given as goal
 
 abbrev pub ghosts-seen_while_stepping-J-Job : goal.ghosts-seen_while_stepping-J-Job
 ghosts-seen_while_stepping-J-Job g a = record { network = a.network.now }

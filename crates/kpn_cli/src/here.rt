@@ -1,0 +1,93 @@
+//! All that the program does on the thread that reads the words: anything but a run by workers.
+ghost use Rattle.std.specs.Prelude.{map};
+ghost use Rattle.std.specs.String.{string_bytes};
+ghost use Rattle.kpn_words.specs.Asked.{IsAsked};
+ghost use Rattle.kpn_cli.specs.Command.{ComesTo};
+
+use crate::told::{refuse, text_of};
+use kpn_alone_command::alone_command;
+use kpn_answers::answer::give;
+use kpn_answers::shelf::Shelf;
+use kpn_audit_command::audit_command;
+use kpn_description_commands::{check_command, print_command, rounds_command};
+use kpn_report::Limits;
+use kpn_run_command::{RunRequest, run_command};
+use kpn_words::{Request, RunWords, read_words};
+use std::alloc::Global;
+use std::io::{Read, Write};
+
+// How many steps a process of a run makes at most before it is the turn of the next.
+const QUOTA: u32 = 1_000;
+
+/// What a command line has come to on the thread that reads it.
+#[derive(Drop)]
+pub enum Here<'a> {
+    /// It was carried out, and the program ends with this status.
+    Ended(u8),
+    /// It asks for a run by so many workers, which is yet to be made.
+    ByWorkers(RunRequest<'a>, usize),
+}
+
+/// The program without its workers: it carries out anything but a run by workers, which it hands back.
+/// It has no handle by which it might wait, so it returns whatever the words are.
+pub fn command_here<'a, S: Shelf, I: Read, O: Write, E: Write>(
+    alloc: Global,
+    words: &'a [String],
+    shelf: &mut S,
+    input: &mut I,
+    out: &mut O,
+    err: &mut E,
+) -> Here<'a>
+    ensures { ComesTo S.may_give I.remaining O.contents (map string_bytes words.now)
+        shelf.old shelf.new input.old input.new out.old out.new err.old err.new result }
+{
+    match read_words(alloc, words) {
+        Ok(request) => answer(alloc, words, request, shelf, input, out, err),
+        Err(fault) => Here::Ended(refuse(&fault, err)),
+    }
+}
+
+// Answers what the words ask for by the command that they name, or by help.
+fn answer<'a, S: Shelf, I: Read, O: Write, E: Write>(
+    alloc: Global,
+    words: &'a [String],
+    request: Request<'a>,
+    shelf: &mut S,
+    input: &mut I,
+    out: &mut O,
+    err: &mut E,
+) -> Here<'a>
+    requires { IsAsked (map string_bytes words.now) request }
+    ensures { ComesTo S.may_give I.remaining O.contents (map string_bytes words.now)
+        shelf.old shelf.new input.old input.new out.old out.new err.old err.new result }
+{
+    let _ = &words;
+    match request {
+        Request::Help(text) => Here::Ended(give(text_of(alloc, &text), out, err)),
+        Request::Alone(name) => { Here::Ended(alone_command(alloc, name, input, out, err)) }
+        Request::Check(file) => Here::Ended(check_command(alloc, file, shelf, out, err)),
+        Request::Print(file) => Here::Ended(print_command(alloc, file, shelf, out, err)),
+        Request::Rounds { file, n, sources } => {
+            Here::Ended(rounds_command(alloc, file, n, &sources, shelf, out, err))
+        }
+        Request::Run(run) => { Here::Ended(run_command(alloc, &asked_run(run), shelf, out, err)) }
+        Request::RunByWorkers(run, workers) => { Here::ByWorkers(asked_run(run), workers as usize) }
+        Request::Audit { file, trace, steps } => {
+            Here::Ended(audit_command(alloc, file, trace, steps, shelf, out, err))
+        }
+    }
+}
+
+// The run that these words ask for, whose quota is that of the program.
+fn asked_run<'a>(words: RunWords<'a>) -> RunRequest<'a> {
+    RunRequest {
+        file: words.file,
+        sources: words.sources,
+        limits: Limits {
+            commits: words.commits,
+            take: words.take,
+            quota: QUOTA,
+        },
+        trace: words.trace,
+    }
+}

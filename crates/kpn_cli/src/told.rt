@@ -1,0 +1,38 @@
+//! What `clap` has to say of the words.
+ghost use Rattle.std.specs.Prelude.{◌≡◌, IfErr};
+ghost use Rattle.kpn_answers.specs.Refusal.{status_of};
+ghost use Rattle.kpn_cli.specs.Command.{fault_status};
+
+use clap::Error;
+use kpn_answers::refusal::Refusal;
+use kpn_words::WordsFault;
+use std::alloc::Global;
+use std::io;
+use std::io::Write;
+
+/// Tells how words are used, or that there is no memory to read them, and gives the status of that.
+pub(crate) fn refuse<E: Write>(fault: &WordsFault, err: &mut E) -> u8
+    ensures { result ≡ fault_status fault.now }
+{
+    match fault {
+        WordsFault::NoMemory => Refusal::NoMemory.report(err),
+        WordsFault::Usage(text) => {
+            let _ = tell(err, text);
+            2
+        }
+    }
+}
+
+// Writes a text where faults go, and flushes it.
+fn tell<E: Write>(err: &mut E, text: &Error) -> io::Result<()> {
+    write!(err, "{text}")?;
+    err.flush()
+}
+
+/// The text of help or the version.
+pub(crate) fn text_of(alloc: Global, text: &Error) -> Result<Vec<u8>, Refusal>
+    ensures { IfErr result (λ refusal. refusal ≡ Refusal.NoMemory) }
+{
+    let text = format!(in alloc; "{text}")?;
+    Ok(text.into_bytes())
+}

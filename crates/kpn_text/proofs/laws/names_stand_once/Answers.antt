@@ -1,0 +1,9 @@
+-- A document has the names that a description gives.
+use Rattle.std.proofs.Common.{subst}
+use Rattle.kpn_names.specs.Once.{EachStandsOnce}
+use Rattle.kpn_text.proofs.laws.names_stand_once.Goals as goal
+
+pub returns : goal.returns
+returns c d (text, spells) =
+    subst (λ e. EachStandsOnce e.names) spells.is
+    (c.names_stand_once.ensures spells.tree spells.named spells.resolved)

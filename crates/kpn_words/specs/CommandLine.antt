@@ -1,0 +1,111 @@
+-- The command line that the program understands, as a description that `clap` reads: the commands, the words of each
+-- in their order, and its options. No word and no option has a rule on another.
+use Rattle.std.specs.Prelude.{◌≡◌, ℕ, pos, true, false, List, [], ◌∷◌, Some, codes}
+use Rattle.clap.specs.Walk.{Rule, rule_of}
+use Rattle.clap.specs.Simple.{App, app_of, new_app, new_rule, new_shape, on_top}
+use Rattle.clap.specs.declared.builder.command.Command.TheViews.{out-Command as fields_of}
+use Rattle.clap.specs.declared.builder.action.ArgAction.TheVariants.{Set, Append}
+use Rattle.clap.specs.declared.builder.arg.Arg.{Arg}
+use Rattle.clap.specs.declared.builder.command.Command.{Command}
+use Rattle.clap.specs.declared.builder.value_parser.ValueParser.TheVariants as parser
+
+-- a word that has to be there
+abbrev pub word : (id : List ℕ) → Rule
+word id = record (new_rule id) { required = true; action = Some Set }
+
+-- an option with a value, which may stand once
+abbrev pub option : (id long : List ℕ) → Rule
+option id long = record (new_rule id) { long = Some long; value_names = 1; action = Some Set }
+
+-- an option whose value is a count of items, commits or steps
+abbrev pub count : (id long : List ℕ) → Rule
+count id long = record (option id long) { parser = Some (parser.Unsigned 1 1000000000) }
+
+abbrev pub file_word : Rule
+file_word = word (codes "FILE")
+
+abbrev pub trace_word : Rule
+trace_word = word (codes "TRACE")
+
+-- 0 to 1000
+abbrev pub rounds_word : Rule
+rounds_word = record (word (codes "N")) { parser = Some (parser.Signed (pos 0) (pos 1000)) }
+
+-- which may be repeated
+abbrev pub source_option : Rule
+source_option = record (option (codes "SOURCE") (codes "source")) { action = Some Append }
+
+-- 1 to 16
+abbrev pub workers_option : Rule
+workers_option =
+    record (option (codes "WORKERS") (codes "workers")) { parser = Some (parser.Signed (pos 1) (pos 16)) }
+
+abbrev pub take_option : Rule
+take_option = count (codes "K") (codes "take")
+
+abbrev pub commits_option : Rule
+commits_option = count (codes "MAX_COMMITS") (codes "max-commits")
+
+abbrev pub trace_option : Rule
+trace_option = option (codes "TRACE") (codes "trace")
+
+abbrev pub steps_option : Rule
+steps_option = count (codes "STEPS") (codes "steps")
+
+-- a command with these words and options
+abbrev pub command : (name : List ℕ) → List Rule → App
+command name rules = on_top (λ shape. record shape { rules = rules }) (new_app name)
+
+abbrev pub alone_words : App
+alone_words = command (codes "alone") (word (codes "NAME") ∷ [])
+
+abbrev pub check_words : App
+check_words = command (codes "check") (file_word ∷ [])
+
+abbrev pub print_words : App
+print_words = command (codes "print") (file_word ∷ [])
+
+abbrev pub rounds_words : App
+rounds_words = command (codes "rounds") (file_word ∷ rounds_word ∷ source_option ∷ [])
+
+abbrev pub run_words : App
+run_words =
+    command (codes "run")
+    (file_word ∷ source_option ∷ workers_option ∷ take_option ∷ commits_option ∷ trace_option ∷ [])
+
+abbrev pub audit_words : App
+audit_words = command (codes "audit") (file_word ∷ trace_word ∷ steps_option ∷ [])
+
+-- the program, which has a version and one command on each line
+abbrev pub command_line : App
+command_line = record {
+  top = record (new_shape (codes "kpn")) {
+    is_leaf = false;
+    has_version = true;
+    subcommand_required = true;
+    arg_required_else_help = true;
+  };
+  subs = alone_words.top ∷ check_words.top ∷ print_words.top ∷ rounds_words.top ∷ run_words.top ∷ audit_words.top
+      ∷ [];
+}
+
+-- ---- scaffolding: what the code describes to `clap`
+
+-- this word or option, which is one of its command alone
+abbrev pub IsArg : Rule → Arg → Type 0
+IsArg rule arg = (rule_of arg ≡ rule) × (arg.global ≡ false)
+
+-- this command, each of whose words is one of it alone
+abbrev pub IsCommand : App → Command → Type 0
+IsCommand app command = (app_of command ≡ app) × ((fields_of command).has_globals ≡ false)
+
+-- the program without its commands
+abbrev pub bare_command_line : App
+bare_command_line = record {
+  top = record command_line.top { is_leaf = true };
+  subs = [];
+}
+
+-- the words of `run` for what runs, and by whom
+abbrev pub run_inputs : App
+run_inputs = command (codes "run") (file_word ∷ source_option ∷ workers_option ∷ [])

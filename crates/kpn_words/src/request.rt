@@ -1,0 +1,67 @@
+//! What a command line may ask for.
+
+use clap::Error;
+use std::alloc::AllocError;
+
+/// What a command line asks for.
+#[derive(Drop)]
+pub enum Request<'a> {
+    /// `alone NAME`, with the name of the process.
+    Alone(&'a str),
+    /// `check FILE`, with the name of the file.
+    Check(&'a str),
+    /// `print FILE`.
+    Print(&'a str),
+    /// `rounds FILE N`, with the words behind its `--source` options.
+    Rounds {
+        file: &'a str,
+        n: u32,
+        sources: Vec<&'a str>,
+    },
+    /// `run FILE` without `--workers`.
+    Run(RunWords<'a>),
+    /// `run FILE --workers N`, with the number of workers.
+    RunByWorkers(RunWords<'a>, u32),
+    /// `audit FILE TRACE`, with the most steps before an event.
+    Audit {
+        file: &'a str,
+        trace: &'a str,
+        steps: u64,
+    },
+    /// `--help`, `help` or `--version`, with the text that answers it.
+    Help(Error),
+}
+
+/// What `kpn run` is given, but for its workers.
+#[derive(Drop)]
+pub struct RunWords<'a> {
+    pub file: &'a str,
+    /// The words behind the `--source` options.
+    pub sources: Vec<&'a str>,
+    /// The most commits.
+    pub commits: u64,
+    /// How many items are wanted of each sink.
+    pub take: Option<u64>,
+    /// The file for the trace.
+    pub trace: Option<&'a str>,
+}
+
+/// Why the words of a command line are not carried out.
+#[derive(Drop)]
+pub enum WordsFault {
+    /// They are not understood. The text says how words are used.
+    Usage(Error),
+    /// Memory was refused.
+    NoMemory,
+}
+
+impl From<AllocError> for WordsFault {
+    ghost use Rattle.std.specs.Prelude.{◌≡◌};
+    ghost use Rattle.kpn_words.specs.declared.request.WordsFault.TheVariants.{NoMemory};
+
+    ghost from_gives = { λ _ fault. fault ≡ NoMemory };
+
+    fn from(_error: AllocError) -> WordsFault {
+        WordsFault::NoMemory
+    }
+}
