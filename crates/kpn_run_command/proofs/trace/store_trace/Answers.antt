@@ -17,9 +17,10 @@ returns-in-Ok-clause-stored g c =
     let bytes : c.deref.result.now ≡ trace_text c.args.history.now.events =
     c.deref.ensures.value ∙ c.in_ok-text.ensures.ok in
     subst (λ trace. IsStored may_give trace c.args.history.now.events c.args.shelf.now c.store.new.self)
-    (sym (named c.in-Some.is))
-    (subst (λ text. may_give c.store.new.self c.in-Some.name.now (Ok text)) bytes c.in-Ok.ensures.stored,
-    c.in-Ok.ensures.others)
+    (sym (named c.in-Some.is)) (
+      subst (λ text. may_give c.store.new.self c.in-Some.name.now (Ok text)) bytes c.in-Ok.ensures.stored,
+      c.in-Ok.ensures.others,
+    )
 
 pub returns-clause-refused : goal.returns-clause-refused
 unfolding named
