@@ -22,12 +22,16 @@ def network(processes, channels, instances):
     return processes + 'network {\n' + ''.join(f'  {line};\n' for line in channels + instances) + '}\n'
 
 
+def row_of(process, stages, capacity, items):
+    """The channels and instances of numbers that go through a row of such processes, and of their sum."""
+    channels = [f'channel c{k} cap {capacity}' for k in range(stages + 1)] + ['sink z cap 1']
+    ends = [f'count = count(; c0; {items})', f'sum = sum(c{stages}; z; {items})']
+    return channels, ends + [f'{process}{k} = {process}(c{k}; c{k + 1})' for k in range(stages)]
+
+
 def pipeline(copies, capacity, items):
     """Numbers through a row of copies, and their sum."""
-    channels = [f'channel c{k} cap {capacity}' for k in range(copies + 1)] + ['sink z cap 1']
-    row = [f'copy{k} = copy(c{k}; c{k + 1})' for k in range(copies)]
-    ends = [f'count = count(; c0; {items})', f'sum = sum(c{copies}; z; {items})']
-    return network(PROCESSES, channels, ends + row)
+    return network(PROCESSES, *row_of('copy', copies, capacity, items))
 
 
 def fed_pipeline(copies, capacity):
@@ -87,6 +91,37 @@ process compute(out o; par x, n) { k = 0; while (k < n) { x = ((x * 16807) % 214
 '''
     instances = [f'compute{k} = compute(; z{k}; {k + 1}, {turns})' for k in range(processes)]
     return network(text, [f'sink z{k} cap 1' for k in range(processes)], instances)
+
+
+def computing_pipeline(stages, capacity, items, turns):
+    """Numbers through a row of stages, each of which goes so many turns of a loop for each item, and their sum. A turn
+    takes three steps, and eight numbers of a random sequence."""
+    item = 'x'
+    for _ in range(8):
+        item = f'(({item} * 16807) % 2147483647)'
+    processes = PROCESSES + f'''
+process stage(in i; out o) {{
+  while 1 {{ read i x; k = 0; while (k < {turns}) {{ x = {item}; k = (k + 1); }} write o x; }}
+}}
+'''
+    return network(processes, *row_of('stage', stages, capacity, items))
+
+
+def writing_pipeline(stages, capacity, items, operators):
+    """Numbers through a row of stages, each of which writes the value of one long expression for each item, and their
+    sum."""
+    processes = PROCESSES + f'''
+process stage(in i; out o) {{ while 1 {{ read i x; write o ({total('x', operators)} % 2147483647); }} }}
+'''
+    return network(processes, *row_of('stage', stages, capacity, items))
+
+
+def total(variable, operators):
+    """A sum by so many operators, of as few levels as there can be."""
+    if operators == 0:
+        return variable
+    left = (operators - 1) // 2
+    return f'({total(variable, left)} + {total(variable, operators - 1 - left)})'
 
 
 # ---- as a list of words

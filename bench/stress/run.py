@@ -11,7 +11,7 @@ import sys
 import time
 
 TOP = pathlib.Path(__file__).resolve().parent.parent.parent
-BENCH = TOP / 'crates/bench_stress'
+BENCH = TOP / 'crates/bench_parts'
 DATA = TOP / 'crates/check_examples/data'
 WORKERS = (1, 2, 3, 4, 16)
 
@@ -47,18 +47,19 @@ NETWORKS = (
 def stress(network, workers, runs, seed):
     """So many runs of a network; the seconds that they took."""
     file, take, lists = network
-    words = [str(BENCH / 'out/bench_stress'), file, str(workers), str(runs), str(seed), str(take), *lists]
+    line = ' '.join(['stress', file, str(workers), str(runs), str(seed), str(take), *lists]) + '\n'
     before = time.monotonic()
-    done = subprocess.run(words, cwd=DATA, capture_output=True, text=True, timeout=BESIDE + MOST * runs)
+    done = subprocess.run([str(BENCH / 'out/bench_parts')], cwd=DATA, input=line, capture_output=True, text=True,
+                          timeout=BESIDE + MOST * runs)
     if done.returncode != 0 or done.stdout != f'{runs} runs\n':
-        sys.exit(f'{" ".join(words)}: {done.returncode}: {done.stdout}{done.stderr}')
+        sys.exit(f'{line}{done.returncode}: {done.stdout}{done.stderr}')
     return time.monotonic() - before
 
 
 def main():
     wanted = int(sys.argv[1]) if len(sys.argv) > 1 else 10_000
     seed = int(sys.argv[2]) if len(sys.argv) > 2 else 1
-    subprocess.run(['rt', 'run', '--', 'data/two.kpn', '1', '1', '1', '0'], cwd=BENCH, check=True, capture_output=True)
+    subprocess.run(['rt', 'run'], cwd=BENCH, stdin=subprocess.DEVNULL, check=True, capture_output=True)
     runs = -(-wanted // (len(NETWORKS) * len(WORKERS)))
     for workers in WORKERS:
         took = 0

@@ -1,7 +1,7 @@
 #!/usr/bin/env python3
 """`kpn run --workers` beside the plain Rust program of bench/run, where steps are short, and, where processes compute
 by themselves, beside as many independent compiled loops as there are workers. `command.py` tells how it does beside
-one thread.
+one thread, at medium grain too.
 
 It tells parts of the other's speed, by the clock. All have to write the same. It is no part of the gate. The number of
 hops, of items that are put on a channel, may be given as a word; the default is 4,000,000. The programs take turns, and

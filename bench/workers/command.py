@@ -1,10 +1,15 @@
 #!/usr/bin/env python3
 """`kpn run --workers` beside `kpn run` on one thread: the whole command, start, reading and report included.
 
-It tells parts of the speed of one thread, by the clock, above 1 where the workers are the faster ones. All have to
-write the same. It is no part of the gate. The number of hops, of items that are put on a channel, may be given as a
-word; the default is 4,000,000. The command lines take turns, and the best of three runs of each counts.
+It tells parts of the speed of one thread, by the clock, above 1 where the workers are the faster ones: at fine grain,
+where a turn of a process is short; at medium grain, in pipelines whose stages go through a loop or write the value of a
+long expression for each item, with the microseconds that one thread takes for an item at a stage; and at coarse grain,
+where processes compute by themselves. All have to write the same. It is no part of the gate. The number of hops, of
+items that are put on a channel, may be given as a word; the default is 4,000,000. The command lines take turns, and the
+best of three runs of each counts, or of `--runs N`. `--only WORD` leaves out each network without this word in its
+title.
 """
+import argparse
 import pathlib
 import sys
 import tempfile
@@ -17,48 +22,76 @@ import measure
 import networks
 import run as one_thread
 
-RUNS = 3
 WORKERS = (1, 2, 4, 16)
 ITEMS = 1_000_000
+# A turn of the loop of a stage takes some 50 ns: so these take about 0.4, 1, 2, 4 and 10 microseconds. The three steps
+# of each stay within the 1,000 of a claim.
+TURNS = (8, 20, 40, 80, 200)
+OPERATORS = 300
+
+
+class Command:
+    """A network with its title, how many items are wanted of a sink, the items of its source, if it has one, and, at
+    medium grain, how many items pass a stage."""
+
+    def __init__(self, title, text, wanted=0, items=0, passed=0):
+        self.title, self.text, self.wanted, self.items, self.passed = title, text, wanted, items, passed
+
+    def line(self, folder, kpn):
+        """The words on one thread."""
+        folder = pathlib.Path(folder)
+        description = folder / 'network.kpn'
+        description.write_text(self.text)
+        words = [kpn, 'run', description, '--max-commits', '1000000000']
+        if self.wanted:
+            words += ['--take', str(self.wanted)]
+        if self.items:
+            numbers = folder / 'numbers.txt'
+            numbers.write_text(''.join(f'{number}\n' for number in range(self.items)))
+            words += ['--source', f'a={numbers}']
+        return words
 
 
 def measured_commands(hops):
-    """Each network with its title, how many items are wanted of a sink, and the items of its source, if it has one."""
     for title, text, wanted in one_thread.measured_networks(hops):
-        yield title, text, wanted, None
-    yield '16 computing processes', networks.computing(16, hops), 0, None
+        yield Command(title, text, wanted)
+    for stages in (8, 16):
+        for turns in TURNS:
+            items = 5 * hops // (stages * turns)
+            text = networks.computing_pipeline(stages, 64, items, turns)
+            yield Command(f'medium grain, {stages} stages of {turns} turns', text, passed=stages * items)
+    items = 20 * hops // (8 * OPERATORS)
+    text = networks.writing_pipeline(8, 64, items, OPERATORS)
+    yield Command(f'long writes, 8 stages of {OPERATORS} operators', text, passed=8 * items)
+    yield Command('16 computing processes', networks.computing(16, hops))
     for copies in (1, 8):
         title = f'source of {ITEMS} and {copies} {"copy" if copies == 1 else "copies"}, capacity 64'
-        yield title, networks.fed_pipeline(copies, 64), 0, ITEMS
+        yield Command(title, networks.fed_pipeline(copies, 64), items=ITEMS)
 
 
-def command_line(folder, kpn, text, wanted, items):
-    """The words of the command on one thread."""
-    folder = pathlib.Path(folder)
-    description = folder / 'network.kpn'
-    description.write_text(text)
-    words = [kpn, 'run', description, '--max-commits', '1000000000']
-    if wanted:
-        words += ['--take', str(wanted)]
-    if items:
-        numbers = folder / 'numbers.txt'
-        numbers.write_text(''.join(f'{number}\n' for number in range(items)))
-        words += ['--source', f'a={numbers}']
-    return words
+def told(command, words, runs):
+    """The row of a network behind its title."""
+    lines = {0: words} | {count: [*words, '--workers', str(count)] for count in WORKERS}
+    best = measure.fastest(lines, runs)
+    if any(run.wrote != best[0].wrote for run in best.values()):
+        sys.exit(f'{command.title}: the outputs differ')
+    parts = [f'{best[0].elapsed / best[count].elapsed:5.2f} with {count}' for count in WORKERS]
+    if command.passed:
+        parts.append(f'{best[0].elapsed / command.passed * 1e6:5.2f} us')
+    return ', '.join(parts)
 
 
 def main():
-    hops = int(sys.argv[1]) if len(sys.argv) > 1 else 4_000_000
+    words = argparse.ArgumentParser(description=__doc__, formatter_class=argparse.RawDescriptionHelpFormatter)
+    words.add_argument('hops', nargs='?', type=int, default=4_000_000)
+    words.add_argument('--runs', type=int, default=3)
+    words.add_argument('--only', default='')
+    asked = words.parse_args()
     kpn = measure.kpn()
     with tempfile.TemporaryDirectory() as folder:
-        for title, text, wanted, items in measured_commands(hops):
-            words = command_line(folder, kpn, text, wanted, items)
-            lines = {0: words} | {count: [*words, '--workers', str(count)] for count in WORKERS}
-            best = measure.fastest(lines, RUNS)
-            if any(run.wrote != best[0].wrote for run in best.values()):
-                sys.exit(f'{title}: the outputs differ')
-            parts = (f'{best[0].elapsed / best[count].elapsed:5.2f} with {count}' for count in WORKERS)
-            print(f'{title:42} {", ".join(parts)}', flush=True)
+        for command in measured_commands(asked.hops):
+            if asked.only in command.title:
+                print(f'{command.title:42} {told(command, command.line(folder, kpn), asked.runs)}', flush=True)
 
 
 if __name__ == '__main__':

@@ -1,39 +1,69 @@
-//! Parts of the program, which scripts of `bench/` measure. Each line of standard input names one, with what it is given:
+//! Parts of the program, which scripts of `bench/` measure. Each line of standard input names one, with what it is
+//! given:
 //!
 //! - `step LOOP TURNS` steps a loop of the process language. What the loop computed follows.
 //! - `frames COUNT` copies so many frames and compares them. How many were equal follows.
 //! - `chan CAPACITY ITEMS` puts so many items on a channel and reads them. Their sum and the last item of the journal
 //!   follow.
-//! - `cycle SHAPE LENGTH PROCESSES WALKS` walks so often along the waits of a chain or a cycle of processes, where there
+//! - `cycle SHAPE LENGTH PROCESSES WALKS` walks so often along the waits of a chain or a cycle of processes, if there
 //!   are so many in all. How many of the walks found a full channel follows.
 //! - `trace EVENTS TIMES` writes the trace of so many events into memory, so often. How many bytes it has and their sum
 //!   follow.
+//! - `stress FILE WORKERS RUNS SEED TAKE NAME=FILE ..` runs a network so often by workers whose gate dawdles at random.
+//!   TAKE is how many items are wanted of each sink, 0 for all. How many runs there were follows, if each was as one on
+//!   one thread.
 #![tactic(auto)]
 
 mod chan;
 mod cycle;
+mod dawdling;
 mod frames;
+mod judging;
 mod loops;
 mod shapes;
 mod step;
+mod stress;
 mod trace;
 
 use anyhow::{Result, bail};
 use chan::through;
 use cycle::full_found;
 use frames::equal_frames;
-use std::alloc::Global;
+use std::alloc::{AllocGlobal, Global};
+use std::fs::Files;
 use std::io::Write;
+use std::sync::Wait;
+use std::thread::Threads;
+use std::time::Clock;
 use step::computed;
+use stress::{Plan, stress};
 use trace::written;
 
 /// Does what a line says, and writes what follows.
-fn measure<O: Write>(alloc: Global, out: &mut O, line: &str) -> Result<()> {
+fn measure<R: Files + AllocGlobal + Threads + Wait + Clock + Sync, O: Write>(
+    rt: &R,
+    alloc: Global,
+    out: &mut O,
+    line: &str,
+) -> Result<()> {
     let words: Vec<&str> = line.split_whitespace().collect(alloc)?;
-    measure_part(alloc, out, &words)
+    match words.as_slice() {
+        ["stress", file, workers, times, seed, take, lists @ ..] => {
+            let plan = Plan {
+                workers: workers.parse()?,
+                times: times.parse()?,
+                seed: seed.parse()?,
+                take: take.parse()?,
+            };
+            stress(rt, alloc, file, lists, plan)?;
+            writeln!(out, "{times} runs")?;
+            Ok(())
+        }
+        words => measure_part(alloc, out, words),
+    }
 }
 
-/// Does what these words say.
+/// Does what these words say on one thread.
 fn measure_part<O: Write>(alloc: Global, out: &mut O, words: &[&str]) -> Result<()> {
     match words {
         ["step", name, turns] => {
@@ -62,7 +92,7 @@ fn measure_part<O: Write>(alloc: Global, out: &mut O, words: &[&str]) -> Result<
             let (length, sum) = written(alloc, events.parse()?, times.parse()?)?;
             writeln!(out, "{length} {sum}")?;
         }
-        _ => bail!("the parts are step, frames, chan, cycle and trace"),
+        _ => bail!("the parts are step, frames, chan, cycle, trace and stress"),
     }
     Ok(())
 }
@@ -70,7 +100,7 @@ fn measure_part<O: Write>(alloc: Global, out: &mut O, words: &[&str]) -> Result<
 fn main(rt: HostRuntime) -> Result<()> {
     let mut out = rt.stdout();
     for line in rt.lines(rt.alloc()) {
-        measure(rt.alloc(), &mut out, line?.as_str())?;
+        measure(&rt, rt.alloc(), &mut out, line?.as_str())?;
     }
     Ok(())
 }

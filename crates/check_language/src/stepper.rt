@@ -171,9 +171,9 @@ fn goes_on_in_place(rt: HostRuntime) -> Result<(), Fail> {
     assert_eq!(rt; steps, 1);
     assert_eq!(rt; stop, Stop::WantRead(0));
     let mut kept = advance(&program, start.copy(), 9);
-    kept.load(&program, &start);
+    kept.restart(&program, &start, 0);
     assert_eq!(rt; kept.stop(), Stop::Paused);
-    kept.run(9);
+    kept.restart(&program, &start, 9);
     assert_eq!(rt; kept.steps(), 1);
     assert!(rt; *kept.to() == frame);
     frame.copy_from(&start);

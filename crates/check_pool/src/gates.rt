@@ -1,11 +1,14 @@
-//! A gate that holds three processes at once.
+//! Gates that hold a process until another one has come, or pause.
 use commit_gates::{Flag, MOST_TURNS};
 use kpn_pool::{Gate, Go};
 use std::sync::atomic::{AtomicU64, Ordering};
 use std::thread;
 
-/// So many calls pass at first: some ten milliseconds, in which workers find out that the work is fine, and one leads.
+/// So many calls pass at first: some ten milliseconds, in which all workers but one come to rest.
 const PASSING: u64 = 100_000;
+
+/// So many additions to an atomic number take longer than anybody looks on before it sleeps.
+const PAUSE: u32 = 6_000;
 
 /// Lets the first calls pass, and then holds each until three are held at once, and ends its worker.
 #[derive(Drop)]
@@ -49,5 +52,50 @@ impl Gate for HoldingThree {
         }
         self.hold();
         Go::Abandon
+    }
+}
+
+/// Pauses at each call, and holds one process, if it is to, until it is told to let go.
+#[derive(Drop)]
+pub struct Pausing {
+    held: Option<usize>,
+    lets_go: Flag,
+    pauses: AtomicU64,
+}
+
+impl Pausing {
+    pub fn new(held: Option<usize>) -> Pausing {
+        Pausing {
+            held,
+            lets_go: Flag::new(),
+            pauses: AtomicU64::new(0),
+        }
+    }
+
+    /// Lets go of who is held, now and from now on.
+    pub fn let_go(&self) {
+        self.lets_go.raise();
+    }
+
+    /// Holds a call.
+    fn hold(&self) {
+        for _ in 0..MOST_TURNS {
+            if self.lets_go.is_raised() {
+                return;
+            }
+            thread::yield_now();
+        }
+    }
+}
+
+impl Gate for Pausing {
+    fn between(&self, _worker: usize, process: usize) -> Go {
+        for _ in 0..PAUSE {
+            self.pauses.fetch_add(1, Ordering::SeqCst);
+        }
+        if self.held == Some(process) {
+            self.hold();
+        }
+        Go::On
     }
 }

@@ -5,6 +5,8 @@
 #[cfg(test)]
 mod endings;
 #[cfg(test)]
+mod evaluating;
+#[cfg(test)]
 mod gates;
 #[cfg(test)]
 mod looking;
@@ -20,5 +22,7 @@ mod refusals;
 mod resting;
 #[cfg(test)]
 mod stepping;
+#[cfg(test)]
+mod waking;
 #[cfg(test)]
 mod working;

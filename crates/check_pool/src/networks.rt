@@ -1,8 +1,8 @@
 //! The networks of the tests: in each, all processes have one program.
-use kpn_lang::{Expr, Program, Sequence, Stmt};
+use kpn_lang::{Expr, Op, Program, Sequence, Stmt};
 use kpn_net::ChannelSpec::{Inner, Sink, Source};
 use kpn_net::{ChannelSpec, Instance, Network};
-use std::alloc::Global;
+use std::alloc::{AllocError, Global};
 use std::test::Fail;
 
 /// No capacity is greater.
@@ -74,12 +74,29 @@ pub fn three_spinning(alloc: Global) -> Result<Network, Fail> {
     processes(alloc, spin, &ports, &[])
 }
 
-/// A process that copies the source 0 to the sink 1.
-pub fn copying(alloc: Global) -> Result<Network, Fail> {
+/// A process that copies its first channel to its second one, for each of these pairs.
+fn copies(alloc: Global, ports: &[Ports], channels: &[ChannelSpec]) -> Result<Network, Fail> {
     let body = vec![in alloc; Stmt::Read(0, 0), Stmt::Write(0, Expr::Var(0))]?;
     let copy = forever(alloc, 1, 1, 1, body)?;
-    let ports: [Ports; 1] = [(&[0], &[1])];
-    processes(alloc, copy, &ports, &[Source, Sink(1)])
+    processes(alloc, copy, ports, channels)
+}
+
+/// A process that copies the source 0 to the sink 1, of this capacity.
+pub fn copying(alloc: Global, cap: u32) -> Result<Network, Fail> {
+    copies(alloc, &[(&[0], &[1])], &[Source, Sink(cap)])
+}
+
+/// Beside it, as process 1, the same once more: from the source 2 to the sink 3.
+pub fn copying_beside(alloc: Global) -> Result<Network, Fail> {
+    let ports: [Ports; 2] = [(&[0], &[1]), (&[2], &[3])];
+    copies(alloc, &ports, &[Source, Sink(64), Source, Sink(64)])
+}
+
+/// A process that reads one item of the source 0.
+pub fn reading(alloc: Global) -> Result<Network, Fail> {
+    let body = vec![in alloc; Stmt::Read(0, 0)]?;
+    let read = Program::new(alloc, 1, 0, 0, 1, vec![in alloc; body]?)?;
+    processes(alloc, read, &[(&[0], &[])], &[Source])
 }
 
 /// A process that writes 7 for ever, to the sink 0.
@@ -88,4 +105,27 @@ pub fn pouring(alloc: Global) -> Result<Network, Fail> {
     let pour = forever(alloc, 0, 1, 0, body)?;
     let ports: [Ports; 1] = [(&[], &[0])];
     processes(alloc, pour, &ports, &[Sink(LIMIT)])
+}
+
+/// The sum of so many times variable 0, at least one, by as few levels as there can be.
+fn sum(alloc: Global, terms: u32) -> Result<Expr, AllocError> {
+    if terms < 2 {
+        return Ok(Expr::Var(0));
+    }
+    let left = Box::new(alloc, sum(alloc, terms / 2)?)?;
+    let right = Box::new(alloc, sum(alloc, terms - terms / 2)?)?;
+    Ok(Expr::Bin(Op::Add, left, right))
+}
+
+/// A process that writes 7 to itself, and then reads each item and writes the remainder by 97 of 2,000 times as much, by
+/// nearly half as many operators as there may be nodes.
+pub fn summing(alloc: Global) -> Result<Network, Fail> {
+    let total = Box::new(alloc, sum(alloc, 2_000)?)?;
+    let item = Expr::Bin(Op::Rem, total, Box::new(alloc, Expr::Num(97))?);
+    let first = vec![in alloc; Stmt::Write(0, Expr::Num(7)), Stmt::While(Expr::Num(1), 1)]?;
+    let body = vec![in alloc; Stmt::Read(0, 0), Stmt::Write(0, item)]?;
+    let blocks = vec![in alloc; first, body]?;
+    let program = Program::new(alloc, 1, 1, 0, 1, blocks)?;
+    let ports: [Ports; 1] = [(&[0], &[0])];
+    processes(alloc, program, &ports, &[Inner(1)])
 }

@@ -139,7 +139,7 @@ fn answered<J: Job, R: Wait>(
 #[test]
 fn snapshot_shows_own_feeds_alone(rt: HostRuntime) -> Result<(), Fail> {
     let alloc = rt.alloc();
-    let network = copying(alloc)?;
+    let network = copying(alloc, 1)?;
     let other = two_sevens(alloc)?;
     let seat = copied::<Brand, HostRuntime>(&rt, alloc, Blank::new(1), &network)?;
     let mut seat = seat.expect(&rt, "a whole run");

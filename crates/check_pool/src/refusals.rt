@@ -160,7 +160,7 @@ fn is_poured<'a, J: Job, R: Wait + Clock>(
 #[test]
 fn refused_calls_change_nothing(rt: HostRuntime) -> Result<(), Fail> {
     let alloc = rt.alloc();
-    let copying = copying(alloc)?;
+    let copying = copying(alloc, 1)?;
     let pouring = pouring(alloc)?;
     let heap = LocalHeap::new(alloc, HEAP)?;
     let used = heap.used();

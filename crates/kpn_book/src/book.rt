@@ -3,8 +3,8 @@ ghost use Rattle.std.specs.Prelude.{◌≡◌, ◌↔◌, ◌<◌, ℕ, [], leng
 ghost use Rattle.kpn_lang.specs.Prefix.{IsPrefix};
 ghost use Rattle.kpn_net.specs.Tables.{instance_at, program_of};
 ghost use Rattle.kpn_step.specs.Frame.{start_frame};
-ghost use Rattle.kpn_chan.specs.Channel.{next_item};
-ghost use Rattle.kpn_trace.specs.Channels.{read_on};
+ghost use Rattle.kpn_chan.specs.Channel.{next_item, unread};
+ghost use Rattle.kpn_trace.specs.Channels.{read_on, is_closed};
 ghost use Rattle.kpn_trace.specs.Views.{AreCounts, Agrees};
 ghost use Rattle.kpn_trace.specs.Ends.{IsVerdict};
 ghost use Rattle.kpn_configuration.specs.Configuration.{channel_in, frame_in};
@@ -135,12 +135,28 @@ impl<'n, A: Allocator> Book<'n, A> {
         self.parts.configuration.has_item(c)
     }
 
+    /// How many items of a channel are unread.
+    pub fn unread_count(&self, c: usize) -> usize
+        requires { c < length self.now.tables.channels }
+        ensures { result ≡ length (unread (channel_in self.now.configuration c)) }
+    {
+        self.parts.configuration.channel(c).len()
+    }
+
     /// How many items were read from a channel.
     pub fn read_count(&self, c: usize) -> usize
         requires { c < length self.now.tables.channels }
         ensures { result ≡ length (read_on self.now.history c) }
     {
         self.parts.configuration.channel(c).read_count()
+    }
+
+    /// Whether a channel is a source that was closed.
+    pub fn is_closed(&self, c: usize) -> bool
+        requires { c < length self.now.tables.channels }
+        ensures { result ≡ is_closed self.now.history c }
+    {
+        self.parts.configuration.is_closed(c)
     }
 
     /// Whether the journal of a channel, all that was ever put on it, begins with these items.
@@ -166,7 +182,6 @@ impl<'n, A: Allocator> Book<'n, A> {
     /// The run as it is seen at this moment, in lists of an allocator that the caller names: a legal history that owes
     /// no growth agrees with it; each journal is a prefix of the least solution for what was fed, and is that solution
     /// where each process has ended or waits on an empty channel. The error is that memory ran out.
-    #[tactic(auto, using(crate::proofs::Snapshots::run_shown, crate::proofs::Snapshots::below_shown))]
     pub fn snapshot<B: Allocator + Copy>(&self, alloc: B) -> Result<View<B>, AllocError>
         ensures agrees { IfOk result (λ view. Agrees self.now.tables self.now.history view) }
         ensures states { IfOk result (λ view. view.states ≡ self.now.schedule.states) }
@@ -175,15 +190,6 @@ impl<'n, A: Allocator> Book<'n, A> {
         ensures quiet { IfOk result (λ view. IsKahnAtRest self.now.tables view) }
     {
         self.known();
-        let view = self.seen(alloc)?;
-        Ok(view)
-    }
-
-    /// The run as it is seen at this moment.
-    fn seen<B: Allocator + Copy>(&self, alloc: B) -> Result<View<B>, AllocError>
-        ensures agrees { IfOk result (λ view. Agrees self.now.tables self.now.history view) }
-        ensures states { IfOk result (λ view. view.states ≡ self.now.schedule.states) }
-    {
         let OpenBook {
             network,
             configuration,

@@ -1,19 +1,26 @@
 //! What holds of every book, as the contracts of functions with nothing to do: the layers above cite them.
-ghost use Rattle.std.specs.Prelude.{◌≡◌, ◌≢◌, ℕ, ◌+◌, ◌<◌, ◌≤◌, false, List, [], ◌∷◌, ◌++◌, length, count_by, Some};
+ghost use Rattle.std.specs.Prelude.{◌≡◌, ◌≢◌, ℕ, ◌+◌, ◌<◌, ◌≤◌, false, List, [], ◌∷◌, ◌++◌, length, map, count_by, Some};
+ghost use Rattle.kpn_lang.specs.declared.talk.Said.{Said};
+ghost use Rattle.kpn_lang.specs.Alone.{alone};
+ghost use Rattle.kpn_net.specs.Tables.{instance_at, program_of};
+ghost use Rattle.kpn_net.specs.Process.{Family, at_channel};
 ghost use Rattle.kpn_net.specs.Iteration.{IsBelowLeast, IsLeast};
+ghost use Rattle.kpn_step.specs.Residual.{residual};
 ghost use Rattle.kpn_step.specs.Stops.{Advanced};
+ghost use Rattle.kpn_step.specs.After.{GoesOnAs};
 ghost use Rattle.kpn_chan.specs.Channel.{unread};
 ghost use Rattle.kpn_trace.specs.declared.event.Event.{Event};
 ghost use Rattle.kpn_trace.specs.declared.event.Event.TheVariants as event;
 ghost use Rattle.kpn_trace.specs.declared.state.Counts.{Counts};
 ghost use Rattle.kpn_trace.specs.declared.state.Verdict.TheVariants.{Ended, Clogged, Jammed};
 ghost use Rattle.kpn_trace.specs.Channels.{written_on, read_on, fed, capacity_after};
+ghost use Rattle.kpn_trace.specs.Talks.{talk_of};
 ghost use Rattle.kpn_trace.specs.Waiting.{waits_of, HasFullCycle};
 ghost use Rattle.kpn_trace.specs.Legal.{Legal, OwesGrowth};
 ghost use Rattle.kpn_trace.specs.Stops.{CanGrow, IsJammedAtLimit, WaitsForBlocked};
 ghost use Rattle.kpn_trace.specs.Ends.{WaitsOnFull, IsQuiet, IsSettled, IsVerdict};
 ghost use Rattle.kpn_trace.specs.Views.{IsStateOf, AreCounts};
-ghost use Rattle.kpn_configuration.specs.Configuration.{channel_in, is_empty_wait, is_full_wait};
+ghost use Rattle.kpn_configuration.specs.Configuration.{channel_in, frame_in, is_empty_wait, is_full_wait};
 ghost use Rattle.kpn_schedule.specs.Schedule.{state_at};
 ghost use Rattle.kpn_book.specs.declared.answers.Done.{Done};
 ghost use Rattle.kpn_book.specs.Book.{Book, IsHeld, IsClaimed};
@@ -58,6 +65,18 @@ pub fn growths()
     ensures owed { (b : Book) → IsBook b → (B rest : List Event) (p d : ℕ)
         → b.history ≡ B ++ event.Grow p d ∷ rest → OwesGrowth b.tables B p d }
     ensures none_is_left { (b : Book) → IsBook b → ¬ CanGrow b.tables b.history }
+{}
+
+/// Where each process stands: its frame goes on as the process does after what it has said. On lists that begin with
+/// what was read, the process says that, and then what the frame says on the rest, and comes to what the frame comes to.
+pub fn frames_go_on()
+    ensures { (b : Book) → IsBook b → (p : ℕ) → p < length b.tables.instances → (X more : Family)
+        → ((c : ℕ) → X c ≡ read_on b.history c ++ more c)
+        → (said : List Said) × (map (at_channel (instance_at b.tables p)) said ≡ talk_of b.history p)
+        × GoesOnAs (alone (program_of b.tables p) (instance_at b.tables p).pars)
+        (map X (instance_at b.tables p).ins) said
+        (residual (program_of b.tables p).blocks (frame_in b.configuration p))
+        (map more (instance_at b.tables p).ins) }
 {}
 
 // ---- at a stop

@@ -3,7 +3,7 @@ ghost use Rattle.std.specs.Prelude.{map};
 ghost use Rattle.std.specs.String.{string_bytes};
 ghost use Rattle.kpn_cli.specs.Command.{Runs};
 
-use crate::here::{Here, command_here};
+use crate::here::{Progress, command_here};
 use kpn_answers::shelf::Shelf;
 use kpn_run_command::run_command_by_workers;
 use std::alloc::Global;
@@ -28,13 +28,12 @@ pub fn command<R: Threads + Wait + Clock + Sync, S: Shelf, I: Read, O: Write, E:
     out: &mut O,
     err: &mut E,
 ) -> u8
-    // Which command the words mean is shown by tests.
     ensures { Runs S.may_give I.remaining O.contents (map string_bytes words.now)
         shelf.old shelf.new input.old input.new out.old out.new err.old err.new result }
 {
     match command_here(alloc, words, shelf, input, out, err) {
-        Here::Ended(status) => status,
-        Here::ByWorkers(request, workers) => {
+        Progress::Ended(status) => status,
+        Progress::NeedsWorkers(request, workers) => {
             run_command_by_workers(rt, alloc, &request, workers, shelf, out, err)
         }
     }

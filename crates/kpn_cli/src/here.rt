@@ -1,8 +1,8 @@
 //! All that the program does on the thread that reads the words: anything but a run by workers.
-ghost use Rattle.std.specs.Prelude.{map};
+ghost use Rattle.std.specs.Prelude.{◌≡◌, map};
 ghost use Rattle.std.specs.String.{string_bytes};
 ghost use Rattle.kpn_words.specs.Asked.{IsAsked};
-ghost use Rattle.kpn_cli.specs.Command.{ComesTo};
+ghost use Rattle.kpn_cli.specs.Command.{ComesTo, run_of};
 
 use crate::told::{refuse, text_of};
 use kpn_alone_command::alone_command;
@@ -19,13 +19,13 @@ use std::io::{Read, Write};
 // How many steps a process of a run makes at most before it is the turn of the next.
 const QUOTA: u32 = 1_000;
 
-/// What a command line has come to on the thread that reads it.
+/// How far a command line was carried out on the thread that reads it.
 #[derive(Drop)]
-pub enum Here<'a> {
+pub enum Progress<'a> {
     /// It was carried out, and the program ends with this status.
     Ended(u8),
     /// It asks for a run by so many workers, which is yet to be made.
-    ByWorkers(RunRequest<'a>, usize),
+    NeedsWorkers(RunRequest<'a>, usize),
 }
 
 /// The program without its workers: it carries out anything but a run by workers, which it hands back.
@@ -37,13 +37,13 @@ pub fn command_here<'a, S: Shelf, I: Read, O: Write, E: Write>(
     input: &mut I,
     out: &mut O,
     err: &mut E,
-) -> Here<'a>
+) -> Progress<'a>
     ensures { ComesTo S.may_give I.remaining O.contents (map string_bytes words.now)
         shelf.old shelf.new input.old input.new out.old out.new err.old err.new result }
 {
     match read_words(alloc, words) {
         Ok(request) => answer(alloc, words, request, shelf, input, out, err),
-        Err(fault) => Here::Ended(refuse(&fault, err)),
+        Err(fault) => Progress::Ended(refuse(&fault, err)),
     }
 }
 
@@ -56,30 +56,37 @@ fn answer<'a, S: Shelf, I: Read, O: Write, E: Write>(
     input: &mut I,
     out: &mut O,
     err: &mut E,
-) -> Here<'a>
+) -> Progress<'a>
     requires { IsAsked (map string_bytes words.now) request }
     ensures { ComesTo S.may_give I.remaining O.contents (map string_bytes words.now)
         shelf.old shelf.new input.old input.new out.old out.new err.old err.new result }
 {
+    // Only the contract names the words.
     let _ = &words;
     match request {
-        Request::Help(text) => Here::Ended(give(text_of(alloc, &text), out, err)),
-        Request::Alone(name) => { Here::Ended(alone_command(alloc, name, input, out, err)) }
-        Request::Check(file) => Here::Ended(check_command(alloc, file, shelf, out, err)),
-        Request::Print(file) => Here::Ended(print_command(alloc, file, shelf, out, err)),
+        Request::Help(text) => Progress::Ended(give(text_of(alloc, &text), out, err)),
+        Request::Alone(name) => { Progress::Ended(alone_command(alloc, name, input, out, err)) }
+        Request::Check(file) => Progress::Ended(check_command(alloc, file, shelf, out, err)),
+        Request::Print(file) => Progress::Ended(print_command(alloc, file, shelf, out, err)),
         Request::Rounds { file, n, sources } => {
-            Here::Ended(rounds_command(alloc, file, n, &sources, shelf, out, err))
+            Progress::Ended(rounds_command(alloc, file, n, &sources, shelf, out, err))
         }
-        Request::Run(run) => { Here::Ended(run_command(alloc, &asked_run(run), shelf, out, err)) }
-        Request::RunByWorkers(run, workers) => { Here::ByWorkers(asked_run(run), workers as usize) }
+        Request::Run(run) => {
+            Progress::Ended(run_command(alloc, &asked_run(run), shelf, out, err))
+        }
+        Request::RunByWorkers(run, workers) => {
+            Progress::NeedsWorkers(asked_run(run), workers as usize)
+        }
         Request::Audit { file, trace, steps } => {
-            Here::Ended(audit_command(alloc, file, trace, steps, shelf, out, err))
+            Progress::Ended(audit_command(alloc, file, trace, steps, shelf, out, err))
         }
     }
 }
 
 // The run that these words ask for, whose quota is that of the program.
-fn asked_run<'a>(words: RunWords<'a>) -> RunRequest<'a> {
+fn asked_run<'a>(words: RunWords<'a>) -> RunRequest<'a>
+    ensures { result ≡ run_of words.entry }
+{
     RunRequest {
         file: words.file,
         sources: words.sources,

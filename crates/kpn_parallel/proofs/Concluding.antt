@@ -1,20 +1,20 @@
 -- What is told of a run, the journals of whose sources are their lists, is what a report promises.
-use Rattle.std.proofs.Common.{◌≡◌, ℕ, ◌<◌, ℤ, List, [], length, get_or, Some, sym, ◌∙◌}
+use Rattle.std.proofs.Common.{◌≡◌, ℕ, ◌<◌, true, ℤ, List, [], length, get_or, Some, sym, subst, ◌∙◌}
 use Rattle.kpn_net.specs.Tables.{Tables}
-use Rattle.kpn_net.specs.Iteration.{given_by}
+use Rattle.kpn_net.specs.Iteration.{AgreeOnSources, given_by}
 use Rattle.kpn_net.proofs.Growth.{IsPrefixOnSources-agree}
 use Rattle.kpn_net.proofs.Networks.{source_there}
 use Rattle.kpn_net.proofs.RoundLemmas.{list_of}
-use Rattle.kpn_trace.specs.Channels.{written_on}
+use Rattle.kpn_trace.specs.Channels.{written_on, is_closed}
 use Rattle.kpn_book.specs.Book.{Book, held_count}
 use Rattle.kpn_book.specs.Kept.{IsBook}
 use Rattle.kpn_report.specs.declared.outcome.Limits.{Limits}
 use Rattle.kpn_report.specs.declared.outcome.Outcome.{Outcome}
 use Rattle.kpn_report.specs.declared.report.Report.{Report}
 use Rattle.kpn_report.specs.Outcomes.{IsOutcome}
-use Rattle.kpn_report.specs.Reports.{events_of, IsWrittenFrom, IsReport}
+use Rattle.kpn_report.specs.Reports.{events_of, IsWrittenFrom, AreSupplied, IsReport}
 use Rattle.kpn_report.proofs.Told.{journals_there, told_legal, told_view, IsReport-of}
-use Rattle.kpn_parallel.specs.Fed.{AreFed, AreFedBelow}
+use Rattle.kpn_parallel.specs.Fed.{AreFedBelow, AreClosedBelow}
 
 module _ (t : Tables) (b : Book) (tables : b.tables ≡ t) (book : IsBook b) (outcome : Outcome) (report : Report)
     (tells : IsWrittenFrom b outcome report) where
@@ -29,11 +29,18 @@ module _ (t : Tables) (b : Book) (tables : b.tables ≡ t) (book : IsBook b) (ou
         list_of t (written_on (events_of report)) report.view.journals
         (told_view t b tables book outcome report tells).journals
 
-    pub are_fed : AreFed t lists report
+    are_fed : AgreeOnSources t (written_on (events_of report)) (given_by t lists)
     are_fed = record {
       each = λ c source.
           let there = source_there t c source in
           sym (journal_is c there) ∙ fed c there source;
+    }
+
+    pub are_supplied : AreClosedBelow t b.history (length t.channels) → AreSupplied t lists (events_of report)
+    are_supplied closed = record {
+      whole = are_fed;
+      closed = λ c source.
+          subst (λ H. is_closed H c ≡ true) (sym tells.history) (closed c (source_there t c source) source);
     }
 
     pub IsReport-concluded : (limits : Limits) → held_count b ≡ 0

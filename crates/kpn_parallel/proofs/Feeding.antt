@@ -5,7 +5,9 @@ use Rattle.kpn_net.specs.Tables.{Tables, channel_at, is_source}
 use Rattle.kpn_net.specs.Iteration.{given_by}
 use Rattle.kpn_trace.specs.declared.state.View.{View}
 use Rattle.kpn_book.specs.Snapshot.{shown_on}
-use Rattle.kpn_parallel.specs.Fed.{AreFedBelow}
+use Rattle.kpn_trace.specs.declared.event.Event.{Event}
+use Rattle.kpn_trace.specs.Channels.{is_closed}
+use Rattle.kpn_parallel.specs.Fed.{AreFedBelow, AreClosedBelow}
 
 module _ {A : Type 0} (t : Tables) (lists : List (List ℤ)) (view : View A) where
   pub none_fed : AreFedBelow t lists view 0
@@ -25,5 +27,19 @@ module _ {A : Type 0} (t : Tables) (lists : List (List ℤ)) (view : View A) whe
   fed_more k is so_far c below source =
       elim (cases_eq c k) [
         | inl same ↦ subst (λ x. shown_on view x ≡ given_by t lists x) (sym same) is
+        | inr other ↦ so_far c (omega arith) source
+      ]
+
+module _ (t : Tables) (H : List Event) where
+  pub none_closed : AreClosedBelow t H 0
+  none_closed c below source = absurd (omega arith)
+
+  -- the next channel is no source, or is closed
+  pub closed_more : (k : ℕ) → (is_source (channel_at t k) ≡ true → is_closed H k ≡ true) → AreClosedBelow t H k
+      → AreClosedBelow t H (k + 1)
+  closed_more k is so_far c below source =
+      elim (cases_eq c k) [
+        | inl same ↦
+            subst (λ x. is_closed H x ≡ true) (sym same) (is (subst (λ x. is_source (channel_at t x) ≡ true) same source))
         | inr other ↦ so_far c (omega arith) source
       ]

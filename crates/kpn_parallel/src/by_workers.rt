@@ -1,8 +1,7 @@
 //! A run by several workers.
 ghost use Rattle.std.specs.Prelude.{◌≡◌, ◌<◌, ◌≤◌, length, vec_len, IfOk};
 ghost use Rattle.kpn_net.specs.Iteration.{sources};
-ghost use Rattle.kpn_report.specs.Reports.{IsReport};
-ghost use Rattle.kpn_parallel.specs.Fed.{AreFed};
+ghost use Rattle.kpn_report.specs.Reports.{AreSupplied, IsReport, events_of};
 
 use crate::ending::conclude;
 use crate::fault::RunFault;
@@ -24,13 +23,14 @@ use std::time::Clock;
 /// limits. The processes are stepped by 1 to `MAX_WORKERS` workers, each on a thread of its own.
 ///
 /// The calling thread feeds each source its whole list, closes it, and takes from the sinks what is put on them, while
-/// the workers run. The gate is asked before each commit. The report keeps the promise of `kpn_report::run_here`, and
-/// tells that the lists were fed whole, under every outcome. Which capacities and which prefixes of the journals of
-/// other channels it shows depends on the schedule. The workers may make more commits than the limit, by one for each
+/// the workers run. The gate is asked before each commit. The report keeps the promise of `kpn_report::run_here`: the
+/// lists were fed whole and the sources closed, under every outcome. Which capacities and which prefixes of the journals
+/// of other channels it shows depends on the schedule. The workers may make more commits than the limit, by one for each
 /// worker but the first. A quota of 0 counts as 1.
 ///
 /// The error is the first of these: a thread could not be started; memory ran out; the gate made every worker end
-/// before there was an outcome; a source was fed something else than its list, or a call of the outside was refused.
+/// before there was an outcome; a source was fed something else than its list or not closed, or a call of the outside
+/// was refused.
 pub fn run<R: Threads + Wait + Clock + Sync, G: Gate>(
     rt: &R,
     alloc: Global,
@@ -43,7 +43,8 @@ pub fn run<R: Threads + Wait + Clock + Sync, G: Gate>(
     requires lists { length lists.now ≡ sources network.now }
     requires workers { (0 < workers) × (workers ≤ MAX_WORKERS) }
     ensures report { IfOk result (λ report. IsReport network.now lists.now limits.now report) }
-    ensures fed { IfOk result (λ report. AreFed network.now lists.now report) }
+    ensures supplied { IfOk result (λ report.
+        AreSupplied network.now lists.now (events_of report)) }
 {
     let blank = Blank::new(workers as u64);
     let task = Task {
@@ -79,7 +80,8 @@ fn run_job<J: Job + Send + Sync, R: Threads + Wait + Clock + Sync, G: Gate>(
     requires workers { (task.workers ≡ J.parts) × (0 < task.workers) × (task.workers ≤ MAX_WORKERS) }
     ensures report { IfOk result (λ report.
         IsReport J.network task.entry.lists.now task.entry.limits.now report) }
-    ensures fed { IfOk result (λ report. AreFed J.network task.entry.lists.now report) }
+    ensures supplied { IfOk result (λ report.
+        AreSupplied J.network task.entry.lists.now (events_of report)) }
 {
     let Task {
         network,
@@ -118,7 +120,8 @@ fn report_or_fault<J: Job>(
     requires lists { length lists.now ≡ sources J.network }
     requires seats { (vec_len ended.seats ≡ J.parts) × (0 < J.parts) }
     ensures report { IfOk result (λ report. IsReport J.network lists.now limits.now report) }
-    ensures fed { IfOk result (λ report. AreFed J.network lists.now report) }
+    ensures supplied { IfOk result (λ report.
+        AreSupplied J.network lists.now (events_of report)) }
 {
     if !ended.had_threads {
         return Err(RunFault::Threads);

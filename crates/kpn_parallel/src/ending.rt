@@ -3,12 +3,11 @@
 ghost use Rattle.std.specs.Prelude.{◌≡◌, length, IfOk};
 ghost use Rattle.kpn_net.specs.Iteration.{sources};
 ghost use Rattle.kpn_book.specs.Book.{held_count};
-ghost use Rattle.kpn_report.specs.Reports.{IsReport};
+ghost use Rattle.kpn_report.specs.Reports.{AreSupplied, IsReport, events_of};
 ghost use Rattle.kpn_parallel.specs.Ending.{KeepsHeld, Releases};
-ghost use Rattle.kpn_parallel.specs.Fed.{AreFed};
 
 use crate::fault::RunFault;
-use crate::fed::were_fed;
+use crate::fed::{are_closed, were_fed};
 use kpn_book::Book;
 use kpn_lang::Sequence;
 use kpn_pool::Refused;
@@ -28,7 +27,8 @@ pub(crate) fn conclude(
     requires { length lists.now ≡ sources book.tables }
     ensures report { IfOk result (λ report.
         IsReport book.entry.tables lists.now limits.now report) }
-    ensures fed { IfOk result (λ report. AreFed book.entry.tables lists.now report) }
+    ensures supplied { IfOk result (λ report.
+        AreSupplied book.entry.tables lists.now (events_of report)) }
 {
     let mut book = book;
     put_back_held(&mut book);
@@ -41,9 +41,10 @@ pub(crate) fn conclude(
     };
     book.known();
     let network = book.network();
+    let are_closed = are_closed(&book);
     let report = report_of(alloc, book, outcome)?;
     let are_fed = were_fed(network, lists, &report.view);
-    if !are_fed || served.is_err() || emptied.is_err() {
+    if !are_fed || !are_closed || served.is_err() || emptied.is_err() {
         return Err(RunFault::Foreign);
     }
     Ok(report)

@@ -1,6 +1,8 @@
 //! What the calling thread does while the workers run: it feeds the sources and takes from the sinks.
 use kpn_lang::Sequence;
-use kpn_pool::{Job, Refused, Shared, SinkSeat, SourceSeat, close, feed_all, take_all};
+use kpn_pool::{
+    Job, Refused, Shared, SinkSeat, SourceSeat, close, feed_all, take_each, take_when_due,
+};
 use std::sync::Wait;
 use std::time::Clock;
 
@@ -76,7 +78,7 @@ fn feed_list<J: Job, R: Wait>(
 ) -> Result<(), Refused> {
     for items in list.chunks(BATCH) {
         feed_all(rt, shared, seat, items, usize::MAX)?;
-        take_unread(rt, shared, sinks)?;
+        take_each(rt, shared, sinks.seats.as_mut_slice())?;
     }
     close(rt, shared, seat)
 }
@@ -87,28 +89,11 @@ fn take_items<J: Job, R: Wait + Clock>(
     shared: &Shared<'_, J>,
     sinks: &mut Sinks,
 ) -> Result<(), Refused> {
+    take_each(rt, shared, sinks.seats.as_mut_slice())?;
     for _ in rt.forever() {
-        let rings = shared.rings();
-        if shared.has_ended() {
+        if sinks.have_enough() || !take_when_due(rt, shared, sinks.seats.as_mut_slice())? {
             return Ok(());
         }
-        take_unread(rt, shared, sinks)?;
-        if sinks.have_enough() {
-            return Ok(());
-        }
-        shared.await_ring(rt, rings);
     }
     unreachable!()
-}
-
-/// Takes all that is unread at the sinks.
-fn take_unread<J: Job, R: Wait>(
-    rt: &R,
-    shared: &Shared<'_, J>,
-    sinks: &mut Sinks,
-) -> Result<(), Refused> {
-    for seat in sinks.seats.iter_mut() {
-        take_all(rt, shared, seat)?;
-    }
-    Ok(())
 }

@@ -1,10 +1,12 @@
 -- The seats of the outside, channel by channel, and item by item.
-use Rattle.std.proofs.Common.{◌≡◌, ℕ, ◌+◌, ◌<◌, ℤ, pos, Bool, cond, List, [], ◌∷◌, ◌++◌, length, map, take, get_or, sym, ap, ◌∙◌, arith}
+use Rattle.std.proofs.Common.{◌≡◌, ℕ, ◌+◌, ◌<◌, ℤ, pos, Bool, cond, List, [], ◌∷◌, ◌++◌, length, map, take, get_or, zero, suc, refl, sym, ap, ◌∙◌, arith}
+use Rattle.std.specs.Prelude.{slice_set}
 use Rattle.std.proofs.lemmas.List.{take_more, append_assoc}
 use Rattle.std.specs.List.{filter, range_with_len}
 use Rattle.std.proofs.lemmas.List.FromFn.{filter_of_map_range_with_len_more}
 use Rattle.kpn_pool.specs.Desk.{Desk, with_book}
-use Rattle.kpn_pool.specs.OutsideSeats.{EndSeat, new_end, with_item}
+use Rattle.kpn_pool.specs.OutsideSeats.{EndSeat, new_end, with_item, TakesMore, HaveTaken}
+use Rattle.kpn_lang.proofs.Prefixes.{IsPrefix-refl, IsPrefix-trans}
 
 -- one channel more is looked at
 pub one_more : (p : EndSeat → Bool) (c : ℕ) (seats now : List EndSeat)
@@ -31,3 +33,26 @@ fed_more before s now items k v channel so_far there is fed = (
 -- a desk whose book changes again
 pub still_with_book : (a b d : Desk) → b ≡ with_book b.book a → d ≡ with_book d.book b → d ≡ with_book d.book a
 still_with_book a b d first then = then ∙ ap (with_book d.book) first
+
+-- ---- many seats
+
+takes_more : (a b c : EndSeat) → TakesMore a b → TakesMore b c → TakesMore a c
+takes_more a b c first rest = record {
+  channel = rest.channel ∙ first.channel;
+  items = IsPrefix-trans a.items b.items c.items first.items rest.items;
+}
+
+-- nothing is taken yet
+pub none_taken : (seats : List EndSeat) → HaveTaken seats seats
+none_taken [] = tt
+none_taken (s ∷ seats) = (record { channel = refl; items = IsPrefix-refl s.items }, none_taken seats)
+
+-- one seat takes more
+pub taken_at : (before seats : List EndSeat) (i : ℕ) (s d : EndSeat) → i < length seats → HaveTaken before seats
+    → TakesMore (get_or seats i d) s → HaveTaken before (slice_set seats i s)
+taken_at [] (t ∷ seats) i s d below so_far more = absurd so_far
+taken_at (b ∷ before) [] i s d below so_far more = absurd so_far
+taken_at [] [] i s d below so_far more = absurd (omega (arith, below))
+taken_at (b ∷ before) (t ∷ seats) zero s d below so_far more = (takes_more b t s so_far.0 more, so_far.1)
+taken_at (b ∷ before) (t ∷ seats) (suc i) s d below so_far more =
+    (so_far.0, taken_at before seats i s d (omega (arith, below)) so_far.1 more)

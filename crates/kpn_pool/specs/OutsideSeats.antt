@@ -1,6 +1,7 @@
 -- What who feeds a source, or takes from a sink, knows of its own calls.
 use Rattle.std.specs.Prelude.{◌≡◌, ◌≢◌, ℕ, ℤ, Bool, true, false, List, [], ◌∷◌, ◌++◌, map, take, slice_get, Option, Some, None}
 use Rattle.std.specs.List.{filter}
+use Rattle.kpn_lang.specs.Prefix.{IsPrefix}
 use Rattle.kpn_net.specs.declared.tables.ChannelSpec.{ChannelSpec}
 use Rattle.kpn_net.specs.Tables.{Tables, channel_at}
 use Rattle.kpn_net.specs.Faults.{channel_numbers}
@@ -57,12 +58,23 @@ pub record FeedsUntil (items : List ℤ) (before after : EndSeat) (refuses : ℤ
   pub next : slice_get items count ≡ Some item
   pub refused : refuses item
 
+-- the same channel, and the items that the seat had, perhaps followed by more
+pub record TakesMore (before after : EndSeat) : Type 0 where
+  pub channel : after.channel ≡ before.channel
+  pub items : IsPrefix before.items after.items
+
 -- the items that the seat has more than before were the first unread ones of its sink
 pub record TakesFirst (before after : EndSeat) (b b_after : Book) : Type 0 where
   pub channel : after.channel ≡ before.channel
   pub recorded : AreRecorded event.Take before after b b_after
   pub first : unread (channel_in b.configuration before.channel)
       ≡ recorded.more ++ unread (channel_in b_after.configuration before.channel)
+
+-- the same seats, each with the items that it had and perhaps more
+abbrev pub HaveTaken : (before after : List EndSeat) → Type 0
+HaveTaken [] [] = Unit {0}
+HaveTaken (x ∷ xs) (y ∷ ys) = TakesMore x y × HaveTaken xs ys
+HaveTaken xs ys = ⊥
 
 -- ---- why a call of the outside may be refused, whatever has happened: `is_there` tells whether the network has a
 -- source, or a sink, with its number

@@ -1,126 +1,237 @@
-//! Who of the workers steps processes, and who rests.
+//! Who of the workers steps processes, who looks on and who rests: the whole policy of a run.
 //!
-//! A worker is active or rests. One that is active asks for the lock, steps a process or stands at the gate. It rests
-//! where no process is ready for it, and no longer than some milliseconds: then it looks again. So nobody sleeps for
-//! good over a process that is ready, whatever the others do, and whether or not somebody notified it.
+//! | A worker | since | until |
+//! |---|---|---|
+//! | is busy: it has the lock, steps or stands at the gate | it joined | it comes back and may not join again |
+//! | looks on | it came back or was notified, and might not join | it may join, or the time to look on is over |
+//! | rests | it has looked on | it is notified, or its time is over |
+//! | has ended | it found a reason to end | |
 //!
-//! At fine work, where the turn of a process takes no longer than to hand the lock over, several workers would only
-//! wait for one another. So one of them leads, and another one yields to it: it rests where it finds that the leader
-//! has got on since it last looked. Where the leader has not, as it stands at the gate or its turn is long, the other
-//! one takes the lead. A leader is active and yields to nobody, so whoever yields leaves somebody at work. The first
-//! that rests naps: it looks every half millisecond, and so takes over from a leader that is held. If that one is held
-//! too, the next one that looks naps in its place.
+//! A worker joins if a process is ready and fewer workers are busy than pays. It joins in any case if it has waited in
+//! vain: nobody has committed since it left the lock, so the gate or long turns hold those that are busy.
 //!
-//! At coarse work nobody yields. Who claims a process then and leaves others ready notifies one that rests, and so does
-//! a call of the outside that finds a process ready and nobody active.
+//! **No notification is lost.** A worker is counted as one that rests, or as one that was notified, under the lock. A
+//! `Condvar` that is notified once the lock is free wakes who began to rest before that. So each one that is counted as
+//! notified comes.
+//!
+//! **No process that is ready waits for longer than a short rest**, unless all workers are busy. It becomes ready in
+//! one of these ways:
+//! - By a commit, or by a worker that puts it back and ends. If this worker leaves it ready, by a claim of another one
+//!   or by its end, it notifies somebody, unless somebody looks on, was notified or keeps watch. If this worker may not
+//!   join, it looks on itself, and rests after that as the one that keeps watch if nobody else does.
+//! - By a call of the outside. That notifies somebody, unless somebody looks on or was notified.
+//! - At the start, when each worker comes by itself.
+//!
+//! Who keeps watch rests for a short time. Then the others have committed, and so are there to take the process up, or
+//! this one has waited in vain and joins, and by its claim sees to the next process.
 use std::mem;
-use std::time::Duration;
+use std::time::{Clock, Duration, Instant};
 
-// for how many microseconds the one that naps rests while others work
-const NAP: u64 = 500;
+// For how many nanoseconds a commit with the next claim keeps the lock from others. If turns take no longer, a second
+// worker only waits for the first.
+const HOLD: u32 = 450;
 
-// for how many microseconds everybody else rests
-const REST: u64 = 5_000;
+// No turn counts for more nanoseconds. At so many there pay more workers than a run may have, and a turn that was
+// interrupted weighs little.
+const LONGEST: u32 = 16_000;
 
-/// How many workers there are of each kind, and who leads.
-#[derive(Clone, Copy, Debug)]
+// A turn is one part of so many in the mean: so the mean follows within some hundred turns.
+const WEIGHT: u32 = 8;
+
+// One of so many turns is measured, since a look at the clock costs as much as a short turn. An even number would
+// always meet the same processes of 8 or 16.
+const MEASURED: u32 = 31;
+
+// For how many microseconds a worker looks on: some times as long as it takes to sleep and to be woken.
+pub(crate) const MOMENT: u64 = 20;
+
+// For how many milliseconds the one that keeps watch rests: so seldom does it cost nothing, and two such rests, after
+// which it takes the place of a worker that is held, are still less than a tenth of a second.
+const WATCH: u64 = 40;
+
+// For how many milliseconds the others rest. They are notified when they are needed.
+const REST: u64 = 1_000;
+
+/// What a worker knows of its turn.
+#[derive(Clone, Copy)]
+pub(crate) struct Pace {
+    turns: u32,
+    begun: Option<Instant>,
+    // how many commits there were then
+    commits: u64,
+}
+
+impl Pace {
+    /// Of a worker that has had no turn.
+    pub(crate) const fn new() -> Pace {
+        Pace {
+            turns: 0,
+            begun: None,
+            commits: 0,
+        }
+    }
+
+    /// A turn begins after so many commits.
+    pub(crate) fn begin<R: Clock>(&mut self, rt: &R, commits: u64) {
+        self.commits = commits;
+        self.begun = None;
+        if self.turns % MEASURED == 0 {
+            self.begun = Instant::now(rt).ok();
+        }
+        self.turns = self.turns.wrapping_add(1);
+    }
+
+    /// For how long the turn lasts, if it is measured.
+    pub(crate) fn time<R: Clock>(&self, rt: &R) -> Option<Duration> {
+        self.begun?.elapsed(rt).ok()
+    }
+
+    /// Whether nobody has committed since the turn began, where there are now so many commits.
+    pub(crate) fn is_alone(&self, commits: u64) -> bool {
+        self.commits == commits
+    }
+}
+
+/// How many workers there are of each kind, what their turns take, and whether somebody outside waits.
+#[derive(Clone, Copy)]
 pub(crate) struct Crew {
-    active: usize,
+    // those that have not ended
+    working: usize,
+    busy: usize,
+    looking: usize,
     resting: usize,
-    // one of those that rest
-    naps: bool,
     // of those that rest, so many were notified and have not come yet
     notified: usize,
-    // one of those that are active
-    leader: Option<usize>,
-    // how often a leader took up a process: it tells others that it gets on
-    led: u64,
+    // one of those that rest keeps watch
+    is_watched: bool,
+    // the mean of the nanoseconds for which a turn leaves the lock free
+    away: u32,
+    // somebody outside sleeps until the outside is called
+    is_awaited: bool,
+    // who lets the lock go next is to call the outside
+    owes_call: bool,
 }
 
 impl Crew {
-    /// Nobody works yet.
-    pub(crate) const fn new() -> Crew {
+    /// So many workers, none of which has come yet.
+    pub(crate) const fn new(workers: usize) -> Crew {
         Crew {
-            active: 0,
+            working: workers,
+            busy: 0,
+            looking: 0,
             resting: 0,
-            naps: false,
             notified: 0,
-            leader: None,
-            led: 0,
+            is_watched: false,
+            away: 0,
+            is_awaited: false,
+            owes_call: false,
         }
     }
 
-    /// How many are active.
-    pub(crate) fn active(&self) -> usize {
-        self.active
+    /// Whether nobody is busy.
+    pub(crate) fn is_idle(&self) -> bool {
+        self.busy == 0
     }
 
-    /// For how long a worker rests that naps, or does not.
-    pub(crate) fn rest_of(&self, naps: bool) -> Duration {
-        let is_short = naps && self.active > 0;
-        Duration::from_micros(if is_short { NAP } else { REST })
+    /// Whether all workers have ended.
+    pub(crate) fn has_ended(&self) -> bool {
+        self.working == 0
     }
 
-    /// Whether somebody rests.
-    pub(crate) fn rests(&self) -> bool {
-        self.resting > 0
+    /// Whether a worker may join where so many processes are ready. One that has waited in vain may.
+    pub(crate) fn has_place(&self, ready: usize, in_vain: bool) -> bool {
+        ready > 0 && (in_vain || self.busy < self.paying())
     }
 
-    /// How often a leader took up a process.
-    pub(crate) fn led(&self) -> u64 {
-        self.led
+    /// How many busy workers pay.
+    fn paying(&self) -> usize {
+        (self.away / HOLD) as usize + 1
     }
 
-    /// One more is active.
-    pub(crate) fn enter(&mut self) {
-        self.active = self.active.saturating_add(1);
+    /// A worker is busy from now on.
+    pub(crate) fn join(&mut self) {
+        self.busy = self.busy.saturating_add(1);
     }
 
-    /// This one is active no more.
-    pub(crate) fn leave(&mut self, worker: usize) {
-        self.active = self.active.saturating_sub(1);
-        if self.leader == Some(worker) {
-            self.leader = None;
+    /// A worker is back from a turn, which left the lock free for so long if it was measured.
+    pub(crate) fn come_back(&mut self, away: Option<Duration>) {
+        self.busy = self.busy.saturating_sub(1);
+        if let Some(away) = away {
+            let nanos = u32::try_from(away.as_nanos()).unwrap_or(LONGEST);
+            let more = nanos.min(LONGEST) / WEIGHT;
+            self.away = (self.away - self.away / WEIGHT).saturating_add(more);
         }
     }
 
-    /// This one, which was active, rests from now on. Tells whether it naps, which one of them does.
-    pub(crate) fn rest(&mut self, worker: usize) -> bool {
-        self.leave(worker);
+    /// A worker looks on from now on. If nobody is busy, the outside is told: who looks on hopes for its call.
+    pub(crate) fn look_on(&mut self) {
+        self.looking = self.looking.saturating_add(1);
+        if self.is_idle() {
+            self.owes_call = true;
+        }
+    }
+
+    /// A worker has looked on.
+    pub(crate) fn look_away(&mut self) {
+        self.looking = self.looking.saturating_sub(1);
+    }
+
+    /// A worker rests from now on, of which the outside is told: it may be the last one that is not held. Tells whether
+    /// it keeps watch, which one of them does while somebody is busy.
+    pub(crate) fn rest(&mut self) -> bool {
         self.resting = self.resting.saturating_add(1);
-        !mem::replace(&mut self.naps, true)
+        self.owes_call = true;
+        self.busy > 0 && !mem::replace(&mut self.is_watched, true)
     }
 
-    /// One that has rested is active again; `napped` is what `rest` told it.
-    pub(crate) fn wake(&mut self, napped: bool) {
-        self.enter();
+    /// For how long a worker rests that keeps watch, or does not.
+    pub(crate) fn rest_of(keeps_watch: bool) -> Duration {
+        Duration::from_millis(if keeps_watch { WATCH } else { REST })
+    }
+
+    /// A worker has rested.
+    pub(crate) fn rise(&mut self, keeps_watch: bool) {
         self.resting = self.resting.saturating_sub(1);
         self.notified = self.notified.saturating_sub(1);
-        if napped {
-            self.naps = false;
+        if keeps_watch {
+            self.is_watched = false;
         }
     }
 
-    /// This one seeks the lead of fine work; when it last looked, processes were taken up `seen` times under a leader.
-    /// Tells whether it leads from now on. It does not where another one leads, and has got on since then.
-    pub(crate) fn seek_lead(&mut self, worker: usize, seen: u64) -> bool {
-        match self.leader {
-            Some(leader) if leader != worker && self.led != seen => false,
-            _ => {
-                self.leader = Some(worker);
-                self.led = self.led.wrapping_add(1);
-                true
-            }
-        }
+    /// A worker has ended, of which the outside is told.
+    pub(crate) fn end(&mut self) {
+        self.working = self.working.saturating_sub(1);
+        self.owes_call = true;
     }
 
-    /// Where more processes are ready than workers were notified for, one of those that rest is to be notified. It is
-    /// counted as such. Tells whether there is one.
-    pub(crate) fn notify(&mut self, ready: usize) -> bool {
-        let is_wanted = ready > self.notified && self.resting > self.notified;
+    /// A worker claims or ends, or a call of the outside was made, and so many processes are left ready. Tells whether
+    /// one of those that rest is to be notified, and counts it. `is_new` says that the call made a process ready.
+    pub(crate) fn notify(&mut self, ready: usize, is_new: bool) -> bool {
+        let coming = self.looking.saturating_add(self.notified);
+        let awake = self.busy.saturating_add(coming);
+        let pays = awake < self.paying().min(self.busy.saturating_add(ready));
+        let is_alone = ready > 0 && coming == 0 && (is_new || !self.is_watched);
+        let is_wanted = self.resting > self.notified && (pays || is_alone);
         if is_wanted {
             self.notified = self.notified.saturating_add(1);
         }
         is_wanted
+    }
+
+    /// Somebody outside sleeps from now on, until the outside is called or this time is over.
+    pub(crate) fn await_call(&mut self) -> Duration {
+        self.is_awaited = true;
+        Crew::rest_of(!self.is_idle())
+    }
+
+    /// There is something for the outside: whoever lets the lock go next is to call it.
+    pub(crate) fn owe_call(&mut self) {
+        self.owes_call = true;
+    }
+
+    /// The lock is let go. Tells whether the outside is to be called, which is so if somebody sleeps there, and strikes
+    /// that out.
+    pub(crate) fn call(&mut self) -> bool {
+        mem::replace(&mut self.owes_call, false) && mem::replace(&mut self.is_awaited, false)
     }
 }

@@ -1,8 +1,7 @@
 //! What lies under the lock of a run: each change of it is a call that is lent it.
-ghost use Rattle.std.specs.Prelude.{◌≡◌, false, IfNone, IfSome, IfOk, IfErr, OnErr, IsTrue};
+ghost use Rattle.std.specs.Prelude.{◌≡◌, true, false, IfNone, IfSome, IfOk, IfErr, OnErr, IsTrue};
 ghost use Rattle.kpn_net.specs.Tables.{program_of};
 ghost use Rattle.kpn_step.specs.Frame.{fits};
-ghost use Rattle.kpn_step.specs.Stops.{IsWithinQuota};
 ghost use Rattle.kpn_trace.specs.declared.state.Counts.{Counts as Tally};
 ghost use Rattle.kpn_trace.specs.Views.{Agrees, AreCounts};
 ghost use Rattle.kpn_configuration.specs.Configuration.{frame_in};
@@ -16,17 +15,15 @@ ghost use Rattle.kpn_pool.specs.Invariant.{AreBelowLeast, AreReadThenQueued, Are
 
 use crate::crew::Crew;
 use crate::job::Job;
+use crate::outside_seats::SinkSeat;
 use crate::seat::Why;
 use kpn_book::laws::{a_quiet_book, growths, journals, the_history};
-use kpn_book::{Book, Claim, Counts, Refused, View};
+use kpn_book::{Book, Claim, Counts, Event, Refused, View};
 use kpn_net::Network;
-use kpn_step::Advance;
 use std::alloc::{AllocError, Allocator, Global};
 use std::marker::Model;
 use std::sync::ledger;
 use std::sync::ledger::Share;
-
-mod crew;
 
 /// The book of a run, the mark that the workers shall end, and the total of the ledger in which commits are counted.
 #[derive(Drop)]
@@ -34,10 +31,8 @@ pub struct Desk<'n, J: Job, A: Allocator = Global> {
     pub(crate) book: Book<'n, A>,
     pub(crate) total: ledger::Book<J>,
     halts: bool,
-    // no contract sees the rest: who of the workers steps and who rests, and whether whoever lets the desk go rings for
-    // whoever serves the sinks
+    // no contract sees who of the workers steps and who rests
     pub(crate) crew: Crew,
-    taker_is_wanted: bool,
 }
 
 impl<'n, J: Job, A: Allocator> Model for Desk<'n, J, A> {
@@ -61,6 +56,7 @@ impl<'n, J: Job, A: Allocator + Copy> Desk<'n, J, A> {
         alloc: A,
         network: &'n Network,
         total: ledger::Book<J>,
+        workers: usize,
     ) -> Result<Self, AllocError>
         requires network { network.now ≡ J.network }
         requires total { total.total ≡ 0 }
@@ -71,8 +67,7 @@ impl<'n, J: Job, A: Allocator + Copy> Desk<'n, J, A> {
             book,
             total,
             halts: false,
-            crew: Crew::new(),
-            taker_is_wanted: false,
+            crew: Crew::new(workers),
         })
     }
 }
@@ -172,24 +167,25 @@ impl<'n, J: Job, A: Allocator> Desk<'n, J, A> {
         Some(claim)
     }
 
-    /// The same, for who keeps the memory of an advance: it becomes one by no step, from the frame where the process
-    /// stands. The answer is the number of the process.
-    pub fn claim_into(&mut self, steps: &mut Advance<'n>) -> Option<usize>
-        ensures claimed { IfSome result (λ p. IsClaimed p self.old.book self.new.book) }
-        ensures program { IfSome result (λ p. steps.new.program ≡ program_of J.network p) }
-        ensures from { IfSome result (λ p.
-            steps.new.from ≡ frame_in self.old.book.configuration p) }
-        ensures quota { IfSome result (λ _. IsWithinQuota 0 steps.new) }
-        ensures nobody { IfNone result (ClaimsNobody self.old.book) }
+    /// The same, in the memory that a claim has. Tells whether there was one.
+    pub fn claim_into(&mut self, claim: &mut Claim<'n>) -> bool
+        ensures claimed { (result ≡ true)
+            → IsClaimed claim.new.process self.old.book self.new.book }
+        ensures program { (result ≡ true)
+            → claim.new.program.now ≡ program_of J.network claim.new.process }
+        ensures frame { (result ≡ true)
+            → claim.new.frame ≡ frame_in self.old.book.configuration claim.new.process }
+        ensures fits { (result ≡ true)
+            → IsTrue (fits claim.new.program.now claim.new.frame) }
+        ensures nobody { (result ≡ false) → ClaimsNobody self.old.book }
         ensures same { self.new ≡ with_book self.new.book self.old }
-        ensures as_before { IfNone result ((self.new ≡ self.old) × (steps.new ≡ steps.old)) }
+        ensures as_before { (result ≡ false)
+            → (self.new ≡ self.old) × (claim.new ≡ claim.old) }
     {
         self.book.known();
-        let Some(process) = self.book.claim_into(steps) else {
-            return None;
-        };
+        let is_claimed = self.book.claim_into(claim);
         self.book.known();
-        Some(process)
+        is_claimed
     }
 
     /// Puts a process, which is held, to the tail of the queue. It stands where it stood.
@@ -203,6 +199,57 @@ impl<'n, J: Job, A: Allocator> Desk<'n, J, A> {
         self.book.put_back(p)?;
         self.book.known();
         Ok(())
+    }
+
+    /// How many processes are ready.
+    pub(crate) fn ready(&self) -> usize {
+        self.book.counts().ready
+    }
+
+    /// Whether a worker has a place here, or a reason to end.
+    pub(crate) fn has_work(&self, most: u64) -> bool {
+        self.crew.has_place(self.ready(), false) || self.reason_to_end(most).is_some()
+    }
+
+    /// Whether a channel is a sink that is half full.
+    #[tactic(auto, using(kpn_net::proofs::Networks::sink_there))]
+    fn is_half_full(&self, c: usize) -> bool {
+        let network = self.book.network();
+        if !network.is_sink(c) {
+            return false;
+        }
+        match network.cap_of(c) {
+            Some(cap) => self.book.unread_count(c) >= cap.div_ceil(2) as usize,
+            None => false,
+        }
+    }
+
+    /// Whether a channel is a sink that has an item.
+    #[tactic(auto, using(kpn_net::proofs::Networks::sink_there))]
+    fn has_item(&self, c: usize) -> bool {
+        self.book.network().is_sink(c) && self.book.has_item(c)
+    }
+
+    /// Whether it is time to take from one of these sinks, as it is half full, or has an item and nobody is busy, or all
+    /// workers have ended.
+    pub(crate) fn are_due<B: Allocator>(&self, seats: &[SinkSeat<B>]) -> bool {
+        let is_idle = self.crew.is_idle();
+        self.crew.has_ended()
+            || seats.iter().any(|seat| {
+                let c = seat.channel();
+                self.is_half_full(c) || is_idle && self.has_item(c)
+            })
+    }
+
+    /// Notes that the outside is to be called, if the last event has put an item on a sink that is half full.
+    pub(crate) fn note_filled(&mut self)
+        ensures { self.new ≡ self.old }
+    {
+        if let Some(Event::Put(_, c, _)) = self.book.history().last() {
+            if self.is_half_full(usize::from(c)) {
+                self.crew.owe_call();
+            }
+        }
     }
 
     /// The workers shall end.
@@ -224,7 +271,6 @@ impl<'n, J: Job, A: Allocator> Desk<'n, J, A> {
             mut total,
             halts: _,
             crew: _,
-            taker_is_wanted: _,
         } = self;
         let mut all = all;
         total.audit(&mut all);

@@ -1,7 +1,6 @@
 //! Workers that run a network side by side: one lock round the book of the run, and what each worker knows of it.
 #![tactic(auto)]
 
-mod bell;
 mod crew;
 mod desk;
 mod gate;
@@ -11,10 +10,8 @@ mod look;
 mod opening;
 mod outside_calls;
 mod outside_seats;
-mod pace;
 mod seat;
 mod shared;
-mod signals;
 mod working;
 
 pub use desk::Desk;
@@ -23,7 +20,9 @@ pub use gathering::gather;
 pub use job::Job;
 pub use kpn_book::{Counts, Refused, State, View};
 pub use look::Look;
-pub use outside_calls::{SnapFault, close, feed, feed_all, leave, snapshot, take, take_all};
+pub use outside_calls::{
+    SnapFault, close, feed, feed_all, leave, snapshot, take, take_all, take_each, take_when_due,
+};
 pub use outside_seats::{SinkSeat, SourceSeat};
 pub use seat::{Why, WorkerSeat};
 pub use shared::{Opened, Shared};

@@ -3,15 +3,16 @@ ghost use Rattle.std.specs.Prelude.{◌≡◌, ◌<◌, ◌++◌, length, IfOk, 
 ghost use Rattle.kpn_lang.specs.Prefix.{IsPrefix};
 ghost use Rattle.kpn_net.specs.Tables.{channel_at, is_source, is_sink};
 ghost use Rattle.kpn_pool.specs.declared.outside_calls.SnapFault.TheVariants.{NoMemory};
-ghost use Rattle.kpn_pool.specs.OutsideSeats.{with_item, with_taken, FeedsUntil, MayRefuseFeed, MayRefuseEnd, MayRefuseTake, MayRefuseSnapshot};
+ghost use Rattle.kpn_pool.specs.OutsideSeats.{with_item, with_taken, HaveTaken, FeedsUntil, MayRefuseFeed, MayRefuseEnd, MayRefuseTake, MayRefuseSnapshot};
 ghost use Rattle.kpn_book.specs.Snapshot.{ShowsARun, shown_on, IsBelowKahn, IsKahnAtRest};
 
 use crate::job::Job;
-use crate::outside_seats::{SinkSeat, SourceSeat};
+use crate::outside_seats::{SinkSeat, SourceSeat, take_from_each};
 use crate::shared::Shared;
 use kpn_book::{Refused, View};
 use std::alloc::{AllocError, Allocator};
 use std::sync::Wait;
+use std::time::Clock;
 
 /// Why a seat is given no snapshot, with its number.
 #[derive(Clone, Copy, Debug, PartialEq, Eq)]
@@ -46,8 +47,9 @@ pub fn feed<J: Job, A: Allocator + Copy, B: Allocator, R: Wait>(
         MayRefuseFeed (is_source (channel_at J.network seat.old.channel)) item cause) }
 {
     let mut desk = shared.lock(rt);
+    let before = desk.ready();
     let fed = seat.feed(&mut desk, item, bound);
-    shared.tell(desk);
+    shared.tell(desk, before);
     fed
 }
 
@@ -69,8 +71,9 @@ pub fn feed_all<J: Job, A: Allocator + Copy, B: Allocator, R: Wait>(
         MayRefuseFeed (is_source (channel_at J.network seat.old.channel)) item cause)) }
 {
     let mut desk = shared.lock(rt);
+    let before = desk.ready();
     let fed = seat.feed_all(&mut desk, items, bound);
-    shared.tell(desk);
+    shared.tell(desk, before);
     fed
 }
 
@@ -85,8 +88,9 @@ pub fn close<J: Job, A: Allocator, B: Allocator, R: Wait>(
         MayRefuseEnd (is_source (channel_at J.network seat.now.channel)) cause) }
 {
     let mut desk = shared.lock(rt);
+    let before = desk.ready();
     let closed = seat.close(&mut desk);
-    shared.tell(desk);
+    shared.tell(desk, before);
     closed
 }
 
@@ -103,8 +107,9 @@ pub fn take<J: Job, A: Allocator, B: Allocator, R: Wait>(
         MayRefuseTake (is_sink (channel_at J.network seat.old.channel)) cause) }
 {
     let mut desk = shared.lock(rt);
+    let before = desk.ready();
     let item = seat.take(&mut desk);
-    shared.tell(desk);
+    shared.tell(desk, before);
     item
 }
 
@@ -122,14 +127,47 @@ pub fn take_all<J: Job, A: Allocator, B: Allocator, R: Wait>(
         MayRefuseTake (is_sink (channel_at J.network seat.old.channel)) cause) }
 {
     let mut desk = shared.lock(rt);
-    let before = seat.taken().len();
+    let before = desk.ready();
     let taken = seat.take_all(&mut desk);
-    if seat.taken().len() > before {
-        shared.tell(desk);
-    } else {
-        drop(desk);
-    }
+    shared.tell(desk, before);
     taken
+}
+
+/// Takes all that is unread at the sinks of these seats, under one hold of the lock. Where it is refused what was taken
+/// before that stays with the seats.
+pub fn take_each<J: Job, A: Allocator, B: Allocator, R: Wait>(
+    rt: &R,
+    shared: &Shared<'_, J, A>,
+    seats: &mut [SinkSeat<B>],
+) -> Result<(), Refused>
+    ensures { HaveTaken seats.old seats.new }
+{
+    let mut desk = shared.lock(rt);
+    let before = desk.ready();
+    let taken = take_from_each(&mut desk, seats);
+    shared.tell(desk, before);
+    taken
+}
+
+/// Waits until it is time to take from a sink, and does what `take_each` does. Tells whether the run goes on: not if all
+/// workers have ended.
+///
+/// It is time once a sink of these seats is half full, or has an item while no worker is busy, and anyhow after some
+/// milliseconds while a worker is busy.
+pub fn take_when_due<J: Job, A: Allocator, B: Allocator, R: Wait + Clock>(
+    rt: &R,
+    shared: &Shared<'_, J, A>,
+    seats: &mut [SinkSeat<B>],
+) -> Result<bool, Refused>
+    ensures { HaveTaken seats.old seats.new }
+{
+    let mut desk = shared.lock_when_due(rt, seats);
+    let before = desk.ready();
+    let goes_on = !desk.crew.has_ended();
+    let taken = take_from_each(&mut desk, seats);
+    shared.tell(desk, before);
+    taken?;
+    Ok(goes_on)
 }
 
 /// Leaves the sink of the seat: nothing is taken from it any more, and it is never full. A second time it changes
@@ -144,8 +182,9 @@ pub fn leave<J: Job, A: Allocator, B: Allocator, R: Wait>(
         MayRefuseEnd (is_sink (channel_at J.network seat.now.channel)) cause) }
 {
     let mut desk = shared.lock(rt);
+    let before = desk.ready();
     let left = seat.leave(&mut desk);
-    shared.tell(desk);
+    shared.tell(desk, before);
     left
 }
 

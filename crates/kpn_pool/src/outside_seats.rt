@@ -7,7 +7,7 @@ ghost use Rattle.kpn_trace.specs.declared.event.Event.TheVariants as event;
 ghost use Rattle.kpn_configuration.specs.Configuration.{channel_in};
 ghost use Rattle.kpn_book.specs.Refusals.{RefusesFeed, RefusesClose, RefusesTake, RefusesLeave, Feeds, Closes, Takes, Leaves};
 ghost use Rattle.kpn_pool.specs.Desk.{with_book};
-ghost use Rattle.kpn_pool.specs.OutsideSeats.{with_item, with_taken, new_end, AreRecorded, FeedsUntil, TakesFirst, MayRefuseFeed, MayRefuseEnd, MayRefuseTake};
+ghost use Rattle.kpn_pool.specs.OutsideSeats.{with_item, with_taken, HaveTaken, new_end, AreRecorded, FeedsUntil, TakesFirst, MayRefuseFeed, MayRefuseEnd, MayRefuseTake};
 
 use crate::desk::Desk;
 use crate::job::Job;
@@ -239,4 +239,20 @@ impl<A: Allocator> SinkSeat<A> {
         desk.book.known();
         Ok(())
     }
+}
+
+/// Takes all that is unread at the sinks of these seats, one after the other. Where one is refused, as the book refuses
+/// it, what was taken before that stays with the seats.
+pub(crate) fn take_from_each<J: Job, A: Allocator, B: Allocator>(
+    desk: &mut Desk<'_, J, B>,
+    seats: &mut [SinkSeat<A>],
+) -> Result<(), Refused>
+    ensures seats { HaveTaken seats.old seats.new }
+    ensures desk { desk.new ≡ with_book desk.new.book desk.old }
+{
+    'seats: for i in 0..seats.len() {
+        let seat = &mut seats[i];
+        seat.take_all(desk)?;
+    }
+    Ok(())
 }

@@ -5,34 +5,34 @@ ghost use Rattle.kpn_pool.specs.OutsideSeats.{new_ends};
 ghost use Rattle.kpn_book.specs.Snapshot.{ShowsARun, IsBelowKahn, IsKahnAtRest};
 ghost use Rattle.kpn_pool.specs.Seat.{AreNewSeats};
 
+use crate::crew::MOMENT;
 use crate::desk::Desk;
 use crate::job::Job;
 use crate::look::Look;
 use crate::opening::{EndSeats, end_seats};
 use crate::outside_seats::{SinkSeat, SourceSeat};
 use crate::seat::WorkerSeat;
-use crate::signals::Signals;
 use kpn_book::View;
 use kpn_limits::MAX_WORKERS;
 use kpn_net::Network;
 use std::alloc::{AllocError, Allocator, Global};
-use std::hint::spin_loop;
 use std::sync::ledger::Blank;
 use std::sync::{Condvar, Mutex, MutexGuard, Wait};
-use std::time::Clock;
+use std::time::{Clock, Duration, Instant};
 
 mod holds;
 
 // so many tries to take the lock take some microseconds
 const TRIES: u32 = 400;
 
-/// A desk under its lock, the place where workers rest until it changes, and what is told across the lock.
+/// A desk under its lock.
 #[derive(Drop)]
 pub struct Shared<'n, J: Job, A: Allocator = Global> {
     desk: Mutex<Desk<'n, J, A>>,
+    // workers rest here
     changed: Condvar,
-    signals: Signals,
-    workers: usize,
+    // who serves the sinks sleeps here
+    called: Condvar,
     max_commits: u64,
 }
 
@@ -72,13 +72,12 @@ impl<'n, J: Job, A: Allocator + Copy> Shared<'n, J, A> {
         for number in 0..workers {
             seats.push(WorkerSeat::new(number, shares.split_off(1, 0)))?;
         }
-        let desk = Desk::new(alloc, network, total)?;
+        let desk = Desk::new(alloc, network, total, workers)?;
         Ok(Opened {
             shared: Shared {
                 desk: Mutex::new(desk),
                 changed: Condvar::new(),
-                signals: Signals::new(),
-                workers,
+                called: Condvar::new(),
                 max_commits,
             },
             workers: seats,
@@ -93,24 +92,6 @@ impl<'n, J: Job, A: Allocator> Shared<'n, J, A> {
     pub fn halt<R: Wait>(&self, rt: &R) {
         self.desk.lock(rt).halt();
         self.changed.notify_all();
-    }
-
-    /// How often the bell rang for whoever serves the sinks: for a process that waits for a full sink or has filled one
-    /// of capacity 1, by a worker that finds nothing to step, and by each worker that ends. It is read before the sinks
-    /// are looked at.
-    pub fn rings(&self) -> u64 {
-        self.signals.bell.rings()
-    }
-
-    /// Waits for a ring more than the `seen` ones, and no longer than some milliseconds: it listens for a moment, and
-    /// then sleeps.
-    pub fn await_ring<R: Wait + Clock>(&self, rt: &R, seen: u64) {
-        self.signals.bell.wait(rt, seen);
-    }
-
-    /// Whether as many calls of `work` have ended as there are workers.
-    pub fn has_ended(&self) -> bool {
-        self.signals.ended() >= self.workers as u64
     }
 
     /// A look at the desk, once nobody else has it.
@@ -143,36 +124,74 @@ impl<'n, J: Job, A: Allocator> Shared<'n, J, A> {
         let Shared {
             desk,
             changed: _,
-            signals: _,
-            workers: _,
+            called: _,
             max_commits: _,
         } = self;
         desk.into_inner()
     }
 
-    /// The desk, for a call of the outside, once nobody else has it. A worker has it often and for a short time, so who
-    /// asks for it tries for a while before it sleeps.
+    /// The desk, once nobody else has it. Others have it often and for a short time, so who asks for it tries for a while
+    /// before it sleeps.
     pub(crate) fn lock<R: Wait>(&self, rt: &R) -> MutexGuard<'_, Desk<'n, J, A>> {
         for _ in 0..TRIES {
             if let Some(desk) = self.desk.try_lock() {
                 return desk;
             }
-            spin_loop();
         }
         self.desk.lock(rt)
     }
 
-    /// Lets the desk go after a call of the outside, and tells the workers: whoever listens, and, where nobody is
-    /// active, one that rests if a process is ready, or all if the run is settled.
-    pub(crate) fn tell<'l>(&'l self, desk: MutexGuard<'l, Desk<'n, J, A>>) {
+    /// The desk, if nobody else has it at some time before the moment from then on is over.
+    fn lock_within_moment<R: Wait + Clock>(
+        &self,
+        rt: &R,
+        begun: Option<Instant>,
+    ) -> Option<MutexGuard<'_, Desk<'n, J, A>>> {
+        for _ in rt.forever() {
+            let time = begun?.elapsed(rt).ok()?;
+            if time > Duration::from_micros(MOMENT) {
+                return None;
+            }
+            if let Some(desk) = self.desk.try_lock() {
+                return Some(desk);
+            }
+        }
+        unreachable!()
+    }
+
+    /// The desk, once it is time to take from one of these sinks, or all workers have ended. While somebody is busy this
+    /// takes no longer than some milliseconds.
+    pub(crate) fn lock_when_due<B: Allocator, R: Wait + Clock>(
+        &self,
+        rt: &R,
+        seats: &[SinkSeat<B>],
+    ) -> MutexGuard<'_, Desk<'n, J, A>> {
+        let begun = Instant::now(rt).ok();
+        for _ in rt.forever() {
+            let Some(desk) = self.lock_within_moment(rt, begun) else {
+                break;
+            };
+            if desk.are_due(seats) {
+                return desk;
+            }
+        }
+        let mut desk = self.lock(rt);
+        if !desk.are_due(seats) {
+            let most = desk.crew.await_call();
+            desk = self.called.wait_timeout(rt, desk, most).0;
+        }
+        desk
+    }
+
+    /// Lets the desk go after a call of the outside, before which so many processes were ready. Notifies a worker if the
+    /// call has made another one ready, and all if the run is settled.
+    pub(crate) fn tell<'l>(&'l self, desk: MutexGuard<'l, Desk<'n, J, A>>, before: usize) {
         let mut desk = desk;
-        let is_idle = desk.crew.active() == 0;
-        let notifies = is_idle && desk.notify();
-        // nobody else would find that the run is settled
-        let is_over = is_idle && desk.crew.rests() && desk.book.verdict().is_some();
+        let ready = desk.ready();
+        let notifies = desk.crew.notify(ready, ready > before);
+        let is_settled = desk.book.verdict().is_some();
         drop(desk);
-        self.signals.move_made();
-        if is_over {
+        if is_settled {
             self.changed.notify_all();
         } else if notifies {
             self.changed.notify_one();

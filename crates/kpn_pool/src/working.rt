@@ -1,12 +1,11 @@
 //! What a worker does.
 ghost use Rattle.std.specs.Prelude.{◌≡◌, ◌<◌, ◌≤◌, IsSome};
 
+use crate::crew::Pace;
 use crate::gate::{Gate, Go};
 use crate::job::Job;
-use crate::pace::Pace;
 use crate::seat::WorkerSeat;
 use crate::shared::Shared;
-use kpn_book::Claim;
 use kpn_step::advance;
 use std::alloc::Allocator;
 use std::sync::Wait;
@@ -34,24 +33,17 @@ pub fn work<'n, J: Job, A: Allocator + Copy, G: Gate, R: Wait + Clock>(
     let Some(claim) = shared.begin(rt, &mut seat, &mut pace) else {
         return seat;
     };
-    let Claim {
-        mut process,
-        program,
-        frame,
-    } = claim;
-    let mut steps = advance(program, frame, 0);
+    let mut claim = claim;
+    let mut steps = advance(claim.program, claim.frame.copy(), quota);
     for _ in rt.forever() {
-        let begun = pace.begin(rt);
-        steps.run(quota);
-        if gate.between(seat.number(), process) == Go::Abandon {
-            shared.abandon(rt, &mut seat, process);
+        if gate.between(seat.number(), claim.process) == Go::Abandon {
+            shared.abandon(rt, &mut seat, claim.process);
             return seat;
         }
-        pace.end(rt, begun);
-        let Some(next) = shared.go_on(rt, &mut seat, &mut pace, process, &mut steps) else {
+        if !shared.go_on(rt, &mut seat, &mut pace, &mut claim, &steps) {
             return seat;
-        };
-        process = next;
+        }
+        steps.restart(claim.program, &claim.frame, quota);
     }
     unreachable!()
 }

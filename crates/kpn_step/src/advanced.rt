@@ -1,5 +1,5 @@
 //! What an advance of a process holds: it names its own input, so that it can be judged later.
-ghost use Rattle.std.specs.Prelude.{◌≡◌, ◌≤◌, IsTrue};
+ghost use Rattle.std.specs.Prelude.{◌≡◌, IsTrue};
 ghost use Rattle.kpn_step.specs.Frame.{fits};
 ghost use Rattle.kpn_step.specs.Stops.{IsAdvance, IsAtPort, IsWithinQuota, advanced_of};
 
@@ -81,33 +81,19 @@ impl<'p> Advance<'p> {
         self.stop
     }
 
-    /// Becomes the advance by no step from a frame of this program, in the memory that it has.
-    pub fn load(&mut self, program: &'p Program, frame: &Frame)
+    /// Becomes the advance of at most `quota` steps from a frame of this program, in the memory that it has.
+    pub fn restart(&mut self, program: &'p Program, frame: &Frame, quota: u32)
         requires { IsTrue (fits program.now frame.now) }
         ensures program { self.new.program ≡ program.now }
         ensures from { self.new.from ≡ frame.now }
         ensures advance { IsAdvance self.new }
-        ensures quota { IsWithinQuota 0 self.new }
+        ensures quota { IsWithinQuota quota self.new }
     {
         self.program = program;
         self.from.copy_from(frame);
         self.to.copy_from(frame);
-        let (steps, stop) = self.to.run(program, 0);
+        let (steps, stop) = self.to.run(program, quota);
         self.steps = steps;
-        self.stop = stop;
-    }
-
-    /// Goes on in place until it stops, at most `quota` steps from the frame that it began at.
-    pub fn run(&mut self, quota: u32)
-        requires { self.old.steps ≤ quota }
-        ensures program { self.new.program ≡ self.old.program }
-        ensures from { self.new.from ≡ self.old.from }
-        ensures advance { IsAdvance self.new }
-        ensures quota { IsWithinQuota quota self.new }
-    {
-        let allowed = quota - self.steps;
-        let (steps, stop) = self.to.run(self.program, allowed);
-        self.steps += steps;
         self.stop = stop;
     }
 

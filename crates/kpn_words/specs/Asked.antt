@@ -1,11 +1,22 @@
 -- What the words of a command line ask for.
-use Rattle.std.specs.Prelude.{◌≡◌, ◌⊎◌, ℕ, List, ⊤}
+use Rattle.std.specs.Prelude.{◌≡◌, ◌≢◌, ◌⊎◌, ◌==◌, ◌&&◌, ◌||◌, ◌^◌, ℕ, nat_lt, Bool, false, List, [], length}
+use Rattle.std.specs.Prelude.{Option, Some, None, option_map, option_and_then, unwrap_or, map, codes, ⊤}
+use Rattle.std.specs.Prelude.{if◌then◌else◌}
+use Rattle.std.specs.List.{list_any, position_or_len, after_first}
+use Rattle.std.specs.Option.{option_map_or}
+use Rattle.std.specs.Str.{bytes_eq}
+use Rattle.std.specs.Str.Parse.{digits_value, without_leading_plus}
 use Rattle.clap.specs.Kinds.{IsAmong}
 use Rattle.clap.specs.Faults.{fault_of}
+use Rattle.clap.specs.Simple.{subcommand_of}
+use Rattle.clap.specs.ValueTests.{is_numeral}
+use Rattle.clap.specs.Walk.{Row, first_of, one_of, all_of}
 use Rattle.clap.specs.declared.error.kind.ErrorKind.{ErrorKind}
-use Rattle.clap.specs.declared.error.kind.ErrorKind.TheVariants.{DisplayHelp, DisplayVersion}
+use Rattle.clap.specs.declared.error.kind.ErrorKind.TheVariants.{DisplayHelp, DisplayVersion, OutOfMemory}
 use Rattle.kpn_words.specs.declared.request.Request.{Request}
-use Rattle.kpn_words.specs.declared.request.Request.TheVariants.{Help}
+use Rattle.kpn_words.specs.declared.request.Request.TheVariants.{Alone, Check, Print, Rounds, Run, RunByWorkers, Audit, Help}
+use Rattle.kpn_words.specs.declared.request.WordsFault.{WordsFault}
+use Rattle.kpn_words.specs.declared.request.WordsFault.TheVariants.{Usage, NoMemory}
 use Rattle.kpn_words.specs.CommandLine.{command_line}
 
 -- the words ask for help or the version: that is the first at which `clap`, which reads them from the front, stops
@@ -13,10 +24,111 @@ abbrev pub AsksForHelp : (words : List (List ℕ)) → Type 0
 AsksForHelp words =
     IsAmong DisplayHelp (fault_of command_line words) ⊎ IsAmong DisplayVersion (fault_of command_line words)
 
--- the request is what the words ask for: help only where they ask for it
+-- ---- a command and what is given to it
+
+-- the words name this command, and `clap` finds no fault in them. `given` is what they give to the words and options of
+-- the command
+abbrev pub Names : (words : List (List ℕ)) (command : List ℕ) (given : List Row) → Type 0
+Names words command given =
+    (fault_of command_line words ≡ []) × (subcommand_of command_line words ≡ Some (command, given))
+
+-- the text that is given for the word or option of this name, if any
+abbrev pub text_for : (name : List ℕ) (given : List Row) → Option (List ℕ)
+text_for name given = first_of name given
+
+-- all texts that are given for an option that may be repeated, in their order
+abbrev pub texts_for : (name : List ℕ) (given : List Row) → List (List ℕ)
+texts_for name given = unwrap_or (all_of name given) []
+
+-- the number that a text is in decimal digits, perhaps after a `+`, if it is one of so many bits
+abbrev pub number_in : (bits : ℕ) (text : List ℕ) → Option ℕ
+number_in bits text =
+    let digits = without_leading_plus text in
+    if is_numeral digits && nat_lt (digits_value 10 digits) (2 ^ bits) then Some (digits_value 10 digits) else None
+
+-- the number that is given for it, if any
+abbrev pub number_for : (bits : ℕ) (name : List ℕ) (given : List Row) → Option ℕ
+number_for bits name given = option_and_then (number_in bits) (one_of name given)
+
+-- ---- what the words of each command ask for
+
+abbrev pub AsksForAlone : (words : List (List ℕ)) (name : List ℕ) → Type 0
+AsksForAlone words name =
+    (given : List Row) × Names words (codes "alone") given × (text_for (codes "NAME") given ≡ Some name)
+
+abbrev pub AsksForCheck : (words : List (List ℕ)) (file : List ℕ) → Type 0
+AsksForCheck words file =
+    (given : List Row) × Names words (codes "check") given × (text_for (codes "FILE") given ≡ Some file)
+
+abbrev pub AsksForPrint : (words : List (List ℕ)) (file : List ℕ) → Type 0
+AsksForPrint words file =
+    (given : List Row) × Names words (codes "print") given × (text_for (codes "FILE") given ≡ Some file)
+
+abbrev pub AsksForRounds : (words : List (List ℕ)) (file : List ℕ) (n : ℕ) (sources : List (List ℕ)) → Type 0
+AsksForRounds words file n sources =
+    (given : List Row) × Names words (codes "rounds") given × (text_for (codes "FILE") given ≡ Some file)
+    × (number_for 32 (codes "N") given ≡ Some n) × (texts_for (codes "SOURCE") given ≡ sources)
+
+-- a word behind `--source` gives its source the items of this file, which stands behind its first `=` (byte 61)
+abbrev pub gives_items : (file source : List ℕ) → Bool
+gives_items file source =
+    nat_lt (position_or_len (λ byte. byte == 61) source) (length source)
+    && bytes_eq (after_first (λ byte. byte == 61) source) file
+
+-- this file has the description of a run, or the items of a source
+abbrev pub is_input : (description : List ℕ) (sources : List (List ℕ)) (file : List ℕ) → Bool
+is_input description sources file = bytes_eq description file || list_any (gives_items file) sources
+
+-- 10,000,000 commits without `--max-commits`; a trace that would overwrite an input is asked for by no words
+abbrev pub AsksForRun : (words : List (List ℕ)) (file : List ℕ) (sources : List (List ℕ)) (commits : ℕ)
+    (take : Option ℕ) (trace : Option (List ℕ)) (workers : Option ℕ) → Type 0
+AsksForRun words file sources commits take trace workers =
+    (given : List Row) × Names words (codes "run") given × (text_for (codes "FILE") given ≡ Some file)
+    × (texts_for (codes "SOURCE") given ≡ sources)
+    × (unwrap_or (number_for 64 (codes "MAX_COMMITS") given) 10000000 ≡ commits)
+    × (number_for 64 (codes "K") given ≡ take) × (text_for (codes "TRACE") given ≡ trace)
+    × (number_for 32 (codes "WORKERS") given ≡ workers) × (option_map_or (is_input file sources) trace false ≡ false)
+
+-- 10,000,000 steps without `--steps`
+abbrev pub AsksForAudit : (words : List (List ℕ)) (file trace : List ℕ) (steps : ℕ) → Type 0
+AsksForAudit words file trace steps =
+    (given : List Row) × Names words (codes "audit") given × (text_for (codes "FILE") given ≡ Some file)
+    × (text_for (codes "TRACE") given ≡ Some trace)
+    × (unwrap_or (number_for 64 (codes "STEPS") given) 10000000 ≡ steps)
+
+-- the request is what the words ask for
 abbrev pub IsAsked : (words : List (List ℕ)) → Request → Type 0
+IsAsked words (Alone name) = AsksForAlone words name.now
+IsAsked words (Check file) = AsksForCheck words file.now
+IsAsked words (Print file) = AsksForPrint words file.now
+IsAsked words (Rounds file n sources) =
+    AsksForRounds words file.now n (map (λ source. source.now) sources.items)
+IsAsked words (Run run) =
+    AsksForRun words run.file.now (map (λ source. source.now) run.sources.items) run.commits run.take
+    (option_map (λ trace. trace.now) run.trace) None
+IsAsked words (RunByWorkers run workers) =
+    AsksForRun words run.file.now (map (λ source. source.now) run.sources.items) run.commits run.take
+    (option_map (λ trace. trace.now) run.trace) (Some workers)
+IsAsked words (Audit file trace steps) = AsksForAudit words file.now trace.now steps
 IsAsked words (Help text) = AsksForHelp words
-IsAsked words request = ⊤
+
+-- no request is what the words ask for
+abbrev pub AskForNothing : (words : List (List ℕ)) → Type 0
+AskForNothing words = (request : Request) → IsAsked words request → ⊥
+
+-- `clap` finds a fault in the words, and not only the wish for help
+abbrev pub HaveFault : (words : List (List ℕ)) → Type 0
+HaveFault words = (kind : ErrorKind) × IsAmong kind (fault_of command_line words)
+    × (kind ≢ DisplayHelp) × (kind ≢ DisplayVersion)
+
+-- the words are not understood
+abbrev pub AreUnclear : (words : List (List ℕ)) → Type 0
+AreUnclear words = HaveFault words ⊎ AskForNothing words
+
+-- why the words are not carried out: they are not understood, or memory was refused
+abbrev pub IsRefused : (words : List (List ℕ)) → WordsFault → Type 0
+IsRefused words (Usage text) = AreUnclear words
+IsRefused words NoMemory = ⊤
 
 -- ---- scaffolding: what the code's parts answer
 
@@ -25,7 +137,13 @@ abbrev pub IsHelpOfKind : ErrorKind → Request → Type 0
 IsHelpOfKind kind (Help text) = (kind ≡ DisplayHelp) ⊎ (kind ≡ DisplayVersion)
 IsHelpOfKind kind request = ⊥
 
--- a command, and not help
-abbrev pub IsOfCommand : Request → Type 0
-IsOfCommand (Help text) = ⊥
-IsOfCommand request = ⊤
+-- a refusal, where `clap` stops for something else
+abbrev pub IsRefusalOfKind : ErrorKind → WordsFault → Type 0
+IsRefusalOfKind kind (Usage text) =
+    (kind ≢ DisplayHelp) × (kind ≢ DisplayVersion) × (kind ≢ OutOfMemory)
+IsRefusalOfKind kind NoMemory = ⊤
+
+-- how words are used is told only if this holds
+abbrev pub IsUsageIf : (cause : Type 0) → WordsFault → Type 0
+IsUsageIf cause (Usage text) = cause
+IsUsageIf cause NoMemory = ⊤

@@ -3,10 +3,9 @@ ghost use Rattle.std.specs.Prelude.{IfOk};
 ghost use Rattle.clap.specs.Words.{new_app};
 ghost use Rattle.kpn_words.specs.CommandLine.{IsArg, IsCommand, command_line, word, option, count};
 ghost use Rattle.kpn_words.specs.CommandLine.{alone_words, check_words, print_words, rounds_words};
-ghost use Rattle.kpn_words.specs.CommandLine.{run_words, audit_words, file_word, trace_word};
+ghost use Rattle.kpn_words.specs.CommandLine.{run_words, audit_words, file_word};
 ghost use Rattle.kpn_words.specs.CommandLine.{rounds_word, source_option, workers_option};
-ghost use Rattle.kpn_words.specs.CommandLine.{take_option, commits_option, trace_option};
-ghost use Rattle.kpn_words.specs.CommandLine.{steps_option, run_inputs, bare_command_line};
+ghost use Rattle.kpn_words.specs.CommandLine.{run_inputs, bare_command_line};
 
 use crate::help::{
     ALONE_HELP, AUDIT_HELP, CHECK_HELP, PRINT_HELP, ROUNDS_HELP, RUN_HELP, STATUSES,
@@ -114,10 +113,14 @@ fn rounds_words<'a>(alloc: Global) -> Result<Command<'a>, AllocError>
 fn run_words<'a>(alloc: Global) -> Result<Command<'a>, AllocError>
     ensures { IfOk result (IsCommand run_words) }
 {
+    let take = "Stops once K items were read of each sink, and writes K at most: 1 to 1000000000";
+    let commits = "Stops after N commits: 1 to 1000000000, and 10000000 without it";
+    let trace =
+        "Stores all events of the run in the file OUT, which is no input of it, before the report is written";
     run_inputs(alloc)?
-        .arg(take_word(alloc))?
-        .arg(commits_word(alloc))?
-        .arg(stored_trace_word(alloc))
+        .arg(count(alloc, TAKE, "take", "K", take))?
+        .arg(count(alloc, MAX_COMMITS, "max-commits", "N", commits))?
+        .arg(option(alloc, TRACE, "trace", "OUT", trace))
 }
 
 // The words of `kpn run` for what runs, and by whom.
@@ -136,10 +139,12 @@ fn audit_words<'a>(alloc: Global) -> Result<Command<'a>, AllocError>
     ensures { IfOk result (IsCommand audit_words) }
 {
     let about = "Checks a trace against the network of a description";
+    let steps =
+        "The most steps of a process before an event: 1 to 1000000000, and 10000000 without it";
     command(alloc, "audit", about, AUDIT_HELP)
         .arg(file_word(alloc))?
-        .arg(trace_word(alloc))?
-        .arg(steps_word(alloc))
+        .arg(word(alloc, TRACE, "The file of the trace"))?
+        .arg(count(alloc, STEPS, "steps", "N", steps))
 }
 
 // The word for the number of rounds.
@@ -158,47 +163,6 @@ fn workers_word<'a>(alloc: Global) -> Arg<'a>
     let help = "Runs the processes on N threads side by side: 1 to 16; on one thread without it";
     let counts = ValueParser::Signed(1, MAX_WORKERS as i64);
     option(alloc, WORKERS, "workers", "N", help).value_parser(counts)
-}
-
-// The `--take` option.
-fn take_word<'a>(alloc: Global) -> Arg<'a>
-    ensures { IsArg take_option result }
-{
-    let help = "Stops once K items were read of each sink, and writes K at most: 1 to 1000000000";
-    count(alloc, TAKE, "take", "K", help)
-}
-
-// The `--max-commits` option.
-fn commits_word<'a>(alloc: Global) -> Arg<'a>
-    ensures { IsArg commits_option result }
-{
-    let help = "Stops after N commits: 1 to 1000000000, and 10000000 without it";
-    count(alloc, MAX_COMMITS, "max-commits", "N", help)
-}
-
-// The `--trace` option.
-fn stored_trace_word<'a>(alloc: Global) -> Arg<'a>
-    ensures { IsArg trace_option result }
-{
-    let help =
-        "Stores all events of the run in the file OUT, which is no input of it, before the report is written";
-    option(alloc, TRACE, "trace", "OUT", help)
-}
-
-// The word for the file of a trace.
-fn trace_word<'a>(alloc: Global) -> Arg<'a>
-    ensures { IsArg trace_word result }
-{
-    word(alloc, TRACE, "The file of the trace")
-}
-
-// The `--steps` option.
-fn steps_word<'a>(alloc: Global) -> Arg<'a>
-    ensures { IsArg steps_option result }
-{
-    let help =
-        "The most steps of a process before an event: 1 to 1000000000, and 10000000 without it";
-    count(alloc, STEPS, "steps", "N", help)
 }
 
 // The `--source` options of a command.

@@ -1,8 +1,15 @@
 //! The words of a command line, read by `clap`.
-ghost use Rattle.std.specs.Prelude.{IfOk, map};
+ghost use Rattle.std.specs.Prelude.{◌≡◌, ℕ, false, List, [], None, Some, IfOk, MatchResult};
+ghost use Rattle.std.specs.Prelude.{map, codes, option_map};
+ghost use Rattle.std.specs.List.{list_any};
+ghost use Rattle.std.specs.Option.{option_map_or};
 ghost use Rattle.std.specs.String.{string_bytes};
-ghost use Rattle.clap.specs.Words.{kind_of};
-ghost use Rattle.kpn_words.specs.Asked.{IsAsked, IsHelpOfKind, IsOfCommand};
+ghost use Rattle.clap.specs.Words.{kind_of, fault_of, found_of, rows_of, subcommand_of};
+ghost use Rattle.clap.specs.Words.{subcommand_rows_of};
+ghost use Rattle.kpn_words.specs.CommandLine.{command_line};
+ghost use Rattle.kpn_words.specs.Asked.{IsAsked, IsRefused, IsHelpOfKind, IsRefusalOfKind};
+ghost use Rattle.kpn_words.specs.Asked.{IsUsageIf, Names, gives_items, is_input};
+ghost use Rattle.kpn_words.specs.Asked.{text_for, texts_for};
 
 use crate::command_line::{
     FILE, MAX_COMMITS, NAME, ROUNDS, SOURCE, STEPS, TAKE, TRACE, WORKERS, program,
@@ -15,7 +22,7 @@ use std::alloc::{AllocError, Global};
 
 /// What the words ask for, or why they are not carried out.
 pub fn read_words<'a>(alloc: Global, words: &'a [String]) -> Result<Request<'a>, WordsFault>
-    ensures { IfOk result (IsAsked (map string_bytes words.now)) }
+    ensures { MatchResult result (IsAsked (map string_bytes words.now)) (IsRefused (map string_bytes words.now)) }
 {
     let mut program = program(alloc)?;
     match program.try_get_matches_from_mut(words) {
@@ -26,7 +33,7 @@ pub fn read_words<'a>(alloc: Global, words: &'a [String]) -> Result<Request<'a>,
 
 // What words ask for that `clap` matches with no command: help or the version, if anything.
 fn not_matched<'a>(error: Error) -> Result<Request<'a>, WordsFault>
-    ensures { IfOk result (IsHelpOfKind (kind_of error)) }
+    ensures { MatchResult result (IsHelpOfKind (kind_of error)) (IsRefusalOfKind (kind_of error)) }
 {
     match error.kind() {
         ErrorKind::DisplayHelp | ErrorKind::DisplayVersion => Ok(Request::Help(error)),
@@ -41,19 +48,42 @@ fn request_of<'a>(
     program: &mut Command<'a>,
     matches: &ArgMatches<'a>,
 ) -> Result<Request<'a>, WordsFault>
-    ensures { IfOk result IsOfCommand }
+    ensures { (words : List (List ℕ)) → fault_of command_line words ≡ []
+        → subcommand_rows_of matches.now ≡ subcommand_of command_line words
+        → MatchResult result (IsAsked words) (IsRefused words) }
 {
     match matches.subcommand() {
-        Some(("alone", alone)) => Ok(Request::Alone(required(program, alone, NAME)?)),
-        Some(("check", check)) => Ok(Request::Check(required(program, check, FILE)?)),
-        Some(("print", print)) => Ok(Request::Print(required(program, print, FILE)?)),
-        Some(("rounds", rounds)) => rounds_request(alloc, program, rounds),
-        Some(("run", run)) => run_request(alloc, program, run),
-        Some(("audit", audit)) => audit_request(program, audit),
-        _ => Err(WordsFault::Usage(program.error(
-            ErrorKind::MissingSubcommand,
-            "a command is needed",
-        )?)),
+        Some((command, given)) => command_request(alloc, program, command, given),
+        None => Err(without_command(program)),
+    }
+}
+
+// What a command is asked for, by its name and what it is given.
+fn command_request<'a>(
+    alloc: Global,
+    program: &mut Command<'a>,
+    command: &str,
+    given: &ArgMatches<'a>,
+) -> Result<Request<'a>, WordsFault>
+    ensures { (words : List (List ℕ)) → Names words command.now (rows_of (found_of given.now))
+        → MatchResult result (IsAsked words) (IsRefused words) }
+{
+    match command {
+        "alone" => Ok(Request::Alone(required(program, given, NAME)?)),
+        "check" => Ok(Request::Check(required(program, given, FILE)?)),
+        "print" => Ok(Request::Print(required(program, given, FILE)?)),
+        "rounds" => rounds_request(alloc, program, given),
+        "run" => run_request(alloc, program, given),
+        "audit" => audit_request(program, given),
+        _ => Err(without_command(program)),
+    }
+}
+
+// Why words that name no command are not carried out.
+fn without_command(program: &mut Command<'_>) -> WordsFault {
+    match program.error(ErrorKind::MissingSubcommand, "a command is needed") {
+        Ok(error) => WordsFault::Usage(error),
+        Err(_) => WordsFault::NoMemory,
     }
 }
 
@@ -62,7 +92,11 @@ fn required<'a>(
     program: &mut Command<'a>,
     matches: &ArgMatches<'a>,
     id: &str,
-) -> Result<&'a str, WordsFault> {
+) -> Result<&'a str, WordsFault>
+    ensures { MatchResult result
+        (λ word. text_for id.now (rows_of (found_of matches.now)) ≡ Some word.now)
+        (IsUsageIf (text_for id.now (rows_of (found_of matches.now)) ≡ None)) }
+{
     match matches.get_str(id) {
         Some(word) => Ok(word),
         None => Err(WordsFault::Usage(program.error(ErrorKind::MissingRequiredArgument, id)?)),
@@ -75,7 +109,8 @@ fn rounds_request<'a>(
     program: &mut Command<'a>,
     rounds: &ArgMatches<'a>,
 ) -> Result<Request<'a>, WordsFault>
-    ensures { IfOk result IsOfCommand }
+    ensures { (words : List (List ℕ)) → Names words (codes "rounds") (rows_of (found_of rounds.now))
+        → MatchResult result (IsAsked words) (IsRefused words) }
 {
     let Some(n) = rounds.get_one::<u32>(ROUNDS) else {
         return Err(WordsFault::Usage(program.error(ErrorKind::MissingRequiredArgument, ROUNDS)?));
@@ -93,12 +128,13 @@ fn run_request<'a>(
     program: &mut Command<'a>,
     run: &ArgMatches<'a>,
 ) -> Result<Request<'a>, WordsFault>
-    ensures { IfOk result IsOfCommand }
+    ensures { (words : List (List ℕ)) → Names words (codes "run") (rows_of (found_of run.now))
+        → MatchResult result (IsAsked words) (IsRefused words) }
 {
     let file = required(program, run, FILE)?;
     let sources = sources_of(alloc, run)?;
     let trace = run.get_str(TRACE);
-    if trace.is_some_and(|trace| is_input(file, &sources, trace)) {
+    if overwrites_input(file, &sources, trace) {
         let message = "the trace would overwrite its own input";
         return Err(WordsFault::Usage(program.error(ErrorKind::ArgumentConflict, message)?));
     }
@@ -109,16 +145,45 @@ fn run_request<'a>(
         take: run.get_one::<u64>(TAKE),
         trace,
     };
-    Ok(match run.get_one::<u32>(WORKERS) {
-        None => Request::Run(words),
-        Some(workers) => Request::RunByWorkers(words, workers),
-    })
+    match run.get_one::<u32>(WORKERS) {
+        None => Ok(Request::Run(words)),
+        Some(workers) => Ok(Request::RunByWorkers(words, workers)),
+    }
+}
+
+// Whether the file for the trace is an input of the run.
+fn overwrites_input(file: &str, sources: &[&str], trace: Option<&str>) -> bool
+    ensures { result ≡ option_map_or (is_input file.now (map (λ source. source.now) sources.now))
+        (option_map (λ name. name.now) trace.entry) false }
+{
+    match trace {
+        Some(trace) => is_input(file, sources, trace),
+        None => false,
+    }
 }
 
 // Whether the description of a run or the items of a source are in the file of this name.
-fn is_input(file: &str, sources: &[&str], name: &str) -> bool {
-    file == name
-        || sources.iter().any(|word| word.split_once('=').is_some_and(|(_, file)| file == name))
+fn is_input(file: &str, sources: &[&str], name: &str) -> bool
+    ensures { result ≡ is_input file.now (map (λ source. source.now) sources.now) name.now }
+{
+    file == name || any_gives_items(sources, name)
+}
+
+// Whether any word behind `--source` gives its source the items of the file of this name.
+fn any_gives_items(sources: &[&str], name: &str) -> bool
+    ensures { result ≡ list_any (λ source. gives_items name.now source.now) sources.now }
+{
+    sources.iter().any(|source| gives_items(source, name))
+}
+
+// Whether a word behind `--source` gives its source the items of the file of this name.
+fn gives_items(source: &str, name: &str) -> bool
+    ensures { result ≡ gives_items name.now source.now }
+{
+    match source.split_once('=') {
+        Some((_, file)) => file == name,
+        None => false,
+    }
 }
 
 // What `kpn audit` is asked for.
@@ -126,7 +191,8 @@ fn audit_request<'a>(
     program: &mut Command<'a>,
     audit: &ArgMatches<'a>,
 ) -> Result<Request<'a>, WordsFault>
-    ensures { IfOk result IsOfCommand }
+    ensures { (words : List (List ℕ)) → Names words (codes "audit") (rows_of (found_of audit.now))
+        → MatchResult result (IsAsked words) (IsRefused words) }
 {
     Ok(Request::Audit {
         file: required(program, audit, FILE)?,
@@ -136,6 +202,9 @@ fn audit_request<'a>(
 }
 
 // The words behind the `--source` options.
-fn sources_of<'a>(alloc: Global, matches: &ArgMatches<'a>) -> Result<Vec<&'a str>, AllocError> {
+fn sources_of<'a>(alloc: Global, matches: &ArgMatches<'a>) -> Result<Vec<&'a str>, AllocError>
+    ensures { IfOk result (λ sources. texts_for (codes "SOURCE") (rows_of (found_of matches.now))
+        ≡ map (λ source. source.now) sources.items) }
+{
     Vec::from_slice(alloc, matches.get_strs(SOURCE).unwrap_or(&[]))
 }

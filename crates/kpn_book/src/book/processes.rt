@@ -1,8 +1,7 @@
 //! The calls for whoever steps the processes: claim, commit, put back, and all in one for a single owner.
-ghost use Rattle.std.specs.Prelude.{◌≡◌, ◌↔◌, IfOk, IfErr, OnErr, IsTrue, IfSome, IfNone};
+ghost use Rattle.std.specs.Prelude.{◌≡◌, ◌↔◌, true, false, IfOk, IfErr, OnErr, IsTrue, IfSome, IfNone};
 ghost use Rattle.kpn_net.specs.Tables.{program_of};
 ghost use Rattle.kpn_step.specs.Frame.{fits};
-ghost use Rattle.kpn_step.specs.Stops.{IsWithinQuota};
 ghost use Rattle.kpn_configuration.specs.Configuration.{frame_in};
 ghost use Rattle.kpn_book.specs.Book.{IsHeld, IsClaimed, put_back};
 ghost use Rattle.kpn_book.specs.Commits.{Commits};
@@ -43,24 +42,29 @@ impl<'n, A: Allocator> Book<'n, A> {
         })
     }
 
-    /// Claims the first process of the queue as `claim` does, and begins the advance at its frame, by no step and in
-    /// the memory that the advance has. Returns the process. `None` where nobody can be claimed.
-    pub fn claim_into(&mut self, steps: &mut Advance<'n>) -> Option<usize>
-        ensures claimed { IfSome result (λ p. IsClaimed p self.old self.new) }
-        ensures program { IfSome result (λ p. steps.new.program ≡ program_of self.old.tables p) }
-        ensures from { IfSome result (λ p. steps.new.from ≡ frame_in self.old.configuration p) }
-        ensures quota { IfSome result (λ _. IsWithinQuota 0 steps.new) }
-        ensures nobody { IfNone result (ClaimsNobody self.old) }
-        ensures as_before { IfNone result ((self.new ≡ self.old) × (steps.new ≡ steps.old)) }
+    /// Claims the first process of the queue as `claim` does, in the memory that the claim has: its frame is copied,
+    /// and no step is made. Returns whether there was one.
+    pub fn claim_into(&mut self, claim: &mut Claim<'n>) -> bool
+        ensures claimed { (result ≡ true) → IsClaimed claim.new.process self.old self.new }
+        ensures program { (result ≡ true)
+            → claim.new.program.now ≡ program_of self.old.tables claim.new.process }
+        ensures frame { (result ≡ true)
+            → claim.new.frame ≡ frame_in self.old.configuration claim.new.process }
+        ensures fits { (result ≡ true)
+            → IsTrue (fits claim.new.program.now claim.new.frame) }
+        ensures nobody { (result ≡ false) → ClaimsNobody self.old }
+        ensures as_before { (result ≡ false)
+            → (self.new ≡ self.old) × (claim.new ≡ claim.old) }
     {
         let Some(process) = self.parts.hold_next() else {
-            return None;
+            return false;
         };
-        steps.load(
-            self.parts.network.program(process),
-            self.parts.configuration.frame(process),
-        );
-        Some(process)
+        claim.process = process;
+        claim.program = self.parts.network.program(process);
+        claim
+            .frame
+            .copy_from(self.parts.configuration.frame(process));
+        true
     }
 
     /// Commits the steps of process `p`, which is held: they are steps of its program from its frame. It gets or puts

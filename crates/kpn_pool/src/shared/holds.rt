@@ -1,21 +1,20 @@
 //! The holds of a worker: each time it has the lock it commits what it has stepped, and claims the next process or
-//! rests. What it has to tell it tells once the lock is free.
-ghost use Rattle.std.specs.Prelude.{◌≡◌, ◌≤◌, IfSome, IfNone, IsSome, IsTrue};
+//! waits. Whom it has to notify it notifies once the lock is free.
+ghost use Rattle.std.specs.Prelude.{◌≡◌, ◌≤◌, true, false, IfSome, IfNone, IsSome, IsTrue};
 ghost use Rattle.kpn_net.specs.Tables.{program_of};
 ghost use Rattle.kpn_step.specs.Frame.{fits};
-ghost use Rattle.kpn_step.specs.Stops.{IsWithinQuota};
 ghost use Rattle.kpn_pool.specs.Seat.{ended};
 
 use super::Shared;
+use crate::crew::{Crew, Pace};
 use crate::desk::Desk;
 use crate::job::Job;
-use crate::pace::Pace;
 use crate::seat::{Why, WorkerSeat};
 use kpn_book::{Claim, Done, Refused};
 use kpn_step::Advance;
 use std::alloc::Allocator;
 use std::sync::{MutexGuard, Wait};
-use std::time::Clock;
+use std::time::{Clock, Instant};
 
 impl<'n, J: Job, A: Allocator> Shared<'n, J, A> {
     /// The first process that a worker steps, or `None` where the worker ends.
@@ -31,164 +30,203 @@ impl<'n, J: Job, A: Allocator> Shared<'n, J, A> {
             claim.program.now ≡ program_of J.network claim.process) }
         ensures fits { IfSome result (λ claim. IsTrue (fits claim.program.now claim.frame)) }
     {
-        let mut desk = self.desk.lock(rt);
-        desk.crew.enter();
-        let Some(mut desk) = self.wait_for_work(rt, seat, pace, desk) else {
+        let desk = self.lock(rt);
+        let Some(mut desk) = self.wait_for_work(rt, seat, desk, false) else {
             return None;
         };
         let Some(claim) = desk.claim() else {
             self.end(desk, seat, Why::Limit);
             return None;
         };
-        self.let_go(desk, pace);
+        self.let_go(rt, desk, pace);
         Some(claim)
     }
 
-    /// Commits the steps of a worker, and gives the next process that it steps, or `None` where it ends.
+    /// Commits the steps of a claim, which becomes that of the next process. Tells whether there is one: if not, the
+    /// worker ends.
     pub(crate) fn go_on<R: Wait + Clock>(
         &self,
         rt: &R,
         seat: &mut WorkerSeat<J>,
         pace: &mut Pace,
-        process: usize,
-        steps: &mut Advance<'n>,
-    ) -> Option<usize>
+        claim: &mut Claim<'n>,
+        steps: &Advance<'n>,
+    ) -> bool
     where
         A: Copy,
-        requires { steps.old.program ≡ program_of J.network process }
+        requires { steps.now.program ≡ program_of J.network claim.old.process }
         ensures number { seat.new.number ≡ seat.old.number }
         ensures commits { seat.old.commits ≤ seat.new.commits }
-        ensures ended { IfNone result (IsSome seat.new.why) }
-        ensures program { IfSome result (λ p. steps.new.program ≡ program_of J.network p) }
-        ensures quota { IfSome result (λ _. IsWithinQuota 0 steps.new) }
+        ensures ended { (result ≡ false) → IsSome seat.new.why }
+        ensures program { (result ≡ true)
+            → claim.new.program.now ≡ program_of J.network claim.new.process }
+        ensures fits { (result ≡ true)
+            → IsTrue (fits claim.new.program.now claim.new.frame) }
     {
-        let mut desk = self.desk.lock(rt);
+        let away = pace.time(rt);
+        let mut desk = self.lock(rt);
+        let is_alone = pace.is_alone(desk.book.commits());
+        desk.crew.come_back(away);
+        let process = claim.process;
         match seat.commit(&mut desk, process, steps) {
             Err(Refused::NoMemory) => {
                 seat.give_up(&mut desk, process);
                 self.end(desk, seat, Why::NoMemory);
-                return None;
+                return false;
             }
-            Ok(Done::Blocked | Done::Put) => desk.note_taker(),
-            Ok(Done::Got(_) | Done::Grew(_) | Done::Ended | Done::Paused) => {}
+            Ok(Done::Put) => desk.note_filled(),
+            Ok(_) => {}
             // `NotHeld` or `Stranger`: the process is not held, or the steps are of another one, which nothing known
             // behind a lock rules out. The steps are dropped, nothing is counted, and the worker goes on
             Err(_) => {}
         }
-        let Some(mut desk) = self.wait_for_work(rt, seat, pace, desk) else {
-            return None;
+        let Some(mut desk) = self.wait_for_work(rt, seat, desk, is_alone) else {
+            return false;
         };
-        let Some(process) = desk.claim_into(steps) else {
+        if !desk.claim_into(claim) {
             self.end(desk, seat, Why::Limit);
-            return None;
-        };
-        self.let_go(desk, pace);
-        Some(process)
+            return false;
+        }
+        self.let_go(rt, desk, pace);
+        true
     }
 
     /// Puts the process of a worker back, which ends without a commit.
     pub(crate) fn abandon<R: Wait>(&self, rt: &R, seat: &mut WorkerSeat<J>, process: usize)
         ensures { seat.new ≡ ended Why.Abandoned seat.old }
     {
-        let mut desk = self.desk.lock(rt);
+        let mut desk = self.lock(rt);
+        desk.crew.come_back(None);
         seat.abandon(&mut desk, process);
-        desk.crew.leave(seat.number());
-        drop(desk);
-        self.changed.notify_one();
-        self.signals.end();
+        self.leave(desk);
     }
 
-    /// Waits until there is a process for this worker. `None` where there is a reason to end before that.
+    /// Waits until this worker is to claim a process. `None` where there is a reason to end before that. `in_vain` says
+    /// that nobody has committed since the worker let the lock go.
     fn wait_for_work<'l, R: Wait + Clock>(
         &'l self,
         rt: &R,
         seat: &mut WorkerSeat<J>,
-        pace: &mut Pace,
         desk: MutexGuard<'l, Desk<'n, J, A>>,
+        in_vain: bool,
     ) -> Option<MutexGuard<'l, Desk<'n, J, A>>>
         ensures seat { (seat.new.number ≡ seat.old.number) × (seat.new.commits ≡ seat.old.commits) }
         ensures ended { IfNone result (IsSome seat.new.why) }
     {
         let mut desk = desk;
+        let mut in_vain = in_vain;
+        let mut looks_on = true;
         for _ in rt.forever() {
             if let Some(why) = desk.reason_to_end(self.max_commits) {
                 self.end(desk, seat, why);
                 return None;
             }
-            if desk.book.counts().ready > 0 && pace.join_in(&mut desk.crew, seat.number()) {
+            if desk.crew.has_place(desk.ready(), in_vain) {
                 return Some(desk);
             }
-            desk = if desk.crew.active() <= 1 && pace.take_moment() {
-                self.listen(rt, desk)
+            let commits = desk.book.commits();
+            (desk, looks_on) = if looks_on {
+                (self.look_on(rt, desk), false)
             } else {
-                self.rest(rt, desk, pace, seat.number())
+                self.rest(rt, desk)
             };
+            in_vain = !looks_on && desk.book.commits() == commits;
         }
         unreachable!()
     }
 
-    /// The only worker that is active finds nothing to step. It rings for whoever serves the sinks, and listens for a
-    /// moment whether the outside makes a call, since it costs more to sleep and to be woken.
-    fn listen<'l, R: Wait + Clock>(
+    /// A worker looks on until there is a place for it or a reason to end, or the moment is over.
+    fn look_on<'l, R: Wait + Clock>(
         &'l self,
         rt: &R,
         desk: MutexGuard<'l, Desk<'n, J, A>>,
     ) -> MutexGuard<'l, Desk<'n, J, A>> {
         let mut desk = desk;
-        let _ = desk.strike_taker();
-        let seen = self.signals.moves();
+        desk.crew.look_on();
+        let calls = desk.crew.call();
         drop(desk);
-        self.signals.bell.ring();
-        self.signals.listen_for_move(rt, seen);
-        self.desk.lock(rt)
-    }
-
-    /// Rests until it is notified, or until it is time to look again. One that is notified comes as if it were new.
-    fn rest<'l, R: Wait + Clock>(
-        &self,
-        rt: &R,
-        desk: MutexGuard<'l, Desk<'n, J, A>>,
-        pace: &mut Pace,
-        worker: usize,
-    ) -> MutexGuard<'l, Desk<'n, J, A>> {
-        let mut desk = desk;
-        if desk.strike_taker() {
-            self.signals.bell.ring();
+        if calls {
+            self.called.notify_all();
         }
-        let naps = desk.crew.rest(worker);
-        let most = desk.crew.rest_of(naps);
-        let (mut desk, waited) = self.changed.wait_timeout(rt, desk, most);
-        desk.crew.wake(naps);
-        if !waited.timed_out() {
-            *pace = Pace::new();
-        }
+        let mut desk = self.lock_for_work(rt);
+        desk.crew.look_away();
         desk
     }
 
-    /// Lets the desk go after a claim. It rings where somebody is to take from a sink, and at coarse work it notifies a
-    /// worker that rests where more processes are ready.
-    fn let_go<'l>(&'l self, desk: MutexGuard<'l, Desk<'n, J, A>>, pace: &Pace) {
-        let mut desk = desk;
-        let rings = desk.strike_taker();
-        let notifies = pace.is_coarse() && desk.notify();
-        drop(desk);
-        if rings {
-            self.signals.bell.ring();
+    /// The lock, once there is a place for a worker or a reason to end, or the moment is over.
+    fn lock_for_work<R: Wait + Clock>(&self, rt: &R) -> MutexGuard<'_, Desk<'n, J, A>> {
+        let begun = Instant::now(rt).ok();
+        for _ in rt.forever() {
+            let Some(desk) = self.lock_within_moment(rt, begun) else {
+                return self.lock(rt);
+            };
+            if desk.has_work(self.max_commits) {
+                return desk;
+            }
         }
+        unreachable!()
+    }
+
+    /// A worker rests until it is notified or its time is over. Tells whether it was notified.
+    fn rest<'l, R: Wait + Clock>(
+        &'l self,
+        rt: &R,
+        desk: MutexGuard<'l, Desk<'n, J, A>>,
+    ) -> (MutexGuard<'l, Desk<'n, J, A>>, bool) {
+        let mut desk = desk;
+        let keeps_watch = desk.crew.rest();
+        if desk.crew.call() {
+            self.called.notify_all();
+        }
+        let (mut desk, waited) = self
+            .changed
+            .wait_timeout(rt, desk, Crew::rest_of(keeps_watch));
+        desk.crew.rise(keeps_watch);
+        (desk, !waited.timed_out())
+    }
+
+    /// Lets the desk go after a claim: a turn begins. Notifies a worker if one is wanted beside this one, and calls the
+    /// outside if a sink is to be taken from.
+    fn let_go<'l, R: Wait + Clock>(
+        &'l self,
+        rt: &R,
+        desk: MutexGuard<'l, Desk<'n, J, A>>,
+        pace: &mut Pace,
+    ) {
+        let mut desk = desk;
+        let ready = desk.ready();
+        desk.crew.join();
+        let notifies = desk.crew.notify(ready, false);
+        let calls = desk.crew.call();
+        let commits = desk.book.commits();
+        drop(desk);
         if notifies {
             self.changed.notify_one();
         }
+        if calls {
+            self.called.notify_all();
+        }
+        pace.begin(rt, commits);
     }
 
-    /// A worker ends, and tells all that rest and whoever serves the sinks.
+    /// A worker ends.
     fn end<'l>(&'l self, desk: MutexGuard<'l, Desk<'n, J, A>>, seat: &mut WorkerSeat<J>, why: Why)
         ensures { seat.new ≡ ended why seat.old }
     {
-        let mut desk = desk;
-        desk.crew.leave(seat.number());
-        drop(desk);
         seat.end(why);
+        self.leave(desk);
+    }
+
+    /// Lets the desk go as a worker ends. It notifies all that rest, since the reason may be theirs, and calls the
+    /// outside.
+    fn leave<'l>(&'l self, desk: MutexGuard<'l, Desk<'n, J, A>>) {
+        let mut desk = desk;
+        desk.crew.end();
+        let calls = desk.crew.call();
+        drop(desk);
         self.changed.notify_all();
-        self.signals.end();
+        if calls {
+            self.called.notify_all();
+        }
     }
 }

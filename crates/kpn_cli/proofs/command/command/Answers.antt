@@ -25,11 +25,11 @@ said_from may_give contents file words limits trace workers before shelf kept em
 pub returns-in-Ended : goal.returns-in-Ended
 returns-in-Ended g c = here c.in-Ended.ensures
 
-pub returns-in-ByWorkers : goal.returns-in-ByWorkers
-returns-in-ByWorkers g c =
-    let same = c.in-ByWorkers.ensures in
-    by_workers _ _ _ _ _ same.1
+pub returns-in-NeedsWorkers : goal.returns-in-NeedsWorkers
+returns-in-NeedsWorkers g c =
+    let same = c.in-NeedsWorkers.ensures in
+    by_workers _ _ _ _ _ same.0 same.2
     (said_from g.S.Shelf.may_give g.O.Write.contents _ _ _ _ _ c.args.shelf.now c.command_here.new.shelf
     c.run_command_by_workers.new.shelf c.args.out.now c.command_here.new.out c.run_command_by_workers.new.out
     c.args.err.now c.command_here.new.err c.run_command_by_workers.new.err c.run_command_by_workers.result
-    same.0 same.2 same.3 c.run_command_by_workers.ensures)
+    same.1 same.3 same.4 c.run_command_by_workers.ensures)

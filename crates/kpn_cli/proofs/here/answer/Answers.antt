@@ -1,31 +1,75 @@
 -- Each command does what it does, and touches nothing else; a run by workers is handed back.
-use Rattle.std.proofs.Common.{◌≡◌, ℕ, List, Result, Ok, Err, IfOk, refl, subst, map}
+use Rattle.std.proofs.Common.{◌≡◌, ℕ, List, Option, Some, None, Result, Ok, Err, IfOk, refl, sym, subst, map, option_map}
 use Rattle.std.specs.Bool.{⊤}
+use Rattle.std.specs.Borrow.{Bor}
 use Rattle.std.specs.String.{string_bytes}
-use Rattle.kpn_words.specs.Asked.{IsAsked}
+use Rattle.kpn_words.specs.Asked.{IsAsked, AsksForRounds, AsksForRun}
+use Rattle.kpn_words.specs.declared.request.RunWords.{RunWords}
+use Rattle.kpn_run_command.specs.declared.request.RunRequest.{RunRequest}
 use Rattle.kpn_answers.specs.declared.refusal.Refusal.{Refusal}
 use Rattle.kpn_answers.specs.declared.refusal.Refusal.TheVariants.{NoMemory}
 use Rattle.kpn_answers.proofs.Answers.{answers_given}
-use Rattle.kpn_cli.specs.Command.{alone, check, print, rounds, run, audit, clap, help}
+use Rattle.kpn_cli.specs.Command.{alone, check, print, rounds, run, audit, clap, help, AsksForRunWithin, run_of}
 use Rattle.kpn_cli.proofs.here.answer.Goals as goal
 
 pub returns-in-Alone : goal.returns-in-Alone
-returns-in-Alone g c = alone _ refl c.alone_command.ensures
+returns-in-Alone g c =
+    alone _ (subst (IsAsked (map string_bytes c.args.words.now)) c.in-Alone.is c.requires) refl
+    c.alone_command.ensures
 
 pub returns-in-Check : goal.returns-in-Check
-returns-in-Check g c = check _ refl refl c.check_command.ensures
+returns-in-Check g c =
+    check _ (subst (IsAsked (map string_bytes c.args.words.now)) c.in-Check.is c.requires) refl refl
+    c.check_command.ensures
 
 pub returns-in-Print : goal.returns-in-Print
-returns-in-Print g c = print _ refl refl c.print_command.ensures
+returns-in-Print g c =
+    print _ (subst (IsAsked (map string_bytes c.args.words.now)) c.in-Print.is c.requires) refl refl
+    c.print_command.ensures
+
+-- the words behind `--source` are handed on as a slice
+sources_handed : (asked : List (List ℕ)) (file : List ℕ) (n : ℕ) (sources slice : List (Bor (List ℕ)))
+    → slice ≡ sources → AsksForRounds asked file n (map (λ source. source.now) sources)
+    → AsksForRounds asked file n (map (λ source. source.now) slice)
+sources_handed asked file n sources slice same asks =
+    subst (λ (s : List (Bor (List ℕ))). AsksForRounds asked file n (map (λ source. source.now) s)) (sym same) asks
 
 pub returns-in-Rounds : goal.returns-in-Rounds
-returns-in-Rounds g c = rounds _ _ _ refl refl c.rounds_command.ensures
+returns-in-Rounds g c =
+    rounds _ _ _ (sources_handed (map string_bytes c.args.words.now) _ _ _ _ c.deref.ensures.value
+    (subst (IsAsked (map string_bytes c.args.words.now)) c.in-Rounds.is c.requires)) refl refl
+    c.rounds_command.ensures
+
+-- a run that was asked for is asked for with the program's quota
+within : (asked : List (List ℕ)) (words : RunWords) (request : RunRequest) (workers : Option ℕ)
+    → request ≡ run_of words
+    → AsksForRun asked words.file.now (map (λ source. source.now) words.sources.items) words.commits words.take
+    (option_map (λ name. name.now) words.trace) workers
+    → AsksForRunWithin asked request.file.now (map (λ word. word.now) request.sources.items) request.limits
+    (option_map (λ name. name.now) request.trace) workers
+within asked words request workers same asks =
+    subst (λ (r : RunRequest). AsksForRunWithin asked r.file.now (map (λ word. word.now) r.sources.items) r.limits
+    (option_map (λ name. name.now) r.trace) workers) (sym same) (asks, refl)
 
 pub returns-in-Run : goal.returns-in-Run
-returns-in-Run g c = run _ _ _ _ refl c.run_command.ensures
+returns-in-Run g c =
+    run _ _ _ _ (within (map string_bytes c.args.words.now) c.in-Run.run' c.asked_run.result None c.asked_run.ensures
+    (subst (IsAsked (map string_bytes c.args.words.now)) c.in-Run.is c.requires)) refl c.run_command.ensures
+
+pub returns-in-RunByWorkers : goal.returns-in-RunByWorkers
+returns-in-RunByWorkers g c = (
+  within (map string_bytes c.args.words.now) c.in-RunByWorkers.run' c.asked_run-in-RunByWorkers.result (Some c.in-RunByWorkers.workers)
+      c.asked_run-in-RunByWorkers.ensures (subst (IsAsked (map string_bytes c.args.words.now)) c.in-RunByWorkers.is c.requires),
+  refl,
+  refl,
+  refl,
+  refl,
+)
 
 pub returns-in-Audit : goal.returns-in-Audit
-returns-in-Audit g c = audit _ _ _ refl refl c.audit_command.ensures
+returns-in-Audit g c =
+    audit _ _ _ (subst (IsAsked (map string_bytes c.args.words.now)) c.in-Audit.is c.requires) refl refl
+    c.audit_command.ensures
 
 any_text : {A E : Type 0} (r : Result A E) → IfOk r (λ _. ⊤)
 any_text (Ok text) = tt

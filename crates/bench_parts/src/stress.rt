@@ -1,0 +1,91 @@
+//! A network that is run often by workers whose gate dawdles at random. `bench/stress` measures nothing by it: each run
+//! has to come to the outcome and the items of a run on one thread, with a history that the auditor finds legal.
+ghost use Rattle.std.specs.Prelude.{◌≡◌, length};
+ghost use Rattle.kpn_net.specs.Iteration.{sources};
+
+use crate::dawdling::Dawdling;
+use crate::judging::is_as_wanted;
+use anyhow::{Context, Result, anyhow, bail};
+use kpn_answers::inputs::{Inputs, load_inputs};
+use kpn_answers::shelf::FileShelf;
+use kpn_limits::MAX_WORKERS;
+use kpn_parallel::run;
+use kpn_report::{Limits, run_here};
+use std::alloc::{AllocGlobal, Global};
+use std::fs::Files;
+use std::sync::Wait;
+use std::thread::Threads;
+use std::time::Clock;
+
+/// The most steps that a process makes at a time.
+const QUOTA: u32 = 100;
+
+/// The most commits of a run.
+const COMMITS: u64 = 1_000_000;
+
+/// How often a network is run, and how.
+#[derive(Clone, Copy)]
+pub struct Plan {
+    pub workers: usize,
+    pub times: u64,
+    /// Where the random numbers begin.
+    pub seed: u64,
+    /// How many items are wanted of each sink, 0 for all.
+    pub take: u64,
+}
+
+/// Makes these runs. The first that is not as one on one thread ends them with an error.
+fn run_often<R: Threads + Wait + Clock + Sync>(
+    rt: &R,
+    alloc: Global,
+    inputs: &Inputs,
+    limits: &Limits,
+    plan: Plan,
+) -> Result<()>
+    requires { length inputs.now.given.items ≡ sources inputs.now.document.tables }
+{
+    let Plan {
+        workers,
+        times,
+        seed,
+        take: _,
+    } = plan;
+    if workers == 0 || workers > MAX_WORKERS {
+        bail!("1 to 16 workers");
+    }
+    let network = inputs.document.network();
+    let wanted = run_here(alloc, network, &inputs.given, limits).context("one thread")?;
+    let gate = Dawdling::new(seed);
+    for time in 0..times {
+        let report = run(rt, alloc, network, &inputs.given, workers, &gate, limits).map_err(
+            |fault| anyhow!("run {time}: {fault:?}"),
+        )?;
+        if !is_as_wanted(alloc, network, limits, &report, &wanted)? {
+            bail!("run {time} is not as one on one thread");
+        }
+    }
+    Ok(())
+}
+
+/// Makes the runs of a plan, of the network of a file with the lists that the words `NAME=FILE` name.
+pub fn stress<R: Files + AllocGlobal + Threads + Wait + Clock + Sync>(
+    rt: &R,
+    alloc: Global,
+    file: &str,
+    lists: &[&str],
+    plan: Plan,
+) -> Result<()> {
+    let Ok(inputs) = load_inputs(alloc, &FileShelf::new(rt), file, lists) else {
+        bail!("the description or an item file can't be read");
+    };
+    let limits = Limits {
+        commits: COMMITS,
+        take: if plan.take == 0 {
+            None
+        } else {
+            Some(plan.take)
+        },
+        quota: QUOTA,
+    };
+    run_often(rt, alloc, &inputs, &limits, plan)
+}

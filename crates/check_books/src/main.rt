@@ -1,0 +1,129 @@
+//! Books, by public calls. Standard input has sections that end with a line `.`: a description of a network, a line
+//! `calls`, and then calls, one on a line. Each call is made on a heap with ever more bytes left, from none on, until
+//! it is not refused for want of memory. So each request for memory is refused in turn, and all that the book holds has
+//! to stay as it was. Then come the answer, whether the call was refused at first, and the events that it appended.
+//!
+//! - `claim` claims the first process of the queue, and steps it to its next stop. These steps are numbered from 0.
+//! - `onward K` makes further steps from where the steps K have stopped, and `twin P K` steps of process P of an equal
+//!   network from where the steps K began. They are numbered too.
+//! - `commit P K` commits the steps K as those of process P.
+//! - `put-back P` puts process P back.
+//! - `feed C ITEM BOUND`, `close C`, `take C` and `leave C` are the calls of the outside.
+//! - `view` makes a snapshot on that heap.
+//!
+//! What must come was worked out by hand.
+#![tactic(auto)]
+
+mod calls;
+mod heap;
+mod telling;
+mod words;
+
+use crate::calls::answer;
+use crate::heap::{PIECE, SIZE, leave};
+use crate::telling::write_made;
+use crate::words::{Call, call_of};
+use anyhow::{Result, bail, ensure};
+use kpn_book::Book;
+use kpn_net::Network;
+use kpn_step::Advance;
+use kpn_text::read_network;
+use linked_list_allocator::LocalHeap;
+use std::alloc::Global;
+use std::io::Write;
+
+/// Makes a call on ever more memory until it is not refused: its answer, and whether it was refused at first.
+fn refused_then_made<'n, 'h>(
+    alloc: Global,
+    heap: &'h LocalHeap,
+    twin: &'n Network,
+    book: &mut Book<'n, &'h LocalHeap>,
+    steps: &mut Vec<Advance<'n>>,
+    call: Call,
+) -> Result<(String, bool)> {
+    let before = format!(in alloc; "{book:?}")?;
+    for pieces in 0..SIZE / PIECE {
+        let taken = leave(alloc, heap, pieces * PIECE)?;
+        let text = answer(alloc, heap, twin, book, steps, call)?;
+        drop(taken);
+        if text.as_str() != "Err(NoMemory)" {
+            return Ok((text, pieces > 0));
+        }
+        let after = format!(in alloc; "{book:?}")?;
+        ensure!(
+            after.as_str() == before.as_str(),
+            "a refused call has changed the book"
+        );
+    }
+    bail!("a call is refused with all memory")
+}
+
+/// Makes the call of a line, and writes what came of it.
+fn make_call<'n, 'h, O: Write>(
+    alloc: Global,
+    heap: &'h LocalHeap,
+    twin: &'n Network,
+    book: &mut Book<'n, &'h LocalHeap>,
+    steps: &mut Vec<Advance<'n>>,
+    line: &str,
+    out: &mut O,
+) -> Result<()> {
+    let call = call_of(alloc, line)?;
+    let events = book.history().len();
+    let (text, is_refused) = refused_then_made(alloc, heap, twin, book, steps, call)?;
+    let first = if is_refused {
+        "Err(NoMemory), then "
+    } else {
+        ""
+    };
+    writeln!(out, "{line}\n  {first}{text}")?;
+    write_made(book, events, out)
+}
+
+/// Makes the calls of these lines on a new book of the network, which was read twice, and writes what came of each.
+fn make_calls<'n, O: Write>(
+    alloc: Global,
+    network: &'n Network,
+    twin: &'n Network,
+    lines: &str,
+    out: &mut O,
+) -> Result<()> {
+    let heap = LocalHeap::new(alloc, SIZE)?;
+    let mut book = Book::new(&heap, network)?;
+    let mut steps = Vec::new(alloc);
+    for line in lines.lines() {
+        make_call(alloc, &heap, twin, &mut book, &mut steps, line, out)?;
+    }
+    let history = book.into_history();
+    writeln!(out, "{} events in all", history.len())?;
+    Ok(())
+}
+
+/// Makes the calls of a section.
+fn make_section<O: Write>(alloc: Global, section: &str, out: &mut O) -> Result<()> {
+    let Some((description, lines)) = section.split_once("calls\n") else {
+        bail!("a section is a description and calls");
+    };
+    let text = description.as_bytes();
+    let (Ok(document), Ok(twin)) = (read_network(alloc, text), read_network(alloc, text)) else {
+        bail!("a description is none");
+    };
+    write!(out, "{description}")?;
+    make_calls(alloc, document.network(), twin.network(), lines, out)
+}
+
+fn main(rt: HostRuntime) -> Result<()> {
+    let mut out = rt.stdout();
+    let mut section = String::new(rt.alloc());
+    for line in rt.lines(rt.alloc()) {
+        let line = line?;
+        if line.as_str() == "." {
+            make_section(rt.alloc(), section.as_str(), &mut out)?;
+            section.clear();
+        } else {
+            section.push_str(line.as_str())?;
+            section.push('\n')?;
+        }
+    }
+    Ok(())
+}

@@ -1,0 +1,11 @@
+use denote.Param.Send.{sendable}
+use Rattle.std.proofs.Crossing.{crosses}
+use Rattle.kpn_pool.proofs.Sharing.{shared_sync, seat_send}
+use Rattle.check_pool.proofs.gates.Pausing.TheSendSync as gate
+use Rattle.commit_gates.proofs.flag.Flag.TheSendSync as flag
+use Rattle.check_pool.proofs.waking.work_and_serve.Goals as goal
+
+-- the workers may be on another thread
+pub join-seats-requires-send-F : goal.join-seats-requires-send-F
+join-seats-requires-send-F g c κs within =
+    search (shared_sync, seat_send, flag.the_field_sync, gate.the_field_sync, crosses, sendable) depth 40

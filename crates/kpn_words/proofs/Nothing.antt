@@ -1,0 +1,157 @@
+-- Words that name a command, but do not give it what it needs, ask for nothing.
+use Rattle.std.proofs.Common.{◌≡◌, ◌∙◌, ◌⊎◌, ℕ, Bool, true, false, true≢false, List, [], refl, sym, ap, subst, inl, inr}
+use Rattle.std.proofs.Common.{Option, Some, None, map, option_map, codes}
+use Rattle.std.specs.Prelude.{◌≢◌, unwrap_or}
+use Rattle.std.specs.Option.{is_some, option_map_or}
+use Rattle.std.specs.Str.{bytes_eq}
+use Rattle.clap.specs.Kinds.{IsAmong, Kinds}
+use Rattle.clap.specs.Faults.{fault_of}
+use Rattle.clap.specs.Walk.{Row}
+use Rattle.clap.specs.declared.error.kind.ErrorKind.TheVariants.{DisplayHelp, DisplayVersion}
+use Rattle.kpn_words.specs.declared.request.Request.{Request}
+use Rattle.kpn_words.specs.declared.request.Request.TheVariants.{Alone, Check, Print, Rounds, Run, RunByWorkers, Audit, Help}
+use Rattle.kpn_words.specs.CommandLine.{command_line}
+use Rattle.kpn_words.specs.Asked.{AsksForHelp, AskForNothing, IsAsked, Names, is_input, text_for, texts_for, number_for}
+
+differ : (a b : List ℕ) → bytes_eq a a ≡ true → bytes_eq a b ≡ false → a ≡ b → ⊥
+differ a b same other e = true≢false (sym same ∙ (ap (bytes_eq a) e ∙ other))
+
+some_not_none : {X : Type 0} (o : Option X) (x : X) → o ≡ None → o ≡ Some x → ⊥
+some_not_none o x none some = true≢false (ap is_some (sym some ∙ none))
+
+same_names : (words : List (List ℕ)) (command other : List ℕ) (given more : List Row) → Names words command given
+    → Names words other more → (command ≡ other) × (given ≡ more)
+same_names words command other given more is also =
+    let same = sym is.1 ∙ also.1 in (
+      ap (λ (o : Option (List ℕ × List Row)). (unwrap_or o (command, given)).0) same,
+      ap (λ (o : Option (List ℕ × List Row)). (unwrap_or o (command, given)).1) same,
+    )
+
+no_help : (words : List (List ℕ)) → fault_of command_line words ≡ [] → AsksForHelp words → ⊥
+no_help words none (inl help) = subst (IsAmong DisplayHelp) none help
+no_help words none (inr version) = subst (IsAmong DisplayVersion) none version
+
+-- whether the trace of a run would overwrite an input
+abbrev pub overwrites : (given : List Row) (file : List ℕ) → Bool
+overwrites given file =
+    option_map_or (is_input file (texts_for (codes "SOURCE") given)) (text_for (codes "TRACE") given) false
+
+-- what a request takes of the command that the words name
+abbrev Takes : (command : List ℕ) (given : List Row) → Request → Type 0
+Takes command given (Alone name) = (command ≡ codes "alone") × (text_for (codes "NAME") given ≡ Some name.now)
+Takes command given (Check file) = (command ≡ codes "check") × (text_for (codes "FILE") given ≡ Some file.now)
+Takes command given (Print file) = (command ≡ codes "print") × (text_for (codes "FILE") given ≡ Some file.now)
+Takes command given (Rounds file n sources) =
+    (command ≡ codes "rounds") × (text_for (codes "FILE") given ≡ Some file.now)
+    × (number_for 32 (codes "N") given ≡ Some n)
+Takes command given (Run run) =
+    (command ≡ codes "run") × (text_for (codes "FILE") given ≡ Some run.file.now)
+    × (overwrites given run.file.now ≡ false)
+Takes command given (RunByWorkers run workers) =
+    (command ≡ codes "run") × (text_for (codes "FILE") given ≡ Some run.file.now)
+    × (overwrites given run.file.now ≡ false)
+Takes command given (Audit file trace steps) =
+    (command ≡ codes "audit") × (text_for (codes "FILE") given ≡ Some file.now)
+    × (text_for (codes "TRACE") given ≡ Some trace.now)
+Takes command given (Help text) = ⊥
+
+-- the trace of a run that is asked for overwrites nothing
+kept : (given : List Row) (file : List ℕ) (sources : List (List ℕ)) (trace : Option (List ℕ))
+    → texts_for (codes "SOURCE") given ≡ sources → text_for (codes "TRACE") given ≡ trace
+    → option_map_or (is_input file sources) trace false ≡ false → overwrites given file ≡ false
+kept given file sources trace are is none =
+    ap (λ s. option_map_or (is_input file s) (text_for (codes "TRACE") given) false) are
+    ∙ (ap (λ t. option_map_or (is_input file sources) t false) is ∙ none)
+
+module _ (words : List (List ℕ)) (command : List ℕ) (given : List Row) (names : Names words command given) where
+  same : (other : List ℕ) (more : List Row) → Names words other more → (command ≡ other) × (given ≡ more)
+  same other more also = same_names words command other given more names also
+
+  taken : (request : Request) → IsAsked words request → Takes command given request
+  taken (Alone name) asked =
+      let is = same _ _ asked.1 in (is.0, ap (text_for (codes "NAME")) is.1 ∙ asked.2)
+  taken (Check file) asked =
+      let is = same _ _ asked.1 in (is.0, ap (text_for (codes "FILE")) is.1 ∙ asked.2)
+  taken (Print file) asked =
+      let is = same _ _ asked.1 in (is.0, ap (text_for (codes "FILE")) is.1 ∙ asked.2)
+  taken (Rounds file n sources) asked =
+      let is = same _ _ asked.1 in
+      (is.0, ap (text_for (codes "FILE")) is.1 ∙ asked.2, ap (number_for 32 (codes "N")) is.1 ∙ asked.3)
+  taken (Run run) asked =
+      let is = same _ _ asked.1 in (
+        is.0,
+        ap (text_for (codes "FILE")) is.1 ∙ asked.2,
+        kept given run.file.now _ _ (ap (texts_for (codes "SOURCE")) is.1 ∙ asked.3)
+            (ap (text_for (codes "TRACE")) is.1 ∙ asked.6) asked.8,
+      )
+  taken (RunByWorkers run workers) asked =
+      let is = same _ _ asked.1 in (
+        is.0,
+        ap (text_for (codes "FILE")) is.1 ∙ asked.2,
+        kept given run.file.now _ _ (ap (texts_for (codes "SOURCE")) is.1 ∙ asked.3)
+            (ap (text_for (codes "TRACE")) is.1 ∙ asked.6) asked.8,
+      )
+  taken (Audit file trace steps) asked =
+      let is = same _ _ asked.1 in
+      (is.0, ap (text_for (codes "FILE")) is.1 ∙ asked.2, ap (text_for (codes "TRACE")) is.1 ∙ asked.3)
+  taken (Help text) asked = no_help words names.0 asked
+
+  -- the command is none of those that there are
+  abbrev IsOther : Type 0
+  IsOther = (command ≢ codes "alone") × (command ≢ codes "check") × (command ≢ codes "print")
+      × (command ≢ codes "rounds") × (command ≢ codes "run") × (command ≢ codes "audit")
+
+  pub no_command : IsOther → AskForNothing words
+  no_command other (Alone name) asked = other.0 (taken (Alone name) asked).0
+  no_command other (Check file) asked = other.1 (taken (Check file) asked).0
+  no_command other (Print file) asked = other.2 (taken (Print file) asked).0
+  no_command other (Rounds file n sources) asked = other.3 (taken (Rounds file n sources) asked).0
+  no_command other (Run run) asked = other.4 (taken (Run run) asked).0
+  no_command other (RunByWorkers run workers) asked = other.4 (taken (RunByWorkers run workers) asked).0
+  no_command other (Audit file trace steps) asked = other.5 (taken (Audit file trace steps) asked).0
+  no_command other (Help text) asked = taken (Help text) asked
+
+module _ (words : List (List ℕ)) (given : List Row) where
+  pub no_number : Names words (codes "rounds") given → number_for 32 (codes "N") given ≡ None → AskForNothing words
+  no_number names none (Alone name) asked =
+      differ (codes "rounds") (codes "alone") refl refl (taken words (codes "rounds") given names (Alone name) asked).0
+  no_number names none (Check file) asked =
+      differ (codes "rounds") (codes "check") refl refl (taken words (codes "rounds") given names (Check file) asked).0
+  no_number names none (Print file) asked =
+      differ (codes "rounds") (codes "print") refl refl (taken words (codes "rounds") given names (Print file) asked).0
+  no_number names none (Rounds file n sources) asked =
+      some_not_none _ _ none (taken words (codes "rounds") given names (Rounds file n sources) asked).2
+  no_number names none (Run run) asked =
+      differ (codes "rounds") (codes "run") refl refl (taken words (codes "rounds") given names (Run run) asked).0
+  no_number names none (RunByWorkers run workers) asked =
+      differ (codes "rounds") (codes "run") refl refl (taken words (codes "rounds") given names (RunByWorkers run workers) asked).0
+  no_number names none (Audit file trace steps) asked =
+      differ (codes "rounds") (codes "audit") refl refl (taken words (codes "rounds") given names (Audit file trace steps) asked).0
+  no_number names none (Help text) asked = taken words (codes "rounds") given names (Help text) asked
+
+  clash : (file other : List ℕ) → text_for (codes "FILE") given ≡ Some file → overwrites given file ≡ true
+      → text_for (codes "FILE") given ≡ Some other → overwrites given other ≡ false → ⊥
+  clash file other is over also under =
+      let same : file ≡ other = ap (λ o. unwrap_or o file) (sym is ∙ also) in
+      true≢false (sym over ∙ (ap (overwrites given) same ∙ under))
+
+  -- the trace of the run would overwrite an input
+  pub no_room : (file : List ℕ) → Names words (codes "run") given → text_for (codes "FILE") given ≡ Some file
+      → overwrites given file ≡ true → AskForNothing words
+  no_room source names is over (Alone name) asked =
+      differ (codes "run") (codes "alone") refl refl (taken words (codes "run") given names (Alone name) asked).0
+  no_room source names is over (Check file) asked =
+      differ (codes "run") (codes "check") refl refl (taken words (codes "run") given names (Check file) asked).0
+  no_room source names is over (Print file) asked =
+      differ (codes "run") (codes "print") refl refl (taken words (codes "run") given names (Print file) asked).0
+  no_room source names is over (Rounds file n sources) asked =
+      differ (codes "run") (codes "rounds") refl refl (taken words (codes "run") given names (Rounds file n sources) asked).0
+  no_room source names is over (Run run) asked =
+      clash source run.file.now is over (taken words (codes "run") given names (Run run) asked).1
+      (taken words (codes "run") given names (Run run) asked).2
+  no_room source names is over (RunByWorkers run workers) asked =
+      clash source run.file.now is over (taken words (codes "run") given names (RunByWorkers run workers) asked).1
+      (taken words (codes "run") given names (RunByWorkers run workers) asked).2
+  no_room source names is over (Audit file trace steps) asked =
+      differ (codes "run") (codes "audit") refl refl (taken words (codes "run") given names (Audit file trace steps) asked).0
+  no_room source names is over (Help text) asked = taken words (codes "run") given names (Help text) asked
