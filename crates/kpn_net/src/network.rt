@@ -59,9 +59,11 @@ impl Network {
         limit: u32,
         growth: Growth,
     ) -> Result<Network, NetFault>
-        ensures refused { let t = tables_with programs.items instances.items channels.items limit growth in
+        ensures refused { let t =
+            tables_with programs.items instances.items channels.items limit growth in
             IfSome (first_fault t) (λ fault. result ≡ Err fault) }
-        ensures made { let t = tables_with programs.items instances.items channels.items limit growth in
+        ensures made { let t =
+            tables_with programs.items instances.items channels.items limit growth in
             IfNone (first_fault t)
             (MatchResult result (λ network. network ≡ t) (λ fault. fault ≡ NetFault.NoMemory)) }
     {
