@@ -1,5 +1,5 @@
 -- What a description names: the tables of a network, and the names of their parts by number.
-use Rattle.std.specs.Prelude.{◌≡◌, ℕ, List, [], ◌∷◌, ◌++◌, length, map, Result, Ok}
+use Rattle.std.specs.Prelude.{◌≡◌, List, [], ◌∷◌, ◌++◌, length, map, Result, Ok}
 use Rattle.kpn_lang.specs.Parts.{Parts}
 use Rattle.kpn_net.specs.Tables.{Tables}
 use Rattle.kpn_grammar.specs.Syntax.{Name, Process, Description}
