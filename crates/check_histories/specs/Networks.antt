@@ -6,8 +6,11 @@ use Rattle.kpn_lang.specs.Syntax.{Statement, Term, Num, Var, Bin, Read, Write, W
 use Rattle.kpn_lang.specs.Parts.{Parts}
 use Rattle.kpn_net.specs.declared.tables.ChannelSpec.{ChannelSpec}
 use Rattle.kpn_net.specs.declared.tables.ChannelSpec.TheVariants.{Inner, Source, Sink}
+use Rattle.kpn_net.specs.declared.tables.Growth.{Growth}
+use Rattle.kpn_net.specs.declared.tables.Growth.TheVariants.{One, Double}
 use Rattle.kpn_net.specs.declared.tables.Instance.{Instance}
 use Rattle.kpn_net.specs.Tables.{Tables}
+use Rattle.kpn_net.specs.View.{tables_with}
 
 -- a program without parameters: its in ports, out ports, variables, and blocks
 abbrev program : (ins outs vars : ℕ) → List (List Statement) → Parts
@@ -17,10 +20,9 @@ program ins outs vars blocks = record { ins = ins; outs = outs; pars = 0; vars =
 abbrev instance : (program : ℕ) → (ins outs : List ℕ) → Instance
 instance program ins outs = record { program = program; ins = ins; outs = outs; pars = [] }
 
--- tables with the greatest limit
+-- tables with the greatest limit, where a channel grows by one
 abbrev tables : List Parts → List Instance → List ChannelSpec → Tables
-tables programs instances channels =
-    record { programs = programs; instances = instances; channels = channels; limit = MAX_CAPACITY }
+tables programs instances channels = tables_with programs instances channels MAX_CAPACITY One
 
 -- ---- a copy from a source to a sink
 
@@ -80,6 +82,7 @@ reads_b_first = program 2 1 3 ((Read 1 0 ∷ Read 0 1 ∷ Read 0 2 ∷ Write 0 d
 abbrev two_with : (limit : ℕ) → Tables
 two_with limit = record {
   limit = limit;
+  growth = One;
   programs = writes_a_first ∷ reads_b_first ∷ [];
   instances = instance 0 [] (0 ∷ 1 ∷ []) ∷ instance 1 (0 ∷ 1 ∷ []) (2 ∷ []) ∷ [];
   channels = Inner 1 ∷ Inner 1 ∷ Sink 1 ∷ [];
@@ -132,6 +135,27 @@ feeds_itself = program 1 2 2 (
 
 unfoldable pub self_loop_network : Tables
 self_loop_network = tables (feeds_itself ∷ []) (instance 0 (0 ∷ []) (0 ∷ 1 ∷ []) ∷ []) (Inner 1 ∷ Sink 1 ∷ [])
+
+-- `write o 1; write o 2; write o 3; write o 4; read i x; read i y; read i v; read i w;`
+abbrev writes_four : Parts
+writes_four = program 1 1 4 (
+    (Write 0 (Num (pos 1)) ∷ Write 0 (Num (pos 2)) ∷ Write 0 (Num (pos 3)) ∷ Write 0 (Num (pos 4)) ∷ Read 0 0
+    ∷ Read 0 1 ∷ Read 0 2 ∷ Read 0 3 ∷ []) ∷ [])
+
+abbrev four_with : (capacity limit : ℕ) → Growth → Tables
+four_with capacity limit growth =
+    tables_with (writes_four ∷ []) (instance 0 (0 ∷ []) (0 ∷ []) ∷ []) (Inner capacity ∷ []) limit growth
+
+unfoldable pub doubling_network : Tables
+doubling_network = four_with 1 MAX_CAPACITY Double
+
+-- the same where a channel grows by one
+unfoldable pub one_more_network : Tables
+one_more_network = four_with 1 MAX_CAPACITY One
+
+-- a channel of capacity 2 that may not become 4
+unfoldable pub doubling_to_limit_network : Tables
+doubling_to_limit_network = four_with 2 3 Double
 
 -- ---- two processes, each of which reads what the other is to write
 

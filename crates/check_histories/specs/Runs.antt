@@ -63,6 +63,15 @@ self_loop_run =
     Put 0 0 (pos 2) ∷ Get 0 0 (pos 1) ∷ Get 0 0 (pos 2) ∷
     Put 0 1 (pos 3) ∷ Take 1 (pos 3) ∷ Ended 0 how.Done ∷ []
 
+-- from 1 to 2 and to 4
+unfoldable pub doubling_run : List Event
+doubling_run =
+    Put 0 0 (pos 1) ∷ WaitFull 0 0 ∷ Grow 0 0 ∷
+    Put 0 0 (pos 2) ∷ WaitFull 0 0 ∷ Grow 0 0 ∷
+    Put 0 0 (pos 3) ∷ Put 0 0 (pos 4) ∷ Get 0 0 (pos 1) ∷
+    Get 0 0 (pos 2) ∷ Get 0 0 (pos 3) ∷ Get 0 0 (pos 4) ∷
+    Ended 0 how.Done ∷ []
+
 unfoldable pub two_readers_run : List Event
 two_readers_run = WaitEmpty 0 0 ∷ WaitEmpty 1 1 ∷ []
 
@@ -107,6 +116,12 @@ kahn_run =
 
 unfoldable pub two_at_limit_run : List Event
 two_at_limit_run = Put 0 0 (pos 1) ∷ WaitEmpty 1 1 ∷ WaitFull 0 0 ∷ []
+
+-- from 2 to the limit, which is 3
+unfoldable pub doubled_to_limit_run : List Event
+doubled_to_limit_run =
+    Put 0 0 (pos 1) ∷ Put 0 0 (pos 2) ∷ WaitFull 0 0 ∷
+    Grow 0 0 ∷ Put 0 0 (pos 3) ∷ WaitFull 0 0 ∷ []
 
 unfoldable pub clogged_run : List Event
 clogged_run = Put 0 0 (pos 1) ∷ WaitEmpty 1 1 ∷ WaitEmpty 2 2 ∷ WaitFull 0 0 ∷ []

@@ -3,7 +3,7 @@ use Rattle.std.specs.Prelude.{pos, List, [], ◌∷◌, ◌++◌, take}
 use Rattle.kpn_trace.specs.declared.event.How.TheVariants as how
 use Rattle.kpn_trace.specs.declared.event.Event.{Event}
 use Rattle.kpn_trace.specs.declared.event.Event.TheVariants.{Get, Put, WaitEmpty, WaitFull, Ended, Feed, Close, Take, Leave, Grow}
-use Rattle.check_histories.specs.Runs.{two_run, two_at_limit_run, clogged_run, larger_run, tie_run}
+use Rattle.check_histories.specs.Runs.{two_run, two_at_limit_run, clogged_run, larger_run, tie_run, doubling_run, doubled_to_limit_run}
 
 -- ---- a process says and meets what its text says
 
@@ -120,6 +120,20 @@ grows_for_its_writer = take 5 larger_run ++ Grow 1 1 ∷ []
 -- of two full channels with one capacity the one with the greater number
 unfoldable pub grows_the_greater_number : List Event
 grows_the_greater_number = take 4 tie_run ++ Grow 1 1 ∷ []
+
+-- ---- a growth makes a channel as large as the network says
+
+-- after two growths by one the channel holds three
+unfoldable pub puts_as_if_doubled : List Event
+puts_as_if_doubled = take 8 doubling_run
+
+-- twice the capacity, and above the limit
+unfoldable pub puts_past_the_limit : List Event
+puts_past_the_limit = take 5 doubled_to_limit_run ++ Put 0 0 (pos 4) ∷ []
+
+-- it was made as large as the limit
+unfoldable pub grows_past_the_limit : List Event
+grows_past_the_limit = doubled_to_limit_run ++ Grow 0 0 ∷ []
 
 -- ---- the outside feeds and closes sources, and takes from sinks and leaves them
 

@@ -5,8 +5,8 @@ ghost use Rattle.kpn_trace.specs.Channels.{written_on, capacity_after};
 ghost use Rattle.kpn_trace.specs.Legal.{Legal};
 ghost use Rattle.kpn_net.specs.Faults.{IsNetwork};
 ghost use Rattle.check_histories.specs.Claims.{StopsAs, RunsToItsEnd};
-ghost use Rattle.check_histories.specs.Networks.{copy_network, kahn_network, two_network, two_at_limit, larger_network, tie_network, self_loop_network, two_readers_network, ended_reader_network, clogged_network, zero_divisor_network, overflow_network};
-ghost use Rattle.check_histories.specs.Runs.{copy_run, left_sink_run, two_run, reader_closes_run, larger_run, tie_run, self_loop_run, two_readers_run, ended_reader_run, freed_writer_run, zero_divisor_run, overflow_run, kahn_run, two_at_limit_run, clogged_run};
+ghost use Rattle.check_histories.specs.Networks.{copy_network, kahn_network, two_network, two_at_limit, larger_network, tie_network, self_loop_network, two_readers_network, ended_reader_network, clogged_network, zero_divisor_network, overflow_network, doubling_network, doubling_to_limit_network};
+ghost use Rattle.check_histories.specs.Runs.{copy_run, left_sink_run, two_run, reader_closes_run, larger_run, tie_run, self_loop_run, two_readers_run, ended_reader_run, freed_writer_run, zero_divisor_run, overflow_run, kahn_run, two_at_limit_run, clogged_run, doubling_run, doubled_to_limit_run};
 
 // ---- runs to the end
 
@@ -50,6 +50,12 @@ pub fn a_self_loop_grows_once()
     ensures capacity { capacity_after self_loop_network self_loop_run 0 ≡ Some 2 }
 {}
 
+/// A channel that doubles grows from 1 to 2 and to 4.
+pub fn a_channel_doubles_twice()
+    ensures run { RunsToItsEnd doubling_network doubling_run }
+    ensures capacity { capacity_after doubling_network doubling_run 0 ≡ Some 4 }
+{}
+
 /// Two readers wait for each other, and nothing grows.
 pub fn two_readers_wait()
     ensures run { RunsToItsEnd two_readers_network two_readers_run }
@@ -80,6 +86,12 @@ pub fn kahn_gives_six_items()
 /// Two channels between two processes where the limit forbids the growth: the cycle stays.
 pub fn two_channels_jam_at_the_limit()
     ensures { StopsAs two_at_limit two_at_limit_run Jammed }
+{}
+
+/// A channel of capacity 2 that doubles grows to the limit, which is 3, and the cycle stays there.
+pub fn a_channel_doubles_to_the_limit()
+    ensures run { StopsAs doubling_to_limit_network doubled_to_limit_run Jammed }
+    ensures capacity { capacity_after doubling_to_limit_network doubled_to_limit_run 0 ≡ Some 3 }
 {}
 
 /// A writer waits on a full channel, in no cycle, for a process that waits in a cycle of empty channels.

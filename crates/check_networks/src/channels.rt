@@ -125,19 +125,23 @@ fn a_journal_goes_on_past_its_chunks(rt: HostRuntime) -> Result<(), Fail> {
 
 #[test]
 fn a_growth_that_is_refused_changes_nothing(rt: HostRuntime) -> Result<(), Fail> {
-    let heap = LocalHeap::new(rt.alloc(), 256)?;
+    let heap = LocalHeap::new(rt.alloc(), 512)?;
     let mut channel = Channel::new(&heap, Some(2))?;
     put_all(&mut channel, &[5, 6])?;
 
-    let filling = Vec::<u8, &LocalHeap>::with_capacity(&heap, 208)?;
+    let filling = Vec::<u8, &LocalHeap>::with_capacity(&heap, 464)?;
     assert_eq!(rt; channel.cap(), Some(2));
     assert!(rt; channel.grow().is_err());
+    assert_eq!(rt; channel.cap(), Some(2));
+    assert!(rt; channel.grow_to(5).is_err());
     assert_eq!(rt; channel.len(), 2);
 
     filling.destroy_empty();
     assert_eq!(rt; channel.cap(), Some(2));
-    channel.grow()?;
-    assert!(rt; channel.cap() == Some(3) && !channel.is_full());
-    assert!(rt; channel.get() == Some(5) && channel.get() == Some(6));
+    channel.grow_to(5)?;
+    assert!(rt; channel.cap() == Some(5) && !channel.is_full());
+    put_numbers(&mut channel, 7, 10)?;
+    assert!(rt; channel.is_full());
+    assert!(rt; gives_numbers(&mut channel, 5, 10));
     Ok(())
 }

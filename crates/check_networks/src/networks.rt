@@ -1,9 +1,9 @@
 //! Networks: each refusal at its place and beside the one before it, sizes at their limits, who is at the
-//! ends of a channel, and equality.
+//! ends of a channel, equality, and how channels grow.
 use crate::worked::{idle, idle_network, instance};
 use kpn_limits::MAX_CAPACITY;
 use kpn_net::ChannelSpec::{Inner, Sink, Source};
-use kpn_net::{ChannelSpec, End, Instance, NetFault, Network, same};
+use kpn_net::{ChannelSpec, End, Growth, Instance, NetFault, Network, same};
 use std::alloc::{AllocError, Global};
 use std::test::Fail;
 
@@ -25,7 +25,7 @@ fn refusal(
     let ins = idle(alloc, 2, 0)?;
     let programs = vec![in alloc; both, outs, ins]?;
     let channels = channels.to_vec(alloc)?;
-    Ok(Network::new(alloc, programs, instances, channels, 9).err())
+    Ok(Network::new(alloc, programs, instances, channels, 9, Growth::One).err())
 }
 
 /// Processes and channels, and why their network is refused, or None.
@@ -150,7 +150,7 @@ fn takes_networks_at_the_limits(rt: HostRuntime) -> Result<(), Fail> {
         let (instances, channels) = ring(a, processes)?;
         let program = idle(a, 4, 4)?;
         let programs = vec![in a; program]?;
-        let answer = Network::new(a, programs, instances, channels, limit).err();
+        let answer = Network::new(a, programs, instances, channels, limit, Growth::One).err();
         assert_eq!(rt; answer, wanted, "{processes} processes, limit {limit}");
     }
     Ok(())
@@ -162,6 +162,7 @@ fn has_its_tables(network: &Network) -> bool {
         && network.instances() == 1
         && network.channels() == 2
         && network.limit() == 9
+        && network.growth() == Growth::One
         && (network.writer_of(0), network.reader_of(0)) == (End::Source, End::Process(0))
         && (network.writer_of(1), network.reader_of(1)) == (End::Process(0), End::Sink)
         && (network.is_source(0), network.is_source(1)) == (true, false)
@@ -178,9 +179,37 @@ fn tables_of_a_network(rt: HostRuntime) -> Result<(), Fail> {
     let a = rt.alloc();
     let ports: [(&[usize], &[usize]); 1] = [(&[0], &[1])];
     let channels = [Source, Sink(1)];
-    let network = idle_network(a, &ports, &channels, 9)?;
+    let network = idle_network(a, &ports, &channels, 9, Growth::One)?;
     assert!(rt; has_its_tables(&network));
-    assert!(rt; same(&network, &idle_network(a, &ports, &channels, 9)?));
-    assert!(rt; !same(&network, &idle_network(a, &ports, &channels, 8)?));
+    assert!(rt;
+        same(
+            &network,
+            &idle_network(a, &ports, &channels, 9, Growth::One)?
+        )
+    );
+    assert!(rt;
+        !same(
+            &network,
+            &idle_network(a, &ports, &channels, 8, Growth::One)?
+        )
+    );
+    Ok(())
+}
+
+#[test]
+fn growths_of_a_network(rt: HostRuntime) -> Result<(), Fail> {
+    let a = rt.alloc();
+    let ports: [(&[usize], &[usize]); 1] = [(&[0], &[1])];
+    let channels = [Source, Sink(1)];
+    let by_one = idle_network(a, &ports, &channels, 5, Growth::One)?;
+    let doubling = idle_network(a, &ports, &channels, 5, Growth::Double)?;
+    assert!(rt; by_one.growth() == Growth::One && doubling.growth() == Growth::Double);
+    assert!(rt; !same(&by_one, &doubling));
+    for (cap, one_more, doubled) in [(1, 2, 2), (2, 3, 4), (3, 4, 5), (4, 5, 5)] {
+        assert!(rt; cap < by_one.limit());
+        assert_eq!(rt; by_one.larger_capacity(cap), one_more);
+        assert!(rt; cap < doubling.limit());
+        assert_eq!(rt; doubling.larger_capacity(cap), doubled);
+    }
     Ok(())
 }

@@ -1,6 +1,6 @@
 //! Networks of processes that do nothing.
 use kpn_lang::{Program, Sequence};
-use kpn_net::{ChannelSpec, Instance, Network};
+use kpn_net::{ChannelSpec, Growth, Instance, Network};
 use std::alloc::{AllocError, Global};
 use std::test::Fail;
 
@@ -31,6 +31,7 @@ pub fn idle_network(
     ports: &[(&[usize], &[usize])],
     channels: &[ChannelSpec],
     limit: u32,
+    growth: Growth,
 ) -> Result<Network, Fail> {
     let mut programs = Vec::new(alloc);
     let mut instances = Vec::new(alloc);
@@ -38,5 +39,12 @@ pub fn idle_network(
         programs.push(idle(alloc, ins.len(), outs.len())?)?;
         instances.push(instance(alloc, p, ins, outs, &[])?)?;
     }
-    Ok(Network::new(alloc, programs, instances, channels.to_vec(alloc)?, limit)?)
+    Ok(Network::new(
+        alloc,
+        programs,
+        instances,
+        channels.to_vec(alloc)?,
+        limit,
+        growth,
+    )?)
 }

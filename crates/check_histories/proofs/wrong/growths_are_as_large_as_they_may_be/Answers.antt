@@ -1,0 +1,28 @@
+use Rattle.std.proofs.Common.{arith, lit<, refl, ◌<◌, ◌≤◌, take}
+use Rattle.kpn_trace.specs.declared.event.Event.TheVariants.{Grow}
+use Rattle.kpn_trace.proofs.Legality.{Legal-consistent, Legal-last}
+use Rattle.check_histories.specs.Networks.{one_more_network, doubling_to_limit_network}
+use Rattle.check_histories.specs.Runs.{doubling_run, doubled_to_limit_run}
+use Rattle.check_histories.specs.WrongLists.{puts_as_if_doubled, puts_past_the_limit, grows_past_the_limit}
+use Rattle.check_histories.proofs.Claiming.{breaks_at}
+use Rattle.check_histories.proofs.wrong.growths_are_as_large_as_they_may_be.Goals as goal
+
+pub returns-clause-by_one : goal.returns-clause-by_one
+unfolding one_more_network puts_as_if_doubled doubling_run
+returns-clause-by_one c = breaks_at one_more_network 1 puts_as_if_doubled 7 refl (λ legal.
+    let most : 4 ≤ 3 =
+    (Legal-consistent one_more_network puts_as_if_doubled legal).within 0 (lit< tt) refl 3 refl in omega arith)
+
+pub returns-clause-past_the_limit : goal.returns-clause-past_the_limit
+unfolding doubling_to_limit_network puts_past_the_limit doubled_to_limit_run
+returns-clause-past_the_limit c = breaks_at doubling_to_limit_network 1 puts_past_the_limit 5 refl (λ legal.
+    let most : 4 ≤ 3 =
+    (Legal-consistent doubling_to_limit_network puts_past_the_limit legal).within 0 (lit< tt) refl 3 refl in
+    omega arith)
+
+pub returns-clause-at_the_limit : goal.returns-clause-at_the_limit
+unfolding doubling_to_limit_network grows_past_the_limit doubled_to_limit_run
+returns-clause-at_the_limit c = breaks_at doubling_to_limit_network 1 grows_past_the_limit 6 refl (λ legal.
+    let below : 3 < 3 =
+    (Legal-last doubling_to_limit_network (take 6 grows_past_the_limit) (Grow 0 0) legal).due.below_limit in
+    omega arith)
