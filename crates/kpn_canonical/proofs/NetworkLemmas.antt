@@ -121,7 +121,8 @@ network_read : (n : Network) (more : List ℕ) (tokens : List Token) → IsPrope
 network_read n more tokens is h =
     let items =
     all_read item_text spell_item IsProperItem item_read n.items _ _ is.items (close_read 0 more tokens h) in
-    keyword_read keyword.Network _ _ refl (open_read _ _ (limit_read n.limit _ _ is.limit (growth_read n.growth _ _ items)))
+    keyword_read keyword.Network _ _ refl
+    (open_read _ _ (limit_read n.limit _ _ is.limit (growth_read n.growth _ _ items)))
 
 pub description_read : (d : Description) → IsProper d → IsReadAs (description_text d) (spell_description d)
 description_read d is =
