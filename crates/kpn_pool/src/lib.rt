@@ -1,6 +1,7 @@
 //! Workers that run a network side by side: one lock round the book of the run, and what each worker knows of it.
 #![tactic(auto)]
 
+mod batch;
 mod crew;
 mod desk;
 mod gate;
@@ -12,6 +13,7 @@ mod outside_calls;
 mod outside_seats;
 mod seat;
 mod shared;
+mod turn;
 mod working;
 
 pub use desk::Desk;

@@ -114,32 +114,6 @@ impl<J: Job> WorkerSeat<J> {
         Ok(done)
     }
 
-    /// Puts a process back whose steps could not be committed for want of memory: the workers shall end, and this one
-    /// does.
-    pub fn give_up<A: Allocator>(&mut self, desk: &mut Desk<'_, J, A>, p: usize)
-        ensures back { IsHeld desk.old.book p
-            → desk.new ≡ halted (with_book (put_back p desk.old.book) desk.old) }
-        ensures none { (¬ IsHeld desk.old.book p) → desk.new ≡ halted desk.old }
-        ensures why { self.new ≡ ended Why.NoMemory self.old }
-    {
-        // refused only where nobody holds it: then it stands where it belongs
-        let _ = desk.put_back(p);
-        desk.halt();
-        self.end(Why::NoMemory);
-    }
-
-    /// Puts a process back whose steps are dropped, and ends.
-    pub fn abandon<A: Allocator>(&mut self, desk: &mut Desk<'_, J, A>, p: usize)
-        ensures back { IsHeld desk.old.book p
-            → desk.new ≡ with_book (put_back p desk.old.book) desk.old }
-        ensures none { (¬ IsHeld desk.old.book p) → desk.new ≡ desk.old }
-        ensures why { self.new ≡ ended Why.Abandoned self.old }
-    {
-        // refused only where nobody holds it: then it stands where it belongs
-        let _ = desk.put_back(p);
-        self.end(Why::Abandoned);
-    }
-
     /// The share of the ledger that the worker has.
     pub(crate) fn into_share(self) -> Share<J>
         ensures parts { result.parts ≡ 1 }

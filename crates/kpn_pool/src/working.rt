@@ -1,12 +1,12 @@
 //! What a worker does.
 ghost use Rattle.std.specs.Prelude.{◌≡◌, ◌<◌, ◌≤◌, IsSome};
 
+use crate::batch::Batch;
 use crate::crew::Pace;
-use crate::gate::{Gate, Go};
+use crate::gate::Gate;
 use crate::job::Job;
 use crate::seat::WorkerSeat;
 use crate::shared::Shared;
-use kpn_step::advance;
 use std::alloc::Allocator;
 use std::sync::Wait;
 use std::time::Clock;
@@ -30,20 +30,12 @@ pub fn work<'n, J: Job, A: Allocator + Copy, G: Gate, R: Wait + Clock>(
 {
     let mut seat = seat;
     let mut pace = Pace::new();
-    let Some(claim) = shared.begin(rt, &mut seat, &mut pace) else {
-        return seat;
-    };
-    let mut claim = claim;
-    let mut steps = advance(claim.program, claim.frame.copy(), quota);
+    let mut batch = Batch::new();
     for _ in rt.forever() {
-        if gate.between(seat.number(), claim.process) == Go::Abandon {
-            shared.abandon(rt, &mut seat, claim.process);
+        if !shared.go_on(rt, &mut seat, &mut pace, &mut batch) {
             return seat;
         }
-        if !shared.go_on(rt, &mut seat, &mut pace, &mut claim, &steps) {
-            return seat;
-        }
-        steps.restart(claim.program, &claim.frame, quota);
+        batch.step(gate, seat.number(), quota);
     }
     unreachable!()
 }
