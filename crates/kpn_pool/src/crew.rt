@@ -24,6 +24,9 @@
 //!
 //! Who keeps watch rests for a short time. Then the others have committed, and so are there to take the process up, or
 //! this one has waited in vain and joins, and by its claim sees to the next process.
+ghost use Rattle.std.specs.Prelude.{◌≡◌, max};
+ghost use Rattle.kpn_pool.specs.Batch.{share_of};
+
 use std::mem;
 use std::time::{Clock, Duration, Instant};
 
@@ -160,7 +163,9 @@ impl Crew {
     }
 
     /// How many processes a worker claims where so many are ready: its part of them, but no more than a batch.
-    pub(crate) fn share(&self, ready: usize) -> usize {
+    pub(crate) fn share(&self, ready: usize) -> usize
+        ensures { result ≡ share_of (max self.now.workers 1) ready }
+    {
         ready.div_ceil(self.workers.max(1)).min(BATCH)
     }
 
