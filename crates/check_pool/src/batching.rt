@@ -98,8 +98,9 @@ fn shows(view: &Option<View>, written: usize) -> bool {
     let Some(view) = view else {
         return false;
     };
-    let mut is_so = view.counts.ready == 9 && view.journals.len() == 9;
-    for (c, journal) in view.journals.iter().enumerate() {
+    let journals = view.journals.as_slice();
+    let mut is_so = view.counts.ready == 9 && journals.len() == 9;
+    for (c, journal) in journals.iter().enumerate() {
         let items: &[i64] = if c < written { &[7] } else { &[] };
         is_so = is_so && journal.is(items);
     }

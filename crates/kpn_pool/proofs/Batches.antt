@@ -15,7 +15,8 @@ then_one Does [] turn before between after so_far does = (after, subst (λ b. Do
 then_one Does (t ∷ turns) turn before between after so_far does =
     (so_far.0, so_far.1, then_one Does turns turn so_far.0 between after so_far.2 does)
 
-pub one_more : (Does : Turn → Book → Book → Type 0) (turns : List Turn) (i : ℕ) (turn : Turn) (before between after : Book)
+pub one_more : (Does : Turn → Book → Book → Type 0) (turns : List Turn) (i : ℕ) (turn : Turn)
+    (before between after : Book)
     → i < length turns → turn ≡ get_or turns i turn → InTurn Does (take i turns) before between
     → Does turn between after → InTurn Does (take (i + 1) turns) before after
 one_more Does turns i turn before between after there is so_far does =
@@ -41,7 +42,8 @@ pub settled : (b : Batch) (why : Option Why) (before between after end : Desk) (
 settled b why before between after end turns committed same commits back book ends = record {
   committed = committed;
   between = between.book;
-  commits = subst (λ xs. InTurn CommitsOrDrops (take committed (take b.passed xs)) before.book between.book) same commits;
+  commits =
+      subst (λ xs. InTurn CommitsOrDrops (take committed (take b.passed xs)) before.book between.book) same commits;
   back =
       subst (λ x. InTurn PutsBack (take (b.held - committed) (drop committed b.turns)) between.book x) (sym book)
       (subst (λ xs. InTurn PutsBack (take (b.held - committed) (drop committed xs)) between.book after.book) same back);

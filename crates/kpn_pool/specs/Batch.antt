@@ -1,7 +1,10 @@
 -- What a worker does with several processes in one hold of the lock, one after the other.
 use Rattle.std.specs.Prelude.{◌≡◌, ℕ, ◌<◌, ◌-◌, ◌⊎◌, true, List, [], ◌∷◌, take, drop, min, Option, Some, None}
 use Rattle.std.specs.Int.{div_ceil}
+use Rattle.kpn_step.specs.Frame.{Frame}
 use Rattle.kpn_step.specs.Stops.{Advanced}
+use Rattle.kpn_configuration.specs.Configuration.{frame_in}
+use Rattle.kpn_book.specs.declared.claim.Claim.{Claim}
 use Rattle.kpn_book.specs.declared.answers.Done.{Done}
 use Rattle.kpn_book.specs.Book.{Book, IsHeld, IsClaimed, put_back}
 use Rattle.kpn_book.specs.Commits.{IsOwnAdvance, Commits}
@@ -9,11 +12,17 @@ use Rattle.kpn_pool.specs.declared.seat.Why.{Why}
 use Rattle.kpn_pool.specs.declared.seat.Why.TheVariants.{Abandoned, NoMemory}
 use Rattle.kpn_pool.specs.Desk.{Desk}
 
--- the process that was claimed last, and the steps that were made last, if any were, with their process
+-- the process that was claimed last, if one was, with its frame, and the steps that were made last, with their process
 pub record Turn : Type 0 where
   pub claimed : ℕ
+  pub frame : Option Frame
   pub process : ℕ
   pub steps : Option Advanced
+
+-- the frame of a claim
+abbrev pub frame_of : Option Claim → Option Frame
+frame_of None = None
+frame_of (Some claim) = Some claim.frame
 
 -- turns: the first ones, so many, are held, and of these the first ones, so many, the gate has let through
 pub record Batch : Type 0 where
@@ -27,9 +36,10 @@ share_of workers ready = min (div_ceil ready workers) 8
 
 -- ---- one turn
 
--- its process is the first of the queue, and is held from then on
-abbrev pub Claims : Turn → Book → Book → Type 0
-Claims turn before after = IsClaimed turn.claimed before after
+-- its process is the first of the queue, and is held from then on; its frame is where the process stands
+pub record Claims (turn : Turn) (before after : Book) : Type 0 where
+  pub held : IsClaimed turn.claimed before after
+  pub frame : turn.frame ≡ Some (frame_in before.configuration turn.claimed)
 
 -- its process is held, and its steps are those of this process from where it stands
 abbrev pub MayCommit : Turn → Book → Type 0

@@ -1,5 +1,5 @@
 //! The turns that a worker makes between two holds of the lock, in the order of their claims.
-ghost use Rattle.std.specs.Prelude.{◌≡◌, ◌<◌, ◌≤◌, take, drop, length};
+ghost use Rattle.std.specs.Prelude.{◌≡◌, ◌<◌, ◌≤◌, take, length};
 ghost use Rattle.kpn_pool.specs.Batch.{InTurn, Claims, CommitsOrDrops, PutsBack, Settles};
 
 use crate::crew::BATCH;

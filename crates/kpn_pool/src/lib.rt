@@ -23,7 +23,7 @@ pub use job::Job;
 pub use kpn_book::{Counts, Refused, State, View};
 pub use look::Look;
 pub use outside_calls::{
-    SnapFault, close, feed, feed_all, leave, snapshot, take, take_all, take_each, take_when_due,
+    SnapFault, close, feed, feed_all, leave, snapshot, take, take_each, take_when_due,
 };
 pub use outside_seats::{SinkSeat, SourceSeat};
 pub use seat::{Why, WorkerSeat};

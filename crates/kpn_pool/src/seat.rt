@@ -1,10 +1,9 @@
 //! The seat of a worker: what it knows of its own work.
 ghost use Rattle.std.specs.Prelude.{◌≡◌, ◌+◌, IfOk, IfErr, OnErr, OnOk, Some, None};
 ghost use Rattle.kpn_net.specs.Tables.{program_of};
-ghost use Rattle.kpn_book.specs.Book.{IsHeld, put_back};
 ghost use Rattle.kpn_book.specs.Commits.{Commits};
 ghost use Rattle.kpn_book.specs.Refusals.{RefusesCommit};
-ghost use Rattle.kpn_pool.specs.Desk.{with_book, with_commit, halted};
+ghost use Rattle.kpn_pool.specs.Desk.{with_commit};
 ghost use Rattle.kpn_pool.specs.Seat.{new_seat, ended, with_commits};
 
 use crate::desk::Desk;

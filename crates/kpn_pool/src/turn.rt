@@ -29,13 +29,13 @@ impl<'n, J: Job> Model for Turn<'n, J> {
     ghost use Rattle.kpn_step.specs.Frame.{fits};
     ghost use Rattle.std.specs.Coded.{codes};
     ghost use Rattle.kpn_lang.specs.Codes.{parts_code};
-    ghost use Rattle.kpn_pool.specs.Batch.{Turn as Seen};
+    ghost use Rattle.kpn_pool.specs.Batch.{Turn as Seen, frame_of};
 
     ghost Value = { Seen };
 
     ghost coded = { Prim.hlevel (codes, parts_code) };
 
-    ghost view = { λ t. record { claimed = t.claimed; process = t.process; steps = t.steps } };
+    ghost view = { λ t. record { claimed = t.claimed; frame = frame_of t.claim; process = t.process; steps = t.steps } };
 
     ghost invariant = { λ t.
         IfSome t.claim (λ claim. (claim.process ≡ t.claimed) × (claim.program.now ≡ program_of J.network claim.process)
@@ -61,14 +61,19 @@ impl<'n, J: Job> Turn<'n, J> {
         ensures nobody { (result ≡ false) → ClaimsNobody desk.old.book × (desk.new ≡ desk.old) }
         ensures same { desk.new ≡ with_book desk.new.book desk.old }
     {
+        desk.known();
         if let Some(claim) = &mut self.claim {
-            let is_claimed = desk.claim_into(claim);
+            if !desk.book.claim_into(claim) {
+                return false;
+            }
+            desk.book.known();
             self.claimed = claim.process;
-            return is_claimed;
+            return true;
         }
-        let Some(claim) = desk.claim() else {
+        let Some(claim) = desk.book.claim() else {
             return false;
         };
+        desk.book.known();
         self.claimed = claim.process;
         self.claim = Some(claim);
         true
@@ -92,8 +97,8 @@ impl<'n, J: Job> Turn<'n, J> {
 
     /// Commits the steps. Tells whether there was memory for that.
     ///
-    /// Steps of a process that is not held, or of another one, which nothing known behind a lock rules out, are dropped,
-    /// and nothing is counted.
+    /// Steps of a process that is not held, or of another one, which nothing known behind a lock rules out, are
+    /// dropped, and nothing is counted.
     pub(crate) fn commit<A: Allocator + Copy>(
         &self,
         desk: &mut Desk<'n, J, A>,
@@ -125,6 +130,7 @@ impl<'n, J: Job> Turn<'n, J> {
         ensures same { desk.new ≡ with_book desk.new.book desk.old }
     {
         // refused only where nobody holds it: then it stands where it belongs
-        let _ = desk.put_back(self.claimed);
+        let _ = desk.book.put_back(self.claimed);
+        desk.book.known();
     }
 }

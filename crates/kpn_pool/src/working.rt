@@ -13,9 +13,10 @@ use std::time::Clock;
 
 /// Steps processes and commits their steps until there is a reason to end, which the seat then tells.
 ///
-/// A process is claimed, makes at most `quota` steps with the lock free, the gate is asked, and the steps are
-/// committed. Steps that are refused there as of a process that is not held, or of another one, are dropped: the worker
-/// goes on, and counts no commit.
+/// Up to eight processes are claimed, no more than a worker's part of those that are ready. One after the other makes
+/// at most `quota` steps with the lock free, and the gate is asked; then they are committed in that order. Steps that
+/// are refused there as of a process that is not held, or of another one, are dropped, and count as no commit. The last
+/// batches may lead past the commits that are allowed: by 127 at most, with 16 workers.
 pub fn work<'n, J: Job, A: Allocator + Copy, G: Gate, R: Wait + Clock>(
     rt: &R,
     shared: &Shared<'n, J, A>,

@@ -1,8 +1,6 @@
 //! The holds of a worker: each time it has the lock it commits what it has stepped, and claims the next process or
 //! waits. Whom it has to notify it notifies once the lock is free.
-ghost use Rattle.std.specs.Prelude.{◌≡◌, ◌≤◌, true, false, IfSome, IfNone, IsSome, IsTrue};
-ghost use Rattle.kpn_net.specs.Tables.{program_of};
-ghost use Rattle.kpn_step.specs.Frame.{fits};
+ghost use Rattle.std.specs.Prelude.{◌≡◌, ◌≤◌, false, IfNone, IsSome};
 ghost use Rattle.kpn_pool.specs.Seat.{ended};
 
 use super::Shared;
@@ -16,8 +14,8 @@ use std::sync::{MutexGuard, Wait};
 use std::time::{Clock, Instant};
 
 impl<'n, J: Job, A: Allocator> Shared<'n, J, A> {
-    /// Commits the batch of a worker, which becomes that of the next processes. Tells whether there are such: if not, the
-    /// worker ends.
+    /// Commits the batch of a worker, which becomes that of the next processes. Tells whether there are such: if not,
+    /// the worker ends.
     pub(crate) fn go_on<R: Wait + Clock>(
         &self,
         rt: &R,
@@ -158,17 +156,12 @@ impl<'n, J: Job, A: Allocator> Shared<'n, J, A> {
         pace.begin(rt, commits);
     }
 
-    /// A worker ends.
+    /// A worker ends, and lets the desk go. It notifies all that rest, since the reason may be theirs, and calls the
+    /// outside.
     fn end<'l>(&'l self, desk: MutexGuard<'l, Desk<'n, J, A>>, seat: &mut WorkerSeat<J>, why: Why)
         ensures { seat.new ≡ ended why seat.old }
     {
         seat.end(why);
-        self.leave(desk);
-    }
-
-    /// Lets the desk go as a worker ends. It notifies all that rest, since the reason may be theirs, and calls the
-    /// outside.
-    fn leave<'l>(&'l self, desk: MutexGuard<'l, Desk<'n, J, A>>) {
         let mut desk = desk;
         desk.crew.end();
         let calls = desk.crew.call();
