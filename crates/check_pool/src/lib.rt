@@ -3,6 +3,8 @@
 #![tactic(auto)]
 
 #[cfg(test)]
+mod batching;
+#[cfg(test)]
 mod endings;
 #[cfg(test)]
 mod evaluating;

@@ -52,6 +52,15 @@ pub fn two_sevens(alloc: Global) -> Result<Network, Fail> {
     processes(alloc, seven, &ports, &[Sink(1), Sink(1)])
 }
 
+/// Processes 0 to 8 write 7 once, each to the sink with its number.
+pub fn nine_sevens(alloc: Global) -> Result<Network, Fail> {
+    let body = vec![in alloc; Stmt::Write(0, Expr::Num(7))]?;
+    let seven = Program::new(alloc, 0, 1, 0, 0, vec![in alloc; body]?)?;
+    let outs: [&[usize]; 9] = [&[0], &[1], &[2], &[3], &[4], &[5], &[6], &[7], &[8]];
+    let ports = outs.map(|outs| (&[] as &[usize], outs));
+    processes(alloc, seven, &ports, &[Sink(1); 9])
+}
+
 /// Two processes, each of which first reads what the other writes.
 pub fn two_readers(alloc: Global) -> Result<Network, Fail> {
     let body = vec![in alloc; Stmt::Read(0, 0), Stmt::Write(0, Expr::Var(0))]?;

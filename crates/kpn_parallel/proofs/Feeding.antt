@@ -40,6 +40,7 @@ module _ (t : Tables) (H : List Event) where
   closed_more k is so_far c below source =
       elim (cases_eq c k) [
         | inl same ↦
-            subst (λ x. is_closed H x ≡ true) (sym same) (is (subst (λ x. is_source (channel_at t x) ≡ true) same source))
+            let at_k = subst (λ x. is_source (channel_at t x) ≡ true) same source in
+            subst (λ x. is_closed H x ≡ true) (sym same) (is at_k)
         | inr other ↦ so_far c (omega arith) source
       ]

@@ -1,5 +1,5 @@
 -- Who is put back is not held, and nobody is who was not.
-use Rattle.std.proofs.Common.{◌≡◌, ℕ, ◌+◌, ◌<◌, false, cond, List, length, set, get_or, count_by, refl, sym, ap, ◌∙◌, subst, inl, inr, arith}
+use Rattle.std.proofs.Common.{◌≡◌, ℕ, ◌<◌, false, cond, List, length, set, get_or, count_by, refl, ap, ◌∙◌, subst, inl, inr, arith}
 use Rattle.std.proofs.lemmas.Bool.{cases_eq}
 use Rattle.std.proofs.lemmas.List.{length-set, get_or-set_same, get_or-set_other, get_or_default}
 use Rattle.std.proofs.lemmas.List.Sums.{sum_by-le}
@@ -39,16 +39,6 @@ not_held p before other = record {
 }
 
 -- ---- one after the other
-
-pub one_more : (p : ℕ) (between after : Book) → Releases p between after → IsNoneHeldBelow between p
-    → IsNoneHeldBelow after (p + 1)
-one_more p between after frees so_far q below there =
-    let long = frees.processes in
-    elim (cases_eq q p) [
-      | inl same ↦ subst (λ z. z < length after.schedule.states → is_held (state_at after.schedule.states z) ≡ false)
-          (sym same) frees.here there
-      | inr other ↦ frees.others q there (so_far q (omega arith) (omega arith))
-    ]
 
 none_counted : (xs : List State) → ((q : ℕ) → q < length xs → is_held (get_or xs q Ready) ≡ false)
     → count_by is_held xs ≡ 0

@@ -24,9 +24,9 @@ use std::time::Clock;
 ///
 /// The calling thread feeds each source its whole list, closes it, and takes from the sinks what is put on them, while
 /// the workers run. The gate is asked before each commit. The report keeps the promise of `kpn_report::run_here`: the
-/// lists were fed whole and the sources closed, under every outcome. Which capacities and which prefixes of the journals
-/// of other channels it shows depends on the schedule. The workers may make more commits than the limit, by one for each
-/// worker but the first. A quota of 0 counts as 1.
+/// lists were fed whole and the sources closed, under every outcome. Which capacities and which prefixes of the
+/// journals of other channels it shows depends on the schedule. The workers may make up to 127 commits more than the
+/// limit. A quota of 0 counts as 1.
 ///
 /// The error is the first of these: a thread could not be started; memory ran out; the gate made every worker end
 /// before there was an outcome; a source was fed something else than its list or not closed, or a call of the outside

@@ -27,13 +27,12 @@ pub(crate) struct Sinks {
 impl Sinks {
     /// Whether what is wanted, if anything, was taken of each.
     fn have_enough(&self) -> bool {
-        match self.wanted {
-            Some(items) => self
-                .seats
-                .iter()
-                .all(|seat| seat.taken().len() as u64 >= items),
-            None => false,
-        }
+        let Some(items) = self.wanted else {
+            return false;
+        };
+        self.seats
+            .iter()
+            .all(|seat| seat.taken().len() as u64 >= items)
     }
 }
 
@@ -50,25 +49,26 @@ pub(crate) fn serve<J: Job, R: Wait + Clock>(
     served
 }
 
-/// Feeds the sources, and then takes from the sinks until the run is over.
+/// Feeds the sources, and then takes from the sinks until all workers have ended or what is wanted was taken.
 fn feed_and_take<J: Job, R: Wait + Clock>(
     rt: &R,
     shared: &Shared<'_, J>,
     outside: &mut Outside<'_>,
 ) -> Result<(), Refused> {
-    let Outside {
-        sources,
-        lists,
-        sinks,
-    } = outside;
-    for (seat, list) in sources.iter_mut().zip(*lists) {
-        feed_list(rt, shared, seat, list.as_slice(), sinks)?;
+    for (seat, list) in outside.sources.iter_mut().zip(outside.lists) {
+        feed_list(rt, shared, seat, list.as_slice(), &mut outside.sinks)?;
     }
-    take_items(rt, shared, sinks)
+    let sinks = &mut outside.sinks;
+    take_each(rt, shared, sinks.seats.as_mut_slice())?;
+    for _ in rt.forever() {
+        if sinks.have_enough() || !take_when_due(rt, shared, sinks.seats.as_mut_slice())? {
+            return Ok(());
+        }
+    }
+    unreachable!()
 }
 
-/// Feeds a source its whole list and closes it. After each batch it is taken what is there, so that no full sink holds
-/// the workers up meanwhile.
+/// Feeds a source its list and closes it. After each batch the sinks are emptied, so that none holds the workers up.
 fn feed_list<J: Job, R: Wait>(
     rt: &R,
     shared: &Shared<'_, J>,
@@ -81,19 +81,4 @@ fn feed_list<J: Job, R: Wait>(
         take_each(rt, shared, sinks.seats.as_mut_slice())?;
     }
     close(rt, shared, seat)
-}
-
-/// Takes from the sinks until the run is over: all workers have ended, or what is wanted was taken.
-fn take_items<J: Job, R: Wait + Clock>(
-    rt: &R,
-    shared: &Shared<'_, J>,
-    sinks: &mut Sinks,
-) -> Result<(), Refused> {
-    take_each(rt, shared, sinks.seats.as_mut_slice())?;
-    for _ in rt.forever() {
-        if sinks.have_enough() || !take_when_due(rt, shared, sinks.seats.as_mut_slice())? {
-            return Ok(());
-        }
-    }
-    unreachable!()
 }

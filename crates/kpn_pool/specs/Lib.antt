@@ -2,3 +2,4 @@ pub mod Desk
 pub mod Seat
 pub mod Invariant
 pub mod OutsideSeats
+pub mod Batch

@@ -24,6 +24,9 @@
 //!
 //! Who keeps watch rests for a short time. Then the others have committed, and so are there to take the process up, or
 //! this one has waited in vain and joins, and by its claim sees to the next process.
+ghost use Rattle.std.specs.Prelude.{◌≡◌, max};
+ghost use Rattle.kpn_pool.specs.Batch.{share_of};
+
 use std::mem;
 use std::time::{Clock, Duration, Instant};
 
@@ -38,9 +41,12 @@ const LONGEST: u32 = 16_000;
 // A turn is one part of so many in the mean: so the mean follows within some hundred turns.
 const WEIGHT: u32 = 8;
 
-// One of so many turns is measured, since a look at the clock costs as much as a short turn. An even number would
+// One of so many batches is measured, since a look at the clock costs as much as a short turn. An even number would
 // always meet the same processes of 8 or 16.
 const MEASURED: u32 = 31;
+
+// A worker claims no more processes in one hold: so many pay for the lock, and others find enough that are ready.
+pub(crate) const BATCH: usize = 8;
 
 // For how many microseconds a worker looks on: some times as long as it takes to sleep and to be woken.
 pub(crate) const MOMENT: u64 = 20;
@@ -67,7 +73,7 @@ impl Pace {
         Pace {
             turns: 0,
             begun: None,
-            commits: 0,
+            commits: u64::MAX,
         }
     }
 
@@ -95,6 +101,8 @@ impl Pace {
 /// How many workers there are of each kind, what their turns take, and whether somebody outside waits.
 #[derive(Clone, Copy)]
 pub(crate) struct Crew {
+    // all, those that have ended too
+    workers: usize,
     // those that have not ended
     working: usize,
     busy: usize,
@@ -116,6 +124,7 @@ impl Crew {
     /// So many workers, none of which has come yet.
     pub(crate) const fn new(workers: usize) -> Crew {
         Crew {
+            workers,
             working: workers,
             busy: 0,
             looking: 0,
@@ -153,11 +162,22 @@ impl Crew {
         self.busy = self.busy.saturating_add(1);
     }
 
-    /// A worker is back from a turn, which left the lock free for so long if it was measured.
-    pub(crate) fn come_back(&mut self, away: Option<Duration>) {
+    /// How many processes a worker claims where so many are ready: its part of them, but no more than a batch.
+    pub(crate) fn share(&self, ready: usize) -> usize
+        ensures { result ≡ share_of (max self.now.workers 1) ready }
+    {
+        ready.div_ceil(self.workers.max(1)).min(BATCH)
+    }
+
+    /// A worker is back from so many turns, which left the lock free for so long if they were measured; from none if it
+    /// comes for the first time.
+    pub(crate) fn come_back(&mut self, turns: usize, away: Option<Duration>) {
+        if turns == 0 {
+            return;
+        }
         self.busy = self.busy.saturating_sub(1);
         if let Some(away) = away {
-            let nanos = u32::try_from(away.as_nanos()).unwrap_or(LONGEST);
+            let nanos = u32::try_from(away.as_nanos() / turns as u128).unwrap_or(LONGEST);
             let more = nanos.min(LONGEST) / WEIGHT;
             self.away = (self.away - self.away / WEIGHT).saturating_add(more);
         }

@@ -1,15 +1,9 @@
 //! What lies under the lock of a run: each change of it is a call that is lent it.
-ghost use Rattle.std.specs.Prelude.{◌≡◌, true, false, IfNone, IfSome, IfOk, IfErr, OnErr, IsTrue};
-ghost use Rattle.kpn_net.specs.Tables.{program_of};
-ghost use Rattle.kpn_step.specs.Frame.{fits};
+ghost use Rattle.std.specs.Prelude.{◌≡◌, true, false, IfOk};
 ghost use Rattle.kpn_trace.specs.declared.state.Counts.{Counts as Tally};
 ghost use Rattle.kpn_trace.specs.Views.{Agrees, AreCounts};
-ghost use Rattle.kpn_configuration.specs.Configuration.{frame_in};
-ghost use Rattle.kpn_book.specs.Book.{IsHeld, IsClaimed, put_back};
 ghost use Rattle.kpn_book.specs.Kept.{IsBook};
-ghost use Rattle.kpn_book.specs.Refusals.{RefusesPutBack};
-ghost use Rattle.kpn_book.specs.Stepping.{ClaimsNobody};
-ghost use Rattle.kpn_pool.specs.Desk.{with_book, halted, IsReason};
+ghost use Rattle.kpn_pool.specs.Desk.{halted, IsReason};
 ghost use Rattle.kpn_book.specs.Snapshot.{ShowsARun, ShowsJournals, IsBelowKahn, IsKahnAtRest};
 ghost use Rattle.kpn_pool.specs.Invariant.{AreBelowLeast, AreReadThenQueued, AreWithinCapacity, AreBlockedCounts, AreOwedGrowths, AreLeastWhenQuiet, HasNoneLeftToGrow};
 
@@ -18,7 +12,7 @@ use crate::job::Job;
 use crate::outside_seats::SinkSeat;
 use crate::seat::Why;
 use kpn_book::laws::{a_quiet_book, growths, journals, the_history};
-use kpn_book::{Book, Claim, Counts, Event, Refused, View};
+use kpn_book::{Book, Counts, Event, View};
 use kpn_net::Network;
 use std::alloc::{AllocError, Allocator, Global};
 use std::marker::Model;
@@ -146,61 +140,6 @@ impl<'n, J: Job, A: Allocator> Desk<'n, J, A> {
         None
     }
 
-    /// The first process of the queue, which is held from now on, with its program and the frame where it stands.
-    pub fn claim(&mut self) -> Option<Claim<'n>>
-        ensures claimed { IfSome result (λ claim.
-            IsClaimed claim.process self.old.book self.new.book) }
-        ensures program { IfSome result (λ claim.
-            claim.program.now ≡ program_of J.network claim.process) }
-        ensures frame { IfSome result (λ claim.
-            claim.frame ≡ frame_in self.old.book.configuration claim.process) }
-        ensures fits { IfSome result (λ claim. IsTrue (fits claim.program.now claim.frame)) }
-        ensures nobody { IfNone result (ClaimsNobody self.old.book) }
-        ensures same { self.new ≡ with_book self.new.book self.old }
-        ensures as_before { IfNone result (self.new ≡ self.old) }
-    {
-        self.book.known();
-        let Some(claim) = self.book.claim() else {
-            return None;
-        };
-        self.book.known();
-        Some(claim)
-    }
-
-    /// The same, in the memory that a claim has. Tells whether there was one.
-    pub fn claim_into(&mut self, claim: &mut Claim<'n>) -> bool
-        ensures claimed { (result ≡ true)
-            → IsClaimed claim.new.process self.old.book self.new.book }
-        ensures program { (result ≡ true)
-            → claim.new.program.now ≡ program_of J.network claim.new.process }
-        ensures frame { (result ≡ true)
-            → claim.new.frame ≡ frame_in self.old.book.configuration claim.new.process }
-        ensures fits { (result ≡ true)
-            → IsTrue (fits claim.new.program.now claim.new.frame) }
-        ensures nobody { (result ≡ false) → ClaimsNobody self.old.book }
-        ensures same { self.new ≡ with_book self.new.book self.old }
-        ensures as_before { (result ≡ false)
-            → (self.new ≡ self.old) × (claim.new ≡ claim.old) }
-    {
-        self.book.known();
-        let is_claimed = self.book.claim_into(claim);
-        self.book.known();
-        is_claimed
-    }
-
-    /// Puts a process, which is held, to the tail of the queue. It stands where it stood.
-    pub fn put_back(&mut self, p: usize) -> Result<(), Refused>
-        ensures held { IfOk result (λ _. IsHeld self.old.book p) }
-        ensures after { IfOk result (λ _.
-            self.new ≡ with_book (put_back p self.old.book) self.old) }
-        ensures refused { IfErr result (λ cause. RefusesPutBack p self.old.book cause) }
-        ensures as_before { OnErr result (self.new ≡ self.old) }
-    {
-        self.book.put_back(p)?;
-        self.book.known();
-        Ok(())
-    }
-
     /// How many processes are ready.
     pub(crate) fn ready(&self) -> usize {
         self.book.counts().ready
@@ -230,8 +169,8 @@ impl<'n, J: Job, A: Allocator> Desk<'n, J, A> {
         self.book.network().is_sink(c) && self.book.has_item(c)
     }
 
-    /// Whether it is time to take from one of these sinks, as it is half full, or has an item and nobody is busy, or all
-    /// workers have ended.
+    /// Whether it is time to take from one of these sinks, as it is half full, or has an item and nobody is busy, or
+    /// all workers have ended.
     pub(crate) fn are_due<B: Allocator>(&self, seats: &[SinkSeat<B>]) -> bool {
         let is_idle = self.crew.is_idle();
         self.crew.has_ended()

@@ -5,14 +5,16 @@
 pub enum Go {
     /// The steps are committed.
     On,
-    /// The steps are dropped, the process is put back, and the worker ends.
+    /// The steps are dropped, the process is put back, as are those that the worker claimed after it, and the worker
+    /// ends.
     Abandon,
 }
 
 /// Is asked after the steps of a process and before they are committed, while nobody holds the lock on its behalf.
 pub trait Gate: Sync {
     /// Whether this worker, which has stepped this process, goes on. Both are numbers from 0. However long the answer
-    /// takes, other workers go on with other processes.
+    /// takes, other workers go on with other processes. A worker claims up to eight at once, and asks for each in the
+    /// order of its claims: so who waits here for one that the same worker asks for later never meets it.
     fn between(&self, worker: usize, process: usize) -> Go;
 }
 

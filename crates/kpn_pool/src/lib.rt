@@ -1,6 +1,7 @@
 //! Workers that run a network side by side: one lock round the book of the run, and what each worker knows of it.
 #![tactic(auto)]
 
+mod batch;
 mod crew;
 mod desk;
 mod gate;
@@ -12,6 +13,7 @@ mod outside_calls;
 mod outside_seats;
 mod seat;
 mod shared;
+mod turn;
 mod working;
 
 pub use desk::Desk;
@@ -21,7 +23,7 @@ pub use job::Job;
 pub use kpn_book::{Counts, Refused, State, View};
 pub use look::Look;
 pub use outside_calls::{
-    SnapFault, close, feed, feed_all, leave, snapshot, take, take_all, take_each, take_when_due,
+    SnapFault, close, feed, feed_all, leave, snapshot, take, take_each, take_when_due,
 };
 pub use outside_seats::{SinkSeat, SourceSeat};
 pub use seat::{Why, WorkerSeat};

@@ -113,26 +113,6 @@ pub fn take<J: Job, A: Allocator, B: Allocator, R: Wait>(
     item
 }
 
-/// Takes all that is unread at the sink of the seat, under one hold of the lock. Where it is refused what was taken
-/// before that stays with the seat.
-pub fn take_all<J: Job, A: Allocator, B: Allocator, R: Wait>(
-    rt: &R,
-    shared: &Shared<'_, J, A>,
-    seat: &mut SinkSeat<B>,
-) -> Result<(), Refused>
-    ensures channel { seat.new.channel ≡ seat.old.channel }
-    ensures taken { IsPrefix seat.old.items seat.new.items }
-    ensures sink { OnOk result (is_sink (channel_at J.network seat.old.channel) ≡ true) }
-    ensures refused { IfErr result (λ cause.
-        MayRefuseTake (is_sink (channel_at J.network seat.old.channel)) cause) }
-{
-    let mut desk = shared.lock(rt);
-    let before = desk.ready();
-    let taken = seat.take_all(&mut desk);
-    shared.tell(desk, before);
-    taken
-}
-
 /// Takes all that is unread at the sinks of these seats, under one hold of the lock. Where it is refused what was taken
 /// before that stays with the seats.
 pub fn take_each<J: Job, A: Allocator, B: Allocator, R: Wait>(
@@ -149,8 +129,8 @@ pub fn take_each<J: Job, A: Allocator, B: Allocator, R: Wait>(
     taken
 }
 
-/// Waits until it is time to take from a sink, and does what `take_each` does. Tells whether the run goes on: not if all
-/// workers have ended.
+/// Waits until it is time to take from a sink, and does what `take_each` does. Tells whether the run goes on: not if
+/// all workers have ended.
 ///
 /// It is time once a sink of these seats is half full, or has an item while no worker is busy, and anyhow after some
 /// milliseconds while a worker is busy.

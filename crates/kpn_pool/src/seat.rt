@@ -1,10 +1,9 @@
 //! The seat of a worker: what it knows of its own work.
 ghost use Rattle.std.specs.Prelude.{◌≡◌, ◌+◌, IfOk, IfErr, OnErr, OnOk, Some, None};
 ghost use Rattle.kpn_net.specs.Tables.{program_of};
-ghost use Rattle.kpn_book.specs.Book.{IsHeld, put_back};
 ghost use Rattle.kpn_book.specs.Commits.{Commits};
 ghost use Rattle.kpn_book.specs.Refusals.{RefusesCommit};
-ghost use Rattle.kpn_pool.specs.Desk.{with_book, with_commit, halted};
+ghost use Rattle.kpn_pool.specs.Desk.{with_commit};
 ghost use Rattle.kpn_pool.specs.Seat.{new_seat, ended, with_commits};
 
 use crate::desk::Desk;
@@ -112,32 +111,6 @@ impl<J: Job> WorkerSeat<J> {
         desk.total.add(&mut self.share, 1);
         self.commits += 1;
         Ok(done)
-    }
-
-    /// Puts a process back whose steps could not be committed for want of memory: the workers shall end, and this one
-    /// does.
-    pub fn give_up<A: Allocator>(&mut self, desk: &mut Desk<'_, J, A>, p: usize)
-        ensures back { IsHeld desk.old.book p
-            → desk.new ≡ halted (with_book (put_back p desk.old.book) desk.old) }
-        ensures none { (¬ IsHeld desk.old.book p) → desk.new ≡ halted desk.old }
-        ensures why { self.new ≡ ended Why.NoMemory self.old }
-    {
-        // refused only where nobody holds it: then it stands where it belongs
-        let _ = desk.put_back(p);
-        desk.halt();
-        self.end(Why::NoMemory);
-    }
-
-    /// Puts a process back whose steps are dropped, and ends.
-    pub fn abandon<A: Allocator>(&mut self, desk: &mut Desk<'_, J, A>, p: usize)
-        ensures back { IsHeld desk.old.book p
-            → desk.new ≡ with_book (put_back p desk.old.book) desk.old }
-        ensures none { (¬ IsHeld desk.old.book p) → desk.new ≡ desk.old }
-        ensures why { self.new ≡ ended Why.Abandoned self.old }
-    {
-        // refused only where nobody holds it: then it stands where it belongs
-        let _ = desk.put_back(p);
-        self.end(Why::Abandoned);
     }
 
     /// The share of the ledger that the worker has.

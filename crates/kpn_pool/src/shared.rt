@@ -47,7 +47,7 @@ pub struct Opened<'n, J: Job, A: Allocator = Global> {
 }
 
 impl<'n, J: Job, A: Allocator + Copy> Shared<'n, J, A> {
-    /// Opens a run of a network by some workers, which end once there are `max_commits` commits or more.
+    /// Opens a run of a network by some workers, which end once there are `max_commits` commits or up to 127 more.
     ///
     /// The error is that memory ran out.
     pub fn new(
@@ -130,8 +130,8 @@ impl<'n, J: Job, A: Allocator> Shared<'n, J, A> {
         desk.into_inner()
     }
 
-    /// The desk, once nobody else has it. Others have it often and for a short time, so who asks for it tries for a while
-    /// before it sleeps.
+    /// The desk, once nobody else has it. Others have it often and for a short time, so who asks for it tries for a
+    /// while before it sleeps.
     pub(crate) fn lock<R: Wait>(&self, rt: &R) -> MutexGuard<'_, Desk<'n, J, A>> {
         for _ in 0..TRIES {
             if let Some(desk) = self.desk.try_lock() {
@@ -159,8 +159,8 @@ impl<'n, J: Job, A: Allocator> Shared<'n, J, A> {
         unreachable!()
     }
 
-    /// The desk, once it is time to take from one of these sinks, or all workers have ended. While somebody is busy this
-    /// takes no longer than some milliseconds.
+    /// The desk, once it is time to take from one of these sinks, or all workers have ended. While somebody is busy
+    /// this takes no longer than some milliseconds.
     pub(crate) fn lock_when_due<B: Allocator, R: Wait + Clock>(
         &self,
         rt: &R,
@@ -183,8 +183,8 @@ impl<'n, J: Job, A: Allocator> Shared<'n, J, A> {
         desk
     }
 
-    /// Lets the desk go after a call of the outside, before which so many processes were ready. Notifies a worker if the
-    /// call has made another one ready, and all if the run is settled.
+    /// Lets the desk go after a call of the outside, before which so many processes were ready. Notifies a worker if
+    /// the call has made another one ready, and all if the run is settled.
     pub(crate) fn tell<'l>(&'l self, desk: MutexGuard<'l, Desk<'n, J, A>>, before: usize) {
         let mut desk = desk;
         let ready = desk.ready();

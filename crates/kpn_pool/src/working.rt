@@ -1,21 +1,22 @@
 //! What a worker does.
 ghost use Rattle.std.specs.Prelude.{◌≡◌, ◌<◌, ◌≤◌, IsSome};
 
+use crate::batch::Batch;
 use crate::crew::Pace;
-use crate::gate::{Gate, Go};
+use crate::gate::Gate;
 use crate::job::Job;
 use crate::seat::WorkerSeat;
 use crate::shared::Shared;
-use kpn_step::advance;
 use std::alloc::Allocator;
 use std::sync::Wait;
 use std::time::Clock;
 
 /// Steps processes and commits their steps until there is a reason to end, which the seat then tells.
 ///
-/// A process is claimed, makes at most `quota` steps with the lock free, the gate is asked, and the steps are
-/// committed. Steps that are refused there as of a process that is not held, or of another one, are dropped: the worker
-/// goes on, and counts no commit.
+/// Up to eight processes are claimed, no more than a worker's part of those that are ready. One after the other makes
+/// at most `quota` steps with the lock free, and the gate is asked; then they are committed in that order. Steps that
+/// are refused there as of a process that is not held, or of another one, are dropped, and count as no commit. The last
+/// batches may lead past the commits that are allowed: by 127 at most, with 16 workers.
 pub fn work<'n, J: Job, A: Allocator + Copy, G: Gate, R: Wait + Clock>(
     rt: &R,
     shared: &Shared<'n, J, A>,
@@ -30,20 +31,12 @@ pub fn work<'n, J: Job, A: Allocator + Copy, G: Gate, R: Wait + Clock>(
 {
     let mut seat = seat;
     let mut pace = Pace::new();
-    let Some(claim) = shared.begin(rt, &mut seat, &mut pace) else {
-        return seat;
-    };
-    let mut claim = claim;
-    let mut steps = advance(claim.program, claim.frame.copy(), quota);
+    let mut batch = Batch::new();
     for _ in rt.forever() {
-        if gate.between(seat.number(), claim.process) == Go::Abandon {
-            shared.abandon(rt, &mut seat, claim.process);
+        if !shared.go_on(rt, &mut seat, &mut pace, &mut batch) {
             return seat;
         }
-        if !shared.go_on(rt, &mut seat, &mut pace, &mut claim, &steps) {
-            return seat;
-        }
-        steps.restart(claim.program, &claim.frame, quota);
+        batch.step(gate, seat.number(), quota);
     }
     unreachable!()
 }

@@ -1,104 +1,51 @@
 //! The holds of a worker: each time it has the lock it commits what it has stepped, and claims the next process or
 //! waits. Whom it has to notify it notifies once the lock is free.
-ghost use Rattle.std.specs.Prelude.{◌≡◌, ◌≤◌, true, false, IfSome, IfNone, IsSome, IsTrue};
-ghost use Rattle.kpn_net.specs.Tables.{program_of};
-ghost use Rattle.kpn_step.specs.Frame.{fits};
+ghost use Rattle.std.specs.Prelude.{◌≡◌, ◌≤◌, false, IfNone, IsSome};
 ghost use Rattle.kpn_pool.specs.Seat.{ended};
 
 use super::Shared;
+use crate::batch::Batch;
 use crate::crew::{Crew, Pace};
 use crate::desk::Desk;
 use crate::job::Job;
 use crate::seat::{Why, WorkerSeat};
-use kpn_book::{Claim, Done, Refused};
-use kpn_step::Advance;
 use std::alloc::Allocator;
 use std::sync::{MutexGuard, Wait};
 use std::time::{Clock, Instant};
 
 impl<'n, J: Job, A: Allocator> Shared<'n, J, A> {
-    /// The first process that a worker steps, or `None` where the worker ends.
-    pub(crate) fn begin<R: Wait + Clock>(
-        &self,
-        rt: &R,
-        seat: &mut WorkerSeat<J>,
-        pace: &mut Pace,
-    ) -> Option<Claim<'n>>
-        ensures seat { (seat.new.number ≡ seat.old.number) × (seat.new.commits ≡ seat.old.commits) }
-        ensures ended { IfNone result (IsSome seat.new.why) }
-        ensures program { IfSome result (λ claim.
-            claim.program.now ≡ program_of J.network claim.process) }
-        ensures fits { IfSome result (λ claim. IsTrue (fits claim.program.now claim.frame)) }
-    {
-        let desk = self.lock(rt);
-        let Some(mut desk) = self.wait_for_work(rt, seat, desk, false) else {
-            return None;
-        };
-        let Some(claim) = desk.claim() else {
-            self.end(desk, seat, Why::Limit);
-            return None;
-        };
-        self.let_go(rt, desk, pace);
-        Some(claim)
-    }
-
-    /// Commits the steps of a claim, which becomes that of the next process. Tells whether there is one: if not, the
-    /// worker ends.
+    /// Commits the batch of a worker, which becomes that of the next processes. Tells whether there are such: if not,
+    /// the worker ends.
     pub(crate) fn go_on<R: Wait + Clock>(
         &self,
         rt: &R,
         seat: &mut WorkerSeat<J>,
         pace: &mut Pace,
-        claim: &mut Claim<'n>,
-        steps: &Advance<'n>,
+        batch: &mut Batch<'n, J>,
     ) -> bool
     where
         A: Copy,
-        requires { steps.now.program ≡ program_of J.network claim.old.process }
         ensures number { seat.new.number ≡ seat.old.number }
         ensures commits { seat.old.commits ≤ seat.new.commits }
         ensures ended { (result ≡ false) → IsSome seat.new.why }
-        ensures program { (result ≡ true)
-            → claim.new.program.now ≡ program_of J.network claim.new.process }
-        ensures fits { (result ≡ true)
-            → IsTrue (fits claim.new.program.now claim.new.frame) }
     {
         let away = pace.time(rt);
         let mut desk = self.lock(rt);
         let is_alone = pace.is_alone(desk.book.commits());
-        desk.crew.come_back(away);
-        let process = claim.process;
-        match seat.commit(&mut desk, process, steps) {
-            Err(Refused::NoMemory) => {
-                seat.give_up(&mut desk, process);
-                self.end(desk, seat, Why::NoMemory);
-                return false;
-            }
-            Ok(Done::Put) => desk.note_filled(),
-            Ok(_) => {}
-            // `NotHeld` or `Stranger`: the process is not held, or the steps are of another one, which nothing known
-            // behind a lock rules out. The steps are dropped, nothing is counted, and the worker goes on
-            Err(_) => {}
+        desk.crew.come_back(batch.len(), away);
+        if let Some(why) = batch.settle(&mut desk, seat) {
+            self.end(desk, seat, why);
+            return false;
         }
         let Some(mut desk) = self.wait_for_work(rt, seat, desk, is_alone) else {
             return false;
         };
-        if !desk.claim_into(claim) {
+        if !batch.claim(&mut desk) {
             self.end(desk, seat, Why::Limit);
             return false;
         }
         self.let_go(rt, desk, pace);
         true
-    }
-
-    /// Puts the process of a worker back, which ends without a commit.
-    pub(crate) fn abandon<R: Wait>(&self, rt: &R, seat: &mut WorkerSeat<J>, process: usize)
-        ensures { seat.new ≡ ended Why.Abandoned seat.old }
-    {
-        let mut desk = self.lock(rt);
-        desk.crew.come_back(None);
-        seat.abandon(&mut desk, process);
-        self.leave(desk);
     }
 
     /// Waits until this worker is to claim a process. `None` where there is a reason to end before that. `in_vain` says
@@ -209,17 +156,12 @@ impl<'n, J: Job, A: Allocator> Shared<'n, J, A> {
         pace.begin(rt, commits);
     }
 
-    /// A worker ends.
+    /// A worker ends, and lets the desk go. It notifies all that rest, since the reason may be theirs, and calls the
+    /// outside.
     fn end<'l>(&'l self, desk: MutexGuard<'l, Desk<'n, J, A>>, seat: &mut WorkerSeat<J>, why: Why)
         ensures { seat.new ≡ ended why seat.old }
     {
         seat.end(why);
-        self.leave(desk);
-    }
-
-    /// Lets the desk go as a worker ends. It notifies all that rest, since the reason may be theirs, and calls the
-    /// outside.
-    fn leave<'l>(&'l self, desk: MutexGuard<'l, Desk<'n, J, A>>) {
         let mut desk = desk;
         desk.crew.end();
         let calls = desk.crew.call();

@@ -1,4 +1,4 @@
-use Rattle.std.proofs.Common.{rules, ◌≡◌, true, IsTrue, ap, ◌∙◌}
+use Rattle.std.proofs.Common.{rules, ◌≡◌, true, ap}
 use Rattle.kpn_lang.specs.Prefix.{IsPrefix}
 use Rattle.kpn_net.specs.Tables.{channel_at, is_source}
 use Rattle.kpn_configuration.specs.Configuration.{channel_in}
