@@ -195,7 +195,7 @@ fn tells_an_input_that_fails_at_any_call(rt: HostRuntime) -> Result<(), Fail> {
     for before in 0..8 {
         let (status, written) = sums(&rt, rt.alloc(), before, ErrorKind::Interrupted)?;
         assert!(rt;
-            status == 0 && written.as_slice() == b"1\n3\n6\n",
+            status == 0 && written.as_slice() == b"1\n3\n6\n".as_slice(),
             "{before}"
         );
     }
