@@ -1,154 +1,137 @@
-"""Random networks by 1 to 16 workers, with and without refused memory, refused threads and kills, for a given time.
-
-Each result is judged by a run on one thread and by `kpn audit`: a run that comes to a verdict with nobody waiting on a
-full channel writes the same; of any other run each sink's list begins that of one thread, or the other way round; a
-trace that is stored is legal, and a killed run leaves the trace that was there, or a whole one.
-"""
+"""Random networks by 1 to 16 workers, of which some are refused memory or threads and some are killed, each judged
+against the run on one thread and the auditor. `repeat.py mixed` calls it."""
 import collections
 import os
 import pathlib
 import random
 import resource
+import signal
 import subprocess
-import tempfile
+import sys
 import time
 
-from random_networks import RandomNetwork
+import random_networks
 
-MOST_COMMITS = 5_000
-# the greatest number of a call of malloc that is refused, by what a small run makes
-MOST_CALLS = 400
 # seconds that a run may take, where others work on the machine too
 MOST = 60
-NO_MEMORY = [b'kpn: %d NoMemory\n' % number for number in (28, 32, 42, 51)]
-NO_THREAD = b'kpn: 48 Threads\n'
-ENDED = 0
+
+# the most commits of a run: not all networks come to an end
+COMMITS = 2_000
+
+# the statuses of outcomes
+OUTCOMES = {b'ended': 0, b'enough': 0, b'clogged': 3, b'jammed': 4, b'stopped': 5}
+
+# what a run tells that lacks memory or a thread
+THREADS = (b'', b'kpn: 48 Threads\n', 7)
+NO_MEMORY = [(b'', b'kpn: %d NoMemory\n' % number, 6) for number in (28, 32, 42, 51)]
 
 
-class Differs(Exception):
-    """A result is not what one thread and the auditor say."""
+class Mix:
+    """Runs of a program, with a library that refuses memory and a user who has no process, in a folder."""
 
-
-class Round:
-    """One random network in a folder of its own, with what one thread makes of it."""
-
-    def __init__(self, program, library, user, seed):
+    def __init__(self, program, library, user, folder):
         self.program, self.library, self.user = program, library, user
-        self.random = random.Random(seed)
-        network = RandomNetwork(self.random)
-        self.folder = tempfile.TemporaryDirectory()
-        os.chmod(self.folder.name, 0o777)
-        self.words = ['run', 'network.kpn', '--max-commits', str(MOST_COMMITS)]
-        (self.path / 'network.kpn').write_text(network.text)
-        for name, items in network.sources.items():
-            (self.path / name).write_text(''.join(f'{item}\n' for item in items))
-            self.words += ['--source', f'{name}={name}']
-        self.wanted = self.answer([])
+        self.folder = pathlib.Path(folder)
+        self.random = random.Random()
+        self.counts = collections.Counter()
 
-    @property
-    def path(self):
-        return pathlib.Path(self.folder.name)
+    def fail(self, words, found):
+        sys.exit(f'{(self.folder / "net").read_text()}{" ".join(words)}: {found}')
 
-    def answer(self, more, **how):
-        done = subprocess.run([self.program, *self.words, *more], cwd=self.path, capture_output=True, timeout=MOST,
-                              **how)
+    def answer(self, words, **how):
+        try:
+            done = subprocess.run([self.program, *words], cwd=self.folder, capture_output=True,
+                                  timeout=MOST, **how)
+        except subprocess.TimeoutExpired:
+            self.fail(words, f'no end within {MOST} seconds')
         return done.stdout, done.stderr, done.returncode
 
-    def judge(self, found):
-        """Whether it is a report that agrees with that of one thread."""
-        if found[1] or self.wanted[1]:
-            raise Differs(f'{found} in place of {self.wanted}')
-        if found[2] == ENDED and self.wanted[2] == ENDED and is_verdict(found) and is_verdict(self.wanted):
-            agree = found == self.wanted
-        else:
-            lists, others = sinks(found[0]), sinks(self.wanted[0])
-            agree = lists.keys() == others.keys() and all(begins(lists[name], others[name]) for name in lists)
-        if not agree:
-            raise Differs(f'{found} in place of {self.wanted}')
+    def run(self, seconds):
+        end = time.monotonic() + seconds
+        while time.monotonic() < end:
+            self.network()
+        return self.counts
 
-    def audit(self):
-        """The stored trace is legal."""
-        done = subprocess.run([self.program, 'audit', 'network.kpn', 'trace'], cwd=self.path, capture_output=True,
-                              timeout=MOST)
-        if done.returncode != 0 or not done.stdout.startswith(b'legal\n'):
-            raise Differs(f'audit: {done}')
+    def network(self):
+        """One network: on one thread, and then so and so often otherwise."""
+        text, items = random_networks.network(self.random)
+        (self.folder / 'net').write_text(text)
+        words = ['run', 'net', '--max-commits', str(COMMITS)]
+        for name, numbers in items.items():
+            (self.folder / name).write_text(''.join(f'{number}\n' for number in numbers))
+            words += ['--source', f'{name}={name}']
+        if self.random.random() < 0.3:
+            words += ['--take', str(self.random.randint(1, 5))]
+        here = self.judged('on one thread', words, None)
+        for _ in range(6):
+            way = self.random.choice([self.by_workers, self.by_workers, self.lacks_memory, self.lacks_threads,
+                                      self.is_killed])
+            way([*words, '--workers', str(self.random.randint(1, 16))], here)
 
-    # ---- what befalls a run; each tells its end in a word
+    def judged(self, way, words, here, lacks=(), **how):
+        """A run with a trace that has to come to an outcome, or to one of these answers. Gives what it wrote."""
+        (self.folder / 'trace').unlink(missing_ok=True)
+        words = [*words, '--trace', 'trace']
+        found = self.answer(words, **how)
+        if found in lacks:
+            self.counts[way, found[1].decode().strip()] += 1
+            return None
+        outcome = (found[0].splitlines() or [b''])[-1]
+        if found[1] or OUTCOMES.get(outcome) != found[2]:
+            self.fail(words, found)
+        is_end = here is not None and outcome in (b'ended', b'enough') and here.splitlines()[-1] == outcome
+        if is_end and found[0] != here:
+            self.fail(words, (found, here))
+        self.audit(words, outcome)
+        self.counts[way, outcome.decode()] += 1
+        return found[0]
 
-    def undisturbed(self, workers):
-        self.judge(self.answer([*workers, '--trace', 'trace']))
-        self.audit()
-        return 'as on one thread'
+    def audit(self, words, outcome):
+        """A stored trace is legal, and exact where the run has ended."""
+        found = self.answer(['audit', 'net', 'trace'])
+        if not found[0].startswith(b'legal\n') or (outcome == b'ended' and b'exact yes' not in found[0]):
+            self.fail(words, found)
 
-    def without_memory(self, workers):
-        first = self.random.randint(1, MOST_CALLS)
-        last = self.random.choice((first, 1_000_000_000))
-        env = {**os.environ, 'LD_PRELOAD': self.library, 'FIRST': str(first), 'LAST': str(last)}
-        found = self.answer(workers, env=env)
-        if found[0] == b'' and found[1] in NO_MEMORY and found[2] == 6:
-            return 'told that memory was refused'
-        if found == (b'', NO_THREAD, 7) and workers:
-            return 'told that a thread was refused, for want of memory'
-        self.judge(found)
-        return 'as on one thread, with memory refused'
+    def by_workers(self, words, here):
+        self.judged('by workers', words, here)
 
-    def without_threads(self, workers):
-        threads = self.random.randint(0, 3)
+    def lacks_memory(self, words, here):
+        first = int(2 ** self.random.uniform(0, 11))
+        refusing = {'LD_PRELOAD': self.library, 'FIRST': str(first),
+                    'LAST': str(self.random.choice([first, 1_000_000_000]))}
+        self.judged('refused memory', words, here, [THREADS, *NO_MEMORY], env={**os.environ, **refusing})
+
+    def lacks_threads(self, words, here):
+        """So many threads are there beside the first one; only root can begin a run of a user who has no other."""
+        if os.geteuid() != 0:
+            return
+        threads = self.random.randrange(8)
 
         def allow():
             resource.setrlimit(resource.RLIMIT_NPROC, (1 + threads, 1 + threads))
-        found = self.answer(workers, user=self.user, group=self.user, extra_groups=[], preexec_fn=allow)
-        if found == (b'', NO_THREAD, 7) and workers:
-            return 'told that a thread was refused'
-        self.judge(found)
-        return 'as on one thread, with threads refused'
+        self.judged('refused threads', words, here, [THREADS], user=self.user, group=self.user, extra_groups=[],
+                    preexec_fn=allow)
 
-    def killed(self, workers):
-        """A run that is killed while a whole trace lies under the name of its own. Then a run once more."""
-        self.undisturbed([])
-        run = subprocess.Popen([self.program, *self.words, *workers, '--trace', 'trace'], cwd=self.path,
-                               stdout=subprocess.DEVNULL, stderr=subprocess.DEVNULL)
-        time.sleep(self.random.random() * 0.02)
-        run.kill()
-        was_killed = run.wait() < 0
-        self.audit()
-        self.undisturbed(workers)
-        return 'killed, the trace whole' if was_killed else 'ended before it was killed'
-
-
-def is_verdict(found):
-    return found[0].endswith(b'\nended\n') or found[0] == b'ended\n'
+    def is_killed(self, words, here):
+        """What a killed run has stored is whole, and the next run stores its own in its place."""
+        (self.folder / 'trace').unlink(missing_ok=True)
+        begun = subprocess.Popen([self.program, *words, '--trace', 'trace'], cwd=self.folder,
+                                 stdout=subprocess.DEVNULL, stderr=subprocess.DEVNULL)
+        time.sleep(self.random.uniform(0, 0.03))
+        begun.send_signal(signal.SIGKILL)
+        begun.wait()
+        left = 'left a part file' if (self.folder / 'trace.kpn-part').exists() else 'left no part file'
+        if (self.folder / 'trace').exists():
+            self.audit(words, b'')
+            left = 'left a whole trace'
+        self.counts['killed', left] += 1
+        self.judged('behind a killed run', words, here)
 
 
-def sinks(report):
-    """The items of each sink by its name."""
-    lines = [line.split(b':') for line in report.split(b'\n') if line.startswith(b'sink ')]
-    return {name: items.split() for name, items in lines}
-
-
-def begins(one, other):
-    least = min(len(one), len(other))
-    return one[:least] == other[:least]
-
-
-def mixed(program, library, user, seconds):
-    """Rounds for so many seconds. Prints how many runs came to each end."""
-    ends = collections.Counter()
-    seed = first = time.time_ns() % 1_000_000_000
-    until = time.monotonic() + seconds
-    while time.monotonic() < until:
-        a_round = Round(program, library, user, seed)
-        for befalls in (a_round.undisturbed, a_round.without_memory, a_round.without_threads, a_round.killed):
-            count = a_round.random.choice((0, 1, 2, 4, 16))
-            workers = ['--workers', str(count)] if count else []
-            try:
-                ends[befalls(workers)] += 1
-            except (Differs, subprocess.TimeoutExpired) as fault:
-                kept = pathlib.Path(tempfile.mkdtemp()) / 'network.kpn'
-                kept.write_text((a_round.path / 'network.kpn').read_text())
-                raise SystemExit(f'seed {seed}, {befalls.__name__}, {workers}, {kept}: {fault}')
-        a_round.folder.cleanup()
-        seed += 1
-    for end, runs in sorted(ends.items()):
-        print(f'{runs:8} {end}')
-    print(f'{sum(ends.values())} runs of {seed - first} random networks, seeds {first} to {seed - 1}, none hung')
+def mix(seconds, processors, program, library, user, folder):
+    """So many seconds of such runs on these processors: tells how many came to each end."""
+    os.sched_setaffinity(0, processors)
+    counts = Mix(program, library, user, folder).run(seconds)
+    for (way, end), count in sorted(counts.items()):
+        print(f'  {way}: {end} {count}')
+    return sum(counts.values())

@@ -1,75 +1,67 @@
-"""Descriptions of random networks, with the items of their sources: a few processes with nested loops, ends and faults,
-on channels of small capacities, some of which are sources and sinks."""
-OPERATORS = ('+', '-', '*', '<', '<=', '==', '&&')
-VARIABLES = ('x', 'y', 'k')
-MOST_ITEMS = 40
+"""Random networks of the language, with items for their sources."""
+
+# what stands before the statements of each process, so that each variable is set where it is read
+HEAD = 'x = 1; y = 2; k = 0; '
+VARIABLES = ('x', 'y')
+OPERATORS = ('+', '-', '*', '%', '<', '==')
 
 
-class RandomNetwork:
-    """The text of a description, and the items of each source by its name."""
+def expression(random, depth=2):
+    if depth == 0 or random.random() < 0.4:
+        return random.choice([*VARIABLES, 'k', str(random.randrange(5))])
+    left, right = expression(random, depth - 1), expression(random, depth - 1)
+    return f'({left} {random.choice(OPERATORS)} {right})'
 
-    def __init__(self, random):
-        self.random = random
-        self.sources = {}
-        processes = random.randint(1, 6)
-        self.ins = [[] for _ in range(processes)]
-        self.outs = [[] for _ in range(processes)]
-        channels = [self.channel(c, processes) for c in range(random.randint(processes, 2 * processes + 1))]
-        limit = [f'  limit {random.randint(2, 6)};'] if random.random() < 0.3 else []
-        lines = [self.process(p) for p in range(processes)]
-        instances = [f'  p{p} = m{p}({", ".join(self.ins[p])}; {", ".join(self.outs[p])});' for p in range(processes)]
-        self.text = '\n'.join([*lines, 'network {', *limit, *channels, *instances, '}', ''])
 
-    def channel(self, c, processes):
-        """Its line. One of its ends may be the outside."""
-        name, kind = f'c{c}', self.random.random()
-        if kind < 0.2:
-            self.sources[name] = [self.number() for _ in range(self.random.randint(0, MOST_ITEMS))]
-            self.random.choice(self.ins).append(name)
-            return f'  source {name};'
-        self.random.choice(self.outs).append(name)
-        cap = self.random.choice((1, 1, 2))
-        if kind < 0.45:
-            return f'  sink {name} cap {cap};'
-        self.random.choice(self.ins).append(name)
-        return f'  channel {name} cap {cap};'
+def statement(random, ins, outs, depth):
+    """One that reads or writes more often than not, where there is a port for it."""
+    kinds = ['set'] + ['read'] * 3 * bool(ins) + ['write'] * 3 * bool(outs) + ['if', 'while'] * bool(depth)
+    kind = random.choice(kinds)
+    if kind == 'read':
+        return f'read {random.choice(ins)} {random.choice(VARIABLES)};'
+    if kind == 'write':
+        return f'write {random.choice(outs)} {expression(random)};'
+    if kind == 'if':
+        return f'if {expression(random)} {{ {block(random, ins, outs, depth - 1)} }} ' \
+               f'else {{ {block(random, ins, outs, depth - 1)} }}'
+    if kind == 'while':
+        return f'k = 0; while (k < {random.randrange(1, 6)}) {{ k = (k + 1); {block(random, ins, outs, 0)} }}'
+    return f'{random.choice(VARIABLES)} = {expression(random)};'
 
-    def process(self, p):
-        """A program of its own for each process: some statements, and then a loop, which may be endless."""
-        ins = [f'i{port}' for port in range(len(self.ins[p]))]
-        outs = [f'o{port}' for port in range(len(self.outs[p]))]
-        heads = [f'{word} {", ".join(ports)}' for word, ports in (('in', ins), ('out', outs)) if ports]
-        first = self.statements(ins, outs, 1)
-        body = self.statements(ins, outs, 2)
-        turns = self.random.choice((None, self.random.randint(1, MOST_ITEMS)))
-        loop = f'while 1 {{ {body} }}' if turns is None else f'n = {turns}; while n {{ n = (n - 1); {body} }}'
-        begins = ' '.join(f'{name} = {self.number()};' for name in VARIABLES)
-        return f'process m{p}({"; ".join(heads)}) {{ {begins} {first} {loop} }}'
 
-    def statements(self, ins, outs, depth):
-        return ' '.join(self.statement(ins, outs, depth) for _ in range(self.random.randint(1, 4)))
+def block(random, ins, outs, depth):
+    return ' '.join(statement(random, ins, outs, depth) for _ in range(random.randint(1, 4)))
 
-    def statement(self, ins, outs, depth):
-        kind = self.random.random()
-        if kind < 0.35 and ins:
-            return f'read {self.random.choice(ins)} {self.random.choice(VARIABLES)};'
-        if kind < 0.7 and outs:
-            return f'write {self.random.choice(outs)} {self.expression(2)};'
-        if kind < 0.85 or depth == 0:
-            return f'{self.random.choice(VARIABLES)} = {self.expression(2)};'
-        inner, other = (self.statements(ins, outs, depth - 1) for _ in range(2))
-        if self.random.random() < 0.5:
-            return f'if {self.expression(1)} {{ {inner} }} else {{ {other} }}'
-        counter = f'n{depth}'
-        turns = self.random.randint(1, 3)
-        return f'{counter} = {turns}; while {counter} {{ {counter} = ({counter} - 1); {inner} }}'
 
-    def expression(self, depth):
-        """Now and then one that divides, and so may be a fault."""
-        if depth == 0 or self.random.random() < 0.4:
-            return self.random.choice((*VARIABLES, str(abs(self.number()))))
-        operator = self.random.choice(('/', '%') if self.random.random() < 0.03 else OPERATORS)
-        return f'({self.expression(depth - 1)} {operator} {self.expression(depth - 1)})'
+def process(random, name, ins, outs):
+    ports = '; '.join([*(['in ' + ', '.join(ins)] if ins else []), *(['out ' + ', '.join(outs)] if outs else [])])
+    body = block(random, ins, outs, 2)
+    if random.random() < 0.7:
+        body = f'while 1 {{ {body} }}'
+    return f'process {name}({ports}) {{ {HEAD}{body} }}\n'
 
-    def number(self):
-        return self.random.randint(-9, 9)
+
+def network(random):
+    """The text of a network, and a list of items for each of its sources by name."""
+    processes = random.randint(1, 6)
+    ins, outs = [[] for _ in range(processes)], [[] for _ in range(processes)]
+    lines, items = [], {}
+    for number in range(random.randint(processes - 1, 2 * processes)):
+        lines.append(f'channel c{number} cap {random.randint(1, 3)};')
+        random.choice(outs).append(f'c{number}')
+        random.choice(ins).append(f'c{number}')
+    for number in range(random.randint(0, 2)):
+        lines.append(f'source s{number};')
+        random.choice(ins).append(f's{number}')
+        items[f's{number}'] = [random.randrange(-9, 10) for _ in range(random.randrange(30))]
+    for number in range(random.randint(1, 3)):
+        lines.append(f'sink z{number} cap {random.randint(1, 3)};')
+        random.choice(outs).append(f'z{number}')
+    if random.random() < 0.2:
+        lines.insert(0, 'limit 3;')
+    texts = []
+    for p in range(processes):
+        of_in, of_out = [f'i{k}' for k in range(len(ins[p]))], [f'o{k}' for k in range(len(outs[p]))]
+        texts.append(process(random, f'p{p}', of_in, of_out))
+        lines.append(f'a{p} = p{p}({", ".join(ins[p])}; {", ".join(outs[p])});')
+    return ''.join(texts) + 'network {\n  ' + '\n  '.join(lines) + '\n}\n', items

@@ -14,8 +14,9 @@ It is no part of the gate. Words:
                         until nothing is refused any more (refuse.c): the run tells it, or is as on one thread
     commands [KPN]      the same of each row of check_examples by one thread, of any command, and of the built-in
                         processes: the command tells it, or is as with memory
-    mixed SECONDS [KPN] random networks for so long, by 0 to 16 workers, some with memory or threads refused or killed
-                        (mixed.py), by root: each as on one thread, and each trace legal
+    mixed SECONDS [KPN] random networks by 1 to 16 workers, some of which are refused memory or threads or are killed,
+                        for so long on all processors and so long on two: each is judged against the run on one thread
+                        and the auditor, and it is told how many came to each end (mixed.py)
 
 KPN is the program, crates/kpn/out/kpn where none is named.
 """
@@ -29,7 +30,8 @@ import tempfile
 import time
 
 sys.dont_write_bytecode = True
-from mixed import mixed
+
+import mixed
 
 TOP = pathlib.Path(__file__).resolve().parent.parent.parent
 DATA = TOP / 'crates/check_examples/data'
@@ -189,6 +191,16 @@ def refuse_commands(program):
     print(f'{lines} command lines: {told} that were refused memory told it, {ended} others were as with memory')
 
 
+def mix(seconds, program):
+    folder = pathlib.Path(program).parent
+    library = refusing_library(folder)
+    os.chmod(folder, 0o777)
+    every = os.sched_getaffinity(0)
+    for processors in (every, set(sorted(every)[:2])):
+        runs = mixed.mix(seconds, processors, program, library, USER, folder)
+        print(f'{len(processors)} processors: {runs} runs in {seconds} s, each as it is to be, none hung', flush=True)
+
+
 def main():
     what, *words = sys.argv[1:] or ['']
     if what == 'tests':
@@ -207,7 +219,7 @@ def main():
         elif what == 'commands':
             refuse_commands(copy)
         elif what == 'mixed':
-            mixed(copy, refusing_library(pathlib.Path(folder)), USER, int(words[0]))
+            mix(int(words[0]), copy)
         else:
             sys.exit(__doc__)
 

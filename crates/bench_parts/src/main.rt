@@ -30,7 +30,7 @@ use chan::through;
 use cycle::full_found;
 use frames::equal_frames;
 use std::alloc::{AllocGlobal, Global};
-use std::fs::Files;
+use std::fs::{File, Files};
 use std::io::Write;
 use std::sync::Wait;
 use std::thread::Threads;
@@ -40,7 +40,7 @@ use stress::{Plan, stress};
 use trace::written;
 
 /// Does what a line says, and writes what follows.
-fn measure<R: Files + AllocGlobal + Threads + Wait + Clock + Sync, O: Write>(
+fn measure<R: Files<File = File> + AllocGlobal + Threads + Wait + Clock + Sync, O: Write>(
     rt: &R,
     alloc: Global,
     out: &mut O,

@@ -12,7 +12,7 @@ use kpn_limits::MAX_WORKERS;
 use kpn_parallel::run;
 use kpn_report::{Limits, run_here};
 use std::alloc::{AllocGlobal, Global};
-use std::fs::Files;
+use std::fs::{File, Files};
 use std::sync::Wait;
 use std::thread::Threads;
 use std::time::Clock;
@@ -68,7 +68,7 @@ fn run_often<R: Threads + Wait + Clock + Sync>(
 }
 
 /// Makes the runs of a plan, of the network of a file with the lists that the words `NAME=FILE` name.
-pub fn stress<R: Files + AllocGlobal + Threads + Wait + Clock + Sync>(
+pub fn stress<R: Files<File = File> + AllocGlobal + Threads + Wait + Clock + Sync>(
     rt: &R,
     alloc: Global,
     file: &str,

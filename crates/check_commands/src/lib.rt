@@ -7,4 +7,6 @@ mod lines;
 #[cfg(test)]
 mod refusals;
 #[cfg(test)]
+mod troubles;
+#[cfg(test)]
 mod usage;

@@ -3,11 +3,12 @@
 use kpn_cli::command::command;
 use kpn_cli::{MemoryShelf, Shelf};
 use std::alloc::{AllocError, Global};
+use std::io::ErrorKind;
 use std::sync::Wait;
 use std::test::Fail;
 use std::thread::Threads;
 use std::time::Clock;
-use test_support::devices::{Broken, Failing};
+use test_support::devices::{Broken, Fall, Tripping};
 use test_support::texts::COPY;
 
 /// What a command line answered and wrote.
@@ -19,7 +20,7 @@ pub struct Answer {
 }
 
 /// The words of a command line.
-fn words_of(alloc: Global, line: &str) -> Result<Vec<String>, AllocError> {
+pub fn words_of(alloc: Global, line: &str) -> Result<Vec<String>, AllocError> {
     let mut words = Vec::new(alloc);
     for word in line.split(' ') {
         words.push(String::from_str(alloc, word)?)?;
@@ -61,8 +62,8 @@ fn is_refused<R: Threads + Wait + Clock + Sync>(
     Ok(answer.status == status && answer.out.is_empty() && answer.err.as_slice() == told.as_bytes())
 }
 
-/// Whether a command line over a shelf that holds copy as `n` and a trace as `t`, and an output that takes so many
-/// calls, has this status and tells this.
+/// Whether a command line over a shelf that holds copy as `n` and a trace as `t`, and an output that fails once, behind
+/// so many calls, has this status and tells this.
 fn writes_to<R: Threads + Wait + Clock + Sync>(
     rt: &R,
     alloc: Global,
@@ -75,7 +76,12 @@ fn writes_to<R: Threads + Wait + Clock + Sync>(
     shelf.store("n", COPY.as_bytes())?;
     shelf.store("t", b"kpn-trace 1\n")?;
     let words = words_of(alloc, line)?;
-    let mut out = Failing { calls };
+    let mut out = Tripping {
+        fall: Fall {
+            before: Some(calls),
+            kind: ErrorKind::Other,
+        },
+    };
     let mut err = Vec::new(alloc);
     let mut input = b"1\n".as_slice();
     let status = command(
@@ -84,7 +90,8 @@ fn writes_to<R: Threads + Wait + Clock + Sync>(
     Ok(status == wanted && err.as_slice() == told.as_bytes())
 }
 
-/// Whether a command line tells an output that fails at once or at the flush, and succeeds over one that takes all.
+/// Whether a command line tells an output that fails once, at the write or at the flush, and succeeds over one that takes
+/// all.
 fn tells_an_output<R: Threads + Wait + Clock + Sync>(
     rt: &R,
     alloc: Global,

@@ -4,8 +4,9 @@ use Rattle.std.proofs.Common.{◌≡◌, ℕ, Bool, true, false, cond, List, Opt
 use Rattle.std.proofs.lemmas.Result.{IfOk-weaker}
 use Rattle.kpn_answers.specs.declared.refusal.Refusal.{Refusal}
 use Rattle.kpn_items.specs.declared.fault.ItemFault.TheVariants as item
+use Rattle.kpn_items.specs.declared.fault.WriteFault.TheVariants as write
 use Rattle.kpn_trace_text.specs.declared.fault.TraceFault.TheVariants as trace
-use Rattle.kpn_answers.specs.declared.refusal.Refusal.TheVariants.{Input, Description, Trace}
+use Rattle.kpn_answers.specs.declared.refusal.Refusal.TheVariants.{Input, Description, Output, Trace}
 use Rattle.kpn_answers.specs.Refusal.{status_of, wants_memory}
 use Rattle.kpn_answers.specs.Answer.{Answers, IsSuccess, Concludes, answered, refused, unwritten, GoesOut, sent, unsent}
 
@@ -16,7 +17,7 @@ module _ {O E : Type 0} (contents : O → Option (List ℕ)) (IsRight : List ℕ
       → Concludes contents IsRight HasCause out written err told status
   out_or_not text wanted right (sent appends silent same) =
       answered text (subst (λ s. IsRight text s) (sym same) right) appends silent
-  out_or_not text wanted right (unsent fault same) = unwritten text wanted right fault same
+  out_or_not text wanted right (unsent same) = unwritten text wanted right same
 
   pub concludes_given : {A : Type 0} (answer : Result A Refusal) (items : A → List ℕ) (wanted : A → ℕ)
       → IfOk answer (λ a. IsRight (items a) (wanted a)) → IfErr answer HasCause
@@ -47,6 +48,7 @@ is_no_success (Input item.Read) e = absurd (omega arith)
 is_no_success (Input item.NoMemory) e = absurd (omega arith)
 is_no_success (Description fault) e = six_or_one (wants_memory fault) (status_of (Description fault)) refl e
 is_no_success (Trace trace.NoMemory) e = absurd (omega arith)
+is_no_success (Output write.NoMemory) e = absurd (omega arith)
 is_no_success other e = absurd (omega arith)
 
 -- what holds where there is an answer holds under success

@@ -1,7 +1,7 @@
 -- What a command does that answers by a text.
 use Rattle.std.specs.Prelude.{◌≡◌, ℕ, List, Option}
 use Rattle.std.specs.Io.KnownBytes.{Appends}
-use Rattle.kpn_items.specs.declared.fault.WriteFault.{WriteFault}
+use Rattle.kpn_items.specs.declared.fault.WriteFault.TheVariants.{Write}
 use Rattle.kpn_answers.specs.declared.refusal.Refusal.{Refusal}
 use Rattle.kpn_answers.specs.declared.refusal.Refusal.TheVariants.{Output}
 use Rattle.kpn_answers.specs.Refusal.{status_of}
@@ -18,8 +18,7 @@ pub data Concludes {O E : Type 0} (contents : O → Option (List ℕ)) (IsRight 
   refused : (refusal : Refusal) → HasCause refusal → written ≡ out → status ≡ status_of refusal →
       Concludes contents IsRight HasCause out written err told status
   -- a text that would have been right under its status could not be written whole
-  unwritten : (text : List ℕ) (wanted : ℕ) → IsRight text wanted → (fault : WriteFault) → status ≡ status_of
-      (Output fault) →
+  unwritten : (text : List ℕ) (wanted : ℕ) → IsRight text wanted → status ≡ status_of (Output Write) →
       Concludes contents IsRight HasCause out written err told status
 
 -- a text that is right goes out under status 0
@@ -38,5 +37,5 @@ pub data GoesOut {O E : Type 0} (contents : O → Option (List ℕ)) (text : Lis
     (err told : E) (status : ℕ) : Type 0 where
   sent : Appends (contents out) (contents written) text → told ≡ err → status ≡ wanted →
       GoesOut contents text wanted out written err told status
-  unsent : (fault : WriteFault) → status ≡ status_of (Output fault) →
+  unsent : status ≡ status_of (Output Write) →
       GoesOut contents text wanted out written err told status

@@ -35,6 +35,7 @@ input_fault_line item.NoMemory = fault_line 28 (codes "NoMemory") None
 -- a fault of an output
 abbrev pub output_fault_line : WriteFault → List ℕ
 output_fault_line output.Write = fault_line 27 (codes "Write") None
+output_fault_line output.NoMemory = fault_line 42 (codes "NoMemory") None
 
 -- the program of the process with this number breaks a rule
 abbrev pub program_fault_line : (process : ℕ) → ProgramFault → List ℕ

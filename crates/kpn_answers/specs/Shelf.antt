@@ -7,6 +7,10 @@ use Rattle.kpn_items.specs.declared.fault.ItemFault.{ItemFault}
 abbrev pub Loads : Type 1
 Loads = (name : List ℕ) → Result (List ℕ) ItemFault → Type 0
 
+-- which names may lead to one file
+abbrev pub Aliases : Type 1
+Aliases = (name other : List ℕ) → Type 0
+
 -- why a load of a file is refused: the shelf may refuse it so, and no line is named
 abbrev pub IsRefusalOfLoad : Loads → (file : List ℕ) → ItemFault → Type 0
 IsRefusalOfLoad may_give file fault = NamesNoLine fault × may_give file (Err fault)

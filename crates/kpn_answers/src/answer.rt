@@ -54,7 +54,7 @@ fn send<O: Write, E: Write>(text: &[u8], status: u8, out: &mut O, err: &mut E) -
 {
     match write_whole(out, text) {
         Ok(()) => status,
-        Err(fault) => Refusal::Output(fault).report(err),
+        Err(_) => Refusal::Output(WriteFault::Write).report(err),
     }
 }
 

@@ -77,6 +77,7 @@ impl FaultLine {
     {
         match fault {
             WriteFault::Write => FaultLine::new(27, "Write"),
+            WriteFault::NoMemory => FaultLine::new(42, "NoMemory"),
         }
     }
 

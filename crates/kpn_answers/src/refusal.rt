@@ -24,6 +24,8 @@ pub enum Refusal {
     UnknownProcess,
     /// A word behind `--source` has no `=`.
     SourceWord,
+    /// The word behind `--trace` names an input, standard output or standard error.
+    TraceWord,
     /// An input or a file could not be read, or spells no items, or memory was refused while it was
     /// read.
     Input(ItemFault),
@@ -31,7 +33,7 @@ pub enum Refusal {
     Description(TextFault),
     /// A `--source` option names no source of the network, or one that was named before.
     Sources(SourceFault),
-    /// The output could not be written.
+    /// The output or the trace could not be written, or memory was refused for that.
     Output(WriteFault),
     /// Bytes are no trace, or memory was refused while they were read.
     Trace(TraceFault),
@@ -80,6 +82,12 @@ impl fmt::Display for Refusal {
             Refusal::NotText => write!(f, "kpn: usage: words of UTF-8 text"),
             Refusal::UnknownProcess => write!(f, "kpn: usage: copy, double or sum"),
             Refusal::SourceWord => write!(f, "kpn: usage: --source NAME=FILE"),
+            Refusal::TraceWord => {
+                write!(
+                    f,
+                    "kpn: usage: --trace OUT, a file that is no input and no other output"
+                )
+            }
             Refusal::Input(fault) => write!(f, "{}", FaultLine::of_input(fault)),
             Refusal::Description(fault) => write!(f, "{}", FaultLine::of_text(*fault)),
             Refusal::Sources(fault) => write!(f, "{}", FaultLine::of_source(*fault)),
@@ -103,13 +111,14 @@ impl Refusal {
         ensures { result ≡ status_of self.now }
     {
         match self {
-            Refusal::NotText | Refusal::UnknownProcess | Refusal::SourceWord => 2,
+            Refusal::NotText | Refusal::UnknownProcess => 2,
+            Refusal::SourceWord | Refusal::TraceWord => 2,
             Refusal::Input(ItemFault::BadItem(_) | ItemFault::Read) => 1,
             Refusal::Description(fault) if !is_want_of_memory(*fault) => 1,
             Refusal::Trace(TraceFault::BadHead | TraceFault::BadEvent(_)) => 1,
-            Refusal::Sources(_) | Refusal::Output(_) => 1,
+            Refusal::Sources(_) | Refusal::Output(WriteFault::Write) => 1,
             Refusal::Input(ItemFault::NoMemory) | Refusal::Description(_) => 6,
-            Refusal::Trace(TraceFault::NoMemory) => 6,
+            Refusal::Trace(TraceFault::NoMemory) | Refusal::Output(WriteFault::NoMemory) => 6,
             Refusal::NoMemoryToAudit | Refusal::NoMemory => 6,
             Refusal::Threads | Refusal::Abandoned | Refusal::Foreign => 7,
         }

@@ -1,14 +1,16 @@
 //! Shelves: where the program finds and keeps files by name.
-ghost use Rattle.std.specs.Prelude.{◌≤◌, ℕ, List, Result as Answer, Ok, IfOk, IfErr, OnOk, vec_len};
+ghost use Rattle.std.specs.Prelude.{◌≡◌, ◌≤◌, ℕ, List, true, Result as Answer, Ok, IfOk, IfErr, OnOk, vec_len};
 ghost use Rattle.kpn_items.specs.declared.fault.ItemFault.{ItemFault as Fault};
 ghost use Rattle.kpn_answers.specs.Shelf.{IsRefusalOfLoad, KeepsOthers};
 
 use kpn_items::{ItemFault, WriteFault};
 use kpn_limits::MAX_INPUT_BYTES;
-use std::alloc::Global;
+use std::alloc::{AllocError, Global};
 
 mod files;
 mod memory;
+mod place;
+mod target;
 
 pub use files::FileShelf;
 pub use memory::MemoryShelf;
@@ -17,6 +19,9 @@ pub use memory::MemoryShelf;
 pub trait Shelf {
     /// What a load of a name may give: the bytes of a file, or why there are none.
     ghost may_give: { Self → List ℕ → Answer (List ℕ) Fault → Type 0 };
+
+    /// Two names that may lead to one file.
+    ghost may_alias: { Self → List ℕ → List ℕ → Type 0 } = { λ _ _ _. ⊥ };
 
     /// The bytes of a file. It is refused as `Read` or `NoMemory`, never as `BadItem`.
     fn load(&self, alloc: Global, name: &str) -> Result<Vec<u8>, ItemFault>
@@ -29,4 +34,18 @@ pub trait Shelf {
     fn store(&mut self, name: &str, bytes: &[u8]) -> Result<(), WriteFault>
         ensures stored { OnOk result (may_give self.new name.now (Ok bytes.now)) }
         ensures others { KeepsOthers (may_give self.old) (may_give self.new) name.now };
+
+    /// Whether to store something under this name would change the file of the other one, though the
+    /// names differ. It is refused only for want of memory.
+    fn is_same_file(&self, _name: &str, _other: &str) -> Result<bool, AllocError>
+        ensures { IfOk result (λ same. same ≡ true → may_alias self.now _name.now _other.now) }
+    {
+        Ok(false)
+    }
+
+    /// Looks whether something can be stored under this name, as far as that shows before it is there,
+    /// and makes ready for it. What the name has stays as it is.
+    fn make_ready(&self, _name: &str) -> Result<(), WriteFault> {
+        Ok(())
+    }
 }

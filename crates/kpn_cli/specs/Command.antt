@@ -7,7 +7,7 @@ use Rattle.kpn_answers.specs.Refusal.{status_of}
 use Rattle.kpn_answers.specs.Answer.{Answers, Concludes}
 use Rattle.kpn_answers.specs.Description.{IsRefusalOfCommand}
 use Rattle.kpn_answers.specs.Inputs.{IsRefusalOfInputs}
-use Rattle.kpn_answers.specs.Shelf.{Loads}
+use Rattle.kpn_answers.specs.Shelf.{Loads, Aliases}
 use Rattle.kpn_alone_command.specs.Alone.{RunsAlone}
 use Rattle.kpn_description_commands.specs.CheckText.{check_text}
 use Rattle.kpn_description_commands.specs.TextOf.{IsTextOf}
@@ -45,58 +45,59 @@ AsksForRunWithin asked file words limits trace workers =
 -- line, the shelf, the input, the output and the place for faults, each as it was and as it is afterwards, and the
 -- status. No command changes the shelf but a run with a trace, which changes only the file of that; only `alone` reads
 -- the input.
-pub data RunsHere {S I O E : Type 0} (may_give : S → Loads) (remaining : I → Option (List ℕ))
-    (contents : O → Option (List ℕ)) (asked : List (List ℕ))
+pub data RunsHere {S I O E : Type 0} (may_give : S → Loads) (may_alias : S → Aliases)
+    (remaining : I → Option (List ℕ)) (contents : O → Option (List ℕ)) (asked : List (List ℕ))
     (shelf kept : S) (input read : I) (out written : O) (err told : E) (status : ℕ) : Type 0 where
   alone : (name : List ℕ) → AsksForAlone asked name → kept ≡ shelf →
       RunsAlone remaining contents name input read out written err told status →
-      RunsHere may_give remaining contents asked shelf kept input read out written err told status
+      RunsHere may_give may_alias remaining contents asked shelf kept input read out written err told status
   check : (file : List ℕ) → AsksForCheck asked file → kept ≡ shelf → read ≡ input →
       Answers contents (IsTextOf check_text (may_give shelf) file) (IsRefusalOfCommand (may_give shelf) file) out
       written err told status →
-      RunsHere may_give remaining contents asked shelf kept input read out written err told status
+      RunsHere may_give may_alias remaining contents asked shelf kept input read out written err told status
   print : (file : List ℕ) → AsksForPrint asked file → kept ≡ shelf → read ≡ input →
       Answers contents (IsTextOf canonical_text (may_give shelf) file) (IsRefusalOfCommand (may_give shelf) file) out
       written err told status →
-      RunsHere may_give remaining contents asked shelf kept input read out written err told status
+      RunsHere may_give may_alias remaining contents asked shelf kept input read out written err told status
   rounds : (file : List ℕ) (n : ℕ) (words : List (List ℕ)) → AsksForRounds asked file n words → kept ≡ shelf →
       read ≡ input →
       Answers contents (IsRounds (may_give shelf) file n words) (IsRefusalOfInputs (may_give shelf) file words) out
       written err told status →
-      RunsHere may_give remaining contents asked shelf kept input read out written err told status
+      RunsHere may_give may_alias remaining contents asked shelf kept input read out written err told status
   run : (file : List ℕ) (words : List (List ℕ)) (limits : Limits) (trace : Option (List ℕ)) →
       AsksForRunWithin asked file words limits trace None → read ≡ input →
-      AnswersRun may_give contents file words limits trace None shelf kept out written err told status →
-      RunsHere may_give remaining contents asked shelf kept input read out written err told status
+      AnswersRun may_give may_alias contents file words limits trace None shelf kept out written err told status →
+      RunsHere may_give may_alias remaining contents asked shelf kept input read out written err told status
   audit : (file trace : List ℕ) (steps : ℕ) → AsksForAudit asked file trace steps → kept ≡ shelf → read ≡ input →
       Concludes contents (IsAudited (may_give shelf) file trace steps)
       (IsRefusalOfAudit (may_give shelf) file trace) out written err told status →
-      RunsHere may_give remaining contents asked shelf kept input read out written err told status
+      RunsHere may_give may_alias remaining contents asked shelf kept input read out written err told status
   clap : kept ≡ shelf → read ≡ input → IsTold contents asked out written err told status →
-      RunsHere may_give remaining contents asked shelf kept input read out written err told status
+      RunsHere may_give may_alias remaining contents asked shelf kept input read out written err told status
 
 -- What a command line comes to on the thread that reads it: it was carried out; or it asks for a run by so many
 -- workers, and nothing is touched.
-abbrev pub ComesTo : {S I O E : Type 0} → (may_give : S → Loads)
+abbrev pub ComesTo : {S I O E : Type 0} → (may_give : S → Loads) (may_alias : S → Aliases)
     (remaining : I → Option (List ℕ)) (contents : O → Option (List ℕ)) (asked : List (List ℕ))
     (shelf kept : S) (input read : I) (out written : O) (err told : E) → Progress → Type 0
-ComesTo may_give remaining contents asked shelf kept input read out written err told (Ended status) =
-    RunsHere may_give remaining contents asked shelf kept input read out written err told status
-ComesTo may_give remaining contents asked shelf kept input read out written err told (NeedsWorkers request workers) =
+ComesTo may_give may_alias remaining contents asked shelf kept input read out written err told (Ended status) =
+    RunsHere may_give may_alias remaining contents asked shelf kept input read out written err told status
+ComesTo may_give may_alias remaining contents asked shelf kept input read out written err told
+    (NeedsWorkers request workers) =
     AsksForRunWithin asked request.file.now (map (λ word. word.now) request.sources.items) request.limits
     (option_map (λ name. name.now) request.trace) (Some workers)
     × (kept ≡ shelf) × (read ≡ input) × (written ≡ out) × (told ≡ err)
 
 -- The command that the words ask for was carried out: anything but a run by workers, or a run by this many workers.
-pub data Runs {S I O E : Type 0} (may_give : S → Loads) (remaining : I → Option (List ℕ))
-    (contents : O → Option (List ℕ)) (asked : List (List ℕ))
+pub data Runs {S I O E : Type 0} (may_give : S → Loads) (may_alias : S → Aliases)
+    (remaining : I → Option (List ℕ)) (contents : O → Option (List ℕ)) (asked : List (List ℕ))
     (shelf kept : S) (input read : I) (out written : O) (err told : E) (status : ℕ) : Type 0 where
-  here : RunsHere may_give remaining contents asked shelf kept input read out written err told status →
-      Runs may_give remaining contents asked shelf kept input read out written err told status
+  here : RunsHere may_give may_alias remaining contents asked shelf kept input read out written err told status →
+      Runs may_give may_alias remaining contents asked shelf kept input read out written err told status
   by_workers : (file : List ℕ) (words : List (List ℕ)) (limits : Limits) (trace : Option (List ℕ)) (workers : ℕ) →
       AsksForRunWithin asked file words limits trace (Some workers) → read ≡ input →
-      AnswersRun may_give contents file words limits trace (Some workers) shelf kept out written err told status →
-      Runs may_give remaining contents asked shelf kept input read out written err told status
+      AnswersRun may_give may_alias contents file words limits trace (Some workers) shelf kept out written err told status →
+      Runs may_give may_alias remaining contents asked shelf kept input read out written err told status
 
 -- ---- scaffolding: what the code's parts answer
 

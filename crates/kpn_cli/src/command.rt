@@ -28,7 +28,7 @@ pub fn command<R: Threads + Wait + Clock + Sync, S: Shelf, I: Read, O: Write, E:
     out: &mut O,
     err: &mut E,
 ) -> u8
-    ensures { Runs S.may_give I.remaining O.contents (map string_bytes words.now)
+    ensures { Runs S.may_give S.may_alias I.remaining O.contents (map string_bytes words.now)
         shelf.old shelf.new input.old input.new out.old out.new err.old err.new result }
 {
     match command_here(alloc, words, shelf, input, out, err) {

@@ -38,7 +38,7 @@ pub fn command_here<'a, S: Shelf, I: Read, O: Write, E: Write>(
     out: &mut O,
     err: &mut E,
 ) -> Progress<'a>
-    ensures { ComesTo S.may_give I.remaining O.contents (map string_bytes words.now)
+    ensures { ComesTo S.may_give S.may_alias I.remaining O.contents (map string_bytes words.now)
         shelf.old shelf.new input.old input.new out.old out.new err.old err.new result }
 {
     match read_words(alloc, words) {
@@ -58,7 +58,7 @@ fn answer<'a, S: Shelf, I: Read, O: Write, E: Write>(
     err: &mut E,
 ) -> Progress<'a>
     requires { IsAsked (map string_bytes words.now) request }
-    ensures { ComesTo S.may_give I.remaining O.contents (map string_bytes words.now)
+    ensures { ComesTo S.may_give S.may_alias I.remaining O.contents (map string_bytes words.now)
         shelf.old shelf.new input.old input.new out.old out.new err.old err.new result }
 {
     // Only the contract names the words.

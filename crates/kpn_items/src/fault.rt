@@ -23,4 +23,7 @@ pub enum WriteFault {
     /// A write failed, and how much went out is not known. It is printed as fault 27.
     #[error("the output could not be written")]
     Write,
+    /// Memory was refused for what is to be stored. It is printed as fault 42.
+    #[error("out of memory")]
+    NoMemory,
 }

@@ -1,23 +1,24 @@
 //! All bytes of a reader, up to the limit of what the program reads.
 
 ghost use Rattle.std.specs.Prelude.{◌≡◌, ◌≤◌, IfOk, IfErr, OnOk, IfSome, vec_len};
-ghost use Rattle.std.specs.Io.KnownBytes.{IsAtEnd};
+ghost use Rattle.std.specs.Io.{ReadsAtMost};
+ghost use Rattle.std.specs.Io.KnownBytes.{IsAtEnd, ReadConsumes};
 ghost use Rattle.kpn_items.specs.Input.{LosesItsFront, NamesNoLine};
 
 use crate::fault::ItemFault;
 use kpn_limits::MAX_INPUT_BYTES;
 use std::alloc::Global;
-use std::io::Read;
+use std::io::{ErrorKind, Read};
 
 /// How many bytes one read asks for.
 const CHUNK: usize = 8192;
 
 /// All that the reader gives, up to its end.
 ///
-/// It fails with `ItemFault::Read` where a read fails, one that a signal interrupted too, or where
-/// more than `MAX_INPUT_BYTES` bytes come, so that it ends on a reader that has no end; and with
-/// `ItemFault::NoMemory` where memory for the bytes was refused. No clause can say that a read
-/// fails only where it must: a reader may fail at any time.
+/// It fails with `ItemFault::Read` where a read fails, or where more than `MAX_INPUT_BYTES` bytes
+/// come, so that it ends on a reader that has no end; and with `ItemFault::NoMemory` where memory for
+/// the bytes was refused. A read that a signal interrupted is made again. No clause can say that a
+/// read fails only where it must: a reader may fail at any time.
 pub fn read_all<R: Read>(alloc: Global, reader: &mut R) -> Result<Vec<u8>, ItemFault>
     ensures within { IfOk result (λ bytes. vec_len bytes ≤ MAX_INPUT_BYTES) }
     ensures whole { IfOk result (λ bytes.
@@ -45,7 +46,7 @@ pub fn read_up_to<R: Read>(
     let mut bytes = Vec::new(alloc);
     let mut chunk = [0; CHUNK];
     loop {
-        let Ok(count) = reader.read(&mut chunk) else {
+        let Ok(count) = read_some(reader, &mut chunk) else {
             return Err(ItemFault::Read);
         };
         if count == 0 {
@@ -58,4 +59,19 @@ pub fn read_up_to<R: Read>(
             .extend_from_slice(&chunk[..count])
             .map_err(|_| ItemFault::NoMemory)?;
     }
+}
+
+// One read, made again as long as a signal interrupts it.
+fn read_some<R: Read>(reader: &mut R, buf: &mut [u8]) -> Result<usize, ItemFault>
+    ensures bound { ReadsAtMost result buf.new }
+    ensures bytes { ReadConsumes (R.remaining reader.old) (R.remaining reader.new) result buf.new }
+{
+    for _attempt in 0..u64::MAX {
+        match reader.read(buf) {
+            Ok(count) => return Ok(count),
+            Err(error) if error.kind() == ErrorKind::Interrupted => {}
+            Err(_) => return Err(ItemFault::Read),
+        }
+    }
+    Err(ItemFault::Read)
 }

@@ -1,5 +1,6 @@
 -- What the contracts of this crate speak of: the text of a report, and what the command answers.
 pub mod ReportText
 pub mod States
+pub mod Target
 pub mod Reported
 pub mod Run

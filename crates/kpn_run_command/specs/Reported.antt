@@ -4,9 +4,10 @@ use Rattle.kpn_report.specs.declared.outcome.Limits.{Limits}
 use Rattle.kpn_report.specs.Reports.{IsReport}
 use Rattle.kpn_answers.specs.declared.refusal.Refusal.{Refusal}
 use Rattle.kpn_answers.specs.declared.refusal.Refusal.TheVariants.{Threads, Abandoned, Foreign, NoMemory}
-use Rattle.kpn_answers.specs.Inputs.{AreInputs, IsRefusalOfInputs}
+use Rattle.kpn_answers.specs.Inputs.{AreInputs}
 use Rattle.kpn_run_command.specs.declared.reporting.Reported.{Reported}
-use Rattle.kpn_answers.specs.Shelf.{Loads}
+use Rattle.kpn_answers.specs.Shelf.{Loads, Aliases}
+use Rattle.kpn_run_command.specs.Target.{IsUnprepared}
 
 -- the inputs that the words name, and a report of a run on them under these limits
 pub record IsReported (may_give : Loads) (file : List ℕ) (words : List (List ℕ)) (limits : Limits)
@@ -22,8 +23,8 @@ IsRefusalOfReport workers Abandoned = IsSome workers
 IsRefusalOfReport workers Foreign = IsSome workers
 IsRefusalOfReport workers other = ⊥
 
--- why there is no report: the inputs are refused, or the run gives none
-abbrev pub IsUnreported : (may_give : Loads) (file : List ℕ) (words : List (List ℕ))
-    (workers : Option ℕ) → Refusal → Type 0
-IsUnreported may_give file words workers refusal =
-    IsRefusalOfInputs may_give file words refusal ⊎ IsRefusalOfReport workers refusal
+-- why there is no report: the run is not begun, or it gives none
+abbrev pub IsUnreported : (may_give : Loads) (may_alias : Aliases) (file : List ℕ) (words : List (List ℕ))
+    (trace : Option (List ℕ)) (workers : Option ℕ) → Refusal → Type 0
+IsUnreported may_give may_alias file words trace workers refusal =
+    IsUnprepared may_give may_alias file words trace refusal ⊎ IsRefusalOfReport workers refusal

@@ -8,10 +8,11 @@ use Rattle.kpn_answers.specs.declared.refusal.Refusal.{Refusal}
 use Rattle.kpn_answers.specs.declared.refusal.Refusal.TheVariants.{Output, NoMemory}
 use Rattle.kpn_answers.specs.Refusal.{status_of}
 use Rattle.kpn_answers.specs.Answer.{Concludes}
-use Rattle.kpn_answers.specs.Shelf.{Loads, KeepsOthers}
+use Rattle.kpn_answers.specs.Shelf.{Loads, Aliases, KeepsOthers}
 use Rattle.kpn_run_command.specs.declared.reporting.Reported.{Reported}
 use Rattle.kpn_run_command.specs.ReportText.{report_text, outcome_status}
 use Rattle.kpn_run_command.specs.Reported.{IsReported, IsUnreported}
+use Rattle.kpn_run_command.specs.Target.{IsNoInput}
 
 -- ---- the trace
 
@@ -55,14 +56,16 @@ pub data TellsReport {S O E : Type 0} (may_give : S → Loads) (contents : O →
 
 -- The command answers, by as many workers as there are, if there are any. It is given the file of the description, the
 -- words behind the `--source` options, the limits and the name of the trace, if there is to be one.
-pub data AnswersRun {S O E : Type 0} (may_give : S → Loads) (contents : O → Option (List ℕ))
+pub data AnswersRun {S O E : Type 0} (may_give : S → Loads) (may_alias : S → Aliases) (contents : O → Option (List ℕ))
     (file : List ℕ) (words : List (List ℕ)) (limits : Limits) (trace : Option (List ℕ)) (workers : Option ℕ)
     (shelf kept : S) (out written : O) (err told : E) (status : ℕ) : Type 0 where
-  -- there is a report on a run of what was asked for, and it is told
+  -- there is a report on a run of what was asked for, whose trace is no input of it, and the report is told
   with_report : (reported : Reported) → IsReported (may_give shelf) file words limits reported →
+      IsNoInput file words trace →
       TellsReport may_give contents limits trace reported shelf kept out written err told status →
-      AnswersRun may_give contents file words limits trace workers shelf kept out written err told status
+      AnswersRun may_give may_alias contents file words limits trace workers shelf kept out written err told status
   -- there is none: the shelf is as it was, and nothing goes out
-  without_report : (refusal : Refusal) → IsUnreported (may_give shelf) file words workers refusal → kept ≡ shelf →
+  without_report : (refusal : Refusal) →
+      IsUnreported (may_give shelf) (may_alias shelf) file words trace workers refusal → kept ≡ shelf →
       written ≡ out → status ≡ status_of refusal →
-      AnswersRun may_give contents file words limits trace workers shelf kept out written err told status
+      AnswersRun may_give may_alias contents file words limits trace workers shelf kept out written err told status

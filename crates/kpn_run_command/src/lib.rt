@@ -5,6 +5,7 @@ mod report_text;
 mod reporting;
 mod request;
 mod run;
+mod target;
 mod trace;
 
 pub use request::RunRequest;

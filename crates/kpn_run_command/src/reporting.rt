@@ -1,11 +1,13 @@
 //! A network is read and run: by the calling thread alone, or by workers on threads of their own.
-ghost use Rattle.std.specs.Prelude.{◌≡◌, map, length, Some, None, IfOk, IfErr};
+ghost use Rattle.std.specs.Prelude.{◌≡◌, map, option_map, length, Some, None, IfOk, IfErr, OnOk};
 ghost use Rattle.kpn_net.specs.Iteration.{sources};
 ghost use Rattle.kpn_report.specs.Reports.{IsReport};
 ghost use Rattle.kpn_run_command.specs.Reported.{IsReported, IsRefusalOfReport, IsUnreported};
+ghost use Rattle.kpn_run_command.specs.Target.{IsNoInput};
 
 use crate::request::RunRequest;
-use kpn_answers::inputs::{Inputs, load_inputs};
+use crate::target::prepare;
+use kpn_answers::inputs::Inputs;
 use kpn_answers::refusal::Refusal;
 use kpn_answers::shelf::Shelf;
 use kpn_lang::Sequence;
@@ -26,7 +28,8 @@ pub(crate) struct Reported {
     pub(crate) report: Report,
 }
 
-/// Reads what is asked for, and runs it on the calling thread alone, which waits for nobody.
+/// Reads what is asked for, and runs it on the calling thread alone, which waits for nobody. Before the
+/// run it is tried whether its trace can be stored.
 pub(crate) fn report_here<S: Shelf>(
     alloc: Global,
     request: &RunRequest<'_>,
@@ -34,16 +37,20 @@ pub(crate) fn report_here<S: Shelf>(
 ) -> Result<Reported, Refusal>
     ensures ok { IfOk result (IsReported (S.may_give shelf.now) request.now.file.now
         (map (λ word. word.now) request.now.sources.items) request.now.limits) }
-    ensures refused { IfErr result (IsUnreported (S.may_give shelf.now) request.now.file.now
-        (map (λ word. word.now) request.now.sources.items) None) }
+    ensures apart { OnOk result (IsNoInput request.now.file.now
+        (map (λ word. word.now) request.now.sources.items)
+        (option_map (λ name. name.now) request.now.trace)) }
+    ensures refused { IfErr result (IsUnreported (S.may_give shelf.now) (S.may_alias shelf.now)
+        request.now.file.now (map (λ word. word.now) request.now.sources.items)
+        (option_map (λ name. name.now) request.now.trace) None) }
 {
-    let inputs = load_inputs(alloc, shelf, request.file, &request.sources)?;
+    let inputs = prepare(alloc, request, shelf)?;
     let network = inputs.document.network();
     let report = run_here(alloc, network, &inputs.given, &request.limits)?;
     Ok(Reported { inputs, report })
 }
 
-/// Reads what is asked for, and runs it by workers.
+/// The same, but the run is made by workers.
 pub(crate) fn report_by_workers<R: Threads + Wait + Clock + Sync, S: Shelf>(
     rt: &R,
     alloc: Global,
@@ -53,10 +60,14 @@ pub(crate) fn report_by_workers<R: Threads + Wait + Clock + Sync, S: Shelf>(
 ) -> Result<Reported, Refusal>
     ensures ok { IfOk result (IsReported (S.may_give shelf.now) request.now.file.now
         (map (λ word. word.now) request.now.sources.items) request.now.limits) }
-    ensures refused { IfErr result (IsUnreported (S.may_give shelf.now) request.now.file.now
-        (map (λ word. word.now) request.now.sources.items) (Some workers)) }
+    ensures apart { OnOk result (IsNoInput request.now.file.now
+        (map (λ word. word.now) request.now.sources.items)
+        (option_map (λ name. name.now) request.now.trace)) }
+    ensures refused { IfErr result (IsUnreported (S.may_give shelf.now) (S.may_alias shelf.now)
+        request.now.file.now (map (λ word. word.now) request.now.sources.items)
+        (option_map (λ name. name.now) request.now.trace) (Some workers)) }
 {
-    let inputs = load_inputs(alloc, shelf, request.file, &request.sources)?;
+    let inputs = prepare(alloc, request, shelf)?;
     let network = inputs.document.network();
     let report = run_by_workers(rt, alloc, network, &inputs.given, workers, &request.limits)?;
     Ok(Reported { inputs, report })

@@ -28,7 +28,7 @@ pub fn run_command<S: Shelf, O: Write, E: Write>(
     out: &mut O,
     err: &mut E,
 ) -> u8
-    ensures { AnswersRun S.may_give O.contents request.now.file.now
+    ensures { AnswersRun S.may_give S.may_alias O.contents request.now.file.now
         (map (λ word. word.now) request.now.sources.items) request.now.limits
         (option_map (λ name. name.now) request.now.trace) None
         shelf.old shelf.new out.old out.new err.old err.new result }
@@ -51,7 +51,7 @@ pub fn run_command_by_workers<R: Threads + Wait + Clock + Sync, S: Shelf, O: Wri
     out: &mut O,
     err: &mut E,
 ) -> u8
-    ensures { AnswersRun S.may_give O.contents request.now.file.now
+    ensures { AnswersRun S.may_give S.may_alias O.contents request.now.file.now
         (map (λ word. word.now) request.now.sources.items) request.now.limits
         (option_map (λ name. name.now) request.now.trace) (Some workers)
         shelf.old shelf.new out.old out.new err.old err.new result }

@@ -1,17 +1,17 @@
 -- Words that name a command, but do not give it what it needs, ask for nothing.
-use Rattle.std.proofs.Common.{◌≡◌, ◌∙◌, ◌⊎◌, ℕ, Bool, true, false, true≢false, List, [], refl, sym, ap, subst, inl, inr}
-use Rattle.std.proofs.Common.{Option, Some, None, map, option_map, codes}
+use Rattle.std.proofs.Common.{◌≡◌, ◌∙◌, ℕ, true, false, true≢false, List, [], refl, sym, ap, subst, inl, inr}
+use Rattle.std.proofs.Common.{Option, Some, None, codes}
 use Rattle.std.specs.Prelude.{◌≢◌, unwrap_or}
-use Rattle.std.specs.Option.{is_some, option_map_or}
+use Rattle.std.specs.Option.{is_some}
 use Rattle.std.specs.Str.{bytes_eq}
-use Rattle.clap.specs.Kinds.{IsAmong, Kinds}
+use Rattle.clap.specs.Kinds.{IsAmong}
 use Rattle.clap.specs.Faults.{fault_of}
 use Rattle.clap.specs.Walk.{Row}
 use Rattle.clap.specs.declared.error.kind.ErrorKind.TheVariants.{DisplayHelp, DisplayVersion}
 use Rattle.kpn_words.specs.declared.request.Request.{Request}
 use Rattle.kpn_words.specs.declared.request.Request.TheVariants.{Alone, Check, Print, Rounds, Run, RunByWorkers, Audit, Help}
 use Rattle.kpn_words.specs.CommandLine.{command_line}
-use Rattle.kpn_words.specs.Asked.{AsksForHelp, AskForNothing, IsAsked, Names, is_input, text_for, texts_for, number_for}
+use Rattle.kpn_words.specs.Asked.{AsksForHelp, AskForNothing, IsAsked, Names, text_for, number_for}
 
 differ : (a b : List ℕ) → bytes_eq a a ≡ true → bytes_eq a b ≡ false → a ≡ b → ⊥
 differ a b same other e = true≢false (sym same ∙ (ap (bytes_eq a) e ∙ other))
@@ -31,11 +31,6 @@ no_help : (words : List (List ℕ)) → fault_of command_line words ≡ [] → A
 no_help words none (inl help) = subst (IsAmong DisplayHelp) none help
 no_help words none (inr version) = subst (IsAmong DisplayVersion) none version
 
--- whether the trace of a run would overwrite an input
-abbrev pub overwrites : (given : List Row) (file : List ℕ) → Bool
-overwrites given file =
-    option_map_or (is_input file (texts_for (codes "SOURCE") given)) (text_for (codes "TRACE") given) false
-
 -- what a request takes of the command that the words name
 abbrev Takes : (command : List ℕ) (given : List Row) → Request → Type 0
 Takes command given (Alone name) = (command ≡ codes "alone") × (text_for (codes "NAME") given ≡ Some name.now)
@@ -46,22 +41,12 @@ Takes command given (Rounds file n sources) =
     × (number_for 32 (codes "N") given ≡ Some n)
 Takes command given (Run run) =
     (command ≡ codes "run") × (text_for (codes "FILE") given ≡ Some run.file.now)
-    × (overwrites given run.file.now ≡ false)
 Takes command given (RunByWorkers run workers) =
     (command ≡ codes "run") × (text_for (codes "FILE") given ≡ Some run.file.now)
-    × (overwrites given run.file.now ≡ false)
 Takes command given (Audit file trace steps) =
     (command ≡ codes "audit") × (text_for (codes "FILE") given ≡ Some file.now)
     × (text_for (codes "TRACE") given ≡ Some trace.now)
 Takes command given (Help text) = ⊥
-
--- the trace of a run that is asked for overwrites nothing
-kept : (given : List Row) (file : List ℕ) (sources : List (List ℕ)) (trace : Option (List ℕ))
-    → texts_for (codes "SOURCE") given ≡ sources → text_for (codes "TRACE") given ≡ trace
-    → option_map_or (is_input file sources) trace false ≡ false → overwrites given file ≡ false
-kept given file sources trace are is none =
-    ap (λ s. option_map_or (is_input file s) (text_for (codes "TRACE") given) false) are
-    ∙ (ap (λ t. option_map_or (is_input file sources) t false) is ∙ none)
 
 module _ (words : List (List ℕ)) (command : List ℕ) (given : List Row) (names : Names words command given) where
   same : (other : List ℕ) (more : List Row) → Names words other more → (command ≡ other) × (given ≡ more)
@@ -78,19 +63,9 @@ module _ (words : List (List ℕ)) (command : List ℕ) (given : List Row) (name
       let is = same _ _ asked.1 in
       (is.0, ap (text_for (codes "FILE")) is.1 ∙ asked.2, ap (number_for 32 (codes "N")) is.1 ∙ asked.3)
   taken (Run run) asked =
-      let is = same _ _ asked.1 in (
-        is.0,
-        ap (text_for (codes "FILE")) is.1 ∙ asked.2,
-        kept given run.file.now _ _ (ap (texts_for (codes "SOURCE")) is.1 ∙ asked.3)
-            (ap (text_for (codes "TRACE")) is.1 ∙ asked.6) asked.8,
-      )
+      let is = same _ _ asked.1 in (is.0, ap (text_for (codes "FILE")) is.1 ∙ asked.2)
   taken (RunByWorkers run workers) asked =
-      let is = same _ _ asked.1 in (
-        is.0,
-        ap (text_for (codes "FILE")) is.1 ∙ asked.2,
-        kept given run.file.now _ _ (ap (texts_for (codes "SOURCE")) is.1 ∙ asked.3)
-            (ap (text_for (codes "TRACE")) is.1 ∙ asked.6) asked.8,
-      )
+      let is = same _ _ asked.1 in (is.0, ap (text_for (codes "FILE")) is.1 ∙ asked.2)
   taken (Audit file trace steps) asked =
       let is = same _ _ asked.1 in
       (is.0, ap (text_for (codes "FILE")) is.1 ∙ asked.2, ap (text_for (codes "TRACE")) is.1 ∙ asked.3)
@@ -111,47 +86,23 @@ module _ (words : List (List ℕ)) (command : List ℕ) (given : List Row) (name
   no_command other (Audit file trace steps) asked = other.5 (taken (Audit file trace steps) asked).0
   no_command other (Help text) asked = taken (Help text) asked
 
-module _ (words : List (List ℕ)) (given : List Row) where
-  pub no_number : Names words (codes "rounds") given → number_for 32 (codes "N") given ≡ None → AskForNothing words
-  no_number names none (Alone name) asked =
-      differ (codes "rounds") (codes "alone") refl refl (taken words (codes "rounds") given names (Alone name) asked).0
-  no_number names none (Check file) asked =
-      differ (codes "rounds") (codes "check") refl refl (taken words (codes "rounds") given names (Check file) asked).0
-  no_number names none (Print file) asked =
-      differ (codes "rounds") (codes "print") refl refl (taken words (codes "rounds") given names (Print file) asked).0
-  no_number names none (Rounds file n sources) asked =
-      some_not_none _ _ none (taken words (codes "rounds") given names (Rounds file n sources) asked).2
-  no_number names none (Run run) asked =
-      differ (codes "rounds") (codes "run") refl refl (taken words (codes "rounds") given names (Run run) asked).0
-  no_number names none (RunByWorkers run workers) asked =
-      differ (codes "rounds") (codes "run") refl refl (taken words (codes "rounds") given names (RunByWorkers run workers) asked).0
-  no_number names none (Audit file trace steps) asked =
-      differ (codes "rounds") (codes "audit") refl refl (taken words (codes "rounds") given names (Audit file trace steps) asked).0
-  no_number names none (Help text) asked = taken words (codes "rounds") given names (Help text) asked
+module _ (words : List (List ℕ)) (given : List Row) (names : Names words (codes "rounds") given) where
+  of_rounds : (request : Request) → IsAsked words request → Takes (codes "rounds") given request
+  of_rounds request asked = taken words (codes "rounds") given names request asked
 
-  clash : (file other : List ℕ) → text_for (codes "FILE") given ≡ Some file → overwrites given file ≡ true
-      → text_for (codes "FILE") given ≡ Some other → overwrites given other ≡ false → ⊥
-  clash file other is over also under =
-      let same : file ≡ other = ap (λ o. unwrap_or o file) (sym is ∙ also) in
-      true≢false (sym over ∙ (ap (overwrites given) same ∙ under))
-
-  -- the trace of the run would overwrite an input
-  pub no_room : (file : List ℕ) → Names words (codes "run") given → text_for (codes "FILE") given ≡ Some file
-      → overwrites given file ≡ true → AskForNothing words
-  no_room source names is over (Alone name) asked =
-      differ (codes "run") (codes "alone") refl refl (taken words (codes "run") given names (Alone name) asked).0
-  no_room source names is over (Check file) asked =
-      differ (codes "run") (codes "check") refl refl (taken words (codes "run") given names (Check file) asked).0
-  no_room source names is over (Print file) asked =
-      differ (codes "run") (codes "print") refl refl (taken words (codes "run") given names (Print file) asked).0
-  no_room source names is over (Rounds file n sources) asked =
-      differ (codes "run") (codes "rounds") refl refl (taken words (codes "run") given names (Rounds file n sources) asked).0
-  no_room source names is over (Run run) asked =
-      clash source run.file.now is over (taken words (codes "run") given names (Run run) asked).1
-      (taken words (codes "run") given names (Run run) asked).2
-  no_room source names is over (RunByWorkers run workers) asked =
-      clash source run.file.now is over (taken words (codes "run") given names (RunByWorkers run workers) asked).1
-      (taken words (codes "run") given names (RunByWorkers run workers) asked).2
-  no_room source names is over (Audit file trace steps) asked =
-      differ (codes "run") (codes "audit") refl refl (taken words (codes "run") given names (Audit file trace steps) asked).0
-  no_room source names is over (Help text) asked = taken words (codes "run") given names (Help text) asked
+  pub no_number : number_for 32 (codes "N") given ≡ None → AskForNothing words
+  no_number none (Alone name) asked =
+      differ (codes "rounds") (codes "alone") refl refl (of_rounds (Alone name) asked).0
+  no_number none (Check file) asked =
+      differ (codes "rounds") (codes "check") refl refl (of_rounds (Check file) asked).0
+  no_number none (Print file) asked =
+      differ (codes "rounds") (codes "print") refl refl (of_rounds (Print file) asked).0
+  no_number none (Rounds file n sources) asked =
+      some_not_none _ _ none (of_rounds (Rounds file n sources) asked).2
+  no_number none (Run run) asked =
+      differ (codes "rounds") (codes "run") refl refl (of_rounds (Run run) asked).0
+  no_number none (RunByWorkers run workers) asked =
+      differ (codes "rounds") (codes "run") refl refl (of_rounds (RunByWorkers run workers) asked).0
+  no_number none (Audit file trace steps) asked =
+      differ (codes "rounds") (codes "audit") refl refl (of_rounds (Audit file trace steps) asked).0
+  no_number none (Help text) asked = of_rounds (Help text) asked

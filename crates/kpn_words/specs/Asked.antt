@@ -1,10 +1,7 @@
 -- What the words of a command line ask for.
-use Rattle.std.specs.Prelude.{◌≡◌, ◌≢◌, ◌⊎◌, ◌==◌, ◌&&◌, ◌||◌, ◌^◌, ℕ, nat_lt, Bool, false, List, [], length}
+use Rattle.std.specs.Prelude.{◌≡◌, ◌≢◌, ◌⊎◌, ◌&&◌, ◌^◌, ℕ, nat_lt, List, []}
 use Rattle.std.specs.Prelude.{Option, Some, None, option_map, option_and_then, unwrap_or, map, codes, ⊤}
 use Rattle.std.specs.Prelude.{if◌then◌else◌}
-use Rattle.std.specs.List.{list_any, position_or_len, after_first}
-use Rattle.std.specs.Option.{option_map_or}
-use Rattle.std.specs.Str.{bytes_eq}
 use Rattle.std.specs.Str.Parse.{digits_value, without_leading_plus}
 use Rattle.clap.specs.Kinds.{IsAmong}
 use Rattle.clap.specs.Faults.{fault_of}
@@ -69,17 +66,7 @@ AsksForRounds words file n sources =
     (given : List Row) × Names words (codes "rounds") given × (text_for (codes "FILE") given ≡ Some file)
     × (number_for 32 (codes "N") given ≡ Some n) × (texts_for (codes "SOURCE") given ≡ sources)
 
--- a word behind `--source` gives its source the items of this file, which stands behind its first `=` (byte 61)
-abbrev pub gives_items : (file source : List ℕ) → Bool
-gives_items file source =
-    nat_lt (position_or_len (λ byte. byte == 61) source) (length source)
-    && bytes_eq (after_first (λ byte. byte == 61) source) file
-
--- this file has the description of a run, or the items of a source
-abbrev pub is_input : (description : List ℕ) (sources : List (List ℕ)) (file : List ℕ) → Bool
-is_input description sources file = bytes_eq description file || list_any (gives_items file) sources
-
--- 10,000,000 commits without `--max-commits`; a trace that would overwrite an input is asked for by no words
+-- 10,000,000 commits without `--max-commits`
 abbrev pub AsksForRun : (words : List (List ℕ)) (file : List ℕ) (sources : List (List ℕ)) (commits : ℕ)
     (take : Option ℕ) (trace : Option (List ℕ)) (workers : Option ℕ) → Type 0
 AsksForRun words file sources commits take trace workers =
@@ -87,7 +74,7 @@ AsksForRun words file sources commits take trace workers =
     × (texts_for (codes "SOURCE") given ≡ sources)
     × (unwrap_or (number_for 64 (codes "MAX_COMMITS") given) 10000000 ≡ commits)
     × (number_for 64 (codes "K") given ≡ take) × (text_for (codes "TRACE") given ≡ trace)
-    × (number_for 32 (codes "WORKERS") given ≡ workers) × (option_map_or (is_input file sources) trace false ≡ false)
+    × (number_for 32 (codes "WORKERS") given ≡ workers)
 
 -- 10,000,000 steps without `--steps`
 abbrev pub AsksForAudit : (words : List (List ℕ)) (file trace : List ℕ) (steps : ℕ) → Type 0

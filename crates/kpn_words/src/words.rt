@@ -1,14 +1,11 @@
 //! The words of a command line, read by `clap`.
-ghost use Rattle.std.specs.Prelude.{◌≡◌, ℕ, false, List, [], None, Some, IfOk, MatchResult};
-ghost use Rattle.std.specs.Prelude.{map, codes, option_map};
-ghost use Rattle.std.specs.List.{list_any};
-ghost use Rattle.std.specs.Option.{option_map_or};
+ghost use Rattle.std.specs.Prelude.{◌≡◌, ℕ, List, [], None, Some, IfOk, MatchResult, map, codes};
 ghost use Rattle.std.specs.String.{string_bytes};
 ghost use Rattle.clap.specs.Words.{kind_of, fault_of, found_of, rows_of, subcommand_of};
 ghost use Rattle.clap.specs.Words.{subcommand_rows_of};
 ghost use Rattle.kpn_words.specs.CommandLine.{command_line};
 ghost use Rattle.kpn_words.specs.Asked.{IsAsked, IsRefused, IsHelpOfKind, IsRefusalOfKind};
-ghost use Rattle.kpn_words.specs.Asked.{IsUsageIf, Names, gives_items, is_input};
+ghost use Rattle.kpn_words.specs.Asked.{IsUsageIf, Names};
 ghost use Rattle.kpn_words.specs.Asked.{text_for, texts_for};
 
 use crate::command_line::{
@@ -134,10 +131,6 @@ fn run_request<'a>(
     let file = required(program, run, FILE)?;
     let sources = sources_of(alloc, run)?;
     let trace = run.get_str(TRACE);
-    if overwrites_input(file, &sources, trace) {
-        let message = "the trace would overwrite its own input";
-        return Err(WordsFault::Usage(program.error(ErrorKind::ArgumentConflict, message)?));
-    }
     let words = RunWords {
         file,
         sources,
@@ -148,41 +141,6 @@ fn run_request<'a>(
     match run.get_one::<u32>(WORKERS) {
         None => Ok(Request::Run(words)),
         Some(workers) => Ok(Request::RunByWorkers(words, workers)),
-    }
-}
-
-// Whether the file for the trace is an input of the run.
-fn overwrites_input(file: &str, sources: &[&str], trace: Option<&str>) -> bool
-    ensures { result ≡ option_map_or (is_input file.now (map (λ source. source.now) sources.now))
-        (option_map (λ name. name.now) trace.entry) false }
-{
-    match trace {
-        Some(trace) => is_input(file, sources, trace),
-        None => false,
-    }
-}
-
-// Whether the description of a run or the items of a source are in the file of this name.
-fn is_input(file: &str, sources: &[&str], name: &str) -> bool
-    ensures { result ≡ is_input file.now (map (λ source. source.now) sources.now) name.now }
-{
-    file == name || any_gives_items(sources, name)
-}
-
-// Whether any word behind `--source` gives its source the items of the file of this name.
-fn any_gives_items(sources: &[&str], name: &str) -> bool
-    ensures { result ≡ list_any (λ source. gives_items name.now source.now) sources.now }
-{
-    sources.iter().any(|source| gives_items(source, name))
-}
-
-// Whether a word behind `--source` gives its source the items of the file of this name.
-fn gives_items(source: &str, name: &str) -> bool
-    ensures { result ≡ gives_items name.now source.now }
-{
-    match source.split_once('=') {
-        Some((_, file)) => file == name,
-        None => false,
     }
 }
 

@@ -38,29 +38,62 @@ impl Read for Halting {
     }
 }
 
-/// Takes so many calls, and then fails.
-#[derive(Drop)]
-pub struct Failing {
-    pub calls: u8,
+/// Counts down to one call that fails; all others succeed.
+#[derive(Debug, Drop)]
+pub struct Fall {
+    /// How many calls succeed before it, or `None` once it was made.
+    pub before: Option<u8>,
+    /// How it fails.
+    pub kind: ErrorKind,
 }
 
-impl Failing {
+impl Fall {
     fn call(&mut self) -> io::Result<()> {
-        if self.calls == 0 {
-            return Err(io::Error::from(ErrorKind::Other));
+        match self.before {
+            None => Ok(()),
+            Some(0) => {
+                self.before = None;
+                Err(io::Error::from(self.kind))
+            }
+            Some(calls) => {
+                self.before = Some(calls - 1);
+                Ok(())
+            }
         }
-        self.calls -= 1;
-        Ok(())
     }
 }
 
-impl Write for Failing {
+/// Gives its bytes, one at each read, and fails once.
+#[derive(Drop)]
+pub struct Stumbling<'a> {
+    pub bytes: &'a [u8],
+    pub fall: Fall,
+}
+
+impl Read for Stumbling<'_> {
+    fn read(&mut self, buf: &mut [u8]) -> io::Result<usize> {
+        self.fall.call()?;
+        let Some((byte, rest)) = self.bytes.split_first() else {
+            return Ok(0);
+        };
+        self.bytes = rest;
+        io::repeat(*byte).take(1).read(buf)
+    }
+}
+
+/// Takes what it is given, and fails once.
+#[derive(Drop)]
+pub struct Tripping {
+    pub fall: Fall,
+}
+
+impl Write for Tripping {
     fn write(&mut self, buf: &[u8]) -> io::Result<usize> {
-        self.call()?;
+        self.fall.call()?;
         Ok(buf.len())
     }
 
     fn flush(&mut self) -> io::Result<()> {
-        self.call()
+        self.fall.call()
     }
 }

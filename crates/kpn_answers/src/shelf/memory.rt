@@ -62,6 +62,6 @@ impl Shelf for MemoryShelf {
         ensures kept { HoldsTheSameBut name.now self.old self.new }
         ensures unchanged { OnErr result (HoldsTheSame self.old self.new) }
     {
-        self.put(name, bytes).map_err(|_| WriteFault::Write)
+        self.put(name, bytes).map_err(|_| WriteFault::NoMemory)
     }
 }

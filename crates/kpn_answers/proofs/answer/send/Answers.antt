@@ -7,4 +7,4 @@ pub returns-in-Ok : goal.returns-in-Ok
 returns-in-Ok g c = sent c.in-Ok.ensures refl refl
 
 pub returns-in-Err : goal.returns-in-Err
-returns-in-Err g c = unsent c.in-Err.fault c.report.ensures
+returns-in-Err g c = unsent c.report.ensures

@@ -58,8 +58,9 @@ returns-in-Run g c =
 
 pub returns-in-RunByWorkers : goal.returns-in-RunByWorkers
 returns-in-RunByWorkers g c = (
-  within (map string_bytes c.args.words.now) c.in-RunByWorkers.run' c.asked_run-in-RunByWorkers.result (Some c.in-RunByWorkers.workers)
-      c.asked_run-in-RunByWorkers.ensures (subst (IsAsked (map string_bytes c.args.words.now)) c.in-RunByWorkers.is c.requires),
+  within (map string_bytes c.args.words.now) c.in-RunByWorkers.run' c.asked_run-in-RunByWorkers.result
+      (Some c.in-RunByWorkers.workers) c.asked_run-in-RunByWorkers.ensures
+      (subst (IsAsked (map string_bytes c.args.words.now)) c.in-RunByWorkers.is c.requires),
   refl,
   refl,
   refl,

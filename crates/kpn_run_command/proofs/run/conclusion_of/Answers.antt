@@ -1,6 +1,5 @@
 -- The states of the report are those of the network, and its text lacks nothing but memory.
 use Rattle.std.proofs.Common.{subst}
-use Rattle.std.proofs.lemmas.Result.{err_from_is_err_and}
 use Rattle.kpn_net.specs.Faults.{IsNetwork}
 use Rattle.kpn_run_command.proofs.Reported.{waits_within}
 use Rattle.kpn_run_command.proofs.run.conclusion_of.Goals as goal

@@ -17,7 +17,8 @@ returns-in_default c = λ words names.
     (λ text r. ParsesUnsigned 32 10 text r × ExplainsUnsignedError 10 text r × HasUnsignedDigitsIfOk text r) 32
     (found_of c.args.rounds.now) (codes "N") c.get_one.result c.get_one.ensures.none
     (λ text given. c.get_one.ensures.value text given) (λ text r read. read.0) in
-    inr (no_number words (rows_of (found_of c.args.rounds.now)) names (n ∙ none_of c.get_one.result c.in_default.not-Some))
+    inr (no_number words (rows_of (found_of c.args.rounds.now)) names
+    (n ∙ none_of c.get_one.result c.in_default.not-Some))
 
 pub returns : goal.returns
 returns c = λ words names.

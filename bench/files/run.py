@@ -1,0 +1,560 @@
+#!/usr/bin/env python3
+"""The files of the program, as the system has them: what a command may not write over, and what is left of a trace that
+can't be stored.
+
+Each case is made in a folder of its own, and says what has to come: the status, what is told, and what stands in the
+folder afterwards. Most of it the gate can't show, since it has no links, pipes, rights, locks and processes that are
+killed. It is no part of the gate. Begun by root it tries the rights of others as a user who has no rights here. A word
+names the program; it is crates/kpn/out/kpn where none is named.
+"""
+import fcntl
+import os
+import pathlib
+import re
+import resource
+import shutil
+import signal
+import stat
+import subprocess
+import sys
+import tempfile
+import threading
+import time
+
+TOP = pathlib.Path(__file__).resolve().parent.parent.parent
+DATA = TOP / 'crates/check_examples/data'
+TRACE = (DATA / 'histories/two.trace').read_bytes()
+REPORT = b'sink z: 312\nended\n'
+COPY = (DATA / 'copy.kpn').read_bytes()
+TWO = (DATA / 'two.kpn').read_bytes()
+USAGE = b'kpn: usage: --trace OUT, a file that is no input and no other output\n'
+WRITE = b'kpn: 27 Write\n'
+READ = b'kpn: 26 Read\n'
+
+# a user who owns nothing here
+USER = 54_321
+
+# the names of cases with those that fail
+cases, failed = [], []
+
+
+def case(test):
+    """A case: a function that is given an empty folder."""
+    cases.append(test)
+    return test
+
+
+def run(folder, *words, **how):
+    """What `kpn run` writes, what it tells, and its status."""
+    how.setdefault('stdout', subprocess.PIPE)
+    how.setdefault('stderr', subprocess.PIPE)
+    done = subprocess.run([PROGRAM, 'run', *words], cwd=folder, timeout=60, **how)
+    return done.stdout, done.stderr, done.returncode
+
+
+def expect(found, wanted):
+    if found != wanted:
+        raise AssertionError(f'{found} in place of {wanted}')
+
+
+def names(folder):
+    return sorted(os.listdir(folder))
+
+
+def is_refused(folder, *words):
+    """The word behind `--trace` is refused, and the folder stays as it was."""
+    before = {name: (folder / name).read_bytes() for name in names(folder) if (folder / name).is_file()}
+    expect(run(folder, *words), (b'', USAGE, 2))
+    expect({name: (folder / name).read_bytes() for name in names(folder) if (folder / name).is_file()}, before)
+
+
+def two(folder):
+    (folder / 'two.kpn').write_bytes(TWO)
+
+
+def copy(folder):
+    (folder / 'copy.kpn').write_bytes(COPY)
+    (folder / 'items').write_bytes(b'1\n2\n')
+
+
+# ---- an output that is an input
+
+@case
+def the_description(folder):
+    two(folder)
+    is_refused(folder, 'two.kpn', '--trace', 'two.kpn')
+
+
+@case
+def the_description_by_another_path(folder):
+    two(folder)
+    for name in ('./two.kpn', f'{folder}/two.kpn', f'../{folder.name}/two.kpn', './/two.kpn'):
+        is_refused(folder, 'two.kpn', '--trace', name)
+        is_refused(folder, name, '--trace', 'two.kpn')
+
+
+@case
+def a_link_to_the_description(folder):
+    two(folder)
+    (folder / 'link').symlink_to('two.kpn')
+    is_refused(folder, 'two.kpn', '--trace', 'link')
+    is_refused(folder, 'link', '--trace', 'two.kpn')
+
+
+@case
+def a_second_name_of_the_description(folder):
+    two(folder)
+    os.link(folder / 'two.kpn', folder / 'second')
+    is_refused(folder, 'two.kpn', '--trace', 'second')
+
+
+@case
+def a_file_of_items(folder):
+    copy(folder)
+    for name in ('items', './items'):
+        is_refused(folder, 'copy.kpn', '--source', 's=items', '--trace', name)
+        is_refused(folder, 'copy.kpn', '--workers', '2', '--source', 's=items', '--trace', name)
+
+
+@case
+def a_link_to_a_file_of_items(folder):
+    copy(folder)
+    (folder / 'link').symlink_to('items')
+    is_refused(folder, 'copy.kpn', '--source', 's=items', '--trace', 'link')
+
+
+@case
+def a_file_of_items_that_is_a_link_to_the_trace(folder):
+    copy(folder)
+    (folder / 'link').symlink_to('items')
+    is_refused(folder, 'copy.kpn', '--source', 's=link', '--trace', 'items')
+
+
+@case
+def a_file_of_a_word_that_is_refused_too(folder):
+    copy(folder)
+    is_refused(folder, 'copy.kpn', '--source', 'q=items', '--source', 's', '--trace', './items')
+
+
+@case
+def an_input_that_is_not_there(folder):
+    is_refused(folder, 'no.kpn', '--trace', './no.kpn')
+
+
+@case
+def an_input_with_the_name_of_the_part_file(folder):
+    (folder / 'out.kpn-part').write_bytes(TWO)
+    is_refused(folder, 'out.kpn-part', '--trace', 'out')
+    is_refused(folder, './out.kpn-part', '--trace', 'out')
+
+
+@case
+def an_input_that_is_a_link_to_the_part_file(folder):
+    (folder / 'out.kpn-part').write_bytes(TWO)
+    (folder / 'link').symlink_to('out.kpn-part')
+    is_refused(folder, 'link', '--trace', 'out')
+
+
+@case
+def another_file_with_the_bytes_of_an_input(folder):
+    two(folder)
+    (folder / 'out').write_bytes(TWO)
+    expect(run(folder, 'two.kpn', '--trace', 'out'), (REPORT, b'', 0))
+    expect((folder / 'out').read_bytes(), TRACE)
+
+
+# ---- an output that is another output
+
+def outputs(folder, name, target, stream):
+    """The answer where standard output or standard error is the file of this name, and the trace goes to the other."""
+    with open(folder / name, 'ab') as file:
+        return run(folder, 'two.kpn', '--trace', target, **{stream: file})
+
+
+@case
+def standard_output_in_a_file(folder):
+    two(folder)
+    for target in ('/dev/stdout', '/proc/self/fd/1', './out', 'out'):
+        (folder / 'out').write_bytes(b'kept\n')
+        found = outputs(folder, 'out', target, 'stdout')
+        expect((found[1], found[2]), (USAGE, 2))
+        expect((folder / 'out').read_bytes(), b'kept\n')
+
+
+@case
+def standard_error_in_a_file(folder):
+    two(folder)
+    for target in ('/dev/stderr', '/proc/self/fd/2', './told'):
+        (folder / 'told').write_bytes(b'kept\n')
+        found = outputs(folder, 'told', target, 'stderr')
+        expect((found[0], found[2]), (b'', 2))
+        expect((folder / 'told').read_bytes(), b'kept\n' + USAGE)
+
+
+@case
+def a_link_to_standard_output_in_a_file(folder):
+    two(folder)
+    (folder / 'link').symlink_to('out')
+    (folder / 'out').write_bytes(b'kept\n')
+    found = outputs(folder, 'out', 'link', 'stdout')
+    expect((found[1], found[2]), (USAGE, 2))
+
+
+@case
+def standard_output_in_the_part_file(folder):
+    two(folder)
+    (folder / 'trace.kpn-part').write_bytes(b'kept\n')
+    found = outputs(folder, 'trace.kpn-part', 'trace', 'stdout')
+    expect((found[1], found[2]), (USAGE, 2))
+    expect(names(folder), ['trace.kpn-part', 'two.kpn'])
+
+
+@case
+def standard_output_in_another_file(folder):
+    two(folder)
+    found = outputs(folder, 'out', 'trace', 'stdout')
+    expect((found[1], found[2]), (b'', 0))
+    expect((folder / 'out').read_bytes(), REPORT)
+    expect((folder / 'trace').read_bytes(), TRACE)
+
+
+# ---- outputs that stay allowed
+
+@case
+def standard_output_in_a_pipe(folder):
+    two(folder)
+    expect(run(folder, 'two.kpn', '--trace', '/dev/stdout'), (TRACE + REPORT, b'', 0))
+
+
+@case
+def standard_error_in_a_pipe(folder):
+    two(folder)
+    expect(run(folder, 'two.kpn', '--trace', '/dev/stderr'), (REPORT, TRACE, 0))
+
+
+@case
+def nothing(folder):
+    copy(folder)
+    words = 'copy.kpn', '--source', 's=/dev/null'
+    expect(run(folder, *words, '--trace', '/dev/stdout', stdout=subprocess.DEVNULL)[1:], (b'', 0))
+    expect(run(folder, *words, '--trace', '//dev/null')[1:], (b'', 0))
+    expect(run(folder, 'two.kpn', '--trace', '/dev/null')[2], 1)
+    two(folder)
+    expect(run(folder, 'two.kpn', '--trace', '/dev/null'), (REPORT, b'', 0))
+
+
+@case
+def a_terminal(folder):
+    two(folder)
+    outer, inner = os.openpty()
+    found = run(folder, 'two.kpn', '--trace', '/dev/stdout', stdout=inner)
+    expect((found[1], found[2]), (b'', 0))
+    os.close(inner)
+    os.close(outer)
+
+
+@case
+def a_named_pipe(folder):
+    two(folder)
+    os.mkfifo(folder / 'pipe')
+    read = []
+    reader = threading.Thread(target=lambda: read.append((folder / 'pipe').read_bytes()))
+    reader.start()
+    expect(run(folder, 'two.kpn', '--trace', 'pipe'), (REPORT, b'', 0))
+    reader.join()
+    expect(read, [TRACE])
+    expect(stat.S_ISFIFO(os.stat(folder / 'pipe').st_mode), True)
+
+
+@case
+def a_link_to_a_file(folder):
+    two(folder)
+    (folder / 'file').write_bytes(b'a longer text that is there before: ' * 40)
+    (folder / 'link').symlink_to('file')
+    expect(run(folder, 'two.kpn', '--trace', 'link'), (REPORT, b'', 0))
+    expect((folder / 'file').read_bytes(), TRACE)
+    expect((folder / 'link').is_symlink(), True)
+
+
+@case
+def a_link_to_a_file_that_is_not_there(folder):
+    two(folder)
+    (folder / 'link').symlink_to('file')
+    expect(run(folder, 'two.kpn', '--trace', 'link'), (REPORT, b'', 0))
+    expect((folder / 'file').read_bytes(), TRACE)
+
+
+# ---- the file is tried before the run
+
+def long_run(folder):
+    """The words of a run of half a second or more, behind which its trace would be stored."""
+    shutil.copy(DATA / 'worked/spin.kpn', folder / 'spin.kpn')
+    commits = 100
+    while True:
+        words = 'spin.kpn', '--max-commits', str(commits)
+        before = time.monotonic()
+        run(folder, *words)
+        if time.monotonic() - before > 0.5:
+            return words
+        commits *= 4
+
+
+def at_once(folder, *words, wanted=(b'', WRITE, 1)):
+    """The answer comes in less time than half of the run takes."""
+    before = time.monotonic()
+    expect(run(folder, *words), wanted)
+    took = time.monotonic() - before
+    if took > 0.25:
+        raise AssertionError(f'{took:.2f} seconds')
+
+
+@case
+def a_folder_that_is_not_there(folder):
+    at_once(folder, *long_run(folder), '--trace', 'missing/out')
+
+
+@case
+def a_folder_in_place_of_a_file(folder):
+    (folder / 'out').mkdir()
+    at_once(folder, *long_run(folder), '--trace', 'out')
+
+
+@case
+def a_name_that_no_file_can_have(folder):
+    words = long_run(folder)
+    for name in ('', '.', '..', 'out/', 'spin.kpn/out', 'n' * 256):
+        expect(run(folder, *words, '--trace', name)[1:], (WRITE, 1))
+    expect(names(folder), ['spin.kpn'])
+
+
+@case
+def a_part_file_that_somebody_holds(folder):
+    words = long_run(folder)
+    with open(folder / 'out.kpn-part', 'wb') as part:
+        part.write(b'of another')
+        part.flush()
+        fcntl.flock(part, fcntl.LOCK_EX)
+        at_once(folder, *words, '--trace', 'out')
+    expect((folder / 'out.kpn-part').read_bytes(), b'of another')
+
+
+@case
+def a_file_that_may_not_be_written(folder):
+    if os.geteuid() != 0:
+        return
+    words = long_run(folder)
+    (folder / 'out').write_bytes(b'kept\n')
+    os.chmod(folder / 'out', 0o444)
+    os.chmod(folder, 0o777)
+    expect(run(folder, *words, '--trace', 'out', user=USER), (b'', WRITE, 1))
+    expect((folder / 'out').read_bytes(), b'kept\n')
+    expect(names(folder), ['out', 'spin.kpn'])
+
+
+@case
+def a_folder_that_may_not_be_written(folder):
+    if os.geteuid() != 0:
+        return
+    words = long_run(folder)
+    (folder / 'closed').mkdir(mode=0o755)
+    expect(run(folder, *words, '--trace', 'closed/out', user=USER), (b'', WRITE, 1))
+
+
+@case
+def inputs_are_refused_first(folder):
+    expect(run(folder, 'no.kpn', '--trace', 'missing/out'), (b'', READ, 1))
+    (folder / 'out').write_bytes(b'kept\n')
+    expect(run(folder, 'no.kpn', '--trace', 'out'), (b'', READ, 1))
+    expect(names(folder), ['out'])
+    expect((folder / 'out').read_bytes(), b'kept\n')
+
+
+@case
+def a_part_file_that_a_killed_run_left(folder):
+    two(folder)
+    (folder / 'out.kpn-part').write_bytes(b'a part')
+    expect(run(folder, 'two.kpn', '--trace', 'out'), (REPORT, b'', 0))
+    expect((folder / 'out').read_bytes(), TRACE)
+    expect(names(folder), ['out', 'two.kpn'])
+
+
+@case
+def killed_runs(folder):
+    shutil.copy(DATA / 'worked/spin.kpn', folder / 'spin.kpn')
+    two(folder)
+    left = 0
+    for turn in range(40):
+        begun = subprocess.Popen([PROGRAM, 'run', 'two.kpn', '--trace', 'out'], cwd=folder, stdout=subprocess.DEVNULL)
+        time.sleep(turn * 0.001)
+        begun.send_signal(signal.SIGKILL)
+        begun.wait()
+        left += (folder / 'out.kpn-part').exists()
+        if (folder / 'out').exists():
+            expect((folder / 'out').read_bytes(), TRACE)
+        expect(run(folder, 'two.kpn', '--trace', 'out'), (REPORT, b'', 0))
+        expect((folder / 'out').read_bytes(), TRACE)
+        expect(names(folder), ['out', 'spin.kpn', 'two.kpn'])
+    print(f'  {left} of 40 killed runs left a part file')
+
+
+@case
+def two_runs_at_once(folder):
+    two(folder)
+    begun = [subprocess.Popen([PROGRAM, 'run', 'two.kpn', '--trace', 'out'], cwd=folder, stdout=subprocess.PIPE,
+                              stderr=subprocess.PIPE) for _ in range(16)]
+    for one in begun:
+        out, told = one.communicate()
+        if (out, told, one.returncode) not in ((REPORT, b'', 0), (b'', WRITE, 1)):
+            raise AssertionError((out, told, one.returncode))
+    expect((folder / 'out').read_bytes(), TRACE)
+    expect(names(folder), ['out', 'two.kpn'])
+
+
+@case
+def names_of_255_bytes(folder):
+    two(folder)
+    for name in ('n' * 246, 'n' * 247, 'n' * 255, 'ä' * 127, 'ä' * 127 + 'n', 'n' + 'ä' * 127):
+        expect(run(folder, 'two.kpn', '--trace', name), (REPORT, b'', 0))
+        expect((folder / name).read_bytes(), TRACE)
+        os.remove(folder / name)
+    expect(names(folder), ['two.kpn'])
+
+
+# ---- rights, and what stays
+
+def rights(path):
+    return stat.S_IMODE(os.stat(path).st_mode)
+
+
+@case
+def the_rights_of_the_old_file(folder):
+    two(folder)
+    for mode in (0o600, 0o640, 0o666, 0o755, 0o200):
+        (folder / 'out').write_bytes(b'kept\n')
+        os.chmod(folder / 'out', mode)
+        expect(run(folder, 'two.kpn', '--trace', 'out'), (REPORT, b'', 0))
+        expect(oct(rights(folder / 'out')), oct(mode))
+
+
+@case
+def the_rights_of_a_new_file(folder):
+    two(folder)
+    for mask in (0o022, 0o077, 0o000):
+        expect(run(folder, 'two.kpn', '--trace', 'out', umask=mask), (REPORT, b'', 0))
+        expect(oct(rights(folder / 'out')), oct(0o666 & ~mask))
+        os.remove(folder / 'out')
+
+
+@case
+def the_rights_of_the_part_file_from_its_beginning(folder):
+    """No file with more rights than the old one is ever made: the calls of the system tell."""
+    if shutil.which('strace') is None:
+        return
+    two(folder)
+    (folder / 'out').write_bytes(b'kept\n')
+    os.chmod(folder / 'out', 0o600)
+    done = subprocess.run(['strace', '-f', '-e', 'trace=openat,fsync,rename', PROGRAM, 'run', 'two.kpn', '--trace',
+                           'out'], cwd=folder, capture_output=True, umask=0)
+    calls = done.stderr.decode()
+    expect(len(re.findall(r'kpn-part", O_WRONLY.O_CREAT.O_EXCL[A-Z_|]*, 0(?:100)?600\)', calls)), 1)
+
+
+@case
+def an_old_part_file_with_more_rights(folder):
+    two(folder)
+    (folder / 'out').write_bytes(b'kept\n')
+    os.chmod(folder / 'out', 0o600)
+    (folder / 'out.kpn-part').write_bytes(b'left')
+    os.chmod(folder / 'out.kpn-part', 0o666)
+    expect(run(folder, 'two.kpn', '--trace', 'out'), (REPORT, b'', 0))
+    expect(oct(rights(folder / 'out')), oct(0o600))
+
+
+@case
+def a_part_file_that_is_a_second_name(folder):
+    """What a part file is a second name of is not written."""
+    two(folder)
+    (folder / 'other').write_bytes(b'of another\n')
+    os.link(folder / 'other', folder / 'out.kpn-part')
+    expect(run(folder, 'two.kpn', '--trace', 'out'), (REPORT, b'', 0))
+    expect((folder / 'other').read_bytes(), b'of another\n')
+
+
+@case
+def a_part_file_that_is_a_link(folder):
+    two(folder)
+    (folder / 'other').write_bytes(b'of another\n')
+    (folder / 'out.kpn-part').symlink_to('other')
+    expect(run(folder, 'two.kpn', '--trace', 'out'), (b'', WRITE, 1))
+    expect((folder / 'other').read_bytes(), b'of another\n')
+
+
+@case
+def a_device_that_is_full(folder):
+    two(folder)
+    expect(run(folder, 'two.kpn', '--trace', '/dev/full'), (b'', WRITE, 1))
+
+
+@case
+def a_file_that_may_grow_no_longer(folder):
+    """Where the trace is not written whole the old file stays, and no part file."""
+    two(folder)
+    (folder / 'out').write_bytes(b'kept\n')
+    expect(run(folder, 'two.kpn', '--trace', 'out', preexec_fn=small_files), (b'', WRITE, 1))
+    expect((folder / 'out').read_bytes(), b'kept\n')
+    expect(names(folder), ['out', 'two.kpn'])
+
+
+def small_files():
+    """No file may be longer than 8 bytes, and a longer write fails."""
+    signal.signal(signal.SIGXFSZ, signal.SIG_IGN)
+    resource.setrlimit(resource.RLIMIT_FSIZE, (8, 8))
+
+
+@case
+def synced_before_it_succeeds(folder):
+    """The file is synced before it takes its place, and its folder after that."""
+    if shutil.which('strace') is None:
+        return
+    two(folder)
+    done = subprocess.run(['strace', '-f', '-e', 'trace=fsync,rename,write', PROGRAM, 'run', 'two.kpn', '--trace', 'out'],
+                          cwd=folder, capture_output=True)
+    calls = [line.split('(')[0] for line in done.stderr.decode().splitlines()]
+    expect([call for call in calls if call in ('fsync', 'rename')], ['fsync', 'rename', 'fsync'])
+
+
+@case
+def an_input_that_a_signal_interrupts(folder):
+    """A pipe whose reads are interrupted by signals that the program has stopped and gone on by."""
+    copy(folder)
+    os.mkfifo(folder / 'pipe')
+    begun = subprocess.Popen([PROGRAM, 'run', 'copy.kpn', '--source', 's=pipe'], cwd=folder, stdout=subprocess.PIPE,
+                             stderr=subprocess.PIPE)
+    with open(folder / 'pipe', 'wb') as pipe:
+        for line in (b'1\n', b'2\n', b'3\n'):
+            pipe.write(line)
+            pipe.flush()
+            time.sleep(0.05)
+            begun.send_signal(signal.SIGSTOP)
+            begun.send_signal(signal.SIGCONT)
+    out, told = begun.communicate(timeout=60)
+    expect((out, told), (b'sink z: 1 2 3\nwaits c s\nended\n', b''))
+
+
+def main():
+    for test in cases:
+        with tempfile.TemporaryDirectory(prefix='kpn-files-') as name:
+            folder = pathlib.Path(name)
+            os.chmod(folder, 0o755)
+            try:
+                test(folder)
+            except (AssertionError, OSError, subprocess.TimeoutExpired) as error:
+                failed.append(test.__name__)
+                print(f'{test.__name__}: {error}')
+    print(f'{len(cases) - len(failed)} of {len(cases)} cases')
+    sys.exit(1 if failed else 0)
+
+
+if __name__ == '__main__':
+    PROGRAM = os.path.abspath(sys.argv[1]) if len(sys.argv) > 1 else str(TOP / 'crates/kpn/out/kpn')
+    main()

@@ -1,0 +1,86 @@
+#!/usr/bin/env python3
+"""The least stack with which the rows of check_examples come to what they are to come to.
+
+Each row runs with less and less stack, by halves and then by KiB, and its answer is compared with that of a run on all
+stack. A worker has as much stack as the calling thread. It is no part of the gate. A word names the program; it is
+crates/kpn/out/kpn where none is named.
+"""
+import os
+import pathlib
+import resource
+import shutil
+import subprocess
+import sys
+import tempfile
+
+TOP = pathlib.Path(__file__).resolve().parent.parent.parent
+CASES = TOP / 'crates/check_examples'
+
+# what the whole of a row is tried with at first, in KiB, and the step of the last search
+MOST, STEP = 8_192, 4
+
+
+def text_of(word):
+    return word.replace('\\n', '\n').replace('\\r', '\r').replace('\\0', '\0')
+
+
+def answer(words, folder, stack):
+    """What a command writes and tells, and its status, with so many KiB of stack."""
+    def limit():
+        resource.setrlimit(resource.RLIMIT_STACK, (stack * 1024, stack * 1024))
+    given = folder / 'input'
+    done = subprocess.run([PROGRAM, *words], cwd=folder, capture_output=True, preexec_fn=limit,
+                          input=given.read_bytes() if given.exists() else b'')
+    return done.stdout, done.stderr, done.returncode
+
+
+def least(words, folder):
+    """The least stack, in KiB, with which a command answers as with all, and the answer."""
+    wanted = answer(words, folder, MOST)
+    low, high = 0, MOST
+    while high - low > STEP:
+        middle = (low + high) // 2
+        if answer(words, folder, middle) == wanted:
+            high = middle
+        else:
+            low = middle
+    return high
+
+
+def rows(folder):
+    """The command lines of the compared run, with the files that lie there as each is run."""
+    for line in (CASES / 'stdin').read_text().splitlines():
+        word, _, rest = line.partition(' ')
+        if word == 'first':
+            word, _, rest = rest.partition(' ')[2].partition(' ')
+        if word == 'file':
+            name, _, text = rest.partition(' ')
+            (folder / name).write_text(text_of(text))
+        elif word == 'many':
+            name, count, text = rest.split(' ', 2)
+            with open(folder / name, 'a') as file:
+                file.write(text_of(text) * int(count))
+        elif word == 'kpn':
+            yield rest.split()
+
+
+def main():
+    every = int(sys.argv[2]) if len(sys.argv) > 2 else 1
+    found = {}
+    with tempfile.TemporaryDirectory(prefix='kpn-stack-') as name:
+        folder = pathlib.Path(name) / 'data'
+        shutil.copytree(CASES / 'data', folder)
+        for number, words in enumerate(rows(folder)):
+            if number % every == 0:
+                options = [word for word in ('--workers', '--trace') if word in words]
+                kind = ' '.join([*words[:1], *options])
+                stack = least(words, folder)
+                if stack > found.get(kind, (0, ''))[0]:
+                    found[kind] = stack, ' '.join(words)
+    for kind, (stack, words) in sorted(found.items(), key=lambda pair: -pair[1][0]):
+        print(f'{stack:6} KiB  {kind}: {words[:80]}')
+
+
+if __name__ == '__main__':
+    PROGRAM = os.path.abspath(sys.argv[1]) if len(sys.argv) > 1 else str(TOP / 'crates/kpn/out/kpn')
+    main()
