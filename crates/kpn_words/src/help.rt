@@ -43,7 +43,7 @@ want of memory.";
 pub(crate) const RUN_HELP: &str = "\
 Feeds each source its items and closes it, and then steps the processes in turn. A process waits
 where it reads an empty channel or writes a full one. Where processes wait for one another in a cycle
-that has full channels, the one of least capacity grows by 1, unless it is at the limit. Writes the
+that has full channels, the one of least capacity grows, unless it is at the limit. Writes the
 items that were taken from each sink, which processes have faulted, which wait, and what the run has
 come to:
 
