@@ -23,7 +23,14 @@ pub fn copying(alloc: Global) -> Result<Network, Fail> {
     };
     let channels = vec![in alloc; Source, Sink(1)]?;
     let instances = vec![in alloc; instance]?;
-    Ok(Network::new(alloc, vec![in alloc; copy]?, instances, channels, 9, Growth::One)?)
+    Ok(Network::new(
+        alloc,
+        vec![in alloc; copy]?,
+        instances,
+        channels,
+        9,
+        Growth::One,
+    )?)
 }
 
 /// Feeds an item to source `c`, and tells who was woken.

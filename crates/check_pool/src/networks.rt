@@ -28,7 +28,14 @@ fn processes(
         })?;
     }
     let programs = vec![in alloc; program]?;
-    Ok(Network::new(alloc, programs, instances, channels.to_vec(alloc)?, LIMIT, Growth::One)?)
+    Ok(Network::new(
+        alloc,
+        programs,
+        instances,
+        channels.to_vec(alloc)?,
+        LIMIT,
+        Growth::One,
+    )?)
 }
 
 /// `while 1 { .. }`

@@ -1,0 +1,60 @@
+//! Audits of a channel that grows, as its network says.
+use kpn_audit::{AuditFault, audit};
+use kpn_lang::{Expr, Program, Sequence, Stmt};
+use kpn_net::ChannelSpec::Inner;
+use kpn_net::{Growth, Instance, Network};
+use kpn_trace::Event;
+use std::alloc::Global;
+use std::test::Fail;
+
+/// `write o 1; write o 2; write o 3; write o 4;` on a channel of capacity 1 that joins the process to itself.
+fn writing_four(alloc: Global, growth: Growth) -> Result<Network, Fail> {
+    let mut body = Vec::new(alloc);
+    for item in 1..5 {
+        body.push(Stmt::Write(0, Expr::Num(item)))?;
+    }
+    let program = Program::new(alloc, 1, 1, 0, 0, vec![in alloc; body]?)?;
+    let instance = Instance {
+        program: 0,
+        ins: Sequence::from_vec(vec![in alloc; 0]?),
+        outs: Sequence::from_vec(vec![in alloc; 0]?),
+        pars: Sequence::from_vec(Vec::new(alloc)),
+    };
+    let channels = vec![in alloc; Inner(1)]?;
+    let instances = vec![in alloc; instance]?;
+    Ok(Network::new(
+        alloc,
+        vec![in alloc; program]?,
+        instances,
+        channels,
+        9,
+        growth,
+    )?)
+}
+
+/// The fourth item is there at once after two growths.
+const DOUBLED: [Event; 8] = [
+    Event::Put(0, 0, 1),
+    Event::WaitFull(0, 0),
+    Event::Grow(0, 0),
+    Event::Put(0, 0, 2),
+    Event::WaitFull(0, 0),
+    Event::Grow(0, 0),
+    Event::Put(0, 0, 3),
+    Event::Put(0, 0, 4),
+];
+
+/// The capacity that an audit finds at the end, or why it refuses the events.
+fn audited(alloc: Global, network: &Network) -> Result<Option<u32>, AuditFault> {
+    let found = audit(alloc, network, &DOUBLED, 1_000)?;
+    Ok(found.caps.as_slice().get(0).copied().unwrap_or(None))
+}
+
+#[test]
+fn a_channel_grows_as_its_network_says(rt: HostRuntime) -> Result<(), Fail> {
+    let doubling = writing_four(rt.alloc(), Growth::Double)?;
+    assert_eq!(rt; audited(rt.alloc(), &doubling), Ok(Some(4)));
+    let by_one = writing_four(rt.alloc(), Growth::One)?;
+    assert_eq!(rt; audited(rt.alloc(), &by_one), Err(AuditFault::Illegal(7)));
+    Ok(())
+}
