@@ -1,10 +1,10 @@
 #!/usr/bin/env python3
 """The least stack with which the rows of check_examples come to what they are to come to.
 
-Each row runs with less and less stack, and its answer is compared with that of a run on all stack. A worker has as much
-stack as the calling thread. Where a stack begins is random, by some KiB, so each is tried several times. It is no part
-of the gate. Words: the program, which is crates/kpn/out/kpn where none is named, and a number N, if every N-th row is to
-do.
+Each row runs with less and less stack, and its answer is compared with that of a run on all stack. A worker has as
+much stack as the calling thread. Where a stack begins is random, by some KiB, so each is tried several times. It is no
+part of the gate. Words: the program, which is crates/kpn/out/kpn where none is named, and a number N, where every N-th
+row is to do.
 """
 import os
 import pathlib
