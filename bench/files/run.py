@@ -517,7 +517,7 @@ def synced_before_it_succeeds(folder):
     if shutil.which('strace') is None:
         return
     two(folder)
-    done = subprocess.run(['strace', '-f', '-e', 'trace=fsync,rename,write', PROGRAM, 'run', 'two.kpn', '--trace', 'out'],
+    done = subprocess.run(['strace', '-f', '-e', 'trace=fsync,rename', PROGRAM, 'run', 'two.kpn', '--trace', 'out'],
                           cwd=folder, capture_output=True)
     calls = [line.split('(')[0] for line in done.stderr.decode().splitlines()]
     expect([call for call in calls if call in ('fsync', 'rename')], ['fsync', 'rename', 'fsync'])

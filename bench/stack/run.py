@@ -1,9 +1,10 @@
 #!/usr/bin/env python3
 """The least stack with which the rows of check_examples come to what they are to come to.
 
-Each row runs with less and less stack, by halves and then by KiB, and its answer is compared with that of a run on all
-stack. A worker has as much stack as the calling thread. It is no part of the gate. A word names the program; it is
-crates/kpn/out/kpn where none is named.
+Each row runs with less and less stack, and its answer is compared with that of a run on all stack. A worker has as
+much stack as the calling thread. Where a stack begins is random, by some KiB, so each is tried several times. It is no
+part of the gate. Words: the program, which is crates/kpn/out/kpn where none is named, and a number N, where every N-th
+row is to do.
 """
 import os
 import pathlib
@@ -16,8 +17,11 @@ import tempfile
 TOP = pathlib.Path(__file__).resolve().parent.parent.parent
 CASES = TOP / 'crates/check_examples'
 
-# what the whole of a row is tried with at first, in KiB, and the step of the last search
-MOST, STEP = 8_192, 4
+# the stack that is enough for each row, in KiB, and the step of the search
+MOST, STEP = 1_024, 4
+
+# how often a stack is tried
+TRIES = 8
 
 
 def text_of(word):
@@ -40,7 +44,7 @@ def least(words, folder):
     low, high = 0, MOST
     while high - low > STEP:
         middle = (low + high) // 2
-        if answer(words, folder, middle) == wanted:
+        if all(answer(words, folder, middle) == wanted for _ in range(TRIES)):
             high = middle
         else:
             low = middle

@@ -90,8 +90,8 @@ fn writes_to<R: Threads + Wait + Clock + Sync>(
     Ok(status == wanted && err.as_slice() == told.as_bytes())
 }
 
-/// Whether a command line tells an output that fails once, at the write or at the flush, and succeeds over one that takes
-/// all.
+/// Whether a command line tells an output that fails once, at the write or at the flush, and succeeds over one that
+/// takes all.
 fn tells_an_output<R: Threads + Wait + Clock + Sync>(
     rt: &R,
     alloc: Global,

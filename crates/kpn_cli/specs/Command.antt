@@ -96,7 +96,8 @@ pub data Runs {S I O E : Type 0} (may_give : S → Loads) (may_alias : S → Ali
       Runs may_give may_alias remaining contents asked shelf kept input read out written err told status
   by_workers : (file : List ℕ) (words : List (List ℕ)) (limits : Limits) (trace : Option (List ℕ)) (workers : ℕ) →
       AsksForRunWithin asked file words limits trace (Some workers) → read ≡ input →
-      AnswersRun may_give may_alias contents file words limits trace (Some workers) shelf kept out written err told status →
+      AnswersRun may_give may_alias contents file words limits trace (Some workers) shelf kept out written err told
+      status →
       Runs may_give may_alias remaining contents asked shelf kept input read out written err told status
 
 -- ---- scaffolding: what the code's parts answer
