@@ -63,8 +63,17 @@ pub fn two_sevens(alloc: Global) -> Result<Network, Fail> {
 pub fn nine_sevens(alloc: Global) -> Result<Network, Fail> {
     let body = vec![in alloc; Stmt::Write(0, Expr::Num(7))]?;
     let seven = Program::new(alloc, 0, 1, 0, 0, vec![in alloc; body]?)?;
-    let outs: [&[usize]; 9] = [&[0], &[1], &[2], &[3], &[4], &[5], &[6], &[7], &[8]];
-    let ports = outs.map(|outs| (&[] as &[usize], outs));
+    let ports: [Ports; 9] = [
+        (&[], &[0]),
+        (&[], &[1]),
+        (&[], &[2]),
+        (&[], &[3]),
+        (&[], &[4]),
+        (&[], &[5]),
+        (&[], &[6]),
+        (&[], &[7]),
+        (&[], &[8]),
+    ];
     processes(alloc, seven, &ports, &[Sink(1); 9])
 }
 

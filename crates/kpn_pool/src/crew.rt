@@ -7,6 +7,9 @@
 //! | rests | it has looked on | it is notified, or its time is over |
 //! | has ended | it found a reason to end | |
 //!
+//! A worker that joins claims its part of the processes that are ready, by the number of workers and rounded up, but no
+//! more than eight: so others find some too. A process of such a batch waits for the turns of those before it.
+//!
 //! A worker joins if a process is ready and fewer workers are busy than pays. It joins in any case if it has waited in
 //! vain: nobody has committed since it left the lock, so the gate or long turns hold those that are busy.
 //!
