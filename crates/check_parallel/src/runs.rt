@@ -130,8 +130,8 @@ fn here(
     Ok(Some(run_here(alloc, network, lists, limits)?))
 }
 
-/// Whether a run by so many workers comes to the outcome and the items of a run on one thread, and passes the limit of
-/// commits, where that stops it, by one for each other worker at most.
+/// Whether a run by so many workers comes to the outcome and the items of a run on one thread, and, if the limit of
+/// commits stops it, makes as many. A network with several processes may pass the limit.
 fn runs_as_here<R: Threads + Wait + Clock + Sync, G: Gate>(
     rt: &R,
     alloc: Global,
@@ -147,11 +147,8 @@ fn runs_as_here<R: Threads + Wait + Clock + Sync, G: Gate>(
     let Some(wanted) = here(alloc, text, lists, limits)? else {
         return Ok(false);
     };
-    let past = report.commits.checked_sub(limits.commits);
-    let is_within = past.is_none_or(|past| past < workers as u64);
-    let is_reached = report.outcome != Outcome::Stopped || past.is_some();
     let is_same = report.outcome == wanted.outcome && report.taken == wanted.taken;
-    Ok(is_same && is_within && is_reached)
+    Ok(is_same && (report.outcome != Outcome::Stopped || report.commits == limits.commits))
 }
 
 #[test]
