@@ -14,6 +14,8 @@ It is no part of the gate. Words:
                         until nothing is refused any more (refuse.c): the run tells it, or is as on one thread
     commands [KPN]      the same of each row of check_examples by one thread, of any command, and of the built-in
                         processes: the command tells it, or is as with memory
+    mixed SECONDS [KPN] random networks for so long, by 0 to 16 workers, some with memory or threads refused or killed
+                        (mixed.py), by root: each as on one thread, and each trace legal
 
 KPN is the program, crates/kpn/out/kpn where none is named.
 """
@@ -25,6 +27,9 @@ import subprocess
 import sys
 import tempfile
 import time
+
+sys.dont_write_bytecode = True
+from mixed import mixed
 
 TOP = pathlib.Path(__file__).resolve().parent.parent.parent
 DATA = TOP / 'crates/check_examples/data'
@@ -201,6 +206,8 @@ def main():
             refuse_memory(copy)
         elif what == 'commands':
             refuse_commands(copy)
+        elif what == 'mixed':
+            mixed(copy, refusing_library(pathlib.Path(folder)), USER, int(words[0]))
         else:
             sys.exit(__doc__)
 
