@@ -7,7 +7,7 @@ use Rattle.kpn_lang.specs.Prefix.{IsPrefix}
 use Rattle.kpn_net.specs.Tables.{Tables, channel_at, is_source}
 use Rattle.kpn_net.specs.Faults.{IsNetwork}
 use Rattle.kpn_net.specs.Iteration.{IsBelowLeast, IsLeast, AgreeOnSources}
-use Rattle.kpn_net.proofs.Growth.{IsPrefixOnSources-agree}
+use Rattle.kpn_net.proofs.Monotone.{IsPrefixOnSources-agree}
 use Rattle.kpn_net.proofs.Networks.{source_there}
 use Rattle.kpn_trace.specs.declared.event.Event.{Event}
 use Rattle.kpn_trace.specs.declared.state.State.{State}

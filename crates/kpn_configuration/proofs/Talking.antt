@@ -15,7 +15,7 @@ use Rattle.kpn_net.specs.Tables.{Tables, instance_at, program_of}
 use Rattle.kpn_net.specs.Faults.{IsNetwork}
 use Rattle.kpn_net.specs.Process.{Family, talk_on, CanSay, ComesTo, at_channel, ends_at_channel}
 use Rattle.kpn_net.specs.Waits.{AreDistinct}
-use Rattle.kpn_net.proofs.Growth.{map-prefix}
+use Rattle.kpn_net.proofs.Monotone.{map-prefix}
 use Rattle.kpn_net.proofs.PortsApart.{reads_its_ins, ins_distinct, one_port}
 use Rattle.kpn_step.specs.declared.stop.Stop.{Stop}
 use Rattle.kpn_step.specs.declared.stop.Stop.TheVariants as stop

@@ -1,4 +1,4 @@
-pub mod Growth
+pub mod Monotone
 pub mod SideLemmas
 pub mod Networks
 pub mod Ports

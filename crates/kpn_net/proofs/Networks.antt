@@ -17,7 +17,9 @@ use Rattle.kpn_net.specs.declared.tables.ChannelSpec.TheVariants as channel
 use Rattle.kpn_net.specs.declared.tables.Instance.{Instance}
 use Rattle.kpn_net.specs.declared.tables.End.{End}
 use Rattle.kpn_net.specs.declared.tables.End.TheVariants.{Process, Source, Sink}
-use Rattle.kpn_net.specs.Tables.{Tables, program_at, instance_at, program_of, channel_at, capacity, is_source, is_sink, places, ends_from, writers_of, readers_of, writer_of, reader_of}
+use Rattle.kpn_net.specs.declared.tables.Growth.{Growth}
+use Rattle.kpn_net.specs.declared.tables.Growth.TheVariants.{One, Double}
+use Rattle.kpn_net.specs.Tables.{Tables, program_at, instance_at, program_of, channel_at, capacity, is_source, is_sink, grown, larger_capacity, places, ends_from, writers_of, readers_of, writer_of, reader_of}
 use Rattle.kpn_net.specs.Faults.{is_too_large, lacks_its_program, matches_program, differs_from_its_program, lacks_a_channel, exceeds, has_no_such_capacity, channel_numbers, is_none, are_several, wrong_capacity, first_at, or_else, instances_fault, channels_fault, IsNetwork}
 
 -- ---- searches that find nothing
@@ -539,3 +541,12 @@ pub capacity_in_range : (t : Tables) → IsNetwork t → (c cap : ℕ) → c < l
 capacity_in_range t network c cap below e =
     let sound = (wrong_capacity-None t _ (channels_sound t network).capacity).1 in
     capacity_from t (channel_at t c) cap (fails_at (has_no_such_capacity t.limit) t.channels sound c _ below) e
+
+-- a channel below the limit grows, and not above the limit
+pub larger_capacity_in_range : (t : Tables) (cap : ℕ) → 0 < cap → cap < t.limit
+    → (cap < larger_capacity t cap) × (larger_capacity t cap ≤ t.limit)
+larger_capacity_in_range t cap some below = by_growth t.growth
+  where
+    by_growth : (growth : Growth) → (cap < grown growth t.limit cap) × (grown growth t.limit cap ≤ t.limit)
+    by_growth One = (omega arith, omega arith)
+    by_growth Double = (omega arith, omega arith)

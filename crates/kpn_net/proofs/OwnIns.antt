@@ -9,7 +9,7 @@ use Rattle.kpn_lang.specs.Alone.{alone}
 use Rattle.kpn_lang.proofs.Prefixes.{IsPrefix-refl, IsPrefix-trans, prefixes_of_one}
 use Rattle.kpn_net.specs.Tables.{Tables, instance_at, program_of}
 use Rattle.kpn_net.specs.Process.{Family, IsFamilyPrefix, AgreeOnIns, at_channel, ends_at_channel, ran_on, talk_on, CanSay, ComesTo}
-use Rattle.kpn_net.proofs.Growth.{talk_on-grows}
+use Rattle.kpn_net.proofs.Monotone.{talk_on-grows}
 use Rattle.kpn_net.proofs.Cycles.{Contains-first, Contains-later}
 
 same_on : (channels : List ℕ) (X Y : Family) → ((c : ℕ) → Contains channels c → X c ≡ Y c)

@@ -1,19 +1,23 @@
 -- The tables of a network, and the ends of its channels (Kahn 1974: sequential processes joined by one-way channels,
 -- each with one writer and one reader; Parks 1995: a channel has a capacity).
-use Rattle.std.specs.Prelude.{ℕ, suc, Bool, true, false, nat_eq, if◌then◌else◌, List, [], ◌∷◌, ◌++◌, slice_index_or, Option, Some, None}
+use Rattle.std.specs.Prelude.{ℕ, suc, ◌+◌, ◌*◌, min, Bool, true, false, nat_eq, if◌then◌else◌, List, [], ◌∷◌, ◌++◌, slice_index_or, Option, Some, None}
 use Rattle.kpn_lang.specs.Parts.{Parts}
 use Rattle.kpn_net.specs.declared.tables.ChannelSpec.{ChannelSpec}
 use Rattle.kpn_net.specs.declared.tables.ChannelSpec.TheVariants as channel
 use Rattle.kpn_net.specs.declared.tables.Instance.{Instance}
 use Rattle.kpn_net.specs.declared.tables.End.{End}
 use Rattle.kpn_net.specs.declared.tables.End.TheVariants.{Process, Source, Sink}
+use Rattle.kpn_net.specs.declared.tables.Growth.{Growth}
+use Rattle.kpn_net.specs.declared.tables.Growth.TheVariants.{One, Double}
 
--- the programs, the instances of them, which are the processes, the channels, and the limit of each capacity
+-- the programs, the instances of them, which are the processes, the channels, the limit of each capacity, and how large
+-- a channel becomes where it grows
 pub record Tables : Type 0 where
   pub programs : List Parts
   pub instances : List Instance
   pub channels : List ChannelSpec
   pub limit : ℕ
+  pub growth : Growth
 
 -- ---- the tables by number
 
@@ -52,6 +56,15 @@ abbrev pub capacity : ChannelSpec → Option ℕ
 capacity (channel.Inner cap) = Some cap
 capacity channel.Source = None
 capacity (channel.Sink cap) = Some cap
+
+-- the capacity after one growth: 1 larger, or twice as large where that is not above the limit
+abbrev pub grown : Growth → (limit cap : ℕ) → ℕ
+grown One limit cap = cap + 1
+grown Double limit cap = min (2 * cap) limit
+
+-- the capacity that a channel of this capacity has after one growth
+abbrev pub larger_capacity : Tables → (cap : ℕ) → ℕ
+larger_capacity t cap = grown t.growth t.limit cap
 
 -- a process once for each place of a channel among these ports
 abbrev pub places : (c p : ℕ) → (ports : List ℕ) → List End

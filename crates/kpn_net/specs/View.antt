@@ -4,14 +4,15 @@ use Rattle.kpn_lang.specs.Parts.{Parts}
 use Rattle.kpn_net.specs.declared.tables.ChannelSpec.{ChannelSpec}
 use Rattle.kpn_net.specs.declared.tables.Instance.{Instance}
 use Rattle.kpn_net.specs.declared.tables.End.{End}
+use Rattle.kpn_net.specs.declared.tables.Growth.{Growth}
 use Rattle.kpn_net.specs.declared.network.parts.Parts as held
 use Rattle.kpn_net.specs.Tables.{Tables, writer_of, reader_of}
 use Rattle.kpn_net.specs.Faults.{IsNetwork, channel_numbers}
 
 -- the tables of the parts that are handed in
-abbrev pub tables_with : List Parts → List Instance → List ChannelSpec → (limit : ℕ) → Tables
-tables_with programs instances channels limit =
-    record { programs = programs; instances = instances; channels = channels; limit = limit }
+abbrev pub tables_with : List Parts → List Instance → List ChannelSpec → (limit : ℕ) → Growth → Tables
+tables_with programs instances channels limit growth =
+    record { programs = programs; instances = instances; channels = channels; limit = limit; growth = growth }
 
 -- ---- scaffolding
 
@@ -23,6 +24,7 @@ tables_of p =
       instances = p.instances.items;
       channels = p.channels.items;
       limit = p.limit;
+      growth = p.growth;
     }
 
 -- what the code keeps of a network: tables that keep the rules, and the writer and the reader of each channel

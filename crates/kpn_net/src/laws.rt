@@ -6,7 +6,7 @@ ghost use Rattle.kpn_lang.specs.declared.talk.Ending.{Ending};
 ghost use Rattle.kpn_lang.specs.Parts.{IsProgram};
 ghost use Rattle.kpn_lang.specs.Prefix.{IsPrefix};
 ghost use Rattle.kpn_net.specs.declared.tables.End.TheVariants.{Process, Source, Sink};
-ghost use Rattle.kpn_net.specs.Tables.{Tables, instance_at, program_of, channel_at, is_source, is_sink, capacity, writers_of, readers_of, writer_of, reader_of};
+ghost use Rattle.kpn_net.specs.Tables.{Tables, instance_at, program_of, channel_at, is_source, is_sink, capacity, larger_capacity, writers_of, readers_of, writer_of, reader_of};
 ghost use Rattle.kpn_net.specs.Faults.{IsNetwork};
 ghost use Rattle.kpn_net.specs.Waits.{AreDistinct};
 ghost use Rattle.kpn_net.specs.Process.{Family, IsFamilyPrefix, AgreeOnIns, CanSay, ComesTo};
@@ -38,11 +38,14 @@ pub fn one_writer_and_one_reader()
         → reader_of t c ≢ Source }
 {}
 
-/// The limit of a network is from 1 to `MAX_CAPACITY`, and each capacity from 1 to the limit.
+/// The limit of a network is from 1 to `MAX_CAPACITY`, and each capacity from 1 to the limit. A capacity
+/// below the limit becomes larger by a growth, and does not pass the limit.
 pub fn capacities_are_in_range()
     ensures limit { (t : Tables) → IsNetwork t → (1 ≤ t.limit) × (t.limit ≤ MAX_CAPACITY) }
     ensures capacity { (t : Tables) → IsNetwork t → (c cap : ℕ) → c < length t.channels
         → capacity (channel_at t c) ≡ Some cap → (1 ≤ cap) × (cap ≤ t.limit) }
+    ensures larger { (t : Tables) (cap : ℕ) → 0 < cap → cap < t.limit
+        → (cap < larger_capacity t cap) × (larger_capacity t cap ≤ t.limit) }
 {}
 
 /// Each process of a network has a program, with as many ports and parameters.

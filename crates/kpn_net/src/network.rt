@@ -1,12 +1,12 @@
 //! Networks: tables that keep the rules, made once and read many times.
 ghost use Rattle.std.specs.Prelude.{◌≡◌, ◌<◌, ◌↔◌, IsTrue, length, IfSome, IfNone, MatchResult};
-ghost use Rattle.kpn_net.specs.Tables.{instance_at, program_at, program_of, channel_at, is_source, is_sink, writer_of, reader_of, capacity};
+ghost use Rattle.kpn_net.specs.Tables.{instance_at, program_at, program_of, channel_at, is_source, is_sink, writer_of, reader_of, capacity, larger_capacity};
 ghost use Rattle.kpn_net.specs.Faults.{first_fault, IsNetwork};
 ghost use Rattle.kpn_net.specs.Iteration.{sources};
 ghost use Rattle.kpn_net.specs.View.{tables_with};
 
 use crate::fault::NetFault;
-use crate::tables::{ChannelSpec, End, Instance};
+use crate::tables::{ChannelSpec, End, Growth, Instance};
 use kpn_lang::Program;
 use kpn_limits::MAX_CHANNELS;
 use std::alloc::{AllocError, Global};
@@ -47,19 +47,21 @@ impl Model for Network {
 impl Network {
     /// The network of these tables.
     ///
-    /// `limit` bounds each capacity and is 1 to `MAX_CAPACITY`. The fault is that of the first rule that the
-    /// tables break, each looked for in the whole network before the next, at the least number. The order
-    /// is that of `NetFault`. Memory is asked for last. The work grows no faster than the network's size.
+    /// `limit` bounds each capacity and is 1 to `MAX_CAPACITY`. `growth` says how large a channel becomes
+    /// where it grows. The fault is that of the first rule that the tables break, each looked for in the
+    /// whole network before the next, at the least number. The order is that of `NetFault`. Memory is asked
+    /// for last. The work grows no faster than the network's size.
     pub fn new(
         alloc: Global,
         programs: Vec<Program>,
         instances: Vec<Instance>,
         channels: Vec<ChannelSpec>,
         limit: u32,
+        growth: Growth,
     ) -> Result<Network, NetFault>
-        ensures refused { let t = tables_with programs.items instances.items channels.items limit in
+        ensures refused { let t = tables_with programs.items instances.items channels.items limit growth in
             IfSome (first_fault t) (λ fault. result ≡ Err fault) }
-        ensures made { let t = tables_with programs.items instances.items channels.items limit in
+        ensures made { let t = tables_with programs.items instances.items channels.items limit growth in
             IfNone (first_fault t)
             (MatchResult result (λ network. network ≡ t) (λ fault. fault ≡ NetFault.NoMemory)) }
     {
@@ -68,6 +70,7 @@ impl Network {
             instances,
             channels,
             limit,
+            growth,
         };
         if let Some(fault) = parts.instances_fault() {
             return Err(fault);
@@ -219,6 +222,24 @@ impl Network {
         self.parts.limit
     }
 
+    /// How large a channel becomes where it grows.
+    pub fn growth(&self) -> Growth
+        ensures { result ≡ self.now.growth }
+    {
+        self.parts.growth
+    }
+
+    /// The capacity that a channel of capacity `cap` has after one growth. It is at most the limit.
+    pub fn larger_capacity(&self, cap: u32) -> u32
+        requires { cap < self.now.limit }
+        ensures { result ≡ larger_capacity self.now cap }
+    {
+        match self.parts.growth {
+            Growth::One => cap + 1,
+            Growth::Double => (2 * cap).min(self.parts.limit),
+        }
+    }
+
     /// Nothing: it tells a caller's proof that the network keeps the rules.
     pub fn known(&self)
         ensures { IsNetwork self.now }
@@ -227,11 +248,12 @@ impl Network {
     }
 }
 
-/// Whether two networks are equal by value: the same programs, instances, channels and limit.
+/// Whether two networks are equal by value: the same programs, instances, channels, limit and growth.
 pub fn same(left: &Network, right: &Network) -> bool
     ensures { IsTrue result ↔ (left.now ≡ right.now) }
 {
     same_processes(&left.parts, &right.parts)
         && same_channels(&left.parts.channels, &right.parts.channels)
         && left.parts.limit == right.parts.limit
+        && left.parts.growth == right.parts.growth
 }

@@ -12,6 +12,15 @@ pub enum ChannelSpec {
     Sink(u32),
 }
 
+/// How large a channel becomes where it grows.
+#[derive(Clone, Copy, Debug, PartialEq, Eq)]
+pub enum Growth {
+    /// Its capacity becomes 1 larger.
+    One,
+    /// Its capacity becomes twice as large, or the limit where that is less.
+    Double,
+}
+
 /// A process of a network: an instance of a program.
 #[derive(Debug, Drop)]
 pub struct Instance {

@@ -2,7 +2,7 @@
 use Rattle.std.proofs.Common.{◌≡◌, ℕ, ◌<◌, true, ℤ, List, [], length, get_or, Some, sym, subst, ◌∙◌}
 use Rattle.kpn_net.specs.Tables.{Tables}
 use Rattle.kpn_net.specs.Iteration.{AgreeOnSources, given_by}
-use Rattle.kpn_net.proofs.Growth.{IsPrefixOnSources-agree}
+use Rattle.kpn_net.proofs.Monotone.{IsPrefixOnSources-agree}
 use Rattle.kpn_net.proofs.Networks.{source_there}
 use Rattle.kpn_net.proofs.RoundLemmas.{list_of}
 use Rattle.kpn_trace.specs.Channels.{written_on, is_closed}

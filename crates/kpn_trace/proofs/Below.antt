@@ -10,7 +10,7 @@ use Rattle.kpn_net.specs.Tables.{Tables, channel_at, is_source, writer_of}
 use Rattle.kpn_net.specs.Faults.{IsNetwork}
 use Rattle.kpn_net.specs.Process.{Family, IsFamilyPrefix, CanSay, talk_on, out_of}
 use Rattle.kpn_net.specs.Iteration.{written_by, round, iterate, IsPrefixOnSources}
-use Rattle.kpn_net.proofs.Growth.{out_of-grows, round-grows, iterate-grows, IsPrefixOnSources-refl}
+use Rattle.kpn_net.proofs.Monotone.{out_of-grows, round-grows, iterate-grows, IsPrefixOnSources-refl}
 use Rattle.kpn_net.proofs.Networks.{Writes, writer_of-Writes, source_if_not_written}
 use Rattle.kpn_trace.specs.declared.event.Event.{Event}
 use Rattle.kpn_trace.specs.declared.event.Event.TheVariants.{Put, Feed}

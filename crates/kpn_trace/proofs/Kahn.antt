@@ -8,7 +8,7 @@ use Rattle.kpn_net.specs.Tables.{Tables}
 use Rattle.kpn_net.specs.Faults.{IsNetwork}
 use Rattle.kpn_net.specs.Process.{Family}
 use Rattle.kpn_net.specs.Iteration.{iterate, IsPrefixOnSources, AgreeOnSources, IsBelowLeast, IsLeast}
-use Rattle.kpn_net.proofs.Growth.{iterate-grows, IsPrefixOnSources-refl, IsPrefixOnSources-agree, round-depends_on_sources, closed_below-IsLeast}
+use Rattle.kpn_net.proofs.Monotone.{iterate-grows, IsPrefixOnSources-refl, IsPrefixOnSources-agree, round-depends_on_sources, closed_below-IsLeast}
 use Rattle.kpn_trace.specs.declared.event.Event.{Event}
 use Rattle.kpn_trace.specs.Channels.{written_on, read_on, fed}
 use Rattle.kpn_trace.specs.Legal.{Legal}

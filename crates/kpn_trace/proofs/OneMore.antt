@@ -13,7 +13,7 @@ use Rattle.kpn_net.specs.declared.tables.ChannelSpec.{ChannelSpec}
 use Rattle.kpn_net.specs.declared.tables.ChannelSpec.TheVariants as channel
 use Rattle.kpn_net.specs.Tables.{Tables, channel_at, is_source, capacity, reader_of}
 use Rattle.kpn_net.specs.Process.{Family, IsFamilyPrefix, CanSay, talk_on}
-use Rattle.kpn_net.proofs.Growth.{talk_on-grows}
+use Rattle.kpn_net.proofs.Monotone.{talk_on-grows}
 use Rattle.kpn_trace.specs.declared.event.Event.{Event}
 use Rattle.kpn_trace.specs.declared.event.Event.TheVariants.{Get, Put, Feed, Take}
 use Rattle.kpn_trace.specs.Talks.{said_in, talk_of, is_end_of, has_ended}

@@ -17,7 +17,7 @@ use Rattle.kpn_net.specs.declared.tables.Instance.{Instance}
 use Rattle.kpn_net.specs.Tables.{Tables, instance_at, program_of}
 use Rattle.kpn_net.specs.Faults.{IsNetwork}
 use Rattle.kpn_net.specs.Process.{Family, IsFamilyPrefix, at_channel, ends_at_channel, ran_on, talk_on, CanSay, ComesTo}
-use Rattle.kpn_net.proofs.Growth.{ArePrefixes-map, talk_on-grows}
+use Rattle.kpn_net.proofs.Monotone.{ArePrefixes-map, talk_on-grows}
 use Rattle.kpn_net.proofs.Networks.{IsInstance-of, IsProgram-of, StandsAt, Reads, Writes}
 use Rattle.kpn_net.proofs.Ports.{SaidNames, TalkNames, EndingNames, RanNames, alone-names}
 

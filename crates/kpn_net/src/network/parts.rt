@@ -10,17 +10,18 @@ ghost use Rattle.kpn_net.specs.View.{tables_of};
 
 use crate::fault::NetFault;
 use crate::network::sides::{self, Side};
-use crate::tables::{ChannelSpec, End, Instance};
+use crate::tables::{ChannelSpec, End, Growth, Instance};
 use kpn_lang::Program;
 use kpn_limits::{MAX_CAPACITY, MAX_CHANNELS, MAX_PROCESSES};
 
-/// The programs, the instances, the channels, and the limit of each capacity.
+/// The programs, the instances, the channels, the limit of each capacity, and how channels grow.
 #[derive(Debug, Drop)]
 pub struct Parts {
     pub programs: Vec<Program>,
     pub instances: Vec<Instance>,
     pub channels: Vec<ChannelSpec>,
     pub limit: u32,
+    pub growth: Growth,
 }
 
 fn matches_program(instance: &Instance, program: &Program) -> bool

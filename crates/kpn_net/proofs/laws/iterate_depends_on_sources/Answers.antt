@@ -1,4 +1,4 @@
-use Rattle.kpn_net.proofs.Growth.{round-depends_on_sources}
+use Rattle.kpn_net.proofs.Monotone.{round-depends_on_sources}
 use Rattle.kpn_net.proofs.laws.iterate_depends_on_sources.Goals as goal
 
 pub returns : goal.returns

@@ -1,4 +1,4 @@
-use Rattle.kpn_net.proofs.Growth.{iterate-grows_with_sources}
+use Rattle.kpn_net.proofs.Monotone.{iterate-grows_with_sources}
 use Rattle.kpn_net.proofs.laws.iterate_grows_with_sources.Goals as goal
 
 pub returns : goal.returns
