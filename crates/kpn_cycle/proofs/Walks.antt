@@ -2,14 +2,16 @@
 use Rattle.std.proofs.Common.{◌≡◌, ◌≢◌, ℕ, ◌+◌, ◌≤◌, List, [], ◌∷◌, ◌++◌, length, Option, Some, None, refl, sym, ap, ◌∙◌, subst, inl, inr, arith, length-append, append_assoc}
 use Rattle.std.specs.Prelude.{Contains}
 use Rattle.std.specs.Option.{option_to_list}
-use Rattle.std.specs.List.{cons_option}
+use Rattle.std.specs.List.{cons_option, range_with_len}
+use Rattle.std.proofs.lemmas.List.{map-id}
+use Rattle.std.proofs.lemmas.List.FromFn.{map-range_with_len_more}
 use Rattle.std.proofs.lemmas.List.Elements.{filter_map-append}
 use Rattle.kpn_net.specs.declared.wait.Wait.{Wait}
 use Rattle.kpn_net.specs.Tables.{Tables}
-use Rattle.kpn_net.specs.Waits.{wait_at, awaited, full_channel, WaitsFor, WaitInTurn, IsCycle, full_channels}
+use Rattle.kpn_net.specs.Waits.{wait_at, awaited, full_channel, WaitsFor, WaitInTurn, IsCycle, full_channels, FindsSmallest}
 use Rattle.kpn_net.specs.declared.found.Found.TheVariants.{NoCycle}
 use Rattle.kpn_net.specs.Finding.{Finds}
-use Rattle.kpn_cycle.specs.WalkSoFar.{IsSmallestSoFar, found_on}
+use Rattle.kpn_cycle.specs.WalkSoFar.{found_on}
 use Rattle.kpn_net.proofs.Cycles.{Contains-none, Contains-cases, cycle_from, cycle_short, waits_for_one}
 
 -- the way of a cycle, where a walk from p is at a process: the cycle is what was walked, this process, and a rest from
@@ -31,7 +33,7 @@ pub record Walked (t : Tables) (waits : List Wait) (cap : ℕ → ℕ) (p steps 
   pub count : length before ≡ steps
   pub ahead : (others : List ℕ) → IsCycle t waits p others → IsAhead t waits p others before at
   pub closes : (rest : List ℕ) → WaitInTurn t waits at rest p → ¬ Contains rest p → IsClosed t waits p before at rest
-  pub met : IsSmallestSoFar cap (full_channels waits before) smallest
+  pub met : FindsSmallest cap (full_channels waits before) smallest
 
 module _ (t : Tables) (waits : List Wait) (cap : ℕ → ℕ) (p : ℕ) where
   pub walk-none : Walked t waits cap p 0 p None
@@ -57,13 +59,13 @@ module _ (t : Tables) (waits : List Wait) (cap : ℕ → ℕ) (p : ℕ) where
       one None = refl
       one (Some c) = refl
 
-  met-push : (before : List ℕ) (at : ℕ) (smallest after : Option ℕ)
-      → IsSmallestSoFar cap (full_channels waits before) smallest
-      → ((channels : List ℕ) → IsSmallestSoFar cap channels smallest
-      → IsSmallestSoFar cap (channels ++ option_to_list (full_channel (wait_at waits at))) after)
-      → IsSmallestSoFar cap (full_channels waits (before ++ at ∷ [])) after
+  pub met-push : (before : List ℕ) (at : ℕ) (smallest after : Option ℕ)
+      → FindsSmallest cap (full_channels waits before) smallest
+      → ((channels : List ℕ) → FindsSmallest cap channels smallest
+      → FindsSmallest cap (channels ++ option_to_list (full_channel (wait_at waits at))) after)
+      → FindsSmallest cap (full_channels waits (before ++ at ∷ [])) after
   met-push before at smallest after met more =
-      subst (λ xs. IsSmallestSoFar cap xs after) (sym (full-push before at)) (more (full_channels waits before) met)
+      subst (λ xs. FindsSmallest cap xs after) (sym (full-push before at)) (more (full_channels waits before) met)
 
   -- the first of the rest is the process that is waited for
   ahead-next : (others before : List ℕ) (at next : ℕ) → WaitsFor t waits at next → next ≢ p → (rest : List ℕ)
@@ -90,8 +92,8 @@ module _ (t : Tables) (waits : List Wait) (cap : ℕ → ℕ) (p : ℕ) where
 
   pub walk-more : (steps at next : ℕ) (smallest after : Option ℕ) → Walked t waits cap p steps at smallest
       → awaited t (wait_at waits at) ≡ Some next → next ≢ p
-      → ((channels : List ℕ) → IsSmallestSoFar cap channels smallest
-      → IsSmallestSoFar cap (channels ++ option_to_list (full_channel (wait_at waits at))) after)
+      → ((channels : List ℕ) → FindsSmallest cap channels smallest
+      → FindsSmallest cap (channels ++ option_to_list (full_channel (wait_at waits at))) after)
       → Walked t waits cap p (steps + 1) next after
   walk-more steps at next smallest after walk e other more =
       let w : WaitsFor t waits at next = record { awaited = e } in
@@ -106,19 +108,19 @@ module _ (t : Tables) (waits : List Wait) (cap : ℕ → ℕ) (p : ℕ) where
 
   -- the walk has come back to p
   found-met : (others : List ℕ) → IsCycle t waits p others → (after : Option ℕ)
-      → IsSmallestSoFar cap (full_channels waits (p ∷ others)) after → Finds t waits cap p (found_on after)
+      → FindsSmallest cap (full_channels waits (p ∷ others)) after → Finds t waits cap p (found_on after)
   found-met others cycle None met = record { others = others; cycle = cycle; empty = met }
   found-met others cycle (Some c) met = record { others = others; cycle = cycle; smallest = met }
 
   pub walk-closed : (steps at : ℕ) (smallest after : Option ℕ) → Walked t waits cap p steps at smallest
       → awaited t (wait_at waits at) ≡ Some p
-      → ((channels : List ℕ) → IsSmallestSoFar cap channels smallest
-      → IsSmallestSoFar cap (channels ++ option_to_list (full_channel (wait_at waits at))) after)
+      → ((channels : List ℕ) → FindsSmallest cap channels smallest
+      → FindsSmallest cap (channels ++ option_to_list (full_channel (wait_at waits at))) after)
       → Finds t waits cap p (found_on after)
   walk-closed steps at smallest after walk e more =
       let c = walk.closes [] (record { awaited = e }) (Contains-none p) in
       found-met c.others c.cycle after
-      (subst (λ zs. IsSmallestSoFar cap (full_channels waits zs) after) (sym c.is)
+      (subst (λ zs. FindsSmallest cap (full_channels waits zs) after) (sym c.is)
       (met-push walk.before at smallest after walk.met more))
 
   -- the walk has come to an end
@@ -139,3 +141,19 @@ module _ (t : Tables) (waits : List Wait) (cap : ℕ → ℕ) (p : ℕ) where
       let lengths = ap length a.is in
       let count = walk.count in
       omega (arith, length-append walk.before (at ∷ a.rest))
+
+-- one number more
+range-more : (n : ℕ) → range_with_len 0 (n + 1) ≡ range_with_len 0 n ++ n ∷ []
+range-more n =
+    sym (map-id (range_with_len 0 (n + 1))) ∙ map-range_with_len_more (λ p. p) 0 n n (omega arith)
+    ∙ ap (λ xs. xs ++ n ∷ []) (map-id (range_with_len 0 n))
+
+-- the smallest of the channels that the first processes wait on as full, with one process more
+pub met-more : (t : Tables) (waits : List Wait) (cap : ℕ → ℕ) (p : ℕ) (smallest after : Option ℕ)
+    → FindsSmallest cap (full_channels waits (range_with_len 0 p)) smallest
+    → ((channels : List ℕ) → FindsSmallest cap channels smallest
+    → FindsSmallest cap (channels ++ option_to_list (full_channel (wait_at waits p))) after)
+    → FindsSmallest cap (full_channels waits (range_with_len 0 (p + 1))) after
+met-more t waits cap p smallest after met more =
+    subst (λ ps. FindsSmallest cap (full_channels waits ps) after) (sym (range-more p))
+    (met-push t waits cap p (range_with_len 0 p) p smallest after met more)

@@ -8,4 +8,4 @@ mod walk;
 
 pub use kpn_net::{Found, Wait};
 pub use waits::Waits;
-pub use walk::{cycle_through, scan_all};
+pub use walk::{cycle_through, scan_all, smallest_waited};

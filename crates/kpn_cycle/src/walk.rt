@@ -1,10 +1,10 @@
 //! The cycle through a process, found by a walk along the waits, and a scan of all processes.
 ghost use Rattle.std.specs.Prelude.{◌≡◌, ℕ, ◌<◌, ◌++◌, List, [], ◌∷◌, length, IfSome};
 ghost use Rattle.std.specs.Option.{option_to_list};
-ghost use Rattle.kpn_net.specs.Waits.{AreWaits, awaited, full_channel, IsSmallest};
+ghost use Rattle.kpn_net.specs.Waits.{AreWaits, awaited, awaited_as_full, full_channel, IsSmallest, FindsSmallest};
 ghost use Rattle.kpn_net.specs.Finding.{Finds};
 ghost use Rattle.kpn_cycle.specs.Scan.{cap_in, ScanFinds};
-ghost use Rattle.kpn_cycle.specs.WalkSoFar.{IsSmallestSoFar, found_on, IsOnChannelBelow};
+ghost use Rattle.kpn_cycle.specs.WalkSoFar.{found_on, IsOnChannelBelow};
 
 use crate::waits::Waits;
 use kpn_net::{End, Found, Network, Wait};
@@ -63,6 +63,28 @@ pub fn scan_all<A: Allocator>(network: &Network, waits: &Waits<A>, caps: &[u32])
     Found::NoCycle
 }
 
+/// Among the channels on which a process waits as full, the one of least capacity, on a tie of least number. `None`
+/// where nobody waits so.
+///
+/// `caps` has the capacity of each channel; the entry of a source is not looked at. It looks at each process once.
+pub fn smallest_waited<A: Allocator>(
+    network: &Network,
+    waits: &Waits<A>,
+    caps: &[u32],
+) -> Option<usize>
+    requires waits { AreWaits network.now waits.now }
+    requires caps { length caps.now ≡ length network.now.channels }
+    ensures exact { FindsSmallest (cap_in caps.now) (awaited_as_full network.now waits.now) result }
+    ensures channel { IfSome result (λ c. c < length network.now.channels) }
+{
+    network.known();
+    let mut smallest = None;
+    for p in 0..network.instances() {
+        smallest = smallest_with(caps, smallest, waits.get(p));
+    }
+    smallest
+}
+
 /// What is found on a cycle with this smallest full channel.
 fn on_cycle(smallest: Option<usize>) -> Found
     ensures { result ≡ found_on smallest }
@@ -94,8 +116,8 @@ fn awaited(network: &Network, wait: Wait) -> Option<usize>
 fn smallest_with(caps: &[u32], smallest: Option<usize>, wait: Wait) -> Option<usize>
     requires wait { IsOnChannelBelow (length caps.now) wait }
     requires smallest { IfSome smallest (λ c. c < length caps.now) }
-    ensures smallest { (channels : List ℕ) → IsSmallestSoFar (cap_in caps.now) channels smallest
-        → IsSmallestSoFar (cap_in caps.now)
+    ensures smallest { (channels : List ℕ) → FindsSmallest (cap_in caps.now) channels smallest
+        → FindsSmallest (cap_in caps.now)
         (channels ++ option_to_list (full_channel wait)) result }
     ensures channel { IfSome result (λ c. c < length caps.now) }
 {

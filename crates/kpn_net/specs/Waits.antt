@@ -1,7 +1,7 @@
 -- What processes wait for, and cycles of waiting processes (this project's rule, after Geilen and Basten 2003: each
 -- process waits on one channel, which has one other end, so it waits for at most one process).
 use Rattle.std.specs.Prelude.{◌≡◌, ℕ, ◌<◌, ◌≤◌, ◌⊎◌, List, [], ◌∷◌, length, Option, Some, None, Contains, slice_index_or}
-use Rattle.std.specs.List.{filter_map}
+use Rattle.std.specs.List.{filter_map, range_with_len}
 use Rattle.kpn_net.specs.declared.wait.Wait.{Wait}
 use Rattle.kpn_net.specs.declared.wait.Wait.TheVariants.{Nobody, Empty, Full}
 use Rattle.kpn_net.specs.declared.tables.End.{End}
@@ -67,7 +67,16 @@ pub record IsCycle (t : Tables) (waits : List Wait) (p : ℕ) (others : List ℕ
 abbrev pub full_channels : List Wait → List ℕ → List ℕ
 full_channels waits members = filter_map (λ p. full_channel (wait_at waits p)) members
 
+-- the channels on which processes wait as full
+abbrev pub awaited_as_full : Tables → List Wait → List ℕ
+awaited_as_full t waits = full_channels waits (range_with_len 0 (length t.instances))
+
 -- the smallest of these channels: the one of least capacity, on a tie that of least number
 pub record IsSmallest (cap : ℕ → ℕ) (channels : List ℕ) (c : ℕ) : Type 0 where
   pub among : Contains channels c
   pub least : (d : ℕ) → Contains channels d → (cap c < cap d) ⊎ ((cap c ≡ cap d) × (c ≤ d))
+
+-- a search for the smallest of these channels finds this: it, or none where there are none
+abbrev pub FindsSmallest : (cap : ℕ → ℕ) → (channels : List ℕ) → Option ℕ → Type 0
+FindsSmallest cap channels None = channels ≡ []
+FindsSmallest cap channels (Some c) = IsSmallest cap channels c

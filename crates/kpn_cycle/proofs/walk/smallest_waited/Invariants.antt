@@ -1,0 +1,13 @@
+use Rattle.std.proofs.Common.{◌<◌, length}
+use Rattle.std.specs.Prelude.{IfSome}
+use Rattle.std.specs.List.{range_with_len}
+use Rattle.kpn_net.specs.Waits.{full_channels, FindsSmallest}
+use Rattle.kpn_cycle.specs.Scan.{cap_in}
+use Rattle.kpn_cycle.proofs.walk.smallest_waited.Given as goal
+
+abbrev pub invariant-loop-p : goal.invariant-loop-p
+invariant-loop-p g l =
+    record {
+      met : FindsSmallest (cap_in l.caps) (full_channels l.waits (range_with_len 0 l.p)) l.smallest;
+      channel : IfSome l.smallest (λ c. c < length l.caps);
+    }
