@@ -20,7 +20,7 @@ use Rattle.kpn_trace.specs.declared.state.Verdict.TheVariants as verdict
 use Rattle.kpn_trace.specs.Talks.{has_ended, last_event}
 use Rattle.kpn_trace.specs.Channels.{unread_on, lives, reader_lives, reaches, capacity_after, capacity_or_zero, is_full, is_left, is_growth_of}
 use Rattle.kpn_trace.specs.Waiting.{wait_of, waits_of, full_in_cycle, HasFullCycle}
-use Rattle.kpn_trace.specs.Legal.{CanGo, MayFeed, MayTake, Legal}
+use Rattle.kpn_trace.specs.Legal.{CanGo, MayFeed, MayTake, OwesGrowth, Legal}
 use Rattle.kpn_trace.specs.Ends.{WaitsOnFull, IsQuiet, IsSettled, IsVerdict}
 use Rattle.kpn_trace.specs.OneMore.{IsOldest}
 use Rattle.kpn_trace.specs.Stops.{OwesNothing, IsJammedAtLimit, WaitsForBlocked}
@@ -61,13 +61,18 @@ in_limit_at_first t network =
         let high = bounds.within in
         (omega arith, omega arith)
 
+-- the channel of an owed growth is below the limit
+pub below_limit : (t : Tables) (H : List Event) (p d : ℕ) → OwesGrowth t H p d → capacity_or_zero t H d < t.limit
+below_limit t H p d (inl owed) = owed.below_limit
+below_limit t H p d (inr owed) = owed.below_limit
+
 in_limit_after : (t : Tables) (B : List Event) (e : Event) (c n : ℕ) → Legal t (B ++ e ∷ [])
     → capacity_after t B c ≡ Some n → n ≤ t.limit → n + cond (is_growth_of c e) 1 0 ≤ t.limit
 in_limit_after t B (Grow p d) c n legal was h = by_channel (eqb d c) refl
   where
     by_channel : (b : Bool) → eqb d c ≡ b → n + cond b 1 0 ≤ t.limit
     by_channel true same =
-        let below = (Legal-last t B (Grow p d) legal).due.below_limit in
+        let below = below_limit t B p d (Legal-last t B (Grow p d) legal).due in
         let room : capacity_or_zero t B d ≡ n =
         ap (λ x. capacity_or_zero t B x) (eqb-true d c same) ∙ ap (λ o. unwrap_or o 0) was in
         omega arith
@@ -168,7 +173,7 @@ blocked_on : (t : Tables) (H : List Event) (p : ℕ) (w : Wait) → wait_of t H 
     → wait_of t H p ≢ Nobody
 blocked_on t H p w is some none = some (sym is ∙ none)
 
-is_blocked : (t : Tables) (H : List Event) → IsSettled t H → (p : ℕ) → p < length t.instances → has_ended H p ≡ false
+pub is_blocked : (t : Tables) (H : List Event) → IsSettled t H → (p : ℕ) → p < length t.instances → has_ended H p ≡ false
     → wait_of t H p ≢ Nobody
 is_blocked t H settled p below lives =
     elim (settled.processes p below) [
@@ -249,11 +254,6 @@ only_a_leave t H settled nothing (Take c v) legal =
     absurd (cannot_take t H settled c v next.numbers next.due (KeepsConsistent-last t H (Take c v) legal))
 only_a_leave t H settled nothing (Leave c) legal = (c, refl)
 only_a_leave t H settled nothing (Grow p d) legal = absurd (nothing p d (Legal-last t H (Grow p d) legal).due)
-
--- without a full channel in a blocked cycle no growth is owed
-pub without_full_cycle : (t : Tables) (H : List Event) → (¬ HasFullCycle t H) → OwesNothing t H
-without_full_cycle t H none p d owed =
-    none (record { process = p; others = owed.others; cycle = owed.cycle; channel = d; full = owed.smallest.among })
 
 -- ---- one verdict
 
