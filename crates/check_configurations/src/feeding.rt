@@ -5,7 +5,7 @@ ghost use Rattle.kpn_configuration.specs.Configuration.{IsConfiguration};
 use kpn_configuration::Configuration;
 use kpn_lang::{Expr, Program, Sequence, Stmt};
 use kpn_net::ChannelSpec::{Sink, Source};
-use kpn_net::{Instance, Network};
+use kpn_net::{Growth, Instance, Network};
 use std::alloc::{AllocError, Allocator, Global};
 use std::process::Abort;
 use std::test::Fail;
@@ -23,7 +23,7 @@ pub fn copying(alloc: Global) -> Result<Network, Fail> {
     };
     let channels = vec![in alloc; Source, Sink(1)]?;
     let instances = vec![in alloc; instance]?;
-    Ok(Network::new(alloc, vec![in alloc; copy]?, instances, channels, 9)?)
+    Ok(Network::new(alloc, vec![in alloc; copy]?, instances, channels, 9, Growth::One)?)
 }
 
 /// Feeds an item to source `c`, and tells who was woken.

@@ -1,7 +1,7 @@
 //! The networks of the tests: in each, all processes have one program.
 use kpn_lang::{Expr, Op, Program, Sequence, Stmt};
 use kpn_net::ChannelSpec::{Inner, Sink, Source};
-use kpn_net::{ChannelSpec, Instance, Network};
+use kpn_net::{ChannelSpec, Growth, Instance, Network};
 use std::alloc::{AllocError, Global};
 use std::test::Fail;
 
@@ -28,7 +28,7 @@ fn processes(
         })?;
     }
     let programs = vec![in alloc; program]?;
-    Ok(Network::new(alloc, programs, instances, channels.to_vec(alloc)?, LIMIT)?)
+    Ok(Network::new(alloc, programs, instances, channels.to_vec(alloc)?, LIMIT, Growth::One)?)
 }
 
 /// `while 1 { .. }`

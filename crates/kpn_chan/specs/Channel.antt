@@ -1,7 +1,7 @@
 -- A channel as contracts see it: a journal of every item that was put, of which the first ones were read. Whether the
 -- next item is reserved stands apart from every change: only a put may end a reservation, and whether one comes about
 -- is the storage's own business. So each change takes whether an item is reserved after it.
-use Rattle.std.specs.Prelude.{ℕ, ◌+◌, ℤ, Bool, true, false, not, ◌&&◌, nat_le, if◌then◌else◌, List, [], ◌∷◌, ◌++◌, length, take, drop, Option, Some, None, slice_get, IsSomeAnd, ◌<◌}
+use Rattle.std.specs.Prelude.{ℕ, ◌+◌, ℤ, Bool, true, false, not, ◌&&◌, nat_le, if◌then◌else◌, List, [], ◌∷◌, ◌++◌, length, take, drop, Option, Some, None, slice_get, IsSomeAnd, ◌<◌, ◌≤◌}
 use Rattle.kpn_limits.specs.declared.TheConstants.{MAX_CAPACITY}
 
 pub record ChannelState : Type 0 where
@@ -70,3 +70,11 @@ one_more (Some capacity) = Some (capacity + 1)
 -- the channel with a capacity larger by one
 abbrev pub grown : Bool → ChannelState → ChannelState
 grown reserved c = record c { capacity = one_more c.capacity; is_reserved = reserved }
+
+-- the channel has a capacity, which is below this one, and this one is not above the greatest that there is
+abbrev pub MayGrowTo : (larger : ℕ) → ChannelState → Type 0
+MayGrowTo larger c = IsSomeAnd c.capacity (λ capacity. capacity < larger) × (larger ≤ MAX_CAPACITY)
+
+-- the channel with this capacity
+abbrev pub grown_to : (larger : ℕ) → Bool → ChannelState → ChannelState
+grown_to larger reserved c = record c { capacity = Some larger; is_reserved = reserved }

@@ -1,8 +1,7 @@
 //! A channel: the journal of all items that were put, in chunks, and a ring of those that wait for the reader, so that a
 //! read looks into no chunk.
-ghost use Rattle.std.specs.Prelude.{◌≡◌, ◌<◌, ◌≤◌, ◌^◌, length, [], ◌↔◌, IsTrue, true, IsOk, IfOk, is_ok, if◌then◌else◌, slice_get, take, nat_lt, IsSomeAnd};
-ghost use Rattle.kpn_limits.specs.declared.TheConstants.{MAX_CAPACITY};
-ghost use Rattle.kpn_chan.specs.Channel.{unread, is_full, next_item, opened, with_room, after_put, after_get, retired, MayGrow, one_more, grown};
+ghost use Rattle.std.specs.Prelude.{◌≡◌, ◌<◌, ◌≤◌, ◌^◌, length, [], ◌↔◌, IsTrue, true, IsOk, IfOk, is_ok, if◌then◌else◌, slice_get, take, nat_lt};
+ghost use Rattle.kpn_chan.specs.Channel.{unread, is_full, next_item, opened, with_room, after_put, after_get, retired, MayGrow, grown, MayGrowTo, grown_to};
 
 use crate::chunks::Chunks;
 use crate::journal::Journal;
@@ -81,10 +80,7 @@ impl<A: Allocator + Copy> Channel<A> {
         }
     }
 
-    /// Makes the capacity larger by one. The ring gets a free place if it has none.
-    ///
-    /// The error is that memory ran out; the channel is then as before. If an item is reserved, no memory is taken.
-    /// What was reserved stays so.
+    /// Makes the capacity larger by one, as `grow_to` does.
     pub fn grow(&mut self) -> Result<(), AllocError>
         requires { MayGrow self.old }
         ensures after { self.new
@@ -92,10 +88,28 @@ impl<A: Allocator + Copy> Channel<A> {
         ensures reserved { IsTrue self.old.is_reserved → IsTrue self.new.is_reserved }
         ensures already { IsTrue self.old.is_reserved → IsOk result }
     {
+        match self.capacity {
+            Some(capacity) => self.grow_to(capacity + 1),
+            None => Ok(()),
+        }
+    }
+
+    /// Makes the capacity larger: it becomes `cap`, which is above it and at most `MAX_CAPACITY`. The ring gets a free
+    /// place if it has none.
+    ///
+    /// The error is that memory ran out; the channel is then as before. If an item is reserved, no memory is taken.
+    /// What was reserved stays so.
+    pub fn grow_to(&mut self, cap: u32) -> Result<(), AllocError>
+        requires { MayGrowTo cap self.old }
+        ensures after { self.new
+            ≡ (if is_ok result then grown_to cap self.new.is_reserved self.old else self.old) }
+        ensures reserved { IsTrue self.old.is_reserved → IsTrue self.new.is_reserved }
+        ensures already { IsTrue self.old.is_reserved → IsOk result }
+    {
         if let Some(ring) = &mut self.ring {
             reserve_place(ring)?;
         }
-        raise(&mut self.capacity);
+        self.capacity = Some(cap);
         Ok(())
     }
 }
@@ -111,13 +125,14 @@ impl<A: Allocator> Channel<A> {
         }
     }
 
-    /// Makes the capacity larger by one where an item is reserved, so that the ring has a free place: it takes no memory.
-    pub fn grow_reserved(&mut self)
-        requires capacity { MayGrow self.old }
+    /// Makes the capacity larger where an item is reserved, so that the ring has a free place: it takes no memory. The
+    /// capacity becomes `cap`, which is above it and at most `MAX_CAPACITY`.
+    pub fn grow_reserved_to(&mut self, cap: u32)
+        requires capacity { MayGrowTo cap self.old }
         requires reserved { IsTrue self.old.is_reserved }
-        ensures { self.new ≡ grown true self.old }
+        ensures { self.new ≡ grown_to cap true self.old }
     {
-        raise(&mut self.capacity);
+        self.capacity = Some(cap);
     }
 
     /// Puts an item at the end of the journal, in the room that is reserved. It takes no memory.
@@ -277,14 +292,4 @@ fn reserve_place<A: Allocator + Copy>(
         return Ok(());
     }
     ring.resize((2 * places).max(1))
-}
-
-/// Makes a capacity larger by one.
-fn raise(capacity: &mut Option<u32>)
-    requires { IsSomeAnd capacity.old (λ n. n < MAX_CAPACITY) }
-    ensures { capacity.new ≡ one_more capacity.old }
-{
-    if let Some(capacity) = capacity {
-        *capacity += 1;
-    }
 }

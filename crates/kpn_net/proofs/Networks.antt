@@ -542,7 +542,15 @@ capacity_in_range t network c cap below e =
     let sound = (wrong_capacity-None t _ (channels_sound t network).capacity).1 in
     capacity_from t (channel_at t c) cap (fails_at (has_no_such_capacity t.limit) t.channels sound c _ below) e
 
--- a channel below the limit grows, and not above the limit
+-- a channel below the limit does not become smaller by a growth
+pub larger_capacity_is_no_less : (t : Tables) (cap : ℕ) → cap < t.limit → cap ≤ larger_capacity t cap
+larger_capacity_is_no_less t cap below = by_growth t.growth
+  where
+    by_growth : (growth : Growth) → cap ≤ grown growth t.limit cap
+    by_growth One = omega arith
+    by_growth Double = omega arith
+
+-- where it has a place it becomes larger, and does not pass the limit
 pub larger_capacity_in_range : (t : Tables) (cap : ℕ) → 0 < cap → cap < t.limit
     → (cap < larger_capacity t cap) × (larger_capacity t cap ≤ t.limit)
 larger_capacity_in_range t cap some below = by_growth t.growth

@@ -1,6 +1,8 @@
 //! Which run the parts of a pool belong to, for contracts.
 ghost use Rattle.std.specs.Prelude.{[]};
+ghost use Rattle.kpn_net.specs.declared.tables.Growth.TheVariants.{One};
 ghost use Rattle.kpn_net.specs.Tables.{Tables};
+ghost use Rattle.kpn_net.specs.View.{tables_with};
 
 use std::marker::Brand;
 use std::sync::ledger::Ledger;
@@ -15,5 +17,5 @@ pub trait Job: Ledger {
 }
 
 impl Job for Brand {
-    ghost network = { record { programs = []; instances = []; channels = []; limit = 0 } };
+    ghost network = { tables_with [] [] [] 0 One };
 }

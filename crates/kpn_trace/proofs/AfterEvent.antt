@@ -1,5 +1,5 @@
--- What is left of a channel and its ends after one more event, and how many events are of processes.
-use Rattle.std.proofs.Common.{◌≡◌, ◌↔◌, ℕ, ◌+◌, Bool, true, false, not, ◌&&◌, ◌||◌, cond, eqb, eq-eqb, List, [], ◌∷◌, ◌++◌, Option, refl, ap, ◌∙◌, option_map}
+-- What is left of the ends of a channel after one more event, and how many events are of processes.
+use Rattle.std.proofs.Common.{◌≡◌, ◌↔◌, ℕ, ◌+◌, Bool, true, false, not, ◌&&◌, ◌||◌, cond, eq-eqb, List, [], ◌∷◌, ◌++◌, refl, ap, ◌∙◌}
 use Rattle.std.proofs.lemmas.Bool.{false≢true}
 use Rattle.std.proofs.lemmas.List.Folds.{list_any-append}
 use Rattle.std.proofs.lemmas.List.Sums.{sum_by_push}
@@ -8,11 +8,10 @@ use Rattle.kpn_net.specs.declared.tables.End.{End}
 use Rattle.kpn_net.specs.declared.tables.End.TheVariants.{Process, Source, Sink}
 use Rattle.kpn_net.specs.Tables.{Tables, reader_of}
 use Rattle.kpn_trace.specs.declared.event.Event.{Event}
-use Rattle.kpn_trace.specs.declared.event.Event.TheVariants.{Get, Put, WaitEmpty, WaitFull, Ended, Grow}
+use Rattle.kpn_trace.specs.declared.event.Event.TheVariants.{Get, Put, WaitEmpty, WaitFull, Ended}
 use Rattle.kpn_trace.specs.Talks.{is_of, is_of_process, process_events, is_end_of, has_ended}
-use Rattle.kpn_trace.specs.Channels.{is_close_of, is_leave_of, is_closed, is_left, lives, reader_lives, capacity_after}
-use Rattle.kpn_trace.specs.AfterEvent.{capacity_then, takes_end, takes_reader}
-use Rattle.kpn_trace.proofs.OneMore.{capacity_after-push, capacity_after-same, zero_more}
+use Rattle.kpn_trace.specs.Channels.{is_close_of, is_leave_of, is_closed, is_left, lives, reader_lives}
+use Rattle.kpn_trace.specs.AfterEvent.{takes_end, takes_reader}
 
 -- ---- marks
 
@@ -67,18 +66,6 @@ pub reader_lives-kept : (t : Tables) (B : List Event) (e : Event) (c : ℕ) → 
     → reader_lives t (B ++ e ∷ []) c ≡ reader_lives t B c
 reader_lives-kept t B e c stays =
     reader_lives-next t B e c ∙ and-not (reader_lives t B c) (takes_reader t c e) stays
-
--- ---- capacities
-
-one_or_none : (b : Bool) (o : Option ℕ) → option_map (λ n. n + cond b 1 0) o ≡ cond b (option_map (λ n. n + 1) o) o
-one_or_none true o = refl
-one_or_none false o = zero_more o
-
-pub capacity_after-next : (t : Tables) (B : List Event) (e : Event) (c : ℕ)
-    → capacity_after t (B ++ e ∷ []) c ≡ capacity_then c e (capacity_after t B c)
-capacity_after-next t B (Grow p d) c =
-    capacity_after-push t B (Grow p d) c ∙ one_or_none (eqb d c) (capacity_after t B c)
-capacity_after-next t B event c = capacity_after-same t B event c refl
 
 -- ---- events of processes
 

@@ -3,40 +3,28 @@
 -- cycle.
 use Rattle.std.specs.Prelude.{Contains}
 use Rattle.std.specs.List.{last_or}
-use Rattle.std.specs.Option.{option_map, unwrap_or}
-use Rattle.std.proofs.Common.{◌≡◌, ℕ, ◌+◌, ◌<◌, ◌≤◌, ◌⊎◌, Bool, true, false, cond, eqb, eq-eqb, List, [], ◌∷◌, ◌++◌, length, Option, Some, None, refl, sym, ap, ◌∙◌, subst, inl, inr, arith}
+use Rattle.std.proofs.Common.{◌≡◌, ℕ, ◌<◌, ◌≤◌, ◌⊎◌, Bool, true, false, cond, List, [], ◌∷◌, ◌++◌, length, Option, Some, None, refl, sym, ap, ◌∙◌, subst, inl, inr, arith}
 use Rattle.std.proofs.lemmas.List.Sorted.{Contains-permutation, IsPermutation-sym}
 use Rattle.std.proofs.lemmas.Bool.{and_parts, both_ways, cases_Bool, leb-true}
 use Rattle.kpn_net.specs.declared.wait.Wait.{Wait}
 use Rattle.kpn_net.specs.declared.wait.Wait.TheVariants.{Nobody, Empty, Full}
-use Rattle.kpn_net.specs.Tables.{Tables}
+use Rattle.kpn_net.specs.Tables.{Tables, larger_capacity}
 use Rattle.kpn_net.specs.Faults.{IsNetwork}
 use Rattle.kpn_net.specs.Waits.{wait_at, awaited, full_channel, full_channels, WaitInTurn, IsSmallest}
 use Rattle.kpn_net.proofs.Cycles.{Contains-cases, Contains-none, smallest_among, smallest_unique, full_at, rotated, cycle_unique, cycle_below}
 use Rattle.kpn_trace.specs.declared.event.Event.{Event}
 use Rattle.kpn_trace.specs.declared.event.Event.TheVariants.{WaitEmpty, WaitFull, Grow}
-use Rattle.kpn_trace.specs.Channels.{reaches, unread_on, reader_lives, is_empty, capacity_after, capacity_or_zero, is_full, is_growth_of}
+use Rattle.kpn_trace.specs.Channels.{reaches, unread_on, reader_lives, is_empty, capacity_after, capacity_or_zero, is_full}
 use Rattle.kpn_trace.specs.Waiting.{wait_of_last, wait_of, waits_of, full_in_cycle}
-use Rattle.kpn_trace.specs.Legal.{IsConsistent, waiter, waiter_of_last, OwesCycleGrowth, OwesGrowth, Legal}
+use Rattle.kpn_trace.specs.Legal.{waiter, waiter_of_last, OwesCycleGrowth, OwesGrowth, Legal}
 use Rattle.kpn_trace.specs.Talks.{last_event}
 use Rattle.kpn_trace.specs.Stops.{OwesNothing, OwesNoCycleGrowth, CanGrow}
 use Rattle.kpn_trace.proofs.Events.{last_or-push}
 use Rattle.kpn_trace.proofs.Legality.{Legal-last, Legal-before, Legal-consistent, by_events}
-use Rattle.kpn_trace.proofs.OneMore.{capacity_after-push, unread_length, unread_length-push}
+use Rattle.kpn_trace.proofs.Capacities.{capacity_grows, capacity_of_growth, larger_by_growth}
+use Rattle.kpn_trace.proofs.OneMore.{unread_length, unread_length-push}
 use Rattle.kpn_trace.proofs.Searching.{member, member-true, member-from}
 use Rattle.kpn_trace.proofs.EarlierWaits.{wait_at-waits_of, HadCycle, had_cycle}
-
--- ---- capacities
-
-more_capacity : (o : Option ℕ) (k : ℕ) → unwrap_or o 0 ≤ unwrap_or (option_map (λ cap. cap + k) o) 0
-more_capacity None k = omega arith
-more_capacity (Some cap) k = omega arith
-
--- no capacity falls
-capacity_grows : (t : Tables) (B : List Event) (e : Event) (c : ℕ)
-    → capacity_or_zero t B c ≤ capacity_or_zero t (B ++ e ∷ []) c
-capacity_grows t B e c =
-    rw (capacity_after-push t B e c) (more_capacity (capacity_after t B c) (cond (is_growth_of c e) 1 0))
 
 -- ---- full channels
 
@@ -140,10 +128,10 @@ no_cycle_owed_after t B e none p d owed =
 -- ---- one more event
 
 -- the cycle could grow before
-could_grow : (t : Tables) (B : List Event) (e : Event) (g : CanGrow t (B ++ e ∷ []))
+could_grow : (t : Tables) (B : List Event) (e : Event) → Legal t (B ++ e ∷ []) → (g : CanGrow t (B ++ e ∷ []))
     → HadCycle t B (B ++ e ∷ []) g.process g.others → CanGrow t B
-could_grow t B e g before =
-    let room = capacity_grows t B e g.channel in let below = g.below_limit in
+could_grow t B e legal g before =
+    let room = capacity_grows t B e legal g.channel in let below = g.below_limit in
     record {
       process = g.process;
       others = g.others;
@@ -154,24 +142,19 @@ could_grow t B e g before =
     }
 
 -- after a growth of d nobody waits on d as full, so a cycle that waited there has gone
-capacity_of_growth : (t : Tables) (B : List Event) (p d cap : ℕ) → capacity_after t B d ≡ Some cap
-    → capacity_after t (B ++ Grow p d ∷ []) d ≡ Some (cap + 1)
-capacity_of_growth t B p d cap is =
-    capacity_after-push t B (Grow p d) d
-    ∙ ap (λ o. option_map (λ n. n + cond (eqb d d) 1 0) o) is
-    ∙ ap (λ b. Some (cap + cond b 1 0)) (eq-eqb d d refl)
-
-pub not_full_then : (t : Tables) (B : List Event) (p d : ℕ) → IsConsistent t B → d < length t.channels
-    → is_full t B d ≡ true → is_full t (B ++ Grow p d ∷ []) d ≡ true → ⊥
-not_full_then t B p d consistent there was now =
+pub not_full_then : (t : Tables) → IsNetwork t → (B : List Event) (p d : ℕ) → Legal t (B ++ Grow p d ∷ [])
+    → d < length t.channels → is_full t B d ≡ true → is_full t (B ++ Grow p d ∷ []) d ≡ true → ⊥
+not_full_then t network B p d legal there was now =
     let H : List Event = B ++ Grow p d ∷ [] in
     let before = and_parts (reader_lives t B d) (reaches (capacity_after t B d) (length (unread_on B d))) was in
     let after = and_parts (reader_lives t H d) (reaches (capacity_after t H d) (length (unread_on H d))) now in
     let cap = reached (capacity_after t B d) (length (unread_on B d)) before.1 in
     let larger = reached (capacity_after t H d) (length (unread_on H d)) after.1 in
-    let same : cap.cap + 1 ≡ larger.cap =
+    let more = larger_by_growth t network B p d cap.cap legal there cap.is in
+    let same : larger_capacity t cap.cap ≡ larger.cap =
     Some-number _ _ (sym (capacity_of_growth t B p d cap.cap cap.is) ∙ larger.is) in
-    let within = consistent.within d there before.0 cap.cap cap.is in
+    let within =
+    (Legal-consistent t B (Legal-before t B (Grow p d) legal)).within d there before.0 cap.cap cap.is in
     let unread_before = unread_length B d in
     let unread_after = unread_length-push B (Grow p d) d in
     let reach = larger.at_most in
@@ -216,7 +199,7 @@ unfolding could_grow
 no_cycle_then t network B p d legal owed waiters g =
     let H : List Event = B ++ Grow p d ∷ [] in
     let before = had_cycle t network B (Grow p d) legal g.process g.others (λ q h e. absurd cc) g.cycle in
-    let w = waiters (could_grow t B (Grow p d) g before) in
+    let w = waiters (could_grow t B (Grow p d) legal g before) in
     let next = Legal-last t B (Grow p d) legal in
     let process : w.waiting ≡ p = Some-number _ _ (sym w.last ∙ owed.wait) in
     let round =
@@ -234,7 +217,7 @@ no_cycle_then t network B p d legal owed waiters g =
     let waits = member_waits t (waits_of t H) g.process g.others g.process g.cycle.in_turn at_d.member member in
     let still : full_channel (wait_at (waits_of t H) at_d.member) ≡ Some d =
     subst (λ x. full_channel x ≡ Some d) (before.waits at_d.member waits.0 member waits.1) at_d.full in
-    not_full_then t B p d (Legal-consistent t B (Legal-before t B (Grow p d) legal)) next.numbers.1
+    not_full_then t network B p d legal next.numbers.1
     (full_in_table t B at_d.member d below at_d.full) (full_in_table t H at_d.member d below still)
 
 -- an event that is no wait of a member leaves no cycle that can grow
@@ -246,12 +229,12 @@ no_cycle t network B (Grow p d) legal waiters g none = by_reason (Legal-last t B
     by_reason (inl owed) = no_cycle_then t network B p d legal owed waiters g
     by_reason (inr owed) =
         let before = had_cycle t network B (Grow p d) legal g.process g.others none g.cycle in
-        let old = could_grow t B (Grow p d) g before in
+        let old = could_grow t B (Grow p d) legal g before in
         let cycle = grows_of t B old (waiters old) in
         owed.no_cycle cycle.process cycle.channel cycle.owed
 no_cycle t network B e legal waiters g none =
     let before = had_cycle t network B e legal g.process g.others none g.cycle in
-    let old = could_grow t B e g before in
+    let old = could_grow t B e legal g before in
     let owed = grows_of t B old (waiters old) in
     let next = (Legal-last t B e legal).growth owed.process owed.channel (inl owed.owed) in
     cc

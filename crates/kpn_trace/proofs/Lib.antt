@@ -3,6 +3,7 @@ pub mod Legality
 pub mod Running
 pub mod Ownership
 pub mod Journals
+pub mod Capacities
 pub mod OneMore
 pub mod WaitsAfter
 pub mod Below

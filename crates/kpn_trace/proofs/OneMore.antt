@@ -1,7 +1,6 @@
 -- What one more event changes, and that a legal history with it is legal exactly where that stands.
 use Rattle.std.proofs.Common.{◌≡◌, ◌↔◌, ℕ, suc, ◌+◌, ◌-◌, ◌<◌, ◌≤◌, Bool, true, false, not, ◌||◌, ℤ, cond, eqb, eq-eqb, List, [], ◌∷◌, ◌++◌, length, drop, count_by, Option, Some, None, refl, sym, ap, ◌∙◌, subst, inl, inr, arith, length-drop, length-append, option_map}
 use Rattle.std.proofs.lemmas.List.Folds.{list_any-append}
-use Rattle.std.proofs.lemmas.List.Sums.{sum_by_push}
 use Rattle.std.proofs.lemmas.Bool.{cases_eq, both_ways, false_from_ne_true, false≢true, not-true, and_parts, and_cases, leb-true, leb-false, ne_eqb, or_parts, not_from_false}
 use Rattle.kpn_lang.specs.declared.talk.Said.{Said}
 use Rattle.kpn_lang.specs.declared.talk.Said.TheVariants as said
@@ -17,13 +16,14 @@ use Rattle.kpn_net.proofs.Monotone.{talk_on-grows}
 use Rattle.kpn_trace.specs.declared.event.Event.{Event}
 use Rattle.kpn_trace.specs.declared.event.Event.TheVariants.{Get, Put, Feed, Take}
 use Rattle.kpn_trace.specs.Talks.{said_in, talk_of, is_end_of, has_ended}
-use Rattle.kpn_trace.specs.Channels.{written_in, read_in, written_on, read_on, unread_on, is_leave_of, is_left, lives, reader_lives, is_growth_of, capacity_after, reaches, is_full}
+use Rattle.kpn_trace.specs.Channels.{written_in, read_in, written_on, read_on, unread_on, is_leave_of, is_left, lives, reader_lives, is_growth_of, after_growths, capacity_after, reaches, is_full}
 use Rattle.kpn_trace.specs.Legal.{IsConsistent, MayFollow, Legal}
 use Rattle.kpn_trace.specs.OneMore.{IsOldest, KeepsConsistent}
 use Rattle.kpn_trace.proofs.Events.{flat_map-same, talk_of-push, written_on-push, written_on-grows, written_on-same, read_on-push, read_on-grows, read_on-same}
 use Rattle.kpn_trace.proofs.Legality.{Legal-push, Legal-before, Legal-last, Legal-consistent}
 use Rattle.kpn_trace.proofs.Ownership.{CanSay-last, said_by}
 use Rattle.kpn_trace.proofs.Journals.{none_elsewhere}
+use Rattle.kpn_trace.proofs.Capacities.{capacity_after-same, smaller_before}
 
 -- ---- any lists
 
@@ -75,33 +75,6 @@ lives-before B e c Sink h = not_from_false _ (is_left-before B e c (not-true _ h
 pub reader_lives-before : (t : Tables) (B : List Event) (e : Event) (c : ℕ) → reader_lives t (B ++ e ∷ []) c ≡ true
     → reader_lives t B c ≡ true
 reader_lives-before t B e c h = lives-before B e c (reader_of t c) h
-
-pub capacity_after-push : (t : Tables) (B : List Event) (e : Event) (c : ℕ)
-    → capacity_after t (B ++ e ∷ []) c ≡ option_map (λ cap. cap + cond (is_growth_of c e) 1 0) (capacity_after t B c)
-capacity_after-push t B e c = by_capacity (capacity (channel_at t c))
-  where
-    by_capacity : (first : Option ℕ)
-        → option_map (λ n. n + count_by (is_growth_of c) (B ++ e ∷ [])) first
-        ≡ option_map (λ cap. cap + cond (is_growth_of c e) 1 0)
-        (option_map (λ n. n + count_by (is_growth_of c) B) first)
-    by_capacity None = refl
-    by_capacity (Some n) = ap Some (let more = sum_by_push (λ x. cond (is_growth_of c x) 1 0) B e in omega arith)
-
--- the capacity before was at most as large
-pub record SmallerBefore (t : Tables) (B : List Event) (c cap : ℕ) : Type 0 where
-  pub before : ℕ
-  pub is : capacity_after t B c ≡ Some before
-  pub at_most : before ≤ cap
-
-pub smaller_before : (t : Tables) (B : List Event) (e : Event) (c cap : ℕ)
-    → capacity_after t (B ++ e ∷ []) c ≡ Some cap → SmallerBefore t B c cap
-smaller_before t B e c cap is = by_capacity (capacity_after t B c) refl (sym (capacity_after-push t B e c) ∙ is)
-  where
-    by_capacity : (o : Option ℕ) → capacity_after t B c ≡ o
-        → option_map (λ n. n + cond (is_growth_of c e) 1 0) o ≡ Some cap → SmallerBefore t B c cap
-    by_capacity None was f = absurd cc
-    by_capacity (Some n) was f = let sum : n + cond (is_growth_of c e) 1 0 ≡ cap =
-        cc in record { before = n; is = was; at_most = omega arith }
 
 -- ---- what lies unread
 
@@ -198,10 +171,10 @@ abbrev pub IsWithin : Tables → List Event → (c : ℕ) → Type 0
 IsWithin t H c =
     reader_lives t H c ≡ true → (cap : ℕ) → capacity_after t H c ≡ Some cap → length (unread_on H c) ≤ cap
 
-writes_none : (t : Tables) (B : List Event) (e : Event) (c : ℕ) → written_in c e ≡ [] → IsWithin t B c
-    → IsWithin t (B ++ e ∷ []) c
-writes_none t B e c none h alive cap is =
-    let s = smaller_before t B e c cap is in
+writes_none : (t : Tables) (B : List Event) (e : Event) → MayFollow t B e → (c : ℕ) → written_in c e ≡ []
+    → IsWithin t B c → IsWithin t (B ++ e ∷ []) c
+writes_none t B e f c none h alive cap is =
+    let s = smaller_before t B e f c cap is in
     let was : length (unread_on B c) ≤ s.before = h (reader_lives-before t B e c alive) s.before s.is in
     let at_most = s.at_most in
     let before = unread_length B c in
@@ -223,41 +196,41 @@ has_room t B c cap room_left alive is =
       | inr below ↦ ap (λ o. reaches o (length (unread_on B c))) (sym is) ∙ below
     ])
 
-finds_room : (t : Tables) (B : List Event) (e : Event) (c : ℕ) → length (written_in c e) ≤ 1 → is_full t B c ≡ false
-    → IsWithin t (B ++ e ∷ []) c
-finds_room t B e c one room_left alive cap is =
-    let s = smaller_before t B e c cap is in
+finds_room : (t : Tables) (B : List Event) (e : Event) → MayFollow t B e → (c : ℕ) → length (written_in c e) ≤ 1
+    → is_full t B c ≡ false → IsWithin t (B ++ e ∷ []) c
+finds_room t B e f c one room_left alive cap is =
+    let s = smaller_before t B e f c cap is in
     let at_most = s.at_most in
     let room = has_room t B c s.before room_left (reader_lives-before t B e c alive) s.is in
     let before = unread_length B c in
     let after = unread_length-push B e c in
     omega arith
 
-source_has_no_capacity : (channel : ChannelSpec) (cap : ℕ) (more : ℕ) → is_source channel ≡ true
-    → option_map (λ n. n + more) (capacity channel) ≡ Some cap → ⊥
-source_has_no_capacity (channel.Inner n) cap more source is = false≢true source
-source_has_no_capacity channel.Source cap more source is = absurd cc
-source_has_no_capacity (channel.Sink n) cap more source is = false≢true source
+source_has_no_capacity : (channel : ChannelSpec) (cap : ℕ) (later : ℕ → ℕ) → is_source channel ≡ true
+    → option_map later (capacity channel) ≡ Some cap → ⊥
+source_has_no_capacity (channel.Inner n) cap later source is = false≢true source
+source_has_no_capacity channel.Source cap later source is = absurd cc
+source_has_no_capacity (channel.Sink n) cap later source is = false≢true source
 
 fed_source : (t : Tables) (H : List Event) (c : ℕ) → is_source (channel_at t c) ≡ true → IsWithin t H c
 fed_source t H c source alive cap is =
-    absurd (source_has_no_capacity (channel_at t c) cap (count_by (is_growth_of c) H) source is)
+    absurd (source_has_no_capacity (channel_at t c) cap (after_growths t (count_by (is_growth_of c) H)) source is)
 
 within_more : (t : Tables) (B : List Event) (e : Event) → IsConsistent t B → MayFollow t B e → KeepsConsistent t B e
     → (c : ℕ) → c < length t.channels → IsWithin t (B ++ e ∷ []) c
 within_more t B (Put p d v) s f w c below =
     elim (cases_eq d c) [
-      | inl same ↦ finds_room t B (Put p d v) c (one_at_most (eqb d c) v)
+      | inl same ↦ finds_room t B (Put p d v) f c (one_at_most (eqb d c) v)
           (subst (λ x. is_full t B x ≡ false) same w.0)
-      | inr differ ↦ writes_none t B (Put p d v) c (none_elsewhere d c v differ) (s.within c below)
+      | inr differ ↦ writes_none t B (Put p d v) f c (none_elsewhere d c v differ) (s.within c below)
     ]
 within_more t B (Feed d v) s f w c below =
     elim (cases_eq d c) [
       | inl same ↦ fed_source t (B ++ Feed d v ∷ []) c
           (subst (λ x. is_source (channel_at t x) ≡ true) same f.due.source)
-      | inr differ ↦ writes_none t B (Feed d v) c (none_elsewhere d c v differ) (s.within c below)
+      | inr differ ↦ writes_none t B (Feed d v) f c (none_elsewhere d c v differ) (s.within c below)
     ]
-within_more t B event s f w c below = writes_none t B event c refl (s.within c below)
+within_more t B event s f w c below = writes_none t B event f c refl (s.within c below)
 
 pub IsConsistent-more : (t : Tables) (B : List Event) (e : Event) → IsConsistent t B → MayFollow t B e
     → KeepsConsistent t B e → IsConsistent t (B ++ e ∷ [])
@@ -292,18 +265,6 @@ reader_lives-same t B e c none stays = by_end (reader_of t c)
         ap not
         (list_any-append (is_leave_of c) B (e ∷ []) ∙ ap (λ b. is_left B c || (b || false)) stays
         ∙ or-false (is_left B c))
-
-pub zero_more : (o : Option ℕ) → option_map (λ n. n + 0) o ≡ o
-zero_more None = refl
-zero_more (Some n) = ap Some (let zero : n + 0 ≡ n = omega arith in zero)
-
--- an event that is no growth of the channel leaves its capacity as it is
-pub capacity_after-same : (t : Tables) (B : List Event) (e : Event) (c : ℕ) → is_growth_of c e ≡ false
-    → capacity_after t (B ++ e ∷ []) c ≡ capacity_after t B c
-capacity_after-same t B e c none =
-    capacity_after-push t B e c
-    ∙ ap (λ b. option_map (λ n. n + cond b 1 0) (capacity_after t B c)) none
-    ∙ zero_more (capacity_after t B c)
 
 -- a put in a legal history found room
 found_room : (t : Tables) (B : List Event) (p c : ℕ) (v : ℤ) → c < length t.channels → IsConsistent t B

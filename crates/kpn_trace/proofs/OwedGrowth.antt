@@ -33,7 +33,8 @@ use Rattle.kpn_trace.proofs.AfterEvent.{has_ended-next, is_closed-next}
 use Rattle.kpn_trace.proofs.EarlierWaits.{wait_at-waits_of}
 use Rattle.kpn_trace.proofs.Growth.{Some-number, last_waiter, last_waiter-push, blocked_in_table, one_cycle_owed}
 use Rattle.kpn_trace.proofs.OwnWaits.{wait_on_full}
-use Rattle.kpn_trace.proofs.Stops.{below_limit, is_filled, is_blocked}
+use Rattle.kpn_trace.proofs.Stops.{is_filled, is_blocked}
+use Rattle.kpn_trace.proofs.Capacities.{below_limit}
 use Rattle.kpn_trace.proofs.WaitsAfter.{wait_of-more, alive_before, ended_is_not_blocked}
 use Rattle.kpn_trace.proofs.Waking.{wait_of-then}
 

@@ -1,31 +1,32 @@
 -- What a stop rests on: ended is quiet, jammed is at the limit, clogged waits for blocked processes, and but a leave
 -- no event can follow.
 use Rattle.std.specs.Prelude.{Contains}
-use Rattle.std.specs.Option.{option_map, unwrap_or}
-use Rattle.std.proofs.Common.{◌≡◌, ◌≢◌, ℕ, suc, ℤ, ◌+◌, ◌<◌, ◌≤◌, Bool, true, false, not, cond, eqb, List, [], ◌∷◌, ◌++◌, length, Option, Some, None, refl, sym, ap, ◌∙◌, subst, inl, inr, arith}
+use Rattle.std.specs.Option.{unwrap_or}
+use Rattle.std.proofs.Common.{◌≡◌, ◌≢◌, ℕ, suc, ℤ, ◌<◌, ◌≤◌, true, false, not, List, [], ◌∷◌, ◌++◌, length, Option, Some, None, refl, sym, ap, ◌∙◌, subst, inl, inr, arith}
 use Rattle.std.proofs.lemmas.Bool.{and_parts, both_ways, cases_lt, not-true, eqb-true, false≢true}
 use Rattle.kpn_net.specs.declared.wait.Wait.{Wait}
 use Rattle.kpn_net.specs.declared.wait.Wait.TheVariants.{Nobody, Empty, Full}
 use Rattle.kpn_net.specs.declared.tables.End.{End}
 use Rattle.kpn_net.specs.declared.tables.End.TheVariants.{Process, Source, Sink}
-use Rattle.kpn_net.specs.Tables.{Tables, channel_at, capacity, reader_of}
+use Rattle.kpn_net.specs.Tables.{Tables, reader_of}
 use Rattle.kpn_net.specs.Faults.{IsNetwork}
 use Rattle.kpn_net.specs.Waits.{awaited, process_at}
-use Rattle.kpn_net.proofs.Networks.{Reads-reader_of, Reads-below, capacity_in_range, sink-reader_of, sink_there}
+use Rattle.kpn_net.proofs.Networks.{Reads-reader_of, Reads-below, sink-reader_of, sink_there}
 use Rattle.kpn_net.proofs.Cycles.{full_at, cycle_below}
 use Rattle.kpn_trace.specs.declared.event.Event.{Event}
 use Rattle.kpn_trace.specs.declared.event.Event.TheVariants.{Get, Put, WaitEmpty, WaitFull, Ended, Feed, Close, Take, Leave, Grow}
 use Rattle.kpn_trace.specs.declared.state.Verdict.{Verdict}
 use Rattle.kpn_trace.specs.declared.state.Verdict.TheVariants as verdict
 use Rattle.kpn_trace.specs.Talks.{has_ended, last_event}
-use Rattle.kpn_trace.specs.Channels.{unread_on, lives, reader_lives, reaches, capacity_after, capacity_or_zero, is_full, is_left, is_growth_of}
+use Rattle.kpn_trace.specs.Channels.{unread_on, lives, reader_lives, reaches, capacity_after, is_full, is_left}
 use Rattle.kpn_trace.specs.Waiting.{wait_of, waits_of, full_in_cycle, HasFullCycle}
-use Rattle.kpn_trace.specs.Legal.{CanGo, MayFeed, MayTake, OwesGrowth, Legal}
+use Rattle.kpn_trace.specs.Legal.{CanGo, MayFeed, MayTake, Legal}
 use Rattle.kpn_trace.specs.Ends.{WaitsOnFull, IsQuiet, IsSettled, IsVerdict}
 use Rattle.kpn_trace.specs.OneMore.{IsOldest}
 use Rattle.kpn_trace.specs.Stops.{OwesNothing, IsJammedAtLimit, WaitsForBlocked}
-use Rattle.kpn_trace.proofs.Legality.{Legal-last, by_events}
-use Rattle.kpn_trace.proofs.OneMore.{capacity_after-push, KeepsConsistent-last}
+use Rattle.kpn_trace.proofs.Legality.{Legal-last}
+use Rattle.kpn_trace.proofs.Capacities.{in_limit}
+use Rattle.kpn_trace.proofs.OneMore.{KeepsConsistent-last}
 use Rattle.kpn_trace.proofs.Growth.{reached, full_where_waited, full_in_table, nothing_can_grow}
 
 -- ---- ended is quiet
@@ -40,64 +41,6 @@ quiet_where_ended t H v = record {
     ]
   ];
 }
-
--- ---- capacities lie from 1 to the limit
-
--- the capacity of a channel of the network, where it has one, is from 1 to the limit
-pub record IsInLimit (t : Tables) (H : List Event) : Type 0 where
-  pub each : (c cap : ℕ) → c < length t.channels → capacity_after t H c ≡ Some cap → (0 < cap) × (cap ≤ t.limit)
-
-in_limit_at_first : (t : Tables) → IsNetwork t → IsInLimit t []
-in_limit_at_first t network =
-    record { each = λ c cap there is. by_first c (capacity (channel_at t c)) refl cap there is }
-  where
-    by_first : (c : ℕ) (o : Option ℕ) → capacity (channel_at t c) ≡ o → (cap : ℕ) → c < length t.channels
-        → option_map (λ first. first + 0) o ≡ Some cap → (0 < cap) × (cap ≤ t.limit)
-    by_first c None was cap there is = absurd cc
-    by_first c (Some n) was cap there is =
-        let same : n + 0 ≡ cap = cc in
-        let bounds = capacity_in_range t network c n there was in
-        let low = bounds.positive in
-        let high = bounds.within in
-        (omega arith, omega arith)
-
--- the channel of an owed growth is below the limit
-pub below_limit : (t : Tables) (H : List Event) (p d : ℕ) → OwesGrowth t H p d → capacity_or_zero t H d < t.limit
-below_limit t H p d (inl owed) = owed.below_limit
-below_limit t H p d (inr owed) = owed.below_limit
-
-in_limit_after : (t : Tables) (B : List Event) (e : Event) (c n : ℕ) → Legal t (B ++ e ∷ [])
-    → capacity_after t B c ≡ Some n → n ≤ t.limit → n + cond (is_growth_of c e) 1 0 ≤ t.limit
-in_limit_after t B (Grow p d) c n legal was h = by_channel (eqb d c) refl
-  where
-    by_channel : (b : Bool) → eqb d c ≡ b → n + cond b 1 0 ≤ t.limit
-    by_channel true same =
-        let below = below_limit t B p d (Legal-last t B (Grow p d) legal).due in
-        let room : capacity_or_zero t B d ≡ n =
-        ap (λ x. capacity_or_zero t B x) (eqb-true d c same) ∙ ap (λ o. unwrap_or o 0) was in
-        omega arith
-    by_channel false other = omega arith
-in_limit_after t B e c n legal was h = omega arith
-
-pub in_limit : (t : Tables) → IsNetwork t → (H : List Event) → Legal t H → IsInLimit t H
-in_limit t network =
-    by_events t (IsInLimit t) (in_limit_at_first t network)
-    (λ B e legal h.
-    record {
-      each = λ c cap there is.
-          by_before B e legal h c (capacity_after t B c) refl cap there (sym (capacity_after-push t B e c) ∙ is);
-    })
-  where
-    by_before : (B : List Event) (e : Event) → Legal t (B ++ e ∷ []) → IsInLimit t B → (c : ℕ) (o : Option ℕ)
-        → capacity_after t B c ≡ o → (cap : ℕ) → c < length t.channels
-        → option_map (λ n. n + cond (is_growth_of c e) 1 0) o ≡ Some cap → (0 < cap) × (cap ≤ t.limit)
-    by_before B e legal h c None was cap there is = absurd cc
-    by_before B e legal h c (Some n) was cap there is =
-        let same : n + cond (is_growth_of c e) 1 0 ≡ cap = cc in
-        let bounds = h.each c n there was in
-        let low = bounds.0 in
-        let high = in_limit_after t B e c n legal was bounds.1 in
-        (omega arith, omega arith)
 
 -- ---- full channels of a legal history
 

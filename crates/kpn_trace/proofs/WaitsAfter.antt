@@ -15,14 +15,15 @@ use Rattle.kpn_trace.specs.Talks.{is_of, last_event, is_end_of, has_ended}
 use Rattle.kpn_trace.specs.Channels.{written_in, read_in, written_on, read_on, unread_on, is_growth_of, reader_lives, capacity_after, reaches, is_empty, is_full}
 use Rattle.kpn_trace.specs.Waiting.{wait_in, wait_of_last, wait_of}
 use Rattle.kpn_trace.specs.WaitsAfter.{wait_made, wait_kept, wait_after}
-use Rattle.kpn_trace.specs.Legal.{Legal}
+use Rattle.kpn_trace.specs.Legal.{MayFollow, Legal}
 use Rattle.kpn_trace.proofs.Events.{Some-event, last_event-own, last_event-other, has_ended-push, written_on-same, read_on-same}
 use Rattle.kpn_trace.proofs.Legality.{Legal-before, Legal-last, by_events}
 use Rattle.kpn_trace.proofs.Ownership.{Owns, Owns-last}
 use Rattle.kpn_trace.proofs.Journals.{none_elsewhere, writer_is, no_source, read_in-other}
 use Rattle.kpn_trace.specs.AfterEvent.{takes_reader}
 use Rattle.kpn_trace.proofs.AfterEvent.{keeps_reader, reader_lives-kept}
-use Rattle.kpn_trace.proofs.OneMore.{capacity_after-same, reader_lives-before, smaller_before, unread_length, unread_length-push}
+use Rattle.kpn_trace.proofs.Capacities.{capacity_after-same, smaller_before}
+use Rattle.kpn_trace.proofs.OneMore.{reader_lives-before, unread_length, unread_length-push}
 
 -- ---- the last event of a process
 
@@ -88,17 +89,17 @@ empty_before B e c none empty =
     eq-eqb (length (unread_on B c)) 0 (omega arith)
 
 -- what reaches the capacity after also reached it before, where nothing is written
-reached_before : (t : Tables) (B : List Event) (e : Event) (c : ℕ) → written_in c e ≡ []
+reached_before : (t : Tables) (B : List Event) (e : Event) → MayFollow t B e → (c : ℕ) → written_in c e ≡ []
     → reaches (capacity_after t (B ++ e ∷ []) c) (length (unread_on (B ++ e ∷ []) c)) ≡ true
     → reaches (capacity_after t B c) (length (unread_on B c)) ≡ true
-reached_before t B e c none = by_capacity (capacity_after t (B ++ e ∷ []) c) refl
+reached_before t B e follows c none = by_capacity (capacity_after t (B ++ e ∷ []) c) refl
   where
     by_capacity : (o : Option ℕ) → capacity_after t (B ++ e ∷ []) c ≡ o
         → reaches o (length (unread_on (B ++ e ∷ []) c)) ≡ true
         → reaches (capacity_after t B c) (length (unread_on B c)) ≡ true
     by_capacity None is full = absurd (false≢true full)
     by_capacity (Some cap) is full =
-        let s = smaller_before t B e c cap is in
+        let s = smaller_before t B e follows c cap is in
         let at_most = s.at_most in
         let within = leb-true cap (length (unread_on (B ++ e ∷ []) c)) full in
         let before = unread_length B c in
@@ -107,14 +108,14 @@ reached_before t B e c none = by_capacity (capacity_after t (B ++ e ∷ []) c) r
         ap (λ o. reaches o (length (unread_on B c))) s.is
         ∙ le-leb s.before (length (unread_on B c)) (omega arith)
 
-full_before : (t : Tables) (B : List Event) (e : Event) (c : ℕ) → written_in c e ≡ []
+full_before : (t : Tables) (B : List Event) (e : Event) → MayFollow t B e → (c : ℕ) → written_in c e ≡ []
     → is_full t (B ++ e ∷ []) c ≡ true → is_full t B c ≡ true
-full_before t B e c none full =
+full_before t B e follows c none full =
     let both =
     and_parts (reader_lives t (B ++ e ∷ []) c)
     (reaches (capacity_after t (B ++ e ∷ []) c) (length (unread_on (B ++ e ∷ []) c))) full in
     and_from (reader_lives t B c) (reaches (capacity_after t B c) (length (unread_on B c)))
-    (reader_lives-before t B e c both.0) (reached_before t B e c none both.1)
+    (reader_lives-before t B e c both.0) (reached_before t B e follows c none both.1)
 
 -- ---- after an event of its own
 
@@ -162,7 +163,7 @@ module _ (t : Tables) (network : IsNetwork t) (B : List Event) (e : Event) (lega
       let writer : writer_of t c ≡ Process p =
       writer_of-Writes t network q c own.owns ∙ ap Process (eqb-true q p own.its) in
       left_if t (B ++ e ∷ []) (is_full t B c) (is_full t (B ++ e ∷ []) c) (Full c) refl
-      (full_before t B e c (written_in-other t network c p writer e owned other))
+      (full_before t B e (Legal-last t B e legal) c (written_in-other t network c p writer e owned other))
   by_last (Some event) is = refl
 
   wait_of_other : wait_of t (B ++ e ∷ []) p ≡ wait_kept t (B ++ e ∷ []) (wait_of t B p)

@@ -26,7 +26,8 @@ use Rattle.kpn_trace.specs.Legal.{IsConsistent, Legal}
 use Rattle.kpn_trace.proofs.Legality.{Legal-before, Legal-consistent}
 use Rattle.kpn_trace.proofs.Ownership.{Owns-last}
 use Rattle.kpn_trace.proofs.Journals.{none_elsewhere, read_in-other, reads_begin_writes}
-use Rattle.kpn_trace.proofs.OneMore.{unread_length, unread_length-push, capacity_after-same, item_here, KeepsConsistent-last}
+use Rattle.kpn_trace.proofs.Capacities.{capacity_after-same}
+use Rattle.kpn_trace.proofs.OneMore.{unread_length, unread_length-push, item_here, KeepsConsistent-last}
 use Rattle.kpn_trace.proofs.WaitsAfter.{is_full-same, written_in-other, wait_of-more}
 use Rattle.kpn_trace.proofs.AfterEvent.{reader_lives-next, keeps_reader}
 use Rattle.kpn_trace.proofs.Growth.{Some-number, reached, not_full_then}
@@ -175,7 +176,7 @@ module _ (t : Tables) (network : IsNetwork t) (B : List Event) (p c : ℕ) (writ
       elim (cases_eq d c) [
         | inl same ↦
             false_from_ne_true _
-            (λ now. not_full_then t B q c (Legal-consistent t B (Legal-before t B (Grow q d) legal)) there full
+            (λ now. not_full_then t network B q c (subst (λ x. Legal t (B ++ Grow q x ∷ [])) same legal) there full
             (subst (λ x. is_full t (B ++ Grow q x ∷ []) c ≡ true) same now))
             ∙ sym (is_here d c same)
         | inr differ ↦

@@ -1,19 +1,19 @@
 -- What is left of a channel and its ends after one more event, by cases of the event. What it writes and reads, and
 -- what a process says in it, stand with the lists that these make up.
-use Rattle.std.specs.Prelude.{ℕ, ◌+◌, Bool, false, nat_eq, if◌then◌else◌, Option}
+use Rattle.std.specs.Prelude.{ℕ, Bool, false, nat_eq, if◌then◌else◌, Option}
 use Rattle.std.specs.Option.{option_map}
 use Rattle.kpn_net.specs.declared.tables.End.{End}
 use Rattle.kpn_net.specs.declared.tables.End.TheVariants.{Process, Source, Sink}
-use Rattle.kpn_net.specs.Tables.{Tables, reader_of}
+use Rattle.kpn_net.specs.Tables.{Tables, larger_capacity, reader_of}
 use Rattle.kpn_trace.specs.declared.event.Event.{Event}
 use Rattle.kpn_trace.specs.declared.event.Event.TheVariants.{Grow}
 use Rattle.kpn_trace.specs.Talks.{is_end_of}
 use Rattle.kpn_trace.specs.Channels.{is_leave_of}
 
--- a capacity after the event: a growth of the channel makes it 1 larger
-abbrev pub capacity_then : (c : ℕ) → Event → Option ℕ → Option ℕ
-capacity_then c (Grow p d) capacity = if nat_eq d c then option_map (λ n. n + 1) capacity else capacity
-capacity_then c event capacity = capacity
+-- a capacity after the event: a growth of the channel makes it larger
+abbrev pub capacity_then : Tables → (c : ℕ) → Event → Option ℕ → Option ℕ
+capacity_then t c (Grow p d) capacity = if nat_eq d c then option_map (larger_capacity t) capacity else capacity
+capacity_then t c event capacity = capacity
 
 -- the event takes this end of the channel away: the process ends, or the outside leaves the sink
 abbrev pub takes_end : (c : ℕ) → Event → End → Bool

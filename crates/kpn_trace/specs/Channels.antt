@@ -1,11 +1,11 @@
 -- The lists of each channel in a history (Kahn 1974: what was written on a channel is the history of its items; Parks
 -- 1995: a channel has a capacity, and a write to a full one waits).
-use Rattle.std.specs.Prelude.{ℕ, ◌+◌, Bool, false, not, ◌&&◌, nat_eq, nat_le, if◌then◌else◌, ℤ, List, [], ◌∷◌, length, drop, count_by, Option, Some, None}
+use Rattle.std.specs.Prelude.{ℕ, zero, suc, Bool, false, not, ◌&&◌, nat_eq, nat_le, if◌then◌else◌, ℤ, List, [], ◌∷◌, length, drop, count_by, Option, Some, None}
 use Rattle.std.specs.List.{flat_map, list_any}
 use Rattle.std.specs.Option.{option_map, unwrap_or}
 use Rattle.kpn_net.specs.declared.tables.End.{End}
 use Rattle.kpn_net.specs.declared.tables.End.TheVariants.{Process, Source, Sink}
-use Rattle.kpn_net.specs.Tables.{Tables, channel_at, is_source, capacity, reader_of}
+use Rattle.kpn_net.specs.Tables.{Tables, channel_at, is_source, capacity, larger_capacity, reader_of}
 use Rattle.kpn_net.specs.Process.{Family}
 use Rattle.kpn_trace.specs.declared.event.Event.{Event}
 use Rattle.kpn_trace.specs.declared.event.Event.TheVariants.{Get, Put, Feed, Close, Take, Leave, Grow}
@@ -76,9 +76,14 @@ abbrev pub is_growth_of : (c : ℕ) → Event → Bool
 is_growth_of c (Grow p d) = nat_eq d c
 is_growth_of c event = false
 
--- the capacity: the first one, and 1 for each growth of the channel; a source has none
+-- a capacity after so many growths
+abbrev pub after_growths : Tables → (times cap : ℕ) → ℕ
+after_growths t zero cap = cap
+after_growths t (suc times) cap = larger_capacity t (after_growths t times cap)
+
+-- the capacity: the first one, made larger once for each growth of the channel; a source has none
 abbrev pub capacity_after : Tables → List Event → (c : ℕ) → Option ℕ
-capacity_after t H c = option_map (λ first. first + count_by (is_growth_of c) H) (capacity (channel_at t c))
+capacity_after t H c = option_map (after_growths t (count_by (is_growth_of c) H)) (capacity (channel_at t c))
 
 -- the capacity as a number, which is 0 where there is none
 abbrev pub capacity_or_zero : Tables → List Event → (c : ℕ) → ℕ

@@ -22,7 +22,7 @@ pub enum Event {
     Take(u16, i64),
     /// `Leave(channel)`: the outside left a sink.
     Leave(u16),
-    /// `Grow(process, channel)`: the capacity of the channel became 1 greater, since the process waits in a
+    /// `Grow(process, channel)`: the capacity of the channel became larger, since the process waits in a
     /// cycle.
     Grow(u16, u16),
 }

@@ -33,7 +33,7 @@ pub fn marks_after_one_event()
         → reader_lives t (B ++ event ∷ []) c
         ≡ (reader_lives t B c && not (takes_reader t c event)) }
     ensures capacity { (t : Tables) (B : List Event) (event : Event) (c : ℕ)
-        → capacity_after t (B ++ event ∷ []) c ≡ capacity_then c event (capacity_after t B c) }
+        → capacity_after t (B ++ event ∷ []) c ≡ capacity_then t c event (capacity_after t B c) }
 {}
 
 /// How many events of processes there are after one more event, and which events these are.

@@ -1,4 +1,5 @@
-use Rattle.kpn_trace.proofs.AfterEvent.{is_closed-next, is_left-next, has_ended-next, reader_lives-next, capacity_after-next}
+use Rattle.kpn_trace.proofs.AfterEvent.{is_closed-next, is_left-next, has_ended-next, reader_lives-next}
+use Rattle.kpn_trace.proofs.Capacities.{capacity_after-next}
 use Rattle.kpn_trace.proofs.event_laws.marks_after_one_event.Goals as goal
 
 pub returns-clause-closed : goal.returns-clause-closed

@@ -1,4 +1,4 @@
-use Rattle.kpn_trace.proofs.Stops.{in_limit}
+use Rattle.kpn_trace.proofs.Capacities.{in_limit}
 use Rattle.kpn_trace.proofs.growth_laws.capacities_stay_within_the_limit.Goals as goal
 
 pub returns : goal.returns
