@@ -6,6 +6,8 @@ use Rattle.kpn_lang.specs.Syntax as lang
 use Rattle.kpn_lang.specs.Tree.{Tree, End, Assign, Read, Write, If, While, tree_of}
 use Rattle.kpn_net.specs.declared.tables.ChannelSpec.{ChannelSpec}
 use Rattle.kpn_net.specs.declared.tables.ChannelSpec.TheVariants.{Inner, Source, Sink}
+use Rattle.kpn_net.specs.declared.tables.Growth.{Growth}
+use Rattle.kpn_net.specs.declared.tables.Growth.TheVariants as growth
 use Rattle.kpn_net.specs.declared.tables.Instance as net
 use Rattle.kpn_net.specs.Tables.{Tables}
 use Rattle.kpn_grammar.specs.Syntax.{Name, Term, numeral, variable, minus, negation, binary, assign, receive, send, choice, loop, Statements, no_statements, statement, Process, Literal, plain, negated, Instance, Item, channel, source, sink, instance, Network, Description}
@@ -78,10 +80,16 @@ instance_named names x i = instance (call_named names x i)
 abbrev pub limit_named : ℕ → Option ℕ
 limit_named n = if nat_lt n MAX_CAPACITY then Some n else None
 
--- the limit, the channels in order, and the instances in order
+-- the growth is written where it is another than the one that holds where none is written
+abbrev pub growth_named : Growth → Option Growth
+growth_named growth.One = None
+growth_named growth.Double = Some growth.Double
+
+-- the settings, the channels in order, and the instances in order
 abbrev pub network_named : NetworkNames → Tables → Network
 network_named names t = record {
   limit = limit_named t.limit;
+  growth = growth_named t.growth;
   items = paired channel_named names.channels t.channels ++ paired (instance_named names) names.instances t.instances;
 }
 

@@ -2,11 +2,13 @@
 -- feed after each line, numbers without leading zeros. Each text stands in front of the text that follows it.
 use Rattle.std.specs.Prelude.{ℕ, zero, suc, List, [], ◌∷◌, ◌++◌, codes, Option, Some, None}
 use Rattle.std.specs.Fmt.{decimal}
+use Rattle.kpn_net.specs.declared.tables.Growth.{Growth}
 use Rattle.kpn_tokens.specs.declared.tokens.Keyword.{Keyword}
 use Rattle.kpn_tokens.specs.declared.tokens.Keyword.TheVariants as keyword
 use Rattle.kpn_tokens.specs.Spelling.{keyword_bytes, mark_bytes}
 use Rattle.kpn_grammar.specs.Syntax.{Name, Term, numeral, variable, minus, negation, binary, Statement, assign, receive, send, choice, loop, Statements, no_statements, statement, Process, Literal, plain, negated, Instance, Item, channel, source, sink, instance, Network, Description}
 use Rattle.kpn_grammar.specs.Operators.{operator_mark}
+use Rattle.kpn_grammar.specs.Words.{growth_word}
 
 -- ---- expressions and statements
 
@@ -135,9 +137,16 @@ abbrev pub limit_text : Option ℕ → List ℕ → List ℕ
 limit_text None more = more
 limit_text (Some n) more = codes "  limit " ++ (decimal n ++ (codes ";\n" ++ more))
 
--- network {  its limit and its items, and  }
+-- the growth on a line of its own, where there is one
+abbrev pub growth_text : Option Growth → List ℕ → List ℕ
+growth_text None more = more
+growth_text (Some g) more = codes "  grow " ++ (growth_word g ++ (codes ";\n" ++ more))
+
+-- network {  its settings and its items, and  }
 abbrev pub network_text : Network → List ℕ → List ℕ
-network_text n more = codes "network {\n" ++ limit_text n.limit (all_text item_text n.items (codes "}\n" ++ more))
+network_text n more =
+    codes "network {\n"
+    ++ limit_text n.limit (growth_text n.growth (all_text item_text n.items (codes "}\n" ++ more)))
 
 -- ---- the whole
 

@@ -1,21 +1,22 @@
-//! Networks: the limit, the channels and the instances, and with the processes before them the whole text.
+//! Networks: the settings, the channels and the instances, and with the processes before them the whole text.
 
-ghost use Rattle.std.specs.Prelude.{◌≡◌, ◌++◌, ◌<◌, length, map, codes, OnOk, IfOk};
+ghost use Rattle.std.specs.Prelude.{◌≡◌, ◌++◌, ◌<◌, length, map, codes, Some, OnOk, IfOk};
 ghost use Rattle.std.specs.Fmt.{decimal};
 ghost use Rattle.kpn_net.specs.Tables.{channel_at, instance_at};
 ghost use Rattle.kpn_names.specs.Names.{name_at};
 ghost use Rattle.kpn_names.specs.NetworkNames.{AreNamed, paired};
-ghost use Rattle.kpn_canonical.specs.Named.{call_named, channel_named, description_named, instance_named, limit_named, literal_named, network_named, process_named};
-ghost use Rattle.kpn_canonical.specs.Text.{all_text, call_text, description_text, item_text, limit_text, name_text, names_text, network_text, outs_text, process_text, values_text};
+ghost use Rattle.kpn_canonical.specs.Named.{call_named, channel_named, description_named, growth_named, instance_named, limit_named, literal_named, network_named, process_named};
+ghost use Rattle.kpn_canonical.specs.Text.{all_text, call_text, description_text, growth_text, item_text, limit_text, name_text, names_text, network_text, outs_text, process_text, values_text};
 ghost use Rattle.kpn_canonical.specs.Writing.{Writes};
 
 use crate::pieces::{bytes, name, number};
 use crate::processes::process;
 use itoa::Buffer;
+use kpn_grammar::growth_word;
 use kpn_lang::Sequence;
 use kpn_limits::MAX_CAPACITY;
 use kpn_names::{NetworkNames, ProcessNames};
-use kpn_net::{ChannelSpec, End, Network};
+use kpn_net::{ChannelSpec, End, Growth, Network};
 use std::alloc::{AllocError, Global};
 
 /// The canonical text of a network with these names.
@@ -44,7 +45,7 @@ fn items(out: &mut Vec<u8>, network: &Network, names: &NetworkNames) -> Result<(
         (network_text (network_named names.now network.now))) }
 {
     bytes(out, b"network {\n")?;
-    limit(out, network.limit())?;
+    settings(out, network)?;
     channels(out, network, names.channels.as_slice())?;
     instances(out, network, names)?;
     bytes(out, b"}\n")
@@ -62,6 +63,16 @@ fn processes(out: &mut Vec<u8>, network: &Network, names: &[ProcessNames]) -> Re
     Ok(())
 }
 
+/// The lines of the settings that are not as they are where none is written.
+fn settings(out: &mut Vec<u8>, network: &Network) -> Result<(), AllocError>
+    ensures { OnOk result (Writes out.old.items out.new.items (λ more.
+        limit_text (limit_named network.now.limit)
+        (growth_text (growth_named network.now.growth) more))) }
+{
+    limit(out, network.limit())?;
+    growth(out, network.growth())
+}
+
 /// The line of the limit, where it is below the one that holds where none is written.
 fn limit(out: &mut Vec<u8>, limit: u32) -> Result<(), AllocError>
     ensures { OnOk result (Writes out.old.items out.new.items (limit_text (limit_named limit))) }
@@ -71,6 +82,25 @@ fn limit(out: &mut Vec<u8>, limit: u32) -> Result<(), AllocError>
     }
     bytes(out, b"  limit ")?;
     natural(out, limit)?;
+    bytes(out, b";\n")
+}
+
+/// The line of the growth, where it is another than the one that holds where none is written.
+fn growth(out: &mut Vec<u8>, growth: Growth) -> Result<(), AllocError>
+    ensures { OnOk result (Writes out.old.items out.new.items (growth_text (growth_named growth))) }
+{
+    match growth {
+        Growth::One => Ok(()),
+        Growth::Double => growth_line(out, growth),
+    }
+}
+
+/// The line of a growth.
+fn growth_line(out: &mut Vec<u8>, growth: Growth) -> Result<(), AllocError>
+    ensures { OnOk result (Writes out.old.items out.new.items (growth_text (Some growth))) }
+{
+    bytes(out, b"  grow ")?;
+    bytes(out, growth_word(growth))?;
     bytes(out, b";\n")
 }
 

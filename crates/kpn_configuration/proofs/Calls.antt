@@ -68,7 +68,7 @@ put_is_no_silence v xs is none = let e : (v ∷ []) ≡ [] = sym is ∙ none in 
 
 -- a read of the item by an event
 channel_read : (t : Tables) (e : Event) (c : ℕ) (v : ℤ) (r : Bool) (ch : ChannelState) → written_in c e ≡ []
-    → read_in c e ≡ v ∷ [] → takes_reader t c e ≡ false → ((cap : Option ℕ) → capacity_then c e cap ≡ cap)
+    → read_in c e ≡ v ∷ [] → takes_reader t c e ≡ false → ((cap : Option ℕ) → capacity_then t c e cap ≡ cap)
     → (IsTrue ch.is_reserved → IsTrue r) → IsChannelAfter t e c ch (after_get (Some v) r ch)
 channel_read t e c v r ch writes reads stays cap keep =
     record {
@@ -81,7 +81,7 @@ channel_read t e c v r ch writes reads stays cap keep =
 
 -- a put of the item by an event
 channel_put : (t : Tables) (e : Event) (c : ℕ) (v : ℤ) (r : Bool) (ch : ChannelState) → written_in c e ≡ v ∷ []
-    → read_in c e ≡ [] → takes_reader t c e ≡ false → ((cap : Option ℕ) → capacity_then c e cap ≡ cap)
+    → read_in c e ≡ [] → takes_reader t c e ≡ false → ((cap : Option ℕ) → capacity_then t c e cap ≡ cap)
     → IsChannelAfter t e c ch (after_put v r ch)
 channel_put t e c v r ch writes reads stays cap =
     record {
@@ -101,7 +101,7 @@ pub frame_in-other : (s : Configuration) (p q : ℕ) (g : Frame) → q ≢ p →
 frame_in-other s p q g differ = get_or-set_other s.frames p q g _ differ
 
 nothing_on : (t : Tables) (e : Event) (d : ℕ) → written_in d e ≡ [] → read_in d e ≡ []
-    → ((cap : Option ℕ) → capacity_then d e cap ≡ cap) → takes_reader t d e ≡ false → IsUntouched t e d
+    → ((cap : Option ℕ) → capacity_then t d e cap ≡ cap) → takes_reader t d e ≡ false → IsUntouched t e d
 nothing_on t e d writes reads cap stays = record { written = writes; read = reads; capacity = cap; reader = stays }
 
 not_nobody : (wait : Wait) → wait ≢ Nobody → is_wait wait Nobody ≡ false

@@ -1,6 +1,6 @@
 -- Growth: which one is owed is what the search along the waits finds, and the channel made larger is what its event
 -- makes of it.
-use Rattle.std.proofs.Common.{◌≡◌, ◌↔◌, ℕ, ◌+◌, ◌<◌, ◌≤◌, Bool, true, false, not, cond, eq-eqb, ltb, IsTrue, List, [], ◌∷◌, ◌++◌, length, Option, Some, None, is_some, refl, sym, ap, ◌∙◌, subst, inl, inr, arith, IsSomeAnd, ◌||◌, append-nil, add-zero, slice_set}
+use Rattle.std.proofs.Common.{◌≡◌, ◌↔◌, ℕ, ◌<◌, ◌≤◌, Bool, true, false, not, cond, eq-eqb, ltb, IsTrue, List, [], ◌∷◌, ◌++◌, length, Option, Some, None, is_some, refl, sym, ap, ◌∙◌, subst, inl, inr, arith, IsSomeAnd, ◌||◌, append-nil, add-zero, slice_set}
 use Rattle.std.specs.Option.{unwrap_or, option_map}
 use Rattle.std.proofs.lemmas.Bool.{cases_lt, ltb-true, ltb-false, ne_eqb}
 use Rattle.std.proofs.lemmas.List.{get_or_past, get_or-map, ext_get_or, length-map}
@@ -9,24 +9,24 @@ use Rattle.kpn_net.specs.declared.found.Found.{Found}
 use Rattle.kpn_net.specs.declared.found.Found.TheVariants.{NoCycle, AllEmpty, Full}
 use Rattle.kpn_net.specs.declared.wait.Wait.{Wait}
 use Rattle.kpn_net.specs.declared.wait.Wait.TheVariants as wait
-use Rattle.kpn_net.specs.Tables.{Tables, channel_at, is_source, capacity, writer_of}
+use Rattle.kpn_net.specs.Tables.{Tables, channel_at, is_source, capacity, larger_capacity, writer_of}
 use Rattle.kpn_net.specs.Faults.{IsNetwork}
 use Rattle.kpn_net.specs.Waits.{wait_at, full_channel, AreWaits}
 use Rattle.kpn_net.specs.Finding.{Finds}
 use Rattle.kpn_net.proofs.Cycles.{full_at, cycle_below}
 use Rattle.kpn_net.proofs.Findings.{full_is_written, full_below, full_cycle_unique, finding_unique, finding_with_same_capacities}
-use Rattle.kpn_net.proofs.Networks.{Writes-writer_of, source_if_not_written, limit_in_range}
+use Rattle.kpn_net.proofs.Networks.{Writes-writer_of, source_if_not_written, limit_in_range, larger_capacity_in_range}
 use Rattle.kpn_cycle.specs.Scan.{cap_in}
-use Rattle.kpn_chan.specs.Channel.{opened, grown, one_more, MayGrow}
+use Rattle.kpn_chan.specs.Channel.{opened, grown_to, MayGrowTo}
 use Rattle.kpn_limits.specs.declared.TheConstants.{MAX_CAPACITY}
 use Rattle.kpn_trace.specs.declared.event.Event.{Event}
 use Rattle.kpn_trace.specs.declared.event.Event.TheVariants.{Grow}
-use Rattle.kpn_trace.specs.Channels.{capacity_after, capacity_or_zero}
+use Rattle.kpn_trace.specs.Channels.{after_growths, capacity_after, capacity_or_zero}
 use Rattle.kpn_trace.specs.AfterEvent.{capacity_then}
 use Rattle.kpn_trace.specs.Waiting.{wait_of, waits_of}
 use Rattle.kpn_trace.specs.Legal.{Legal, HasNumbers, OwesGrowth, waiter}
 use Rattle.kpn_trace.proofs.Legality.{by_events, Legal-last}
-use Rattle.kpn_trace.proofs.AfterEvent.{capacity_after-next}
+use Rattle.kpn_trace.proofs.Capacities.{capacity_after-next}
 use Rattle.kpn_trace.proofs.EarlierWaits.{wait_at-waits_of}
 use Rattle.kpn_trace.proofs.Growth.{one_owed}
 use Rattle.kpn_trace.proofs.OwedGrowth.{owed_as_found}
@@ -90,13 +90,13 @@ module _ (t : Tables) (network : IsNetwork t) (H : List Event) (s : Configuratio
       (λ B e legal h. capacity_after-next t B e c ∙ none e (Legal-last t B e legal).numbers (capacity_after t B c)
       ∙ h)
     where
-      first : (o : Option ℕ) → option_map (λ n. n + 0) o ≡ o
+      first : (o : Option ℕ) → option_map (after_growths t 0) o ≡ o
       first None = refl
-      first (Some n) = ap Some (omega arith)
+      first (Some n) = refl
 
-      none : (e : Event) → HasNumbers t e → (o : Option ℕ) → capacity_then c e o ≡ o
+      none : (e : Event) → HasNumbers t e → (o : Option ℕ) → capacity_then t c e o ≡ o
       none (Grow q d) n o = let below =
-          n.1 in ap (λ b. cond b (option_map (λ n. n + 1) o) o) (ne_eqb d c (λ e. absurd (omega arith)))
+          n.1 in ap (λ b. cond b (option_map (larger_capacity t) o) o) (ne_eqb d c (λ e. absurd (omega arith)))
       none event n o = refl
 
   pub same_capacity : (c : ℕ) → cap_in (capacities s) c ≡ capacity_or_zero t H c
@@ -157,20 +157,27 @@ module _ (t : Tables) (network : IsNetwork t) (s : Configuration) (shape : IsCon
       owed.smallest.smallest.among in
       source_if_not_written t network written.0 d (Writes-writer_of t written.0 d written.1)
 
-  pub owed_may_grow : MayGrow (channel_in s d)
-  owed_may_grow =
+  owed_capacity : (channel_in s d).capacity ≡ Some (cap_in (capacities s) d)
+  owed_capacity =
       by_capacity (channel_in s d).capacity (shape.bounded d owed_below ∙ ap not no_source)
       (sym
       (get_or-map (λ x. unwrap_or x.capacity 0) s.channels d (opened None false) 0
       (let b = owed_below in omega (arith, shape.channels))))
     where
       by_capacity : (o : Option ℕ) → is_some o ≡ true → unwrap_or o 0 ≡ cap_in (capacities s) d
-          → IsSomeAnd o (λ n. n < MAX_CAPACITY)
+          → o ≡ Some (cap_in (capacities s) d)
       by_capacity None some is = absurd cc
-      by_capacity (Some n) some is =
-          let limit : t.limit ≤ MAX_CAPACITY = (limit_in_range t network).1 in
-          let below : cap_in (capacities s) d < t.limit = owed.below_limit in
-          omega arith
+      by_capacity (Some n) some is = ap Some is
+
+  pub owed_may_grow : MayGrowTo (larger_capacity t (cap_in (capacities s) d)) (channel_in s d)
+  owed_may_grow =
+      let some = shape.positive d (cap_in (capacities s) d) owed_below owed_capacity in
+      let larger = larger_capacity_in_range t (cap_in (capacities s) d) some owed.below_limit in
+      let within = larger.1 in
+      let limit : t.limit ≤ MAX_CAPACITY = (limit_in_range t network).1 in (
+        subst (λ o. IsSomeAnd o (λ n. n < larger_capacity t (cap_in (capacities s) d))) (sym owed_capacity) larger.0,
+        omega arith,
+      )
 
   full_of : (w : Wait) → full_channel w ≡ Some d → w ≡ wait.Full d
   full_of wait.Nobody is = absurd cc
@@ -187,18 +194,18 @@ module _ (t : Tables) (network : IsNetwork t) (s : Configuration) (shape : IsCon
 
   pub Made-grown : (r : Bool) → IsTrue r → (waits : List Wait)
       → waits ≡ woken_at (is_wait (wait.Full d)) s.waits (writer_of t d) → (after : Configuration)
-      → after ≡ record s { channels = slice_set s.channels d (grown r (channel_in s d)); waits = waits }
+      → after ≡ record s { channels = slice_set s.channels d (grown_to (larger_capacity t (cap_in (capacities s) d)) r (channel_in s d)); waits = waits }
       → Made t (Grow p d) s after
   Made-grown r room =
-      made_on t s shape (Grow p d) d (grown r (channel_in s d)) (wait.Full d) s.frames owed_below tt
+      made_on t s shape (Grow p d) d (grown_to (larger_capacity t (cap_in (capacities s) d)) r (channel_in s d)) (wait.Full d) s.frames owed_below
+      (limit_in_range t network).0
       (record {
         journal = sym (append-nil (channel_in s d).journal);
         read = sym (add-zero (channel_in s d).read);
         capacity =
-            larger (channel_in s d).capacity
-            ∙ sym
-            (ap (λ b. cond b (option_map (λ n. n + 1) (channel_in s d).capacity) (channel_in s d).capacity)
-            (eq-eqb d d refl));
+            sym
+            (ap (λ o. capacity_then t d (Grow p d) o) owed_capacity
+            ∙ ap (λ b. cond b (Some (larger_capacity t (cap_in (capacities s) d))) (Some (cap_in (capacities s) d))) (eq-eqb d d refl));
         retired =
             sym
             (ap (λ b. (channel_in s d).is_retired || b) (keeps_reader t (Grow p d) d (λ r. refl) refl)
@@ -209,14 +216,10 @@ module _ (t : Tables) (network : IsNetwork t) (s : Configuration) (shape : IsCon
       record {
         written = refl;
         read = refl;
-        capacity = λ cap. ap (λ b. cond b (option_map (λ n. n + 1) cap) cap) (ne_eqb d c (λ e. differ (sym e)));
+        capacity = λ cap. ap (λ b. cond b (option_map (larger_capacity t) cap) cap) (ne_eqb d c (λ e. differ (sym e)));
         reader = keeps_reader t (Grow p d) c (λ r. refl) refl;
       })
       (λ c. refl) (λ q end. refl) (λ e. absurd cc) (wakes-grow t p d) refl (λ q is. absurd cc) refl (λ q. refl)
-    where
-      larger : (o : Option ℕ) → one_more o ≡ option_map (λ n. n + 1) o
-      larger None = refl
-      larger (Some n) = refl
 
   pub Legal-grown : (H : List Event) → p < length t.instances → IsRun t H s → OwesGrowth t H p d
       → Legal t (H ++ Grow p d ∷ [])

@@ -20,7 +20,8 @@ use Rattle.kpn_trace.specs.Waking.{wait_then}
 use Rattle.kpn_trace.specs.AfterEvent.{capacity_then, takes_reader}
 use Rattle.kpn_trace.specs.Legal.{Legal}
 use Rattle.kpn_trace.proofs.Events.{flat_map-same, written_on-push, read_on-push, talk_of-push, talk_of-other}
-use Rattle.kpn_trace.proofs.AfterEvent.{has_ended-next, is_closed-next, reader_lives-next, capacity_after-next}
+use Rattle.kpn_trace.proofs.AfterEvent.{has_ended-next, is_closed-next, reader_lives-next}
+use Rattle.kpn_trace.proofs.Capacities.{capacity_after-next}
 use Rattle.kpn_configuration.specs.Configuration.{Configuration}
 use Rattle.kpn_configuration.specs.Run.{HoldsChannel, IsEndOf, NamesInsBelow, StandsAfter, LeadsToConfiguration}
 use Rattle.kpn_configuration.specs.Changes.{IsChannelAfter, end_then, PassesRead, PassesWrite, IsFrameAfter, Changes}
@@ -42,7 +43,7 @@ HoldsChannel-next t B e c before after h a =
       read =
           a.read ∙ ap (λ n. n + length (read_in c e)) h.read ∙ sym (length-append (read_on B c) (read_in c e))
           ∙ sym (ap length (read_on-push B e c));
-      capacity = a.capacity ∙ ap (capacity_then c e) h.capacity ∙ sym (capacity_after-next t B e c);
+      capacity = a.capacity ∙ ap (capacity_then t c e) h.capacity ∙ sym (capacity_after-next t B e c);
       retired =
           a.retired ∙ ap (λ b. b || takes_reader t c e) h.retired ∙ not_or (reader_lives t B c) (takes_reader t c e)
           ∙ sym (ap not (reader_lives-next t B e c));

@@ -22,7 +22,7 @@ use Rattle.kpn_trace.specs.Channels.{read_on, fed, reader_lives}
 use Rattle.kpn_trace.specs.Ends.{IsQuiet}
 use Rattle.kpn_trace.specs.Stops.{OwesNothing}
 use Rattle.kpn_trace.proofs.Journals.{read_then_unread}
-use Rattle.kpn_trace.proofs.Stops.{in_limit}
+use Rattle.kpn_trace.proofs.Capacities.{in_limit}
 use Rattle.kpn_trace.proofs.Growth.{nothing_can_grow}
 use Rattle.kpn_trace.proofs.Kahn.{below_least_fed, least_if_quiet}
 use Rattle.kpn_trace.proofs.EndsOnce.{ended_exactly}

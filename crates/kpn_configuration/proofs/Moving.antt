@@ -34,6 +34,7 @@ module _ (t : Tables) (s : Configuration) (p : ℕ) (g : Frame) (there : p < len
         frames = length-set s.frames p g ∙ shape.frames;
         waits = shape.waits;
         bounded = shape.bounded;
+        positive = shape.positive;
         fit = at_frame (λ q f. q < length t.instances → IsTrue (fits (program_of t q) f)) (λ below. fit) shape.fit;
         reserved = shape.reserved;
       }

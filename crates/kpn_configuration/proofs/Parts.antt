@@ -7,7 +7,8 @@ use Rattle.kpn_net.specs.declared.wait.Wait.{Wait}
 use Rattle.kpn_net.specs.declared.wait.Wait.TheVariants.{Nobody, Empty, Full}
 use Rattle.kpn_net.specs.declared.tables.End.{End}
 use Rattle.kpn_net.specs.declared.tables.End.TheVariants as end
-use Rattle.kpn_net.specs.Tables.{Tables, channel_at, is_source, writer_of, reader_of, program_of}
+use Rattle.kpn_net.specs.Tables.{Tables, channel_at, is_source, larger_capacity, writer_of, reader_of, program_of}
+use Rattle.kpn_net.proofs.Networks.{larger_capacity_is_some}
 use Rattle.kpn_net.specs.Waits.{wait_at, IsOwnWait, AreWaits}
 use Rattle.kpn_step.specs.Frame.{Frame, fits}
 use Rattle.kpn_step.proofs.Places.{fits-passed, fits-passed_with}
@@ -34,7 +35,7 @@ or-false false = refl
 pub record IsUntouched (t : Tables) (e : Event) (d : ℕ) : Type 0 where
   pub written : written_in d e ≡ []
   pub read : read_in d e ≡ []
-  pub capacity : (cap : Option ℕ) → capacity_then d e cap ≡ cap
+  pub capacity : (cap : Option ℕ) → capacity_then t d e cap ≡ cap
   pub reader : takes_reader t d e ≡ false
 
 pub untouched : (t : Tables) (e : Event) (d : ℕ) (channel : ChannelState) → IsUntouched t e d
@@ -163,11 +164,13 @@ wait_then-close t c q (Full d) = refl
 
 -- ---- who waits on a channel as full keeps the item that is reserved there
 
--- only the writer of a channel puts there, only a source is fed, and who comes to wait as full has an item reserved
+-- only the writer of a channel puts there, only a source is fed, who comes to wait as full has an item reserved, and
+-- where a channel grows the limit is not 0
 abbrev pub KeepsRoom : Tables → Configuration → Event → Type 0
 KeepsRoom t s (Put p c v) = writer_of t c ≡ end.Process p
 KeepsRoom t s (Feed c v) = is_source (channel_at t c) ≡ true
 KeepsRoom t s (WaitFull p c) = IsTrue (channel_in s c).is_reserved
+KeepsRoom t s (Grow p c) = 0 < t.limit
 KeepsRoom t s event = Unit {0}
 
 -- the event of another writes nothing on a channel that a process writes
@@ -217,14 +220,29 @@ pub record SameLengths (before after : Configuration) : Type 0 where
   pub ends : length after.ends ≡ length before.ends
   pub frames : length after.frames ≡ length before.frames
 
-some_or_none : (c : ℕ) (e : Event) (cap : Option ℕ) → is_some (capacity_then c e cap) ≡ is_some cap
-some_or_none c (Grow p d) cap = by_test (eqb d c) cap
+some_or_none : (t : Tables) (c : ℕ) (e : Event) (cap : Option ℕ) → is_some (capacity_then t c e cap) ≡ is_some cap
+some_or_none t c (Grow p d) cap = by_test (eqb d c) cap
   where
-    by_test : (b : Bool) (cap : Option ℕ) → is_some (cond b (option_map (λ n. n + 1) cap) cap) ≡ is_some cap
+    by_test : (b : Bool) (cap : Option ℕ)
+        → is_some (cond b (option_map (larger_capacity t) cap) cap) ≡ is_some cap
     by_test true None = refl
     by_test true (Some n) = refl
     by_test false cap = refl
-some_or_none c event cap = refl
+some_or_none t c event cap = refl
+
+-- a capacity that is not 0 stays so
+positive_then : (t : Tables) (s : Configuration) (e : Event) → KeepsRoom t s e → (c : ℕ) (before : Option ℕ)
+    → ((n : ℕ) → before ≡ Some n → 0 < n) → (cap : ℕ) → capacity_then t c e before ≡ Some cap → 0 < cap
+positive_then t s (Grow p d) keeps c before some cap is = by_test (eqb d c) before some is
+  where
+    by_test : (b : Bool) (o : Option ℕ) → ((n : ℕ) → o ≡ Some n → 0 < n)
+        → cond b (option_map (larger_capacity t) o) o ≡ Some cap → 0 < cap
+    by_test true None some is = absurd cc
+    by_test true (Some n) some is =
+        let same : larger_capacity t n ≡ cap = cc in
+        subst (λ m. 0 < m) same (larger_capacity_is_some t n keeps (some n refl))
+    by_test false o some is = some cap is
+positive_then t s event keeps c before some cap is = some cap is
 
 fits-read : (t : Tables) (p c : ℕ) (v : ℤ) (f g : Frame) → PassesRead t p c v f g → IsTrue (fits (program_of t p) f)
     → IsTrue (fits (program_of t p) g)
@@ -264,8 +282,12 @@ IsConfiguration-next t e before after h keeps a same waits =
       frames = same.frames ∙ h.frames;
       waits = waits;
       bounded =
-          λ c below. ap is_some (a.channels c below).capacity ∙ some_or_none c e (channel_in before c).capacity
+          λ c below. ap is_some (a.channels c below).capacity ∙ some_or_none t c e (channel_in before c).capacity
           ∙ h.bounded c below;
+      positive =
+          λ c cap below is.
+          positive_then t before e keeps c (channel_in before c).capacity (λ n. h.positive c n below) cap
+          (sym (a.channels c below).capacity ∙ is);
       fit = λ p below. fits-next t e p _ _ (a.frames p below) (h.fit p below);
       reserved =
           λ p c process channel is.

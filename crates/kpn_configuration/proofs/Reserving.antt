@@ -1,5 +1,5 @@
 -- A reservation changes nothing that a history tells of.
-use Rattle.std.proofs.Common.{◌≡◌, ℕ, ◌<◌, Bool, true, false, not, cond, IsTrue, List, length, None, is_some, refl, sym, ap, ◌∙◌, subst, inl, inr, length-set}
+use Rattle.std.proofs.Common.{◌≡◌, ℕ, ◌<◌, Bool, true, false, not, cond, IsTrue, List, length, None, is_some, Some, refl, sym, ap, ◌∙◌, subst, inl, inr, length-set}
 use Rattle.std.proofs.lemmas.Bool.{cases_eq}
 use Rattle.std.proofs.lemmas.List.{get_or-set_same, get_or-set_other, set-get_or}
 use Rattle.kpn_net.specs.declared.wait.Wait.TheVariants.{Full}
@@ -48,6 +48,10 @@ module _ (s : Configuration) (c : ℕ) (there : c < length s.channels) where
               each_channel
               (λ d channel. d < length t.channels → is_some channel.capacity ≡ not (is_source (channel_at t d)))
               h.bounded (λ q. q);
+          positive =
+              λ d cap.
+              each_channel (λ d channel. d < length t.channels → channel.capacity ≡ Some cap → 0 < cap)
+              (λ d. h.positive d cap) (λ q. q) d;
           fit = h.fit;
           reserved =
               λ p d process below is.

@@ -11,14 +11,14 @@ use Rattle.kpn_net.specs.declared.wait.Wait.TheVariants.{Nobody, Full}
 use Rattle.kpn_net.specs.Tables.{Tables, channel_at, is_source, capacity, reader_of, instance_at, program_of}
 use Rattle.kpn_net.specs.Faults.{IsNetwork}
 use Rattle.kpn_net.proofs.WaitTables.{waits-nobody}
-use Rattle.kpn_net.proofs.Networks.{IsProgram-of, IsInstance-of, reader_is_no_source}
+use Rattle.kpn_net.proofs.Networks.{IsProgram-of, IsInstance-of, reader_is_no_source, capacity_in_range}
 use Rattle.kpn_step.specs.Frame.{start_frame, fits}
 use Rattle.kpn_step.specs.After.{IsAfter}
 use Rattle.kpn_net.specs.Waits.{AreWaits}
 use Rattle.kpn_step.proofs.Places.{fits-start}
 use Rattle.kpn_step.proofs.After.{IsAfter-start}
 use Rattle.kpn_chan.specs.Channel.{ChannelState, opened}
-use Rattle.kpn_trace.specs.Channels.{reader_lives, lives}
+use Rattle.kpn_trace.specs.Channels.{reader_lives, lives, after_growths}
 use Rattle.kpn_trace.proofs.Legality.{Legal-nil}
 use Rattle.kpn_configuration.specs.Configuration.{Configuration, channel_in, wait_in, frame_in}
 use Rattle.kpn_configuration.specs.Run.{HoldsChannel, IsEndOf, StandsAfter, IsRun}
@@ -49,9 +49,9 @@ module _ (t : Tables) (network : IsNetwork t) (s : Configuration)
     has_capacity channel.Source = refl
     has_capacity (channel.Sink n) = refl
 
-    no_growth : (o : Option ℕ) → o ≡ option_map (λ n. n + 0) o
+    no_growth : (o : Option ℕ) → o ≡ option_map (after_growths t 0) o
     no_growth None = refl
-    no_growth (Some n) = ap Some (omega arith)
+    no_growth (Some n) = refl
 
     reader_there : (c : ℕ) → c < length t.channels → reader_lives t [] c ≡ true
     reader_there c below = by_end (reader_of t c) refl
@@ -99,6 +99,9 @@ module _ (t : Tables) (network : IsNetwork t) (s : Configuration)
             frames = frames;
             waits = subst (λ ws. AreWaits t ws) (sym waits) (waits-nobody t);
             bounded = λ c below. ap (λ x. is_some x.capacity) (opens c below) ∙ has_capacity (channel_at t c);
+            positive =
+                λ c cap below is.
+                (capacity_in_range t network c cap below (sym (ap (λ x. x.capacity) (opens c below)) ∙ is)).positive;
             fit =
                 λ p below.
                 subst (λ f. IsTrue (fits (program_of t p) f)) (sym (starts p below))

@@ -19,7 +19,7 @@ use Rattle.kpn_configuration.specs.Configuration.{Configuration, channel_in, clo
 pub record IsChannelAfter (t : Tables) (event : Event) (c : ℕ) (before after : ChannelState) : Type 0 where
   pub journal : after.journal ≡ before.journal ++ written_in c event
   pub read : after.read ≡ before.read + length (read_in c event)
-  pub capacity : after.capacity ≡ capacity_then c event before.capacity
+  pub capacity : after.capacity ≡ capacity_then t c event before.capacity
   pub retired : after.is_retired ≡ (before.is_retired || takes_reader t c event)
   pub reserved : written_in c event ≡ [] → IsTrue before.is_reserved → IsTrue after.is_reserved
 

@@ -49,8 +49,8 @@ capacities s = map (λ c. unwrap_or c.capacity 0) s.channels
 -- ---- a configuration of a network
 
 -- it has a channel and a mark for each channel of the network, and a wait, an end and a frame for each process; a
--- source has no capacity, all others have one; each process waits on a channel of its own, and its frame is one of
--- its program; and if a process waits on a channel as full, an item is reserved there
+-- source has no capacity, all others have one, which is not 0; each process waits on a channel of its own, and its
+-- frame is one of its program; and if a process waits on a channel as full, an item is reserved there
 pub record IsConfiguration (t : Tables) (s : Configuration) : Type 0 where
   pub channels : length s.channels ≡ length t.channels
   pub closed : length s.closed ≡ length t.channels
@@ -58,6 +58,7 @@ pub record IsConfiguration (t : Tables) (s : Configuration) : Type 0 where
   pub frames : length s.frames ≡ length t.instances
   pub waits : AreWaits t s.waits
   pub bounded : (c : ℕ) → c < length t.channels → is_some (channel_in s c).capacity ≡ not (is_source (channel_at t c))
+  pub positive : (c cap : ℕ) → c < length t.channels → (channel_in s c).capacity ≡ Some cap → 0 < cap
   pub fit : (p : ℕ) → p < length t.instances → IsTrue (fits (program_of t p) (frame_in s p))
   pub reserved : (p c : ℕ) → p < length t.instances → c < length t.channels → wait_in s p ≡ Full c
       → IsTrue (channel_in s c).is_reserved

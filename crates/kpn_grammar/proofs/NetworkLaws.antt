@@ -5,15 +5,18 @@ use Rattle.kpn_tokens.specs.declared.tokens.Lexeme.{Lexeme}
 use Rattle.kpn_tokens.specs.declared.tokens.Token.{Token}
 use Rattle.kpn_tokens.specs.declared.tokens.Token.TheVariants as token
 use Rattle.kpn_tokens.specs.declared.tokens.Mark.TheVariants as mark_
+use Rattle.kpn_tokens.specs.declared.tokens.Keyword.{Keyword}
 use Rattle.kpn_tokens.specs.declared.tokens.Keyword.TheVariants as keyword_
+use Rattle.kpn_net.specs.declared.tables.Growth.{Growth}
 use Rattle.kpn_grammar.specs.declared.fault.GrammarFault.TheVariants as fault
 use Rattle.kpn_grammar.specs.declared.parser.Scope.{Scope}
 use Rattle.kpn_grammar.specs.Syntax.{Name, Literal, plain, negated, Instance, Item, channel, source, sink, instance, Network}
-use Rattle.kpn_grammar.specs.Spelling.{kinds, spell_all, spell_further, spell_list, spell_names, spell_literal, spell_values, spell_call, spell_item, spell_limit, spell_network}
+use Rattle.kpn_grammar.specs.Words.{growth_word, growth_spelled}
+use Rattle.kpn_grammar.specs.Spelling.{kinds, spell_all, spell_further, spell_list, spell_names, spell_literal, spell_values, spell_call, spell_item, spell_setting, spell_number, spell_growth_word, spell_limit, spell_growth, spell_network}
 use Rattle.kpn_tokens.specs.Results.{and_then}
 use Rattle.kpn_grammar.specs.TokenTests.{is_keyword, is_name}
-use Rattle.kpn_grammar.specs.Reading.{Read, first_is, mark, keyword, name, number, many, further, optional_names, goes_on, capacity, channel_behind, source_behind, sink_behind, literal_behind, literal, values, optional_values, call, instance_behind, item_behind, item, items, limit, network}
-use Rattle.kpn_grammar.proofs.Steps.{bind_ok, by_test, moved, no_value, front, next_takes, next_again, mark_takes, mark_again, keyword_takes, keyword_again, name_takes, name_again, number_takes, number_again}
+use Rattle.kpn_grammar.specs.Reading.{Read, first_is, mark, keyword, name, number, many, further, optional_names, goes_on, capacity, channel_behind, source_behind, sink_behind, literal_behind, literal, values, optional_values, call, instance_behind, item_behind, item, items, word_of, setting, limit, growth, network}
+use Rattle.kpn_grammar.proofs.Steps.{bind_ok, by_test, moved, no_value, front, next_takes, next_again, mark_takes, mark_again, keyword_takes, keyword_again, name_takes, name_again, number_takes, number_again, is_keyword_same, word_takes, word_again, growths_spelled}
 use Rattle.kpn_grammar.proofs.ManyLaws.{TakesOne, Reads, TakesSome, Begins, begins, first_begins, is_comma, one_shortens, many_takes, many_again, further_shortens, separated_takes, separated_again}
 use Rattle.kpn_grammar.proofs.HeadLaws.{close, semicolon, names_no_less, optional_names_takes, optional_names_again}
 
@@ -430,55 +433,101 @@ pub item_shortens : (s : Scope) (i : ℕ) (ls : List Lexeme) (x : Item) (rest : 
     → length rest < length ls
 item_shortens s i ls x rest h = one_shortens goes_on spell_item AnyItem (item s) item_shape (item_laws s) i ls x rest h
 
--- ---- the network
+-- ---- settings
 
-abbrev limits : Token → Bool
-limits = is_keyword keyword_.Limit
+-- a setting has no limit beside those of its tokens
+abbrev AnySetting : {A : Type 0} → A → Type 0
+AnySetting x = Unit {0}
+
+module _ {A : Type 0} (k : Keyword) (spell : A → List Token → List Token) (one : Scope → List Lexeme → Read A)
+    (s : Scope) (laws : Reads spell AnySetting (one s)) where
+  setting_takes : (ls : List Lexeme) (x : Option A) (rest : List Lexeme) → setting k one s ls ≡ Ok (x, rest)
+      → kinds ls ≡ spell_setting k spell x (kinds rest)
+  unfolding setting
+  setting_takes ls x rest h =
+      by_test (first_is (is_keyword k) ls) (and_then (keyword s k ls)
+      (λ word. and_then (one s word) (λ m. and_then {B = Option A × List Lexeme} (mark s mark_.Semicolon m.1)
+      (λ after. Ok (Some m.0, after))))) (Ok (None, ls)) (Ok (x, rest)) h
+      (λ goes e.
+      let w = bind_ok _ _ _ e in
+      let m = bind_ok _ _ _ w.2 in
+      let c = bind_ok _ _ _ m.2 in
+      let word = keyword_takes s k ls w.0 w.1 in
+      let found = (laws.takes w.0 m.0.0 m.0.1 m.1).spelled in
+      let ends = mark_takes s mark_.Semicolon m.0.1 c.0 c.1 in
+      moved (λ (p : Option A × List Lexeme). kinds ls ≡ spell_setting k spell p.0 (kinds p.1)) (Some m.0.0, c.0)
+      (x, rest) c.2 (rw (word, found, ends) refl))
+      (λ stops e. moved (λ (p : Option A × List Lexeme). kinds ls ≡ spell_setting k spell p.0 (kinds p.1)) (None, ls)
+      (x, rest) e refl)
+
+  no_setting_at : (ls : List Lexeme) → first_is (is_keyword k) ls ≡ false → setting k one s ls ≡ Ok (None, ls)
+  unfolding setting
+  no_setting_at ls f = rw f refl
+
+  setting_at : (x : A) (ls a b rest : List Lexeme) → first_is (is_keyword k) ls ≡ true → keyword s k ls ≡ Ok a
+      → one s a ≡ Ok (x, b) → mark s mark_.Semicolon b ≡ Ok rest → setting k one s ls ≡ Ok (Some x, rest)
+  unfolding setting and_then
+  setting_at x ls a b rest f w o m = rw (f, w, o, m) refl
+
+  setting_again : (x : Option A) (ls : List Lexeme) (more : List Token) → begins (is_keyword k) more ≡ false
+      → kinds ls ≡ spell_setting k spell x more
+      → (rest : List Lexeme) × (setting k one s ls ≡ Ok (x, rest)) × (kinds rest ≡ more)
+  setting_again None ls more ends h =
+      (ls, no_setting_at ls (first_begins (is_keyword k) ls ∙ ap (begins (is_keyword k)) h ∙ ends), h)
+  setting_again (Some x) ls more ends h =
+      let w = keyword_again s k ls (spell x (token.Mark mark_.Semicolon ∷ more)) h in
+      let o = laws.again w.0 x (token.Mark mark_.Semicolon ∷ more) tt w.2 in
+      let m = mark_again s mark_.Semicolon o.0 more o.2 in
+      let stands = first_begins (is_keyword k) ls ∙ ap (begins (is_keyword k)) h ∙ is_keyword_same k in
+      (m.0, setting_at x ls w.0 o.0 m.0 stands w.1 o.1 m.1, m.2)
+
+number_laws : (s : Scope) → Reads spell_number AnySetting (number s)
+number_laws s = record {
+  takes = λ ls n rest h. record { spelled = number_takes s ls n rest h; within = tt };
+  again = λ ls n more within h. number_again s ls n more h;
+}
+
+growth_word_laws : (s : Scope) → Reads spell_growth_word AnySetting (word_of growth_spelled s)
+growth_word_laws s = record {
+  takes = λ ls g rest h. record {
+    spelled = word_takes growth_spelled growth_word growths_spelled s ls g rest h;
+    within = tt;
+  };
+  again = λ ls g more within h. word_again growth_spelled growth_word growths_spelled s ls g more h;
+}
 
 limit_takes : (s : Scope) (ls : List Lexeme) (n : Option ℕ) (rest : List Lexeme) → limit s ls ≡ Ok (n, rest)
     → kinds ls ≡ spell_limit n (kinds rest)
 unfolding limit
-limit_takes s ls n rest h =
-    by_test (first_is limits ls) (and_then (keyword s keyword_.Limit ls)
-    (λ word. and_then (number s word) (λ m. and_then {B = Option ℕ × List Lexeme} (mark s mark_.Semicolon m.1)
-    (λ after. Ok (Some m.0, after))))) (Ok (None, ls)) (Ok (n, rest)) h
-    (λ goes e.
-    let w = bind_ok _ _ _ e in
-    let m = bind_ok _ _ _ w.2 in
-    let c = bind_ok _ _ _ m.2 in
-    let word = keyword_takes s keyword_.Limit ls w.0 w.1 in
-    let found = number_takes s w.0 m.0.0 m.0.1 m.1 in
-    let ends = mark_takes s mark_.Semicolon m.0.1 c.0 c.1 in
-    moved (λ (p : Option ℕ × List Lexeme). kinds ls ≡ spell_limit p.0 (kinds p.1)) (Some m.0.0, c.0) (n, rest) c.2
-    (rw (word, found, ends) refl))
-    (λ stops e. moved (λ (p : Option ℕ × List Lexeme). kinds ls ≡ spell_limit p.0 (kinds p.1)) (None, ls) (n, rest) e
-    refl)
+limit_takes s ls n rest h = setting_takes keyword_.Limit spell_number number s (number_laws s) ls n rest h
 
-no_limit_at : (s : Scope) (ls : List Lexeme) → first_is limits ls ≡ false → limit s ls ≡ Ok (None, ls)
+limit_again : (s : Scope) (n : Option ℕ) (ls : List Lexeme) (more : List Token)
+    → begins (is_keyword keyword_.Limit) more ≡ false → kinds ls ≡ spell_limit n more
+    → (rest : List Lexeme) × (limit s ls ≡ Ok (n, rest)) × (kinds rest ≡ more)
 unfolding limit
-no_limit_at s ls f = rw f refl
+limit_again s n ls more ends h = setting_again keyword_.Limit spell_number number s (number_laws s) n ls more ends h
 
-limit_at : (s : Scope) (n : ℕ) (ls a b rest : List Lexeme) → first_is limits ls ≡ true
-    → keyword s keyword_.Limit ls ≡ Ok a → number s a ≡ Ok (n, b) → mark s mark_.Semicolon b ≡ Ok rest
-    → limit s ls ≡ Ok (Some n, rest)
-unfolding limit and_then
-limit_at s n ls a b rest f w k m = rw (f, w, k, m) refl
+growth_takes : (s : Scope) (ls : List Lexeme) (g : Option Growth) (rest : List Lexeme) → growth s ls ≡ Ok (g, rest)
+    → kinds ls ≡ spell_growth g (kinds rest)
+unfolding growth
+growth_takes s ls g rest h =
+    setting_takes keyword_.Grow spell_growth_word (word_of growth_spelled) s (growth_word_laws s) ls g rest h
 
-limit_again : (s : Scope) (n : Option ℕ) (ls : List Lexeme) (more : List Token) → begins limits more ≡ false
-    → kinds ls ≡ spell_limit n more → (rest : List Lexeme) × (limit s ls ≡ Ok (n, rest)) × (kinds rest ≡ more)
-limit_again s None ls more ends h = (ls, no_limit_at s ls (first_begins limits ls ∙ ap (begins limits) h ∙ ends), h)
-limit_again s (Some n) ls more ends h =
-    let w = keyword_again s keyword_.Limit ls (token.Number n ∷ token.Mark mark_.Semicolon ∷ more) h in
-    let k = number_again s w.0 n (token.Mark mark_.Semicolon ∷ more) w.2 in
-    let m = mark_again s mark_.Semicolon k.0 more k.2 in
-    (m.0, limit_at s n ls w.0 k.0 m.0 (first_begins limits ls ∙ ap (begins limits) h) w.1 k.1 m.1, m.2)
+growth_again : (s : Scope) (g : Option Growth) (ls : List Lexeme) (more : List Token)
+    → begins (is_keyword keyword_.Grow) more ≡ false → kinds ls ≡ spell_growth g more
+    → (rest : List Lexeme) × (growth s ls ≡ Ok (g, rest)) × (kinds rest ≡ more)
+unfolding growth
+growth_again s g ls more ends h =
+    setting_again keyword_.Grow spell_growth_word (word_of growth_spelled) s (growth_word_laws s) g ls more ends h
 
-network_spelled : (n : Network) (ls a b c d : List Lexeme) (more : List Token)
+-- ---- the network
+
+network_spelled : (n : Network) (ls a b c d e : List Lexeme) (more : List Token)
     → kinds ls ≡ token.Keyword keyword_.Network ∷ kinds a → kinds a ≡ token.Mark mark_.LeftBrace ∷ kinds b
-    → kinds b ≡ spell_limit n.limit (kinds c)
-    → kinds c ≡ spell_all spell_item n.items (kinds d) → kinds d ≡ token.Mark mark_.RightBrace ∷ more
+    → kinds b ≡ spell_limit n.limit (kinds c) → kinds c ≡ spell_growth n.growth (kinds d)
+    → kinds d ≡ spell_all spell_item n.items (kinds e) → kinds e ≡ token.Mark mark_.RightBrace ∷ more
     → kinds ls ≡ spell_network n more
-network_spelled n ls a b c d more word opens top found shuts = rw (word, opens, top, found, shuts) refl
+network_spelled n ls a b c d e more word opens top grows found shuts = rw (word, opens, top, grows, found, shuts) refl
 
 pub network_takes : (s : Scope) (ls : List Lexeme) (n : Network) (rest : List Lexeme) → network s ls ≡ Ok (n, rest)
     → kinds ls ≡ spell_network n (kinds rest)
@@ -487,41 +536,68 @@ network_takes s ls n rest h =
     let w = bind_ok _ _ _ h in
     let o = bind_ok _ _ _ w.2 in
     let l = bind_ok _ _ _ o.2 in
-    let f = bind_ok _ _ _ l.2 in
+    let g = bind_ok _ _ _ l.2 in
+    let f = bind_ok _ _ _ g.2 in
     let c = bind_ok _ _ _ f.2 in
-    let found = many_takes goes_on spell_item AnyItem (item s) item_shape (item_laws s) 0 (length l.0.1) l.0.1 f.0.0
+    let found = many_takes goes_on spell_item AnyItem (item s) item_shape (item_laws s) 0 (length g.0.1) g.0.1 f.0.0
     f.0.1 f.1 in
-    let net : Network = record { limit = l.0.0; items = f.0.0 } in
+    let net : Network = record { limit = l.0.0; growth = g.0.0; items = f.0.0 } in
     moved (λ (p : Network × List Lexeme). kinds ls ≡ spell_network p.0 (kinds p.1)) (net, c.0) (n, rest) c.2
-    (network_spelled net ls w.0 o.0 l.0.1 f.0.1 (kinds c.0) (keyword_takes s keyword_.Network ls w.0 w.1)
-    (mark_takes s mark_.LeftBrace w.0 o.0 o.1) (limit_takes s o.0 l.0.0 l.0.1 l.1) found.spelled
-    (mark_takes s mark_.RightBrace f.0.1 c.0 c.1))
+    (network_spelled net ls w.0 o.0 l.0.1 g.0.1 f.0.1 (kinds c.0) (keyword_takes s keyword_.Network ls w.0 w.1)
+    (mark_takes s mark_.LeftBrace w.0 o.0 o.1) (limit_takes s o.0 l.0.0 l.0.1 l.1)
+    (growth_takes s l.0.1 g.0.0 g.0.1 g.1) found.spelled (mark_takes s mark_.RightBrace f.0.1 c.0 c.1))
 
-items_no_limit : (xs : List Item) (more : List Token) → begins limits
-    (spell_all spell_item xs (token.Mark mark_.RightBrace ∷ more)) ≡ false
-items_no_limit [] more = refl
-items_no_limit (channel x n ∷ xs) more = refl
-items_no_limit (source x ∷ xs) more = refl
-items_no_limit (sink x n ∷ xs) more = refl
-items_no_limit (instance i ∷ xs) more = refl
+-- neither an item nor the closing brace begins with a word of this kind
+record NoItemBegins (goes : Token → Bool) : Type 0 where
+  at_channel : goes (token.Keyword keyword_.Channel) ≡ false
+  at_source : goes (token.Keyword keyword_.Source) ≡ false
+  at_sink : goes (token.Keyword keyword_.Sink) ≡ false
+  at_instance : (x : Name) → goes (token.Name x) ≡ false
+  at_brace : goes (token.Mark mark_.RightBrace) ≡ false
 
-network_at : (s : Scope) (n : Network) (ls a b c d rest : List Lexeme) → keyword s keyword_.Network ls ≡ Ok a
-    → mark s mark_.LeftBrace a ≡ Ok b → limit s b ≡ Ok (n.limit, c)
-    → many goes_on (item s) 0 (length c) c ≡ Ok (n.items, d)
-    → mark s mark_.RightBrace d ≡ Ok rest → network s ls ≡ Ok (n, rest)
+items_begin : (goes : Token → Bool) → NoItemBegins goes → (xs : List Item) (more : List Token)
+    → begins goes (spell_all spell_item xs (token.Mark mark_.RightBrace ∷ more)) ≡ false
+items_begin goes none [] more = none.at_brace
+items_begin goes none (channel x n ∷ xs) more = none.at_channel
+items_begin goes none (source x ∷ xs) more = none.at_source
+items_begin goes none (sink x n ∷ xs) more = none.at_sink
+items_begin goes none (instance i ∷ xs) more = none.at_instance i.name
+
+items_no_limit : NoItemBegins (is_keyword keyword_.Limit)
+items_no_limit =
+    record { at_channel = refl; at_source = refl; at_sink = refl; at_instance = λ x. refl; at_brace = refl }
+
+items_no_growth : NoItemBegins (is_keyword keyword_.Grow)
+items_no_growth =
+    record { at_channel = refl; at_source = refl; at_sink = refl; at_instance = λ x. refl; at_brace = refl }
+
+growth_no_limit : (g : Option Growth) (more : List Token) → begins (is_keyword keyword_.Limit) more ≡ false
+    → begins (is_keyword keyword_.Limit) (spell_growth g more) ≡ false
+growth_no_limit None more ends = ends
+growth_no_limit (Some g) more ends = refl
+
+network_at : (s : Scope) (n : Network) (ls a b c d e rest : List Lexeme) → keyword s keyword_.Network ls ≡ Ok a
+    → mark s mark_.LeftBrace a ≡ Ok b → limit s b ≡ Ok (n.limit, c) → growth s c ≡ Ok (n.growth, d)
+    → many goes_on (item s) 0 (length d) d ≡ Ok (n.items, e)
+    → mark s mark_.RightBrace e ≡ Ok rest → network s ls ≡ Ok (n, rest)
 unfolding network items and_then
-network_at s n ls a b c d rest w o l f m = rw (w, o, l, f, m) refl
+network_at s n ls a b c d e rest w o l g f m = rw (w, o, l, g, f, m) refl
 
 pub network_again : (s : Scope) (n : Network) (ls : List Lexeme) (more : List Token) → kinds ls ≡ spell_network n more
     → (rest : List Lexeme) × (network s ls ≡ Ok (n, rest)) × (kinds rest ≡ more)
 network_again s n ls more h =
     let ends = token.Mark mark_.RightBrace ∷ more in
     let at_items = spell_all spell_item n.items ends in
-    let at_limit = spell_limit n.limit at_items in
+    let at_growth = spell_growth n.growth at_items in
+    let at_limit = spell_limit n.limit at_growth in
+    let no_limit =
+    growth_no_limit n.growth at_items (items_begin (is_keyword keyword_.Limit) items_no_limit n.items more) in
     let w = keyword_again s keyword_.Network ls (token.Mark mark_.LeftBrace ∷ at_limit) h in
     let o = mark_again s mark_.LeftBrace w.0 at_limit w.2 in
-    let l = limit_again s n.limit o.0 at_items (items_no_limit n.items more) o.2 in
-    let f = many_again goes_on spell_item AnyItem (item s) item_shape (item_laws s) 0 (length l.0) l.0 n.items ends
-    (omega arith) (any_items n.items) refl l.2 in
+    let l = limit_again s n.limit o.0 at_growth no_limit o.2 in
+    let g =
+    growth_again s n.growth l.0 at_items (items_begin (is_keyword keyword_.Grow) items_no_growth n.items more) l.2 in
+    let f = many_again goes_on spell_item AnyItem (item s) item_shape (item_laws s) 0 (length g.0) g.0 n.items ends
+    (omega arith) (any_items n.items) refl g.2 in
     let m = mark_again s mark_.RightBrace f.0 more f.2 in
-    (m.0, network_at s n ls w.0 o.0 l.0 f.0 m.0 w.1 o.1 l.1 f.1 m.1, m.2)
+    (m.0, network_at s n ls w.0 o.0 l.0 g.0 f.0 m.0 w.1 o.1 l.1 g.1 f.1 m.1, m.2)

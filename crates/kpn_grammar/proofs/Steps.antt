@@ -1,5 +1,7 @@
 -- Steps of reading: what a chain of steps gives, and the laws of the parsers of one token.
 use Rattle.std.proofs.Common.{◌≡◌, ℕ, Bool, true, false, cond, List, [], ◌∷◌, Option, Some, None, Result, Ok, Err, IfOk, refl, sym, ap, subst, ◌∙◌}
+use Rattle.std.specs.Str.{bytes_eq}
+use Rattle.std.proofs.lemmas.Slice.Eq.{bytes_eq-Decides}
 use denote.Enum.Bare.{same_true, true_same}
 use Rattle.kpn_tokens.specs.declared.tokens.Lexeme.{Lexeme}
 use Rattle.kpn_tokens.specs.declared.tokens.Token.{Token}
@@ -13,11 +15,15 @@ use Rattle.kpn_grammar.specs.declared.fault.GrammarFault.TheVariants as fault
 use Rattle.kpn_grammar.specs.declared.parser.Scope.{Scope}
 use Rattle.kpn_lang.specs.declared.syntax.Op.{Op}
 use Rattle.kpn_lang.specs.declared.syntax.Op.TheVariants as op
+use Rattle.kpn_net.specs.declared.tables.Growth.{Growth}
+use Rattle.kpn_net.specs.declared.tables.Growth.TheVariants as growth
+use Rattle.kpn_grammar.specs.Syntax.{Name}
 use Rattle.kpn_grammar.specs.Operators.{operators, operator_mark, operator_of}
+use Rattle.kpn_grammar.specs.Words.{growth_word, growths, growth_spelled}
 use Rattle.kpn_grammar.specs.Spelling.{kinds}
 use Rattle.kpn_tokens.specs.Results.{and_then, OkOr}
 use Rattle.kpn_grammar.specs.TokenTests.{same_mark, same_keyword, is_mark, is_keyword}
-use Rattle.kpn_grammar.specs.Reading.{Fails, Gives, next, mark, keyword, named, name, numbered, number, token_operator, or_fault_at, operator}
+use Rattle.kpn_grammar.specs.Reading.{Fails, Gives, next, mark, keyword, named, name, numbered, number, token_operator, or_fault_at, operator, token_word, word_of}
 use Rattle.kpn_tokens.proofs.Pieces.{find_passes}
 
 -- the value of a step that had no fault
@@ -212,14 +218,14 @@ operator_back op.Ne = refl
 operator_back op.And = refl
 operator_back op.Or = refl
 
-found_is : (found : Option Op) (start : ℕ) (ls : List Lexeme) (o : Op) (rest : List Lexeme)
-    → or_fault_at start ls found ≡ Ok (o, rest) → (found ≡ Some o) × (ls ≡ rest)
-found_is (Some p) start ls o rest h = (
-  ap (λ (q : Op × List Lexeme). Some q.0) (ok_is (p, ls) (o, rest) h),
-  ap (λ (q : Op × List Lexeme). q.1)
-      (ok_is (p, ls) (o, rest) h),
+found_is : {A : Type 0} (found : Option A) (start : ℕ) (ls : List Lexeme) (x : A) (rest : List Lexeme)
+    → or_fault_at start ls found ≡ Ok (x, rest) → (found ≡ Some x) × (ls ≡ rest)
+found_is {A} (Some y) start ls x rest h = (
+  ap (λ (q : A × List Lexeme). Some q.0) (ok_is (y, ls) (x, rest) h),
+  ap (λ (q : A × List Lexeme). q.1)
+      (ok_is (y, ls) (x, rest) h),
 )
-found_is None start ls o rest h = absurd cc
+found_is None start ls x rest h = absurd cc
 
 token_operator_is : (t : Token) (o : Op) → token_operator t ≡ Some o → t ≡ token.Mark (operator_mark o)
 token_operator_is (token.Mark m) o h = ap token.Mark (operator_is m o h)
@@ -247,6 +253,56 @@ pub operator_again : (s : Scope) (ls : List Lexeme) (o : Op) (more : List Token)
 operator_again s ls o more h =
     let f = front ls (token.Mark (operator_mark o)) more h in
     (f.rest, operator_at s o ls f.lexeme f.rest f.whole f.kind, f.after)
+
+-- ---- a name that stands for something
+
+-- what a name stands for is spelled by that name alone
+pub record Spells {A : Type 0} (meant : Name → Option A) (spelled : A → Name) : Type 0 where
+  pub back : (n : Name) (x : A) → meant n ≡ Some x → n ≡ spelled x
+  pub found : (x : A) → meant (spelled x) ≡ Some x
+
+module _ {A : Type 0} (meant : Name → Option A) (spelled : A → Name) (table : Spells meant spelled) where
+  meant_takes : (t : Token) (x : A) → token_word meant t ≡ Some x → t ≡ token.Name (spelled x)
+  meant_takes (token.Name n) x h = ap token.Name (table.back n x h)
+  meant_takes (token.Number n) x h = absurd cc
+  meant_takes (token.Mark m) x h = absurd cc
+  meant_takes (token.Keyword k) x h = absurd cc
+
+  pub word_takes : (s : Scope) (ls : List Lexeme) (x : A) (rest : List Lexeme) → word_of meant s ls ≡ Ok (x, rest)
+      → kinds ls ≡ token.Name (spelled x) ∷ kinds rest
+  unfolding word_of
+  word_takes s ls x rest h =
+      let b = bind_ok (next s ls) (λ y. or_fault_at y.0.start y.1 (token_word meant y.0.token)) (x, rest) h in
+      let f = found_is (token_word meant b.0.0.token) b.0.0.start b.0.1 x rest b.2 in
+      ap kinds (next_takes s ls b.0.0 b.0.1 b.1) ∙ ap (λ (t : Token). t ∷ kinds b.0.1) (meant_takes b.0.0.token x f.0)
+      ∙ ap (λ (r : List Lexeme). token.Name (spelled x) ∷ kinds r) f.1
+
+  word_at : (s : Scope) (x : A) (ls : List Lexeme) (l : Lexeme) (rest : List Lexeme) → ls ≡ l ∷ rest
+      → l.token ≡ token.Name (spelled x) → word_of meant s ls ≡ Ok (x, rest)
+  unfolding word_of and_then
+  word_at s x ls l rest e t = rw (e, next_again s l rest, t, table.found x) refl
+
+  pub word_again : (s : Scope) (ls : List Lexeme) (x : A) (more : List Token)
+      → kinds ls ≡ token.Name (spelled x) ∷ more
+      → (rest : List Lexeme) × (word_of meant s ls ≡ Ok (x, rest)) × (kinds rest ≡ more)
+  word_again s ls x more h =
+      let f = front ls (token.Name (spelled x)) more h in
+      (f.rest, word_at s x ls f.lexeme f.rest f.whole f.kind, f.after)
+
+growth_found : (g : Growth) → growth_spelled (growth_word g) ≡ Some g
+unfolding growth_spelled
+growth_found growth.One = refl
+growth_found growth.Double = refl
+
+growth_back : (n : Name) (g : Growth) → growth_spelled n ≡ Some g → n ≡ growth_word g
+unfolding growth_spelled
+growth_back n g h =
+    sym ((bytes_eq-Decides (growth_word g) n).0 (find_passes (λ k. bytes_eq (growth_word k) n) growths g h))
+
+pub growths_spelled : Spells growth_spelled growth_word
+growths_spelled = record { back = growth_back; found = growth_found }
+
+-- ---- a number
 
 numbered_takes : (t : Token) (start : ℕ) (ls : List Lexeme) (n : ℕ) (rest : List Lexeme)
     → numbered t start ls ≡ Ok (n, rest) → t ∷ kinds ls ≡ token.Number n ∷ kinds rest

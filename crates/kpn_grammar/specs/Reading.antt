@@ -16,7 +16,9 @@ use Rattle.kpn_grammar.specs.declared.fault.GrammarFault.{GrammarFault}
 use Rattle.kpn_grammar.specs.declared.fault.GrammarFault.TheVariants as fault
 use Rattle.kpn_grammar.specs.declared.parser.Scope.{Scope}
 use Rattle.kpn_grammar.specs.TokenTests.{is_mark, is_keyword, is_name}
+use Rattle.kpn_net.specs.declared.tables.Growth.{Growth}
 use Rattle.kpn_grammar.specs.Operators.{operator_of}
+use Rattle.kpn_grammar.specs.Words.{growth_spelled}
 use Rattle.kpn_grammar.specs.Syntax.{Name, Term, numeral, variable, minus, negation, binary, Statement, assign, receive, send, choice, loop, Statements, statements_of, Process, Literal, plain, negated, Instance, Item, channel, source, sink, instance, Network, Description}
 
 -- what was read and the tokens after it, or the first fault
@@ -91,6 +93,17 @@ unfoldable pub operator : Scope → List Lexeme → Read Op
 operator s ls = do
   x ← next s ls
   or_fault_at x.0.start x.1 (token_operator x.0.token)
+
+-- what a token stands for, where it is a name that stands for something
+abbrev pub token_word : {A : Type 0} → (Name → Option A) → Token → Option A
+token_word meant (token.Name x) = meant x
+token_word meant _ = None
+
+-- one of the names that stand for something, by what each stands for
+unfoldable pub word_of : {A : Type 0} → (Name → Option A) → Scope → List Lexeme → Read A
+word_of meant s ls = do
+  x ← next s ls
+  or_fault_at x.0.start x.1 (token_word meant x.0.token)
 
 -- ---- repetition
 
@@ -387,16 +400,25 @@ item s i ls = next s ls >>= λ x. item_behind s x.0.token x.0.start x.1
 unfoldable pub items : Scope → List Lexeme → Read (List Item)
 items s ls = many goes_on (item s) 0 (length ls) ls
 
+-- a setting and the semicolon behind its reserved word, where that stands at the front
+unfoldable pub setting : {A : Type 0} → Keyword → (Scope → List Lexeme → Read A) → Scope → List Lexeme
+    → Read (Option A)
+setting k one s ls =
+    if first_is (is_keyword k) ls
+    then (do
+      word ← keyword s k ls
+      x ← one s word
+      rest ← mark s mark_.Semicolon x.1
+      Ok (Some x.0, rest))
+    else Ok (None, ls)
+
 -- the limit, where it is written
 unfoldable pub limit : Scope → List Lexeme → Read (Option ℕ)
-limit s ls =
-    if first_is (is_keyword keyword_.Limit) ls
-    then (do
-      word ← keyword s keyword_.Limit ls
-      n ← number s word
-      rest ← mark s mark_.Semicolon n.1
-      Ok (Some n.0, rest))
-    else Ok (None, ls)
+limit = setting keyword_.Limit number
+
+-- the growth, where it is written
+unfoldable pub growth : Scope → List Lexeme → Read (Option Growth)
+growth = setting keyword_.Grow (word_of growth_spelled)
 
 -- the network
 unfoldable pub network : Scope → List Lexeme → Read Network
@@ -404,9 +426,10 @@ network s ls = do
   word ← keyword s keyword_.Network ls
   inside ← mark s mark_.LeftBrace word
   n ← limit s inside
-  found ← items s n.1
+  g ← growth s n.1
+  found ← items s g.1
   rest ← mark s mark_.RightBrace found.1
-  Ok (record { limit = n.0; items = found.0 }, rest)
+  Ok (record { limit = n.0; growth = g.0; items = found.0 }, rest)
 
 -- ---- the whole
 

@@ -9,7 +9,9 @@ use Rattle.kpn_tokens.specs.declared.tokens.Token.TheVariants as token
 use Rattle.kpn_tokens.specs.declared.tokens.Mark.TheVariants as mark
 use Rattle.kpn_tokens.specs.declared.tokens.Keyword.{Keyword}
 use Rattle.kpn_tokens.specs.declared.tokens.Keyword.TheVariants as keyword
+use Rattle.kpn_net.specs.declared.tables.Growth.{Growth}
 use Rattle.kpn_grammar.specs.Operators.{operator_mark}
+use Rattle.kpn_grammar.specs.Words.{growth_word}
 use Rattle.kpn_grammar.specs.Syntax.{Name, Term, numeral, variable, minus, negation, binary, Statement, assign, receive, send, choice, loop, Statements, no_statements, statement, Process, Literal, plain, negated, Instance, Item, channel, source, sink, instance, Network, Description}
 
 -- the tokens of a text without their places
@@ -179,16 +181,30 @@ spell_item (sink c cap) more =
 spell_item (instance i) more = token.Name i.name ∷ token.Mark mark.Assign
     ∷ spell_call i (token.Mark mark.Semicolon ∷ more)
 
--- limit 3;  where it is written
+-- a setting behind its reserved word, up to the semicolon, where it is written
+abbrev pub spell_setting : {A : Type 0} → Keyword → (A → List Token → List Token) → Option A → List Token → List Token
+spell_setting word spell None more = more
+spell_setting word spell (Some x) more = token.Keyword word ∷ spell x (token.Mark mark.Semicolon ∷ more)
+
+abbrev pub spell_number : ℕ → List Token → List Token
+spell_number n more = token.Number n ∷ more
+
+abbrev pub spell_growth_word : Growth → List Token → List Token
+spell_growth_word g more = token.Name (growth_word g) ∷ more
+
+-- limit 3;
 abbrev pub spell_limit : Option ℕ → List Token → List Token
-spell_limit None more = more
-spell_limit (Some n) more = token.Keyword keyword.Limit ∷ token.Number n ∷ token.Mark mark.Semicolon ∷ more
+spell_limit = spell_setting keyword.Limit spell_number
+
+-- grow double;
+abbrev pub spell_growth : Option Growth → List Token → List Token
+spell_growth = spell_setting keyword.Grow spell_growth_word
 
 -- network { .. }
 abbrev pub spell_network : Network → List Token → List Token
 spell_network n more =
     token.Keyword keyword.Network ∷ token.Mark mark.LeftBrace
-    ∷ spell_limit n.limit (spell_all spell_item n.items (token.Mark mark.RightBrace ∷ more))
+    ∷ spell_limit n.limit (spell_growth n.growth (spell_all spell_item n.items (token.Mark mark.RightBrace ∷ more)))
 
 -- ---- the whole
 

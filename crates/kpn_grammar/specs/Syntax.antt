@@ -2,6 +2,7 @@
 -- what they mean is for the layer above.
 use Rattle.std.specs.Prelude.{ℕ, ℤ, pos, neg_ℤ, List, [], ◌∷◌, Option}
 use Rattle.kpn_lang.specs.declared.syntax.Op.{Op}
+use Rattle.kpn_net.specs.declared.tables.Growth.{Growth}
 
 -- a name, by its bytes
 abbrev pub Name : Type 0
@@ -68,9 +69,10 @@ pub data Item : Type 0 where
   sink : Name → ℕ → Item
   instance : Instance → Item
 
--- a network: its limit where it is written, and its items in order
+-- a network: its limit and its growth, each where it is written, and its items in order
 pub record Network : Type 0 where
   pub limit : Option ℕ
+  pub growth : Option Growth
   pub items : List Item
 
 -- a description: its processes in order, and its network

@@ -15,6 +15,7 @@ mod parser;
 mod processes;
 mod tree;
 mod whole;
+mod words;
 
 pub use fault::GrammarFault;
 pub use laws::{read_where_spelled, spelled_once};
@@ -24,3 +25,4 @@ pub use tree::{
     Process, Statement,
 };
 pub use whole::description;
+pub use words::growth_word;

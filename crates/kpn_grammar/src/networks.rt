@@ -1,13 +1,16 @@
-//! The network: its limit and its items.
+//! The network: its settings and its items.
 
 ghost use Rattle.std.specs.Prelude.{◌≡◌};
 ghost use Rattle.kpn_grammar.specs.Reading as spec;
+ghost use Rattle.kpn_grammar.specs.Words as words;
 ghost use Rattle.kpn_grammar.specs.View.{Parses, instance_seen, item_seen, items_seen, network_seen};
 
 use crate::fault::GrammarFault;
 use crate::lists::{optional_names, optional_values};
 use crate::parser::{Read, Source, at_keyword, goes_on, keyword, mark, name, next, number};
 use crate::tree::{Identifier, Instance, Item, Network};
+use crate::words::growth_spelled;
+use kpn_net::Growth;
 use kpn_tokens::{Keyword, Mark, Number, Token};
 use std::alloc::Global;
 
@@ -129,7 +132,7 @@ fn items<'a>(alloc: Global, source: Source<'a>, at: usize) -> Read<Vec<Item<'a>>
 }
 
 /// The limit, where it is written.
-#[tactic(auto, unfolding(crate::specs::Reading::limit, kpn_tokens::specs::Results::and_then))]
+#[tactic(auto, unfolding(crate::specs::Reading::limit, crate::specs::Reading::setting, kpn_tokens::specs::Results::and_then))]
 fn limit(source: Source<'_>, at: usize) -> Read<Option<Number>>
     ensures { Parses (λ n. n) spec.limit source.entry at result }
 {
@@ -142,6 +145,36 @@ fn limit(source: Source<'_>, at: usize) -> Read<Option<Number>>
     Ok((Some(limit), at))
 }
 
+/// The word of a growth.
+#[tactic(auto, unfolding(crate::specs::Reading::word_of, kpn_tokens::specs::Results::and_then))]
+fn growth_word(source: Source<'_>, at: usize) -> Read<Growth>
+    ensures { Parses (λ g. g) (spec.word_of words.growth_spelled) source.entry at result }
+{
+    let (first, after) = next(source, at)?;
+    let spelled = match &first.token {
+        Token::Name(name) => growth_spelled(name.bytes()),
+        _ => None,
+    };
+    match spelled {
+        Some(growth) => Ok((growth, after)),
+        None => Err(GrammarFault::Grammar(first.start)),
+    }
+}
+
+/// The growth, where it is written.
+#[tactic(auto, unfolding(crate::specs::Reading::growth, crate::specs::Reading::setting, kpn_tokens::specs::Results::and_then))]
+fn growth(source: Source<'_>, at: usize) -> Read<Option<Growth>>
+    ensures { Parses (λ g. g) spec.growth source.entry at result }
+{
+    if !at_keyword(source, Keyword::Grow, at) {
+        return Ok((None, at));
+    }
+    let at = keyword(source, Keyword::Grow, at)?;
+    let (growth, at) = growth_word(source, at)?;
+    let at = mark(source, Mark::Semicolon, at)?;
+    Ok((Some(growth), at))
+}
+
 /// The network.
 #[tactic(auto, unfolding(crate::specs::Reading::network, kpn_tokens::specs::Results::and_then))]
 pub(crate) fn network<'a>(alloc: Global, source: Source<'a>, at: usize) -> Read<Network<'a>>
@@ -150,7 +183,13 @@ pub(crate) fn network<'a>(alloc: Global, source: Source<'a>, at: usize) -> Read<
     let at = keyword(source, Keyword::Network, at)?;
     let at = mark(source, Mark::LeftBrace, at)?;
     let (limit, at) = limit(source, at)?;
+    let (growth, at) = growth(source, at)?;
     let (items, at) = items(alloc, source, at)?;
     let at = mark(source, Mark::RightBrace, at)?;
-    Ok((Network { limit, items }, at))
+    let network = Network {
+        limit,
+        growth,
+        items,
+    };
+    Ok((network, at))
 }

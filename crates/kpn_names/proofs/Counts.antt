@@ -8,7 +8,7 @@ use Rattle.kpn_grammar.specs.Syntax.{Name, Process, Item, channel, source, sink,
 use Rattle.kpn_names.specs.Fault.{each}
 use Rattle.kpn_tokens.specs.Results.{and_then}
 use Rattle.kpn_names.specs.Names.{declared}
-use Rattle.kpn_names.specs.Network.{limit_of, Wiring, within_32_bits, with_channel, with_instance, with_item, instance_of, all_channels, wiring}
+use Rattle.kpn_names.specs.Network.{settings_of, Wiring, within_32_bits, with_channel, with_instance, with_item, instance_of, all_channels, wiring}
 use Rattle.kpn_names.specs.Named.{NamedProgram, Programs, program_of, with_process, programs_of, Named, named_with, EachIsNamed, resolve}
 use Rattle.kpn_names.specs.NetworkNames.{AreNamed, names_in, paired, process_names_in}
 use Rattle.kpn_names.proofs.Chains.{ok_is, went}
@@ -116,7 +116,7 @@ each_named p n is scopes processes i c = record {
 
 pub resolved_each : (d : Description) (n : Named) → resolve d ≡ Ok n → EachIsNamed n
 resolved_each d n e =
-    let named : Programs → Wiring → Named = named_with (limit_of d.network.limit) in
+    let named : Programs → Wiring → Named = named_with (settings_of d.network) in
     let p = went (programs_of d.processes)
     (λ p. and_then (wiring p.names d.network.items) (λ w. Ok (named p w))) n e in
     let w = went (wiring p.value.names d.network.items) (λ w. Ok (named p.value w)) n p.rest in

@@ -20,7 +20,7 @@ use Rattle.kpn_names.specs.Names.{name_at, has, declared, with_name}
 use Rattle.kpn_names.specs.Scope.{are_new, are_distinct, head, is_port, target}
 use Rattle.kpn_names.specs.Body.{statement_in, tree_in}
 use Rattle.kpn_names.specs.Blocks.{Written, blocks_of, body_of}
-use Rattle.kpn_names.specs.Network.{limit_of, Wiring, within_32_bits, with_channel, with_instance, with_item, instance_of, all_channels, wiring}
+use Rattle.kpn_names.specs.Network.{Settings, settings_of, Wiring, within_32_bits, with_channel, with_instance, with_item, instance_of, all_channels, wiring}
 use Rattle.kpn_names.specs.Named.{NamedProgram, program_with, program_of, Programs, with_process, programs_of, Named, named_with, resolve}
 use Rattle.kpn_names.specs.NetworkNames.{paired, process_names_in, names_in}
 use Rattle.kpn_names.specs.Once.{StandOnce, names_inside, EachStandsOnce}
@@ -247,10 +247,10 @@ paired_inside (x ∷ xs) (p ∷ ps) apart zero d here = stand_once (known_in p.n
 paired_inside (x ∷ xs) (p ∷ ps) apart (suc k) d here =
     paired_inside xs ps (λ i e below. apart (suc i) e (omega arith)) k d (omega arith)
 
-named_once : (limit : ℕ) (p : Programs) (w : Wiring) → ProgramsApart p → WiringApart w
+named_once : (s : Settings) (p : Programs) (w : Wiring) → ProgramsApart p → WiringApart w
     → length p.names ≡ length p.programs
-    → EachStandsOnce (names_in (named_with limit p w))
-named_once limit p w programs wires match =
+    → EachStandsOnce (names_in (named_with s p w))
+named_once s p w programs wires match =
     let same : length p.names ≡ length (map (λ q. q.names) p.programs) =
     match ∙ sym (length-map p.programs (λ q. q.names)) in
     record {
@@ -262,10 +262,10 @@ named_once limit p w programs wires match =
 
 pub names_stand_once : (d : Description) (n : Named) → resolve d ≡ Ok n → EachStandsOnce (names_in n)
 names_stand_once d n e =
-    let named : Programs → Wiring → Named = named_with (limit_of d.network.limit) in
+    let named : Programs → Wiring → Named = named_with (settings_of d.network) in
     let p = went (programs_of d.processes)
     (λ p. and_then (wiring p.names d.network.items) (λ w. Ok (named p w))) n e in
     let w = went (wiring p.value.names d.network.items) (λ w. Ok (named p.value w)) n p.rest in
     subst (λ m. EachStandsOnce (names_in m)) (ok_is (named p.value w.value) n w.rest)
-    (named_once (limit_of d.network.limit) p.value w.value (programs_apart d.processes p.value p.first)
+    (named_once (settings_of d.network) p.value w.value (programs_apart d.processes p.value p.first)
     (wiring_apart p.value.names d.network.items w.value w.first) (programs_match d.processes p.value p.first))

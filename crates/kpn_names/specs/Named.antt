@@ -1,5 +1,5 @@
 -- What a description names: the tables of a network, and the names of their parts by number.
-use Rattle.std.specs.Prelude.{◌≡◌, ℕ, List, [], ◌∷◌, ◌++◌, length, map, Result, Ok}
+use Rattle.std.specs.Prelude.{◌≡◌, List, [], ◌∷◌, ◌++◌, length, map, Result, Ok}
 use Rattle.kpn_lang.specs.Parts.{Parts}
 use Rattle.kpn_net.specs.Tables.{Tables}
 use Rattle.kpn_grammar.specs.Syntax.{Name, Process, Description}
@@ -9,7 +9,7 @@ use Rattle.kpn_tokens.specs.Results.{◌>>=◌, and_then}
 use Rattle.kpn_names.specs.Names.{declared}
 use Rattle.kpn_names.specs.Scope.{head}
 use Rattle.kpn_names.specs.Blocks.{Written, body_of}
-use Rattle.kpn_names.specs.Network.{Wiring, limit_of, wiring}
+use Rattle.kpn_names.specs.Network.{Wiring, Settings, settings_of, wiring}
 
 -- the parts of a program, and the names of its ports and variables
 pub record NamedProgram : Type 0 where
@@ -61,15 +61,16 @@ pub record Named : Type 0 where
   pub instances : List Name
   pub channels : List Name
 
--- what the tables of the processes and of the network come to, under this limit
-abbrev pub named_with : (limit : ℕ) → Programs → Wiring → Named
-named_with limit p w = record {
+-- what the tables of the processes and of the network come to, under these settings
+abbrev pub named_with : Settings → Programs → Wiring → Named
+named_with s p w = record {
   tables =
       record {
         programs = map (λ q. q.parts) p.programs;
         instances = w.instances;
         channels = w.channels;
-        limit = limit;
+        limit = s.limit;
+        growth = s.growth;
       };
   processes = p.names;
   scopes = map (λ q. q.names) p.programs;
@@ -82,7 +83,7 @@ abbrev pub resolve : Description → Result Named NameError
 resolve d = do
   p ← programs_of d.processes
   w ← wiring p.names d.network.items
-  Ok (named_with (limit_of d.network.limit) p w)
+  Ok (named_with (settings_of d.network) p w)
 
 -- there are as many names as processes, instances and channels
 pub record EachIsNamed (n : Named) : Type 0 where

@@ -4,6 +4,8 @@ use Rattle.std.specs.Option.{option_map_or}
 use Rattle.kpn_limits.specs.declared.TheConstants.{MAX_CAPACITY}
 use Rattle.kpn_net.specs.declared.tables.ChannelSpec.{ChannelSpec}
 use Rattle.kpn_net.specs.declared.tables.ChannelSpec.TheVariants.{Inner, Source, Sink}
+use Rattle.kpn_net.specs.declared.tables.Growth.{Growth}
+use Rattle.kpn_net.specs.declared.tables.Growth.TheVariants as growth
 use Rattle.kpn_net.specs.declared.tables.Instance.{Instance}
 use Rattle.kpn_grammar.specs.Syntax as grammar
 use Rattle.kpn_grammar.specs.Syntax.{Name, Item, channel, source, sink, instance, literal_value}
@@ -19,6 +21,20 @@ within_32_bits n = min n 4294967295
 abbrev pub limit_of : Option ℕ → ℕ
 limit_of (Some n) = within_32_bits n
 limit_of None = MAX_CAPACITY
+
+-- the growth that is handed on: by one where none is written
+abbrev pub growth_of : Option Growth → Growth
+growth_of (Some g) = g
+growth_of None = growth.One
+
+-- the settings of a network
+pub record Settings : Type 0 where
+  pub limit : ℕ
+  pub growth : Growth
+
+-- those that are handed on
+abbrev pub settings_of : grammar.Network → Settings
+settings_of n = record { limit = limit_of n.limit; growth = growth_of n.growth }
 
 -- the channel that an item declares: sources and sinks are channels
 abbrev pub channel_name : Item → Option Name

@@ -550,7 +550,15 @@ larger_capacity_is_no_less t cap below = by_growth t.growth
     by_growth One = omega arith
     by_growth Double = omega arith
 
--- where it has a place it becomes larger, and does not pass the limit
+-- a capacity that is not 0 stays so
+pub larger_capacity_is_some : (t : Tables) (cap : ℕ) → 0 < t.limit → 0 < cap → 0 < larger_capacity t cap
+larger_capacity_is_some t cap limit some = by_growth t.growth
+  where
+    by_growth : (growth : Growth) → 0 < grown growth t.limit cap
+    by_growth One = omega arith
+    by_growth Double = omega arith
+
+-- where it is not 0 it becomes larger, and does not pass the limit
 pub larger_capacity_in_range : (t : Tables) (cap : ℕ) → 0 < cap → cap < t.limit
     → (cap < larger_capacity t cap) × (larger_capacity t cap ≤ t.limit)
 larger_capacity_in_range t cap some below = by_growth t.growth

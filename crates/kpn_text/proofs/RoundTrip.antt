@@ -4,6 +4,8 @@ use Rattle.std.specs.Prelude.{nat_lt, IfOk}
 use Rattle.std.specs.List.{AllByRecursion}
 use Rattle.std.proofs.lemmas.Bool.Decides.{nat_tests}
 use Rattle.kpn_limits.specs.declared.TheConstants.{MAX_CAPACITY, MAX_TEXT_BYTES}
+use Rattle.kpn_net.specs.declared.tables.Growth.{Growth}
+use Rattle.kpn_net.specs.declared.tables.Growth.TheVariants as growth
 use Rattle.kpn_net.specs.Tables.{Tables}
 use Rattle.kpn_net.specs.Faults.{IsNetwork}
 use Rattle.kpn_tokens.specs.Laws.{tokens_of}
@@ -11,11 +13,11 @@ use Rattle.kpn_grammar.specs.Syntax.{Description}
 use Rattle.kpn_grammar.specs.Spelling.{spell_description, ProcessIsWithin, IsDescription}
 use Rattle.kpn_tokens.specs.Results.{and_then}
 use Rattle.kpn_names.specs.Laws.{BlocksAreTheTree}
-use Rattle.kpn_names.specs.Network.{limit_of, Wiring, wiring}
+use Rattle.kpn_names.specs.Network.{growth_of, limit_of, Settings, settings_of, Wiring, wiring}
 use Rattle.kpn_names.specs.Named.{Programs, programs_of, Named, named_with, resolve}
 use Rattle.kpn_names.specs.declared.network_names.NetworkNames.{NetworkNames}
 use Rattle.kpn_canonical.specs.Laws.{DescriptionIsRead, ReadDescriptionsAreProper}
-use Rattle.kpn_canonical.specs.Named.{limit_named, description_named}
+use Rattle.kpn_canonical.specs.Named.{growth_named, limit_named, description_named}
 use Rattle.kpn_canonical.specs.Proper.{IsProperProcess, IsProperLimit, IsProperItem, IsProper}
 use Rattle.kpn_canonical.specs.Text.{description_text}
 use Rattle.kpn_names.specs.NetworkNames.{names_in}
@@ -26,7 +28,7 @@ use Rattle.kpn_names.proofs.Chains.{ok_is, went, then_ok}
 use Rattle.kpn_text.proofs.NamedProcesses.{processes_back}
 use Rattle.kpn_text.proofs.NamedItems.{items_back}
 
--- ---- the limit
+-- ---- the settings
 
 -- the limit of a network is in range
 abbrev LimitsAreInRange : Type 0
@@ -46,6 +48,18 @@ limit_proper_by false n h = tt
 limit_proper : (n : ℕ) → n ≤ MAX_CAPACITY → IsProperLimit (limit_named n)
 limit_proper n h = limit_proper_by (nat_lt n MAX_CAPACITY) n h
 
+growth_again : (g : Growth) → growth_of (growth_named g) ≡ g
+growth_again growth.One = refl
+growth_again growth.Double = refl
+
+-- the settings of the network that is printed
+abbrev settings_named : Settings → Settings
+settings_named s = record { limit = limit_of (limit_named s.limit); growth = growth_of (growth_named s.growth) }
+
+settings_again : (s : Settings) → s.limit ≤ MAX_CAPACITY → settings_named s ≡ s
+settings_again s small =
+    λ i. record { limit = limit_again s.limit small i; growth = growth_again s.growth i }
+
 -- ---- what a description names, part by part
 
 record Resolved (d : Description) (n : Named) : Type 0 where
@@ -53,7 +67,7 @@ record Resolved (d : Description) (n : Named) : Type 0 where
   w : Wiring
   has_processes : programs_of d.processes ≡ Ok p
   has_items : wiring p.names d.network.items ≡ Ok w
-  is : named_with (limit_of d.network.limit) p w ≡ n
+  is : named_with (settings_of d.network) p w ≡ n
 
 resolved : (d : Description) (n : Named) → resolve d ≡ Ok n → Resolved d n
 resolved d n h =
@@ -62,11 +76,11 @@ resolved d n h =
     record { p = p.value; w = w.value; has_processes = p.first; has_items = w.first; is = ok_is _ n w.rest }
 
 resolves : (d : Description) (p : Programs) (w : Wiring) → programs_of d.processes ≡ Ok p
-    → wiring p.names d.network.items ≡ Ok w → resolve d ≡ Ok (named_with (limit_of d.network.limit) p w)
+    → wiring p.names d.network.items ≡ Ok w → resolve d ≡ Ok (named_with (settings_of d.network) p w)
 resolves d p w hp hw =
     then_ok (programs_of d.processes)
-    (λ q. and_then (wiring q.names d.network.items) (λ v. Ok (named_with (limit_of d.network.limit) q v))) p hp
-    ∙ then_ok (wiring p.names d.network.items) (λ v. Ok (named_with (limit_of d.network.limit) p v)) w hw
+    (λ q. and_then (wiring q.names d.network.items) (λ v. Ok (named_with (settings_of d.network) q v))) p hp
+    ∙ then_ok (wiring p.names d.network.items) (λ v. Ok (named_with (settings_of d.network) p v)) w hw
 
 -- ---- the description that a document is printed as
 
@@ -80,18 +94,19 @@ pub record Kept (d : Description) (n : Named) : Type 0 where
   pub items : AllByRecursion IsProperItem d.network.items → AllByRecursion IsProperItem (printed n).network.items
   pub again : resolve (printed n) ≡ Ok n
 
-kept_by : BlocksAreTheTree → (d : Description) (limit : ℕ) (p : Programs) (w : Wiring) → limit ≤ MAX_CAPACITY
-    → programs_of d.processes ≡ Ok p → wiring p.names d.network.items ≡ Ok w → Kept d (named_with limit p w)
-kept_by flat d limit p w small hp hw =
-    let n : Named = named_with limit p w in
+kept_by : BlocksAreTheTree → (d : Description) (s : Settings) (p : Programs) (w : Wiring)
+    → s.limit ≤ MAX_CAPACITY → programs_of d.processes ≡ Ok p → wiring p.names d.network.items ≡ Ok w
+    → Kept d (named_with s p w)
+kept_by flat d s p w small hp hw =
+    let n : Named = named_with s p w in
     let a = processes_back flat d.processes p hp in
     let b = items_back (names_in n) p.names d.network.items w a.names_back refl hw in
     let read : programs_of (printed n).processes ≡ Ok p = ap (λ ps. programs_of ps) a.back ∙ hp in
     record {
       processes = sym a.back;
-      limit = limit_proper limit small;
+      limit = limit_proper s.limit small;
       items = b.proper;
-      again = resolves (printed n) p w read b.again ∙ ap (λ l. Ok (named_with l p w)) (limit_again limit small);
+      again = resolves (printed n) p w read b.again ∙ ap (λ q. Ok (named_with q p w)) (settings_again s small);
     }
 
 pub kept : BlocksAreTheTree → LimitsAreInRange → (d : Description) (n : Named) → resolve d ≡ Ok n → IsNetwork n.tables
@@ -101,7 +116,7 @@ kept flat limits d n h net =
     let limit : limit_of d.network.limit ≡ n.tables.limit = ap (λ (q : Named). q.tables.limit) r.is in
     let small : limit_of d.network.limit ≤ MAX_CAPACITY =
     subst (λ l. l ≤ MAX_CAPACITY) (sym limit) (limits n.tables net).1 in
-    subst (λ q. Kept d q) r.is (kept_by flat d (limit_of d.network.limit) r.p r.w small r.has_processes r.has_items)
+    subst (λ q. Kept d q) r.is (kept_by flat d (settings_of d.network) r.p r.w small r.has_processes r.has_items)
 
 -- ---- the law
 

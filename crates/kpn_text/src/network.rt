@@ -68,8 +68,9 @@ pub(crate) fn network(alloc: Global, named: Named<'_>) -> Result<Network, TextFa
         channel_names: _,
         channels,
         limit,
+        growth,
     } = named;
     let programs = programs(alloc, processes)?;
-    let network = Network::new(alloc, programs, instances, channels, limit)?;
+    let network = Network::new(alloc, programs, instances, channels, limit, growth)?;
     Ok(network)
 }

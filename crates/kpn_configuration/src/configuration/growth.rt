@@ -5,12 +5,13 @@ ghost use Rattle.kpn_trace.specs.declared.event.Event.TheVariants as event;
 ghost use Rattle.kpn_trace.specs.Legal.{OwesGrowth, waiter};
 ghost use Rattle.kpn_trace.specs.Stops.{OwesNothing};
 ghost use Rattle.kpn_configuration.specs.Configuration.{IsConfiguration, capacities, channel_in, with_channel};
-ghost use Rattle.kpn_chan.specs.Channel.{MayGrow, grown};
+ghost use Rattle.kpn_chan.specs.Channel.{MayGrowTo, grown_to};
 ghost use Rattle.kpn_configuration.specs.Run.{IsRun};
 ghost use Rattle.kpn_configuration.specs.Changes.{Changes};
 ghost use Rattle.kpn_configuration.specs.Owed.{IsOwed, channel_to_grow};
 ghost use Rattle.kpn_cycle.specs.Scan.{cap_in};
 ghost use Rattle.kpn_net.specs.Finding.{Finds};
+ghost use Rattle.kpn_net.specs.Tables.{larger_capacity};
 ghost use Rattle.kpn_configuration.specs.Woken.{waiting_writer};
 
 use super::Configuration;
@@ -59,8 +60,9 @@ impl<A: Allocator> Configuration<A> {
         }
     }
 
-    /// The capacity of channel `d`, whose growth is owed for the wait of process `p`, becomes 1 larger.
-    /// Returns the process that this wakes: the writer of the channel, if it waited on it as full.
+    /// The capacity of channel `d`, whose growth is owed for the wait of process `p`, becomes larger, as the
+    /// growth of the network says. Returns the process that this wakes: the writer of the channel, if it
+    /// waited on it as full.
     ///
     /// It takes no memory: the writer of `d` waits on it as full, and reserved an item there before it came to wait.
     pub fn grow(&mut self, network: &Network, p: usize, d: usize) -> Option<usize>
@@ -74,22 +76,33 @@ impl<A: Allocator> Configuration<A> {
             → IsRun network.now (H ++ event.Grow p d ∷ []) self.new }
     {
         network.known();
+        let cap = self.larger_capacity(network, d);
         let woken = wake(&mut self.waits, network.writer_of(d), Wait::Full(d));
-        self.enlarge(d);
+        self.enlarge(d, cap);
         woken
     }
 
-    /// Makes the capacity of a channel larger by one. Since an item is reserved there, this takes no memory.
-    fn enlarge(&mut self, d: usize)
+    /// The capacity that a channel below the limit has after one growth.
+    fn larger_capacity(&self, network: &Network, d: usize) -> u32
+        requires channel { d < length self.now.channels }
+        requires limit { cap_in (capacities self.now) d < network.now.limit }
+        ensures { result ≡ larger_capacity network.now (cap_in (capacities self.now) d) }
+    {
+        network.larger_capacity(self.capacities[d])
+    }
+
+    /// Makes the capacity of a channel larger: it becomes `cap`. Since an item is reserved there, this takes no
+    /// memory.
+    fn enlarge(&mut self, d: usize, cap: u32)
         requires channel { d < length self.old.channels }
-        requires capacity { MayGrow (channel_in self.old d) }
+        requires capacity { MayGrowTo cap (channel_in self.old d) }
         requires reserved { IsTrue (channel_in self.old d).is_reserved }
         ensures after { let reserved = (channel_in self.new d).is_reserved in
-            self.new ≡ with_channel d (grown reserved (channel_in self.old d)) self.old }
+            self.new ≡ with_channel d (grown_to cap reserved (channel_in self.old d)) self.old }
         ensures reserved { IsTrue (channel_in self.new d).is_reserved }
     {
         let channel = &mut self.channels[d];
-        channel.grow_reserved();
-        self.capacities[d] += 1;
+        channel.grow_reserved_to(cap);
+        self.capacities[d] = cap;
     }
 }

@@ -1,7 +1,7 @@
 use Rattle.std.proofs.Common.{◌<◌, length, IsTrue, sym, ap, ◌∙◌, subst, arith, slice_set}
 use Rattle.kpn_net.specs.declared.wait.Wait.TheVariants.{Full}
 use Rattle.kpn_net.specs.Waits.{AreWaits}
-use Rattle.kpn_chan.specs.Channel.{MayGrow, grown}
+use Rattle.kpn_chan.specs.Channel.{MayGrowTo, grown_to}
 use Rattle.kpn_configuration.specs.Configuration.{Configuration, channel_in}
 use Rattle.kpn_configuration.specs.Woken.{is_wait}
 use Rattle.kpn_configuration.proofs.Growing.{owed_below, owed_may_grow, owed_is_reserved, Made-grown, Legal-grown}
@@ -19,6 +19,13 @@ wake-woken-requires g c =
     (subst (λ s. AreWaits c.args.network.now s.waits) (sym c.self.view_is) c.requires.shape.waits) (Full c.args.d)
     c.writer_of.result c.writer_of.ensures
 
+pub larger_capacity-cap-requires-clause-channel : goal.larger_capacity-cap-requires-clause-channel
+larger_capacity-cap-requires-clause-channel g c =
+    let below =
+    owed_below c.args.network.now c.known.ensures c.args.self.now c.requires.shape c.args.p c.args.d
+    c.requires.owed in
+    omega (arith, c.requires.shape.channels)
+
 pub enlarge-requires-clause-channel : goal.enlarge-requires-clause-channel
 enlarge-requires-clause-channel g c =
     let below =
@@ -29,9 +36,10 @@ enlarge-requires-clause-channel g c =
 
 pub enlarge-requires-clause-capacity : goal.enlarge-requires-clause-capacity
 enlarge-requires-clause-capacity g c =
-    subst (λ x. MayGrow (channel_in x c.args.d)) (sym c.self.view_is)
+    subst (λ x. MayGrowTo c.larger_capacity-cap.result (channel_in x c.args.d)) (sym c.self.view_is)
+    (subst (λ cap. MayGrowTo cap (channel_in c.args.self.now c.args.d)) (sym c.larger_capacity-cap.ensures)
     (owed_may_grow c.args.network.now c.known.ensures c.args.self.now c.requires.shape c.args.p c.args.d
-    c.requires.owed)
+    c.requires.owed))
 
 pub enlarge-requires-clause-reserved : goal.enlarge-requires-clause-reserved
 enlarge-requires-clause-reserved g c =
@@ -57,9 +65,16 @@ returns g c =
     ∙ ap
     (λ (x : Configuration).
     record x {
-      channels = slice_set x.channels c.args.d (grown reserved (channel_in x c.args.d));
+      channels = slice_set x.channels c.args.d
+          (grown_to c.larger_capacity-cap.result reserved (channel_in x c.args.d));
       waits = c.wake-woken.new.waits;
-    }) c.self.view_is) in
+    }) c.self.view_is
+    ∙ ap
+    (λ cap.
+    record s {
+      channels = slice_set s.channels c.args.d (grown_to cap reserved (channel_in s c.args.d));
+      waits = c.wake-woken.new.waits;
+    }) c.larger_capacity-cap.ensures) in
     record {
       woken =
           told_same (is_wait (Full c.args.d)) c.writer_of.result _ c.self.inside.waits s.waits c.wake-woken.result

@@ -1,0 +1,21 @@
+-- The words that stand for settings of a network: one table, for what is read and what is printed. They are names
+-- elsewhere.
+use Rattle.std.specs.Prelude.{List, [], ◌∷◌, codes, Option}
+use Rattle.std.specs.List.{find}
+use Rattle.std.specs.Str.{bytes_eq}
+use Rattle.kpn_net.specs.declared.tables.Growth.{Growth}
+use Rattle.kpn_net.specs.declared.tables.Growth.TheVariants as growth
+use Rattle.kpn_grammar.specs.Syntax.{Name}
+
+-- the word that stands for a growth
+abbrev pub growth_word : Growth → Name
+growth_word growth.One = codes "one"
+growth_word growth.Double = codes "double"
+
+-- every growth
+abbrev pub growths : List Growth
+growths = growth.One ∷ growth.Double ∷ []
+
+-- the growth that a word stands for, where it stands for one
+unfoldable pub growth_spelled : Name → Option Growth
+growth_spelled word = find (λ g. bytes_eq (growth_word g) word) growths

@@ -1,0 +1,30 @@
+//! The words that stand for settings of a network: one table, by which descriptions are read and printed.
+
+ghost use Rattle.std.specs.Prelude.{◌≡◌};
+ghost use Rattle.kpn_grammar.specs.Words as table;
+
+use kpn_net::Growth;
+
+/// Every growth.
+const GROWTHS: [Growth; 2] = [Growth::One, Growth::Double];
+
+/// The word that stands for a growth behind `grow`.
+pub fn growth_word(growth: Growth) -> &'static [u8]
+    ensures { result.now ≡ table.growth_word growth }
+{
+    match growth {
+        Growth::One => b"one",
+        Growth::Double => b"double",
+    }
+}
+
+/// The growth that these bytes spell.
+#[tactic(auto, unfolding(crate::specs::Words::growth_spelled))]
+pub(crate) fn growth_spelled(word: &[u8]) -> Option<Growth>
+    ensures { result ≡ table.growth_spelled word.now }
+{
+    GROWTHS
+        .iter()
+        .copied()
+        .find(|growth| growth_word(*growth) == word)
+}
