@@ -8,4 +8,6 @@ mod documents;
 #[cfg(test)]
 mod items;
 #[cfg(test)]
+mod settings;
+#[cfg(test)]
 mod tokens;
