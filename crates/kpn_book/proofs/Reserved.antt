@@ -24,7 +24,7 @@ channel_before : (t : Tables) (e : Event) (d : ℕ) (x y after : ChannelState) �
 channel_before t e d x y after journal read capacity retired reserved is = record {
   journal = is.journal ∙ ap (λ z. z ++ written_in d e) journal;
   read = is.read ∙ ap (λ z. z + length (read_in d e)) read;
-  capacity = is.capacity ∙ ap (capacity_then d e) capacity;
+  capacity = is.capacity ∙ ap (capacity_then t d e) capacity;
   retired = is.retired ∙ ap (λ z. z || takes_reader t d e) retired;
   reserved = λ none some. is.reserved none (reserved some);
 }
