@@ -3,6 +3,7 @@ use Rattle.std.proofs.Common.{◌≡◌, ◌↔◌, ℕ, ◌+◌, ◌<◌, ◌�
 use Rattle.std.proofs.lemmas.Bool.{cases_eq}
 use Rattle.std.proofs.lemmas.List.Sums.{sum_by-append}
 use Rattle.std.proofs.lemmas.List.{length-set, get_or-set_same, get_or-set_other}
+use Rattle.kpn_net.specs.Tables.{Tables}
 use Rattle.kpn_net.specs.Faults.{IsNetwork}
 use Rattle.kpn_step.specs.declared.stop.Stop.{Stop}
 use Rattle.kpn_step.specs.declared.stop.Stop.TheVariants as stop
@@ -27,7 +28,7 @@ use Rattle.kpn_schedule.specs.Schedule.{state_at, made_ready}
 use Rattle.kpn_book.specs.declared.answers.Done.{Done}
 use Rattle.kpn_book.specs.declared.answers.Done.TheVariants as done
 use Rattle.kpn_book.specs.Book.{Book, IsHeld, held_count, put_back, counted}
-use Rattle.kpn_book.specs.Appending.{AppendsAll, IsGrowthAfter, Happens}
+use Rattle.kpn_book.specs.Appending.{AppendsAll, IsGrowthOwed, Happens}
 use Rattle.kpn_book.specs.Commits.{IsReadFrom, IsWriteTo, HasToWait, IsAnswer, ready_if_paused, HandlesStop}
 use Rattle.kpn_book.specs.Kept.{IsStateBy, IsInStep, IsKept}
 use Rattle.kpn_book.specs.Open.{Follows, IsSound, AnswersAt, Answered, EndsWithWait, grows_if_owed, GrowsIfOwed, GrowsAtStop, of_process}
@@ -292,11 +293,11 @@ growth_is_none wait p d = by_test (is_of_process wait)
     by_test true = omega arith
     by_test false = omega arith
 
-with_growth : (b : Book) (e : Event) (growth : List Event) → IsGrowthAfter b e growth
+with_growth : (t : Tables) (H : List Event) (e : Event) (growth : List Event) → IsGrowthOwed t H growth
     → count_by is_of_process (e ∷ growth) ≤ 1
-with_growth b e [] owed = one_event e
-with_growth b e (event.Grow p d ∷ []) owed = growth_is_none e p d
-with_growth b e growth owed = absurd owed
+with_growth t H e [] owed = one_event e
+with_growth t H e (event.Grow p d ∷ []) owed = growth_is_none e p d
+with_growth t H e growth owed = absurd owed
 
 at_most_one : (answer : Done) (b : Book) (p : ℕ) (s : Stop) (events : List Event) → IsAnswer b p s answer events
     → count_by is_of_process events ≤ 1
@@ -310,7 +311,7 @@ at_most_one (done.Grew d) b p s events is =
     subst (λ es. count_by is_of_process es ≤ 1) (sym is.appends) (growth_is_none is.wait is.grower d)
 at_most_one done.Ended b p s events is =
     subst (λ es. count_by is_of_process es ≤ 1) (sym is.appends)
-    (with_growth b (event.Ended p is.how) is.growth is.owed)
+    (with_growth b.tables (b.history ++ event.Ended p is.how ∷ []) (event.Ended p is.how) is.growth is.owed)
 at_most_one done.Paused b p s events is = subst (λ es. count_by is_of_process es ≤ 1) (sym is.appends) (omega arith)
 
 module _ (b a : Book) (p : ℕ) (s : Stop) (answer : Done) (kept : IsKept b) (answers : AnswersAt p s answer b a)

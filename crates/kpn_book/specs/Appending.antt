@@ -66,16 +66,16 @@ AppendsAll (e ∷ events) before after = (between : Book) × Appends e before be
 
 -- ---- events, and the growths that are owed
 
--- the growth that is owed after an event: none, or this one
-abbrev pub IsGrowthAfter : Book → Event → (growth : List Event) → Type 0
-IsGrowthAfter b e [] = OwesNothing b.tables (b.history ++ e ∷ [])
-IsGrowthAfter b e (event.Grow p d ∷ []) = OwesGrowth b.tables (b.history ++ e ∷ []) p d
-IsGrowthAfter b e growth = ⊥
+-- the growth that is owed after a history: none, or this one
+abbrev pub IsGrowthOwed : Tables → List Event → (growth : List Event) → Type 0
+IsGrowthOwed t H [] = OwesNothing t H
+IsGrowthOwed t H (event.Grow p d ∷ []) = OwesGrowth t H p d
+IsGrowthOwed t H growth = ⊥
 
 -- the event happens: it is appended, and so is the growth that is owed then
 pub record Happens (e : Event) (before after : Book) : Type 0 where
   pub growth : List Event
-  pub owed : IsGrowthAfter before e growth
+  pub owed : IsGrowthOwed before.tables (before.history ++ e ∷ []) growth
   pub appends : AppendsAll (e ∷ growth) before after
 
 -- these events happen, one after the other

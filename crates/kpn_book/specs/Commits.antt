@@ -16,7 +16,7 @@ use Rattle.kpn_configuration.specs.Due.{stop_of}
 use Rattle.kpn_book.specs.declared.answers.Done.{Done}
 use Rattle.kpn_book.specs.declared.answers.Done.TheVariants as done
 use Rattle.kpn_book.specs.Book.{Book, IsHeld, standing_at, put_back, counted}
-use Rattle.kpn_book.specs.Appending.{AppendsAll, IsGrowthAfter}
+use Rattle.kpn_book.specs.Appending.{AppendsAll, IsGrowthOwed}
 
 -- ---- what a stop of process p asks for
 
@@ -88,7 +88,7 @@ pub record Ends (b : Book) (p : ℕ) (s : Stop) (events : List Event) : Type 0 w
   pub how : How
   pub asks : s ≡ stop_of how
   pub growth : List Event
-  pub owed : IsGrowthAfter b (event.Ended p how) growth
+  pub owed : IsGrowthOwed b.tables (b.history ++ event.Ended p how ∷ []) growth
   pub appends : events ≡ event.Ended p how ∷ growth
 
 -- it has made as many steps as it was allowed

@@ -1,19 +1,41 @@
-use Rattle.std.proofs.Common.{rules, ◌≡◌, ◌≢◌, ◌↔◌, IsTrue, IfOk, IfErr, OnErr, IfSome, IfNone, ℕ, ◌+◌, ◌-◌, ◌*◌, ◌<◌, ◌≤◌, length, ◌/◌, ◌%◌, Bool, true, false, nat_eq, nat_lt, List, [], ◌∷◌, ◌++◌, slice_index_or, slice_set, bit_and, bit_or, Fits, w8, w32, w64, Bor, MutBor}
-use Rattle.kpn_book.specs.Refusals.{AcceptsItem, IsAtBound, RefusesFeed, RefusesClose, RefusesTake, RefusesLeave, Feeds, Closes, Takes, Leaves}
+use Rattle.std.proofs.Common.{◌≡◌, true, false, refl, subst, rules}
+use Rattle.kpn_net.specs.Tables.{channel_at, is_source}
+use Rattle.kpn_trace.specs.declared.event.Event.TheVariants as event
+use Rattle.kpn_configuration.specs.Configuration.{closed_in}
+use Rattle.kpn_book.specs.Refusals.{Closes}
+use Rattle.kpn_book.specs.Open.{book_of}
+use Rattle.kpn_book.proofs.Following.{recorded}
+use Rattle.kpn_book.proofs.Answering.{no_cycle_then, happens}
+use Rattle.kpn_book.proofs.Committing.{kept_grown}
+use Rattle.kpn_book.proofs.Outside.{sound_reserved, follows_reserved, closed}
 use Rattle.kpn_book.proofs.book.Book.close_source.Goals as goal
 
--- src/book/outside.rt:72:9
 pub close-requires-clause-sound : goal.close-requires-clause-sound
-close-requires-clause-sound g c = ?
+close-requires-clause-sound g c =
+    sound_reserved (book_of c.self.inside.parts) c.reserve.new.self.events c.in_ok-reserve.ensures.events
+    c.self.invariant
 
--- src/book/outside.rt:73:13
 pub grow_at_stop-grown-requires-clause-no_cycle : goal.grow_at_stop-grown-requires-clause-no_cycle
-grow_at_stop-grown-requires-clause-no_cycle g c = ?
+grow_at_stop-grown-requires-clause-no_cycle g c =
+    let b = book_of c.self.inside.parts in
+    no_cycle_then (event.Close c.args.source) (recorded b c.reserve.new.self.events b.configuration b.schedule)
+    (book_of c.close.new.self) c.close.ensures.follows refl
 
--- src/book/outside.rt:58:5
 pub invariant_of-self-2 : goal.invariant_of-self-2
-invariant_of-self-2 g c = ?
+invariant_of-self-2 g c =
+    let b = book_of c.self.inside.parts in
+    kept_grown b (book_of c.close.new.self) _ (event.Close c.args.source) c.grow_at_stop-grown.result c.self.invariant
+    (follows_reserved b c.reserve.new.self.events c.in_ok-reserve.ensures.events (event.Close c.args.source) (book_of c.close.new.self)
+    c.close.ensures.follows) refl c.grow_at_stop-grown.ensures
 
--- src/book/outside.rt:58:5
 pub returns-clause-done : goal.returns-clause-done
-returns-clause-done g c = ?
+returns-clause-done g c =
+    let b = book_of c.self.inside.parts in
+    let a = book_of c.grow_at_stop-grown.new.self in
+    let source : is_source (channel_at b.tables c.args.source) ≡ true = search rules in
+    let not_closed : closed_in b.configuration c.args.source ≡ false = search rules in
+    subst (λ x. Closes c.args.source x a) c.self.view_is
+    (closed b a c.args.source source not_closed
+    (happens (event.Close c.args.source) b (book_of c.close.new.self) a c.grow_at_stop-grown.result
+    (follows_reserved b c.reserve.new.self.events c.in_ok-reserve.ensures.events (event.Close c.args.source) (book_of c.close.new.self)
+    c.close.ensures.follows) c.grow_at_stop-grown.ensures))

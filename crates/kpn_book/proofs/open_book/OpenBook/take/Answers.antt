@@ -1,11 +1,11 @@
-use Rattle.std.proofs.Common.{◌≡◌, refl, ap, ◌∙◌, w64, SFits, to_z, of_z, rules}
+use Rattle.std.proofs.Common.{refl, sym, ap, subst, ◌∙◌, w64, SFits, to_z, of_z, rules}
 use Rattle.std.proofs.lemmas.Int.{to_z-of_z}
 use Rattle.std.specs.Option.{option_to_list}
 use Rattle.kpn_net.proofs.Networks.{sink_there}
 use Rattle.kpn_trace.specs.declared.event.Event.TheVariants as event
 use Rattle.kpn_configuration.proofs.Due.{Legal-due}
-use Rattle.kpn_book.specs.Open.{book_of}
-use Rattle.kpn_book.proofs.Following.{own_none, may_be_woken, followed, channel_fits}
+use Rattle.kpn_book.specs.Open.{book_of, Follows}
+use Rattle.kpn_book.proofs.Following.{own_none, may_be_woken, followed, recorded, channel_fits}
 use Rattle.kpn_book.proofs.open_book.OpenBook.take.Goals as goal
 
 pub number-requires : goal.number-requires
@@ -26,7 +26,11 @@ returns-clause-follows g c =
     let e = event.Take c.args.c c.take-got.result.item in
     let step = c.requires.sound.in_step in
     let fits : SFits w64 c.take-got.result.item = search rules in
-    followed b c.known.ensures step e (own_none b) tt c.take-got.new.self c.take-got.ensures.changes
+    subst
+    (λ v. Follows (event.Take c.args.c v) b
+    (recorded b c.push.new.self.events c.take-got.new.self c.wake.new.schedule))
+    (sym (to_z-of_z w64 c.take-got.result.item fits))
+    (followed b c.known.ensures step e (own_none b) tt c.take-got.new.self c.take-got.ensures.changes
     c.take-got.ensures.shape
     (Legal-due b.tables c.known.ensures b.history b.configuration step.run c.requires.sound.nothing_owed e
     (sink_there b.tables c.args.c c.requires.sink) (c.requires.sink, c.take-got.ensures.item))
@@ -34,4 +38,4 @@ returns-clause-follows g c =
     c.wake.new.schedule (option_to_list c.take-got.result.woken)
     (ap (λ x. event.Take x (to_z w64 (of_z w64 c.take-got.result.item))) c.number.ensures
     ∙ ap (λ x. event.Take c.args.c x) (to_z-of_z w64 c.take-got.result.item fits))
-    c.push.ensures.events refl c.wake.ensures (ap option_to_list c.take-got.ensures.woken)
+    c.push.ensures.events refl c.wake.ensures (ap option_to_list c.take-got.ensures.woken))
