@@ -24,7 +24,7 @@ channel_before : (t : Tables) (e : Event) (d : ℕ) (x y after : ChannelState) �
 channel_before t e d x y after journal read capacity retired reserved is = record {
   journal = is.journal ∙ ap (λ z. z ++ written_in d e) journal;
   read = is.read ∙ ap (λ z. z + length (read_in d e)) read;
-  capacity = is.capacity ∙ ap (capacity_then d e) capacity;
+  capacity = is.capacity ∙ ap (capacity_then t d e) capacity;
   retired = is.retired ∙ ap (λ z. z || takes_reader t d e) retired;
   reserved = λ none some. is.reserved none (reserved some);
 }
@@ -120,10 +120,12 @@ module _ (b : Book) (c : ℕ) (below : c < length b.configuration.channels) wher
   answer_unreserved (done.Grew d) p s events is = record {
     wait = is.wait;
     waits = waits_unreserved p s is.wait is.waits;
+    grower = is.grower;
     owed = is.owed;
     appends = is.appends;
   }
-  answer_unreserved done.Ended p s events is = is
+  answer_unreserved done.Ended p s events is =
+      record { how = is.how; asks = is.asks; growth = is.growth; owed = is.owed; appends = is.appends }
   answer_unreserved done.Paused p s events is = is
 
 cons_is_some : (e : Event) (es events : List Event) → events ≡ e ∷ es → events ≡ [] → ⊥

@@ -13,7 +13,7 @@ pub enum Done {
     Put,
     /// The process waits.
     Blocked,
-    /// The process came to wait, and the capacity of this channel became 1 greater for that.
+    /// The process came to wait, and the capacity of this channel became larger for that.
     Grew(usize),
     /// The process has ended.
     Ended,
