@@ -57,8 +57,9 @@ def network(random):
     for number in range(random.randint(1, 3)):
         lines.append(f'sink z{number} cap {random.randint(1, 3)};')
         random.choice(outs).append(f'z{number}')
-    if random.random() < 0.2:
-        lines.insert(0, 'limit 3;')
+    for setting, share in (('grow double;', 0.3), ('policy all;', 0.5), (f'limit {random.randint(3, 5)};', 0.2)):
+        if random.random() < share:
+            lines.insert(0, setting)
     texts = []
     for p in range(processes):
         of_in, of_out = [f'i{k}' for k in range(len(ins[p]))], [f'o{k}' for k in range(len(outs[p]))]
