@@ -17,7 +17,7 @@ import sys
 import definitions
 
 TOP = pathlib.Path(__file__).resolve().parent.parent
-DOCUMENTS = [TOP / 'README.md', *sorted((TOP / 'docs').glob('*.md'))]
+DOCUMENTS = [TOP / 'README.md', *sorted((TOP / 'docs').glob('*.md')), TOP / 'bench/RESULTS.md']
 COLUMNS = 120
 KINDS = ('.rt', '.antt', '.py', '.rs', '.kpn', '.edit')
 PATH = re.compile(r'(?<![\w./-])((?:\w[\w.-]*/)+(?:[\w.-]*\w)?|\w+\.(?:rt|antt|py|md|kpn|edit)\b)')
