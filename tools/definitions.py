@@ -1,7 +1,7 @@
 #!/usr/bin/env python3
-"""Writes docs/WORDS.md: a table of the definitions in crates/*/specs/, each with its file and the first line of the
-comment above it. It is run by hand, after each change of a definition. tools/documents.py reports a table that is out
-of date.
+"""Writes docs/WORDS.md: a table of the definitions in the folders specs/ of the program's crates, each with its file and
+the first line of the comment above it. It is run by hand, after each change of a definition. tools/documents.py
+reports a table that is out of date.
 
 It leaves out two kinds of definitions: those that are not public, and those that only contracts of private functions
 cite, which their file or a heading in it calls scaffolding.
@@ -26,7 +26,7 @@ def words_of(file):
     lines = file.read_text().splitlines()
     if FOR_PRIVATE.search(' '.join(lines[:3])):
         return
-    comment, is_private, is_shared = [], False, False
+    comment, is_private, is_mutual = [], False, False
     for line in lines:
         text = line.strip()
         if text.startswith(HEADING):
@@ -37,17 +37,20 @@ def words_of(file):
             comment = []
         else:
             found = DEFINED.match(line)
-            is_shared = text in ('mutual', 'abbrev mutual') or is_shared and line.startswith(' ')
-            is_field = line.startswith(' ') and not is_shared
+            # Within `mutual` definitions are indented, and elsewhere the fields of a record are.
+            is_mutual = text in ('mutual', 'abbrev mutual') or (is_mutual and line.startswith(' '))
+            is_field = line.startswith(' ') and not is_mutual
             if found and not is_field and not is_private and not FOR_PRIVATE.search(' '.join(comment)):
-                yield found[1], ' ..'.join([*comment[:1], *[''] * (len(comment) > 1)])
+                first = comment[0] if comment else ''
+                yield found[1], f'{first} ..' if len(comment) > 1 else first
 
 
 def table():
     """The whole document."""
     rows = []
     for crate in sorted(it for it in (TOP / 'crates').iterdir() if it.name.startswith('kpn')):
-        words = [(word, file, said) for file in sorted((crate / 'specs').rglob('*.antt')) for word, said in words_of(file)]
+        files = sorted((crate / 'specs').rglob('*.antt'))
+        words = [(word, file, said) for file in files for word, said in words_of(file)]
         if words:
             rows += [f'\n## {crate.name}\n', '| Word | File | What its comment says |', '|---|---|---|']
         for word, file, said in words:

@@ -25,7 +25,7 @@ CRATE = re.compile(r'\b(?:kpn|check|bench)_[a-z_]*[a-z]\b')
 NAME = re.compile(r"`((?:\w+::)*[A-Za-z_][\w']*)`")
 CODE = re.compile(r'From\s+`([^`]+)`[^`]*?```rust\n(.*?)```', re.S)
 # Parts of a path that stand for something else, or that a build makes.
-STANDS_FOR = {'CRATE', 'mine', 'MODULE', 'FILE', 'NAME', 'NAME.antt', 'NAME.edit', 'FILE.antt', 'MODULE.rt', 'm', 'out', 'rlib'}
+STANDS_FOR = set('CRATE mine MODULE FILE NAME NAME.antt NAME.edit FILE.antt MODULE.rt m out rlib'.split())
 # What a claim stands on, the head of a function, the clauses in it, and a name.
 BY = re.compile(r'\bBy (.*?)\.(?=\s|$)')
 HEAD = re.compile(r'\bfn (\w+)(.*?)(?:^\s*\{\}?$|\{\n|;\n)', re.S | re.M)
