@@ -30,8 +30,7 @@ def woken(audit, before, event):
 
 
 def verdict(audit):
-    """None under `policy all` as long as a channel has to grow."""
-    if not audit.is_settled() or audit.owed_when_settled() is not None:
+    if not audit.is_settled():
         return None
     now = audit.waits()
     found = [histories.smallest_full(audit.network, now, audit.capacities, p) for p in range(len(now))]
@@ -51,7 +50,9 @@ def state_text(audit):
         lines.append(f'  process {p}: wait {wait} end {some(end)} owes {some(audit.owed_by_cycle(p))}')
     lines.append(f'  quiet {truth(audit.is_quiet())} verdict {some(verdict(audit))}')
     if audit.network.growing.policy == 'all':
-        lines.append(f'  owes when settled {some(audit.owed_when_settled())}')
+        d = audit.owed_when_settled()
+        owed = None if d is None else f'OwedGrowth {{ process: {audit.network.writers[d]}, channel: {d} }}'
+        lines.append(f'  owes at the stop {some(owed)}')
     return ''.join(f'{line}\n' for line in lines)
 
 

@@ -1,20 +1,23 @@
 #!/usr/bin/env python3
-"""Looks whether what the documents name is there: files and folders, crates, functions and words of definitions, and
-whether each piece of code that docs/LIBRARY.md shows stands so in the file that is named before it. It writes what is
-not there, and ends with 1 if there is anything. It is run by hand.
+"""Reports what the documents name and is not there. It ends with 1 if there is anything. It is run by hand.
 
-A name in backquotes counts as known where it stands anywhere in a source, a definition, a proof, a script or an
-example. What has a file in brackets behind it is to stand in that file. More is asked of two documents: what a claim of
-docs/GUARANTEES.md stands on ("By `f`: `clause`") is to be a function of a crate of its section, with such a clause; a
-word of docs/DEFINITIONS.md is to be defined in the file that is named behind it. The edits and tests of each crate are
-as many as the table of docs/PROVING.md tells. No line is longer than 120 columns.
+- A file, a folder and a crate have to be there. A name in backquotes has to stand in a source, a definition, a proof, a
+  script or an example. A name with a file in brackets behind it has to stand in that file; if the file has definitions,
+  it has to be defined there.
+- docs/GUARANTEES.md: in "By `f`: `clause`" the function `f` has to be in a crate of its section, with such a clause.
+- docs/LIBRARY.md: each piece of code has to stand so in the file that is named before it.
+- docs/WORDS.md has to be what tools/definitions.py writes.
+- The table of crates has to have as many edits and tests of each crate as there are.
+- No line is longer than 120 columns, except rows of tables.
 """
 import pathlib
 import re
 import sys
 
+import definitions
+
 TOP = pathlib.Path(__file__).resolve().parent.parent
-DOCUMENTS = [TOP / 'README.md', *sorted((TOP / 'docs').glob('*.md'))]
+DOCUMENTS = [TOP / 'README.md', *sorted((TOP / 'docs').glob('*.md')), TOP / 'bench/RESULTS.md']
 COLUMNS = 120
 KINDS = ('.rt', '.antt', '.py', '.rs', '.kpn', '.edit')
 PATH = re.compile(r'(?<![\w./-])((?:\w[\w.-]*/)+(?:[\w.-]*\w)?|\w+\.(?:rt|antt|py|md|kpn|edit)\b)')
@@ -22,16 +25,17 @@ CRATE = re.compile(r'\b(?:kpn|check|bench)_[a-z_]*[a-z]\b')
 NAME = re.compile(r"`((?:\w+::)*[A-Za-z_][\w']*)`")
 CODE = re.compile(r'From\s+`([^`]+)`[^`]*?```rust\n(.*?)```', re.S)
 # Parts of a path that stand for something else, or that a build makes.
-STANDS_FOR = {'CRATE', 'MODULE', 'FILE', 'NAME', 'NAME.antt', 'NAME.edit', 'FILE.antt', 'MODULE.rt', 'm', 'out', 'rlib'}
+STANDS_FOR = set('CRATE mine MODULE FILE NAME NAME.antt NAME.edit FILE.antt MODULE.rt m out rlib'.split())
 # What a claim stands on, the head of a function, the clauses in it, and a name.
 BY = re.compile(r'\bBy (.*?)\.(?=\s|$)')
 HEAD = re.compile(r'\bfn (\w+)(.*?)(?:^\s*\{\}?$|\{\n|;\n)', re.S | re.M)
 CLAUSE = re.compile(r'\bensures\*? (\w+) \{')
 PLAIN = re.compile(r'`((?:\w+::)*\w+)`')
-PLACE = re.compile(r'`([\w:]+)` \(`([\w/]+\.(?:rt|py))`\)')
+PLACE = re.compile(r"`([\w:']+)` \(`([\w/]+\.(?:rt|py|antt))`(?=[;)])")
 # Of the kit, of std, of other programs, and names in examples.
 ELSEWHERE = set("""rt go awk clap arrayvec indexmap itoa linked_list_allocator thiserror anyhow std objdump bin/clang
-    logs/ ISO/IEC nope Kinds Now check_ bench_ HANDLES""".split())
+    logs/ ISO/IEC nope Kinds Now check_ bench_ HANDLES start_io start_lib
+    dac8208d650f15bf""".split())
 
 
 def files_of_project():
@@ -63,7 +67,7 @@ def is_name(name, words):
 
 def wrong_in(line, paths, words):
     """What a line names that is not there, and whether it is too long."""
-    if len(line) > COLUMNS:
+    if len(line) > COLUMNS and not line.startswith('|'):
         yield f'more than {COLUMNS} columns'
     yield from (f'no file {it}' for it in PATH.findall(line) if not is_path(it, paths))
     yield from (f'no crate {it}' for it in CRATE.findall(line) if it not in words)
@@ -73,8 +77,10 @@ def wrong_in(line, paths, words):
 def wrong_places(text, paths):
     """What is named with a file in brackets behind it that does not have it."""
     for name, path in PLACE.findall(' '.join(text.split())):
+        word = re.escape(name.split('::')[-1])
+        there = rf"^(?:  )?(?:[a-z]+ )*{word}(?![\w'])" if path.endswith('.antt') else rf'\b{word}\b'
         files = [TOP / it for it in paths if f'/{it}'.endswith(f'/{path}')]
-        if files and not any(re.search(rf'\b{name.split("::")[-1]}\b', it.read_text()) for it in files):
+        if files and not any(re.search(there, it.read_text(), re.M) for it in files):
             yield f'{name} is not in {path}'
 
 
@@ -111,22 +117,8 @@ def wrong_claims(document):
                         if owners and it not in known and it not in clauses)
 
 
-def wrong_words(document):
-    """What is explained as a word of a file and is not defined there."""
-    for crates, points in sections_of(document):
-        for point in points:
-            folders = [TOP / 'crates' / it / 'specs' for it in crates]
-            texts = [file.read_text() for name in re.findall(r'`(?:specs/)?(\w+\.antt)`', point)
-                     for folder in folders for file in folder.rglob(name)]
-            words = re.findall(r"`([\w']+)`", re.match(r"(?:`[\w']+`(?:, )?)*", point)[0])
-            for word in words if texts else ():
-                defined = re.compile(rf"^(?:  )?(?:[a-z]+ )*{re.escape(word)}(?![\w'])", re.M)
-                if not any(map(defined.search, texts)):
-                    yield f'{word} is not defined in the file that is named'
-
-
 def wrong_counts(document):
-    """Where the table of docs/PROVING.md tells another number of edits or tests than there are."""
+    """Where a table of crates has another number of edits or tests than there are."""
     rows = re.findall(r'^\| `?(\w+)`? \|[^|]*\| (\d*) *\|[^|]*\| (\d*) *\|', document.read_text(), re.M)
     told = {crate: (int(edits or 0), int(tests or 0)) for crate, edits, tests in rows}
     counts = {}
@@ -150,7 +142,8 @@ def main():
         wrong += [f'{document.name}: {file} has no such code:\n{code}' for file, code in CODE.findall(text)
                   if code not in (TOP / file).read_text()]
     wrong += [f'GUARANTEES.md: {it}' for it in wrong_claims(TOP / 'docs/GUARANTEES.md')]
-    wrong += [f'DEFINITIONS.md: {it}' for it in wrong_words(TOP / 'docs/DEFINITIONS.md')]
+    if definitions.TABLE.read_text() != definitions.table():
+        wrong.append('WORDS.md is out of date: run tools/definitions.py')
     wrong += [f'PROVING.md: {it}' for it in wrong_counts(TOP / 'docs/PROVING.md')]
     print('\n'.join(wrong) or 'all that the documents name is there')
     return 1 if wrong else 0

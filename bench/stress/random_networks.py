@@ -33,16 +33,24 @@ def block(random, ins, outs, depth):
     return ' '.join(statement(random, ins, outs, depth) for _ in range(random.randint(1, 4)))
 
 
-def process(random, name, ins, outs):
+def straight(random, ins, outs):
+    """Reads and writes alone, one after the other."""
+    places = [*(f'read {port} x;' for port in ins), *(f'write {port} y;' for port in outs * 2)]
+    return ' '.join(random.choice(places) for _ in range(random.randint(1, 20)) if places)
+
+
+def process(random, name, ins, outs, is_straight):
     ports = '; '.join([*(['in ' + ', '.join(ins)] if ins else []), *(['out ' + ', '.join(outs)] if outs else [])])
-    body = block(random, ins, outs, 2)
-    if random.random() < 0.7:
+    body = straight(random, ins, outs) if is_straight else block(random, ins, outs, 2)
+    if not is_straight and random.random() < 0.7:
         body = f'while 1 {{ {body} }}'
     return f'process {name}({ports}) {{ {HEAD}{body} }}\n'
 
 
 def network(random):
-    """The text of a network, and a list of items for each of its sources by name."""
+    """The text of a network, and a list of items for each of its sources by name. In every third one each process only
+    reads and writes for a while, so that many stand still while somebody waits for room."""
+    is_straight = random.random() < 0.33
     processes = random.randint(1, 6)
     ins, outs = [[] for _ in range(processes)], [[] for _ in range(processes)]
     lines, items = [], {}
@@ -57,11 +65,12 @@ def network(random):
     for number in range(random.randint(1, 3)):
         lines.append(f'sink z{number} cap {random.randint(1, 3)};')
         random.choice(outs).append(f'z{number}')
-    if random.random() < 0.2:
-        lines.insert(0, 'limit 3;')
+    for setting, share in (('grow double;', 0.3), ('policy all;', 0.5), (f'limit {random.randint(3, 5)};', 0.2)):
+        if random.random() < share:
+            lines.insert(0, setting)
     texts = []
     for p in range(processes):
         of_in, of_out = [f'i{k}' for k in range(len(ins[p]))], [f'o{k}' for k in range(len(outs[p]))]
-        texts.append(process(random, f'p{p}', of_in, of_out))
+        texts.append(process(random, f'p{p}', of_in, of_out, is_straight))
         lines.append(f'a{p} = p{p}({", ".join(ins[p])}; {", ".join(outs[p])});')
     return ''.join(texts) + 'network {\n  ' + '\n  '.join(lines) + '\n}\n', items

@@ -5,7 +5,7 @@ ghost use Rattle.kpn_net.specs.Waits.{AreWaits};
 use kpn_cycle::{Wait, Waits};
 use kpn_lang::{Program, Sequence};
 use kpn_limits::MAX_PROCESSES;
-use kpn_net::{ChannelSpec, End, Growth, Instance, Network};
+use kpn_net::{ChannelSpec, End, Growth, Instance, Network, Policy};
 use std::alloc::{AllocError, Global};
 
 /// A process of this program with these ports, at most one each way.
@@ -71,7 +71,16 @@ pub fn network_of(
             instance(alloc, 1, &[], &[p])?
         })?;
     }
-    Ok(Network::new(alloc, programs, instances, channels, 8, Growth::One).ok())
+    Ok(Network::new(
+        alloc,
+        programs,
+        instances,
+        channels,
+        8,
+        Policy::Cycles,
+        Growth::One,
+    )
+    .ok())
 }
 
 /// Process `p` of the first `length` processes waits on channel `p` as full, and all others wait for nobody. It is

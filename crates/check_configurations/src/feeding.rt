@@ -5,7 +5,7 @@ ghost use Rattle.kpn_configuration.specs.Configuration.{IsConfiguration};
 use kpn_configuration::Configuration;
 use kpn_lang::{Expr, Program, Sequence, Stmt};
 use kpn_net::ChannelSpec::{Sink, Source};
-use kpn_net::{Growth, Instance, Network};
+use kpn_net::{Growth, Instance, Network, Policy};
 use std::alloc::{AllocError, Allocator, Global};
 use std::process::Abort;
 use std::test::Fail;
@@ -29,6 +29,7 @@ pub fn copying(alloc: Global) -> Result<Network, Fail> {
         instances,
         channels,
         9,
+        Policy::Cycles,
         Growth::One,
     )?)
 }

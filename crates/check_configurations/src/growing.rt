@@ -2,7 +2,7 @@
 use kpn_audit::{AuditFault, audit};
 use kpn_lang::{Expr, Program, Sequence, Stmt};
 use kpn_net::ChannelSpec::Inner;
-use kpn_net::{Growth, Instance, Network};
+use kpn_net::{Growth, Instance, Network, Policy};
 use kpn_trace::Event;
 use std::alloc::Global;
 use std::test::Fail;
@@ -28,6 +28,7 @@ fn writing_four(alloc: Global, growth: Growth) -> Result<Network, Fail> {
         instances,
         channels,
         9,
+        Policy::Cycles,
         growth,
     )?)
 }

@@ -1,4 +1,5 @@
 pub mod ListTests
 pub mod NetworkTests
+pub mod GrowthTests
 pub mod Passing
 pub mod Claiming

@@ -1,12 +1,10 @@
--- A plain checker of histories: before each event it computes, with a number of turns for each loop, what each
--- process
+-- A plain checker of histories: before each event it computes, with a number of turns for each loop, what each process
 -- says and where it ends, and follows the waits. Its yes tells that the history is legal.
 use Rattle.std.specs.Prelude.{nat_eq, nat_lt, nat_le, if◌then◌else◌, slice_get}
 use Rattle.std.specs.Ordering.{int_eq}
-use Rattle.std.specs.List.{last_or}
-use Rattle.std.proofs.Common.{◌≡◌, ◌≢◌, ℕ, ◌<◌, ◌≤◌, ℤ, Bool, true, false, not, ◌&&◌, List, [], ◌∷◌, ◌++◌, length, Option, Some, None, refl, sym, ap, subst, append_assoc, arith}
+use Rattle.std.proofs.Common.{◌≡◌, ◌≢◌, ℕ, ◌<◌, ◌≤◌, ℤ, Bool, true, false, not, ◌&&◌, List, [], ◌∷◌, ◌++◌, length, Option, Some, None, refl, ap, subst, append_assoc, arith}
 use Rattle.std.proofs.lemmas.List.{append-nil}
-use Rattle.std.proofs.lemmas.Bool.{and_parts, eqb-true, ltb-true, leb-true, ltb-false, not-true}
+use Rattle.std.proofs.lemmas.Bool.{and_parts, eqb-true, ltb-true, leb-true, not-true}
 use Rattle.std.proofs.lemmas.Bool.Decides.{Decides-int_eq}
 use Rattle.kpn_lang.specs.declared.value.Fault.TheVariants as fault
 use Rattle.kpn_lang.specs.declared.talk.Said.{Said}
@@ -18,18 +16,16 @@ use Rattle.kpn_net.specs.declared.wait.Wait.{Wait}
 use Rattle.kpn_net.specs.declared.wait.Wait.TheVariants.{Nobody, Empty, Full}
 use Rattle.kpn_net.specs.Tables.{Tables, channel_at, is_source, is_sink}
 use Rattle.kpn_net.specs.Process.{CanSay, ComesTo, talk_on, ending_on}
-use Rattle.kpn_net.specs.Waits.{IsSmallest}
 use Rattle.kpn_trace.specs.declared.event.Event.{Event}
 use Rattle.kpn_trace.specs.declared.event.Event.TheVariants.{Get, Put, WaitEmpty, WaitFull, Ended, Feed, Close, Take, Leave, Grow}
 use Rattle.kpn_trace.specs.Talks.{talk_of, has_ended}
-use Rattle.kpn_trace.specs.Channels.{written_on, read_on, unread_on, is_closed, is_left, reader_lives, capacity_after, capacity_or_zero, is_empty, is_full}
-use Rattle.kpn_trace.specs.Waiting.{wait_of, full_in_cycle}
-use Rattle.kpn_trace.specs.Legal.{IsConsistent, waiter_of_last, OwesGrowth, HasNumbers, CanGo, ending_of, ComesToWrite, MayFeed, MayTake, IsDue, MayFollow, Legal}
-use Rattle.kpn_net.proofs.Cycles.{smallest_unique}
-use Rattle.kpn_trace.proofs.Searching.{each_below, each_below-at, Way, Round, Off, Lost, Allows}
-use Rattle.kpn_trace.proofs.Growth.{last_waiter}
-use Rattle.kpn_trace.proofs.Checking.{way_round, way_round-allows, way_round-cycle, is_nobody}
-use Rattle.check_histories.proofs.ListTests.{begins, equals, begins-true, equals-true, is_smallest, smallest, is_smallest-true}
+use Rattle.kpn_trace.specs.Channels.{written_on, read_on, unread_on, is_closed, is_left, reader_lives, capacity_after, is_empty, is_full}
+use Rattle.kpn_trace.specs.Waiting.{wait_of}
+use Rattle.kpn_trace.specs.Legal.{IsConsistent, OwesGrowth, HasNumbers, CanGo, ending_of, ComesToWrite, MayFeed, MayTake, IsDue, MayFollow, Legal}
+use Rattle.kpn_trace.proofs.Searching.{each_below, each_below-at}
+use Rattle.kpn_trace.proofs.Checking.{is_nobody}
+use Rattle.check_histories.proofs.GrowthTests.{grows, grows-owed, grows-one, owes_none, owes_none-true}
+use Rattle.check_histories.proofs.ListTests.{begins, equals, begins-true, equals-true}
 
 -- ---- consistency
 
@@ -96,85 +92,6 @@ is_consistent-true t n H e =
           (and_parts _ _ (each_below-at (is_consistent_on t H) _ parts.1 c h)).0;
       within = λ c h. is_within-true t H c (and_parts _ _ (each_below-at (is_consistent_on t H) _ parts.1 c h)).1;
     }
-
--- ---- growth
-
-abbrev is_below_limit : Tables → List Event → (d : ℕ) → Bool
-is_below_limit t B d = nat_lt (capacity_or_zero t B d) t.limit
-
--- the way comes round over a cycle whose smallest full channel is d, and that is below the limit
-abbrev pub owes : Tables → List Event → (p d : ℕ) → Way → Bool
-owes t B p d (Round others) =
-    is_smallest (capacity_or_zero t B) (full_in_cycle t B p others) d && is_below_limit t B d
-owes t B p d Off = false
-owes t B p d Lost = false
-
-abbrev is_at_limit : Tables → List Event → List ℕ → Option ℕ → Bool
-is_at_limit t B [] found = true
-is_at_limit t B (c ∷ channels) None = false
-is_at_limit t B (c ∷ channels) (Some d) =
-    is_smallest (capacity_or_zero t B) (c ∷ channels) d && not (is_below_limit t B d)
-
--- there is no cycle, or it has no full channel, or its smallest is at the limit
-abbrev owes_none : Tables → List Event → (p : ℕ) → Way → Bool
-owes_none t B p (Round others) =
-    is_at_limit t B (full_in_cycle t B p others) (smallest (capacity_or_zero t B) (full_in_cycle t B p others))
-owes_none t B p Off = true
-owes_none t B p Lost = false
-
-owes-by : (t : Tables) (B : List Event) (p d : ℕ) (w : Way) → way_round t B p ≡ w → owes t B p d w ≡ true
-    → waiter_of_last (last_or None B) ≡ Some p → OwesGrowth t B p d
-owes-by t B p d (Round others) found e wait =
-    let parts = and_parts _ _ e in
-    record {
-      wait = wait;
-      others = others;
-      cycle = way_round-cycle t B p others found;
-      smallest = is_smallest-true _ _ d parts.0;
-      below_limit = ltb-true _ _ parts.1;
-    }
-owes-by t B p d Off found e wait = absurd cc
-owes-by t B p d Lost found e wait = absurd cc
-
-pub owes-growth : (t : Tables) (B : List Event) (p d : ℕ) → owes t B p d (way_round t B p) ≡ true
-    → waiter_of_last (last_or None B) ≡ Some p → OwesGrowth t B p d
-owes-growth t B p d = owes-by t B p d (way_round t B p) refl
-
--- the smallest full channel of the cycle is the one that was found
-owes-one : (t : Tables) (B : List Event) (p d e : ℕ) (w : Way) (others : List ℕ) → owes t B p d w ≡ true
-    → Allows w others → IsSmallest (capacity_or_zero t B) (full_in_cycle t B p others) e → d ≡ e
-owes-one t B p d e (Round found) others told same small =
-    let parts = and_parts _ _ told in
-    let there : IsSmallest (capacity_or_zero t B) (full_in_cycle t B p others) d =
-    subst (λ xs. IsSmallest (capacity_or_zero t B) (full_in_cycle t B p xs) d) same
-    (is_smallest-true _ _ d parts.0) in
-    smallest_unique (capacity_or_zero t B) (full_in_cycle t B p others) d e there small
-owes-one t B p d e Off others told same small = absurd cc
-owes-one t B p d e Lost others told same small = absurd cc
-
-at_limit : (t : Tables) (B : List Event) (channels : List ℕ) (found : Option ℕ) (e : ℕ)
-    → is_at_limit t B channels found ≡ true → IsSmallest (capacity_or_zero t B) channels e
-    → capacity_or_zero t B e < t.limit → ⊥
-at_limit t B [] found e told small below = omega (arith, small.among.1)
-at_limit t B (c ∷ channels) None e told small below = cc
-at_limit t B (c ∷ channels) (Some d) e told small below =
-    let parts = and_parts _ _ told in
-    let same : d ≡ e =
-    smallest_unique (capacity_or_zero t B) (c ∷ channels) d e (is_smallest-true _ _ d parts.0) small in
-    let not_below : is_below_limit t B d ≡ false = not-true _ parts.1 in
-    let here : is_below_limit t B e ≡ false = subst (λ x. is_below_limit t B x ≡ false) same not_below in
-    let lemma = ltb-false _ _ here in
-    omega arith
-
-owes_none-true : (t : Tables) (B : List Event) (p e : ℕ) (w : Way) (others : List ℕ) → owes_none t B p w ≡ true
-    → Allows w others → IsSmallest (capacity_or_zero t B) (full_in_cycle t B p others) e
-    → capacity_or_zero t B e < t.limit → ⊥
-owes_none-true t B p e (Round found) others told same small below =
-    let here : IsSmallest (capacity_or_zero t B) (full_in_cycle t B p found) e =
-    subst (λ xs. IsSmallest (capacity_or_zero t B) (full_in_cycle t B p xs) e) (sym same) small in
-    at_limit t B (full_in_cycle t B p found) _ e told here below
-owes_none-true t B p e Off others told same small below = same
-owes_none-true t B p e Lost others told same small below = cc
 
 -- ---- one more event
 
@@ -285,46 +202,6 @@ may_take t B c = is_sink (channel_at t c) && not (is_left B c)
 may_take-true : (t : Tables) (B : List Event) (c : ℕ) → may_take t B c ≡ true → MayTake t B c
 may_take-true t B c e = let parts = and_parts _ _ e in record { sink = parts.0; not_left = not-true _ parts.1 }
 
-abbrev grows : Tables → List Event → (p d : ℕ) → Option ℕ → Bool
-grows t B p d None = false
-grows t B p d (Some q) = nat_eq q p && owes t B q d (way_round t B q)
-
-grows-owed : (t : Tables) (B : List Event) (p d : ℕ) (w : Option ℕ) → last_waiter B ≡ w → grows t B p d w ≡ true
-    → OwesGrowth t B p d
-grows-owed t B p d None is e = absurd cc
-grows-owed t B p d (Some q) is e =
-    let parts = and_parts _ _ e in
-    subst (λ r. OwesGrowth t B r d) (eqb-true q p parts.0) (owes-growth t B q d parts.1 is)
-
-grows-one : (t : Tables) (B : List Event) (p d q e : ℕ) (w : Option ℕ) → last_waiter B ≡ w → grows t B p d w ≡ true
-    → OwesGrowth t B q e → Grow p d ≡ Grow q e
-grows-one t B p d q e None is told owed = absurd cc
-grows-one t B p d q e (Some r) is told owed =
-    let parts : (nat_eq r p ≡ true) × (owes t B r d (way_round t B r) ≡ true) = and_parts _ _ told in
-    let wait = owed.wait in
-    let process : r ≡ q = cc in
-    let first : r ≡ p = eqb-true r p parts.0 in
-    let here : owes t B q d (way_round t B q) ≡ true =
-    subst (λ s. owes t B s d (way_round t B s) ≡ true) process parts.1 in
-    let channel : d ≡ e =
-    owes-one t B q d e _ owed.others here (way_round-allows t B q owed.others owed.cycle) owed.smallest in
-    cc
-
-abbrev owes_nothing : Tables → List Event → Option ℕ → Bool
-owes_nothing t B None = true
-owes_nothing t B (Some p) = owes_none t B p (way_round t B p)
-
-owes_nothing-true : (t : Tables) (B : List Event) (p d : ℕ) (w : Option ℕ) → last_waiter B ≡ w
-    → owes_nothing t B w ≡ true → OwesGrowth t B p d → ⊥
-owes_nothing-true t B p d None is e owed = let wait = owed.wait in cc
-owes_nothing-true t B p d (Some q) is e owed =
-    let wait = owed.wait in
-    let process : q ≡ p = cc in
-    let here : owes_none t B p (way_round t B p) ≡ true =
-    subst (λ s. owes_none t B s (way_round t B s) ≡ true) process e in
-    owes_none-true t B p d _ owed.others here (way_round-allows t B p owed.others owed.cycle) owed.smallest
-    owed.below_limit
-
 abbrev is_due : Tables → (n : ℕ) → List Event → Event → Bool
 is_due t n B (Get p c v) = can_go t B p
 is_due t n B (Put p c v) = can_go t B p
@@ -335,7 +212,7 @@ is_due t n B (Feed c v) = may_feed t B c
 is_due t n B (Close c) = may_feed t B c
 is_due t n B (Take c v) = may_take t B c
 is_due t n B (Leave c) = may_take t B c
-is_due t n B (Grow p d) = grows t B p d (last_waiter B)
+is_due t n B (Grow p d) = grows t B p d
 
 is_due-true : (t : Tables) (n : ℕ) (B : List Event) (event : Event) → is_due t n B event ≡ true → IsDue t B event
 is_due-true t n B (Get p c v) e = can_go-true t B p e
@@ -352,17 +229,17 @@ is_due-true t n B (Feed c v) e = may_feed-true t B c e
 is_due-true t n B (Close c) e = may_feed-true t B c e
 is_due-true t n B (Take c v) e = may_take-true t B c e
 is_due-true t n B (Leave c) e = may_take-true t B c e
-is_due-true t n B (Grow p d) e = grows-owed t B p d _ refl e
+is_due-true t n B (Grow p d) e = grows-owed t B p d e
 
 -- a growth is found due only where it is owed
 abbrev keeps_growth : Tables → List Event → Event → Bool
 keeps_growth t B (Grow p d) = true
-keeps_growth t B event = owes_nothing t B (last_waiter B)
+keeps_growth t B event = owes_none t B
 
 keeps_growth-true : (t : Tables) (n : ℕ) (B : List Event) (event : Event) → is_due t n B event ≡ true
     → keeps_growth t B event ≡ true → (p d : ℕ) → OwesGrowth t B p d → event ≡ Grow p d
-keeps_growth-true t n B (Grow q e) due told p d owed = grows-one t B q e p d _ refl due owed
-keeps_growth-true t n B event due told p d owed = absurd (owes_nothing-true t B p d _ refl told owed)
+keeps_growth-true t n B (Grow q e) due told p d owed = grows-one t B q e p d due owed
+keeps_growth-true t n B event due told p d owed = absurd (owes_none-true t B p d told owed)
 
 abbrev may_follow : Tables → (n : ℕ) → List Event → Event → Bool
 may_follow t n B event = has_numbers t event && (is_due t n B event && keeps_growth t B event)

@@ -8,6 +8,8 @@ use Rattle.kpn_net.specs.declared.tables.ChannelSpec.{ChannelSpec}
 use Rattle.kpn_net.specs.declared.tables.ChannelSpec.TheVariants.{Inner, Source, Sink}
 use Rattle.kpn_net.specs.declared.tables.Growth.{Growth}
 use Rattle.kpn_net.specs.declared.tables.Growth.TheVariants.{One, Double}
+use Rattle.kpn_net.specs.declared.tables.Policy.{Policy}
+use Rattle.kpn_net.specs.declared.tables.Policy.TheVariants.{Cycles, All}
 use Rattle.kpn_net.specs.declared.tables.Instance.{Instance}
 use Rattle.kpn_net.specs.Tables.{Tables}
 use Rattle.kpn_net.specs.View.{tables_with}
@@ -20,9 +22,9 @@ program ins outs vars blocks = record { ins = ins; outs = outs; pars = 0; vars =
 abbrev instance : (program : ℕ) → (ins outs : List ℕ) → Instance
 instance program ins outs = record { program = program; ins = ins; outs = outs; pars = [] }
 
--- tables with the greatest limit, where a channel grows by one
+-- tables with the greatest limit, where channels of blocked cycles grow, by one
 abbrev tables : List Parts → List Instance → List ChannelSpec → Tables
-tables programs instances channels = tables_with programs instances channels MAX_CAPACITY One
+tables programs instances channels = tables_with programs instances channels MAX_CAPACITY Cycles One
 
 -- ---- a copy from a source to a sink
 
@@ -82,6 +84,7 @@ reads_b_first = program 2 1 3 ((Read 1 0 ∷ Read 0 1 ∷ Read 0 2 ∷ Write 0 d
 abbrev two_with : (limit : ℕ) → Tables
 two_with limit = record {
   limit = limit;
+  policy = Cycles;
   growth = One;
   programs = writes_a_first ∷ reads_b_first ∷ [];
   instances = instance 0 [] (0 ∷ 1 ∷ []) ∷ instance 1 (0 ∷ 1 ∷ []) (2 ∷ []) ∷ [];
@@ -144,7 +147,7 @@ writes_four = program 1 1 4 (
 
 abbrev four_with : (capacity limit : ℕ) → Growth → Tables
 four_with capacity limit growth =
-    tables_with (writes_four ∷ []) (instance 0 (0 ∷ []) (0 ∷ []) ∷ []) (Inner capacity ∷ []) limit growth
+    tables_with (writes_four ∷ []) (instance 0 (0 ∷ []) (0 ∷ []) ∷ []) (Inner capacity ∷ []) limit Cycles growth
 
 unfoldable pub doubling_network : Tables
 doubling_network = four_with 1 MAX_CAPACITY Double
@@ -181,14 +184,64 @@ ended_reader_network = tables (program 1 0 0 ([] ∷ []) ∷ writes_five ∷ [])
 
 -- ---- a writer that waits for a process which waits in a cycle without a full channel
 
--- `write o 1; write o 2; write o 3;` on a channel to `read b x;`, which waits for `read i x;`, and that for it
-unfoldable pub clogged_network : Tables
-clogged_network = tables (
-    program 0 1 0 ((Write 0 (Num (pos 1)) ∷ Write 0 (Num (pos 2)) ∷ Write 0 (Num (pos 3)) ∷ []) ∷ []) ∷
-    program 2 1 1 ((Read 1 0 ∷ []) ∷ []) ∷
-    program 1 1 1 ((Read 0 0 ∷ []) ∷ []) ∷ []) (
+-- `write o 1; write o 2; write o 3;`
+abbrev only_writes_three : Parts
+only_writes_three = program 0 1 0 ((Write 0 (Num (pos 1)) ∷ Write 0 (Num (pos 2)) ∷ Write 0 (Num (pos 3)) ∷ []) ∷ [])
+
+-- `read b x;` of a and b
+abbrev reads_second : Parts
+reads_second = program 2 1 1 ((Read 1 0 ∷ []) ∷ [])
+
+-- this writer on a channel to `read b x;`, which waits for `read i x;`, and that for it
+abbrev clogged_with : (writer : Parts) → (limit : ℕ) → Policy → Growth → Tables
+clogged_with writer limit policy growth = tables_with (
+    writer ∷ reads_second ∷ program 1 1 1 ((Read 0 0 ∷ []) ∷ []) ∷ []) (
     instance 0 [] (0 ∷ []) ∷ instance 1 (0 ∷ 1 ∷ []) (2 ∷ []) ∷ instance 2 (2 ∷ []) (1 ∷ []) ∷ []) (
-    Inner 1 ∷ Inner 1 ∷ Inner 1 ∷ [])
+    Inner 1 ∷ Inner 1 ∷ Inner 1 ∷ []) limit policy growth
+
+unfoldable pub clogged_network : Tables
+clogged_network = clogged_with only_writes_three MAX_CAPACITY Cycles One
+
+-- ---- the same under the policy `all`
+
+unfoldable pub resolved_network : Tables
+resolved_network = clogged_with only_writes_three MAX_CAPACITY All One
+
+-- a channel doubles, and the limit is 3
+unfoldable pub resolved_to_limit_network : Tables
+resolved_to_limit_network = clogged_with writes_five 3 All Double
+
+-- the writer's channel 0 has capacity 2; `write o 1;` fills channel 3 of capacity 1, on which nobody waits
+unfoldable pub small_full_network : Tables
+small_full_network = tables_with (
+    only_writes_three ∷ program 3 1 1 ((Read 1 0 ∷ []) ∷ []) ∷ program 1 1 1 ((Read 0 0 ∷ []) ∷ [])
+    ∷ program 0 1 0 ((Write 0 (Num (pos 1)) ∷ []) ∷ []) ∷ []) (
+    instance 0 [] (0 ∷ []) ∷ instance 1 (0 ∷ 1 ∷ 3 ∷ []) (2 ∷ []) ∷ instance 2 (2 ∷ []) (1 ∷ [])
+    ∷ instance 3 [] (3 ∷ []) ∷ []) (
+    Inner 2 ∷ Inner 1 ∷ Inner 1 ∷ Inner 1 ∷ []) MAX_CAPACITY All One
+
+-- a writer on channel 0 to `write z 5; read b x;`, which reads from the source 1 and writes to the sink 2; and a process
+-- with nothing to do
+unfoldable pub outside_network : Tables
+outside_network = tables_with (
+    only_writes_three ∷ program 2 1 1 ((Write 0 (Num (pos 5)) ∷ Read 1 0 ∷ []) ∷ []) ∷ program 0 0 0 ([] ∷ []) ∷ []) (
+    instance 0 [] (0 ∷ []) ∷ instance 1 (0 ∷ 1 ∷ []) (2 ∷ []) ∷ instance 2 [] [] ∷ []) (
+    Inner 1 ∷ Source ∷ Sink 1 ∷ []) MAX_CAPACITY All One
+
+-- `write o 1; write o 2; write o 3;` on a channel of capacity 2 to itself, which does not read channel 1, of capacity 1;
+-- and `write o 1; write o 2;` on that
+abbrev stuck_with : (limit : ℕ) → Tables
+stuck_with limit = tables_with (
+    program 2 1 0 ((Write 0 (Num (pos 1)) ∷ Write 0 (Num (pos 2)) ∷ Write 0 (Num (pos 3)) ∷ []) ∷ [])
+    ∷ program 0 1 0 ((Write 0 (Num (pos 1)) ∷ Write 0 (Num (pos 2)) ∷ []) ∷ []) ∷ []) (
+    instance 0 (0 ∷ 1 ∷ []) (0 ∷ []) ∷ instance 1 [] (1 ∷ []) ∷ []) (
+    Inner 2 ∷ Inner 1 ∷ []) limit All One
+
+unfoldable pub cycle_below_limit : Tables
+cycle_below_limit = stuck_with 3
+
+unfoldable pub cycle_at_limit : Tables
+cycle_at_limit = stuck_with 2
 
 -- ---- processes that fault
 

@@ -125,3 +125,75 @@ doubled_to_limit_run =
 
 unfoldable pub clogged_run : List Event
 clogged_run = Put 0 0 (pos 1) ∷ WaitEmpty 1 1 ∷ WaitEmpty 2 2 ∷ WaitFull 0 0 ∷ []
+
+-- ---- runs under the policy `all`
+
+-- the writer's channel grows twice, since no process goes on and it is the one on which a process waits
+unfoldable pub resolved_run : List Event
+resolved_run =
+    Put 0 0 (pos 1) ∷ WaitEmpty 1 1 ∷ WaitEmpty 2 2 ∷
+    WaitFull 0 0 ∷ Grow 0 0 ∷ Put 0 0 (pos 2) ∷
+    WaitFull 0 0 ∷ Grow 0 0 ∷ Put 0 0 (pos 3) ∷
+    Ended 0 how.Done ∷ []
+
+-- the last to wait is a reader that waits for the other one; the growth is the writer's
+unfoldable pub reader_waits_last_run : List Event
+reader_waits_last_run =
+    Put 0 0 (pos 1) ∷ WaitFull 0 0 ∷ WaitEmpty 1 1 ∷
+    WaitEmpty 2 2 ∷ Grow 0 0 ∷ Put 0 0 (pos 2) ∷ []
+
+-- from 1 to 2, and to the limit, which is 3
+unfoldable pub resolved_to_limit_run : List Event
+resolved_to_limit_run =
+    Put 0 0 (pos 1) ∷ WaitEmpty 1 1 ∷ WaitEmpty 2 2 ∷
+    WaitFull 0 0 ∷ Grow 0 0 ∷ Put 0 0 (pos 2) ∷
+    WaitFull 0 0 ∷ Grow 0 0 ∷ Put 0 0 (pos 3) ∷
+    WaitFull 0 0 ∷ []
+
+-- channel 3 is full and smaller than channel 0, and nobody waits on it
+unfoldable pub small_full_run : List Event
+small_full_run =
+    Put 3 3 (pos 1) ∷ Ended 3 how.Done ∷ Put 0 0 (pos 1) ∷
+    Put 0 0 (pos 2) ∷ WaitEmpty 1 1 ∷ WaitEmpty 2 2 ∷
+    WaitFull 0 0 ∷ Grow 0 0 ∷ Put 0 0 (pos 3) ∷
+    Ended 0 how.Done ∷ []
+
+-- until all stand still but for what is said of each
+unfoldable pub end_settles_run : List Event
+end_settles_run =
+    Close 1 ∷ Put 1 2 (pos 5) ∷ Take 2 (pos 5) ∷
+    WaitEmpty 1 1 ∷ Put 0 0 (pos 1) ∷ WaitFull 0 0 ∷
+    Ended 2 how.Done ∷ Grow 0 0 ∷ Put 0 0 (pos 2) ∷ []
+
+unfoldable pub close_settles_run : List Event
+close_settles_run =
+    Put 1 2 (pos 5) ∷ Take 2 (pos 5) ∷ WaitEmpty 1 1 ∷
+    Put 0 0 (pos 1) ∷ WaitFull 0 0 ∷ Ended 2 how.Done ∷
+    Close 1 ∷ Grow 0 0 ∷ Put 0 0 (pos 2) ∷ []
+
+unfoldable pub take_settles_run : List Event
+take_settles_run =
+    Close 1 ∷ Put 1 2 (pos 5) ∷ WaitEmpty 1 1 ∷
+    Put 0 0 (pos 1) ∷ WaitFull 0 0 ∷ Ended 2 how.Done ∷
+    Take 2 (pos 5) ∷ Grow 0 0 ∷ Put 0 0 (pos 2) ∷ []
+
+unfoldable pub leave_settles_run : List Event
+leave_settles_run =
+    Close 1 ∷ Put 1 2 (pos 5) ∷ WaitEmpty 1 1 ∷
+    Put 0 0 (pos 1) ∷ WaitFull 0 0 ∷ Ended 2 how.Done ∷
+    Leave 2 ∷ Grow 0 0 ∷ Put 0 0 (pos 2) ∷ []
+
+-- all stand still, and the last wait has closed a cycle: its channel grows, though channel 1 is smaller
+unfoldable pub cycle_goes_first_run : List Event
+cycle_goes_first_run =
+    Put 1 1 (pos 1) ∷ WaitFull 1 1 ∷ Put 0 0 (pos 1) ∷
+    Put 0 0 (pos 2) ∷ WaitFull 0 0 ∷ Grow 0 0 ∷
+    Put 0 0 (pos 3) ∷ Ended 0 how.Done ∷ Put 1 1 (pos 2) ∷
+    Ended 1 how.Done ∷ []
+
+-- the channel of the cycle is at the limit, so channel 1 grows, and then the cycle is left
+unfoldable pub other_grows_run : List Event
+other_grows_run =
+    Put 1 1 (pos 1) ∷ WaitFull 1 1 ∷ Put 0 0 (pos 1) ∷
+    Put 0 0 (pos 2) ∷ WaitFull 0 0 ∷ Grow 1 1 ∷
+    Put 1 1 (pos 2) ∷ Ended 1 how.Done ∷ []

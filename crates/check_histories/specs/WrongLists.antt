@@ -3,7 +3,7 @@ use Rattle.std.specs.Prelude.{pos, List, [], ◌∷◌, ◌++◌, take}
 use Rattle.kpn_trace.specs.declared.event.How.TheVariants as how
 use Rattle.kpn_trace.specs.declared.event.Event.{Event}
 use Rattle.kpn_trace.specs.declared.event.Event.TheVariants.{Get, Put, WaitEmpty, WaitFull, Ended, Feed, Close, Take, Leave, Grow}
-use Rattle.check_histories.specs.Runs.{two_run, two_at_limit_run, clogged_run, larger_run, tie_run, doubling_run, doubled_to_limit_run}
+use Rattle.check_histories.specs.Runs.{two_run, two_at_limit_run, clogged_run, larger_run, tie_run, doubling_run, doubled_to_limit_run, close_settles_run, small_full_run, reader_waits_last_run, cycle_goes_first_run, resolved_to_limit_run}
 
 -- ---- a process says and meets what its text says
 
@@ -134,6 +134,40 @@ puts_past_the_limit = take 5 doubled_to_limit_run ++ Put 0 0 (pos 4) ∷ []
 -- it was made as large as the limit
 unfoldable pub grows_past_the_limit : List Event
 grows_past_the_limit = doubled_to_limit_run ++ Grow 0 0 ∷ []
+
+-- ---- under the policy `all` a growth comes where all stand still
+
+-- process 2 is ready
+unfoldable pub grows_while_one_is_ready : List Event
+grows_while_one_is_ready = Put 0 0 (pos 1) ∷ WaitEmpty 1 1 ∷ WaitFull 0 0 ∷ Grow 0 0 ∷ []
+
+-- its source is open
+unfoldable pub grows_before_the_close : List Event
+grows_before_the_close = take 6 close_settles_run ++ Grow 0 0 ∷ []
+
+-- channel 3, which is smaller and full
+unfoldable pub grows_where_nobody_waits : List Event
+grows_where_nobody_waits = take 7 small_full_run ++ Grow 3 3 ∷ []
+
+-- the growth names the process that came to wait last, which does not wait for it
+unfoldable pub grows_for_the_last_to_wait : List Event
+grows_for_the_last_to_wait = take 4 reader_waits_last_run ++ Grow 2 0 ∷ []
+
+-- the sink may be left, but the growth is owed
+unfoldable pub growth_at_stop_left_out : List Event
+growth_at_stop_left_out = take 7 close_settles_run ++ Leave 2 ∷ []
+
+-- the channel of the cycle is below the limit
+unfoldable pub passes_over_the_cycle : List Event
+passes_over_the_cycle = take 5 cycle_goes_first_run ++ Grow 1 1 ∷ []
+
+-- it was made as large as the limit, which is 3
+unfoldable pub doubles_past_the_limit : List Event
+doubles_past_the_limit = resolved_to_limit_run ++ Grow 0 0 ∷ []
+
+-- and holds no more than that
+unfoldable pub puts_past_the_doubled : List Event
+puts_past_the_doubled = take 9 resolved_to_limit_run ++ Put 0 0 (pos 4) ∷ []
 
 -- ---- the outside feeds and closes sources, and takes from sinks and leaves them
 

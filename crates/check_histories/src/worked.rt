@@ -5,8 +5,8 @@ ghost use Rattle.kpn_trace.specs.Channels.{written_on, capacity_after};
 ghost use Rattle.kpn_trace.specs.Legal.{Legal};
 ghost use Rattle.kpn_net.specs.Faults.{IsNetwork};
 ghost use Rattle.check_histories.specs.Claims.{StopsAs, RunsToItsEnd};
-ghost use Rattle.check_histories.specs.Networks.{copy_network, kahn_network, two_network, two_at_limit, larger_network, tie_network, self_loop_network, two_readers_network, ended_reader_network, clogged_network, zero_divisor_network, overflow_network, doubling_network, doubling_to_limit_network};
-ghost use Rattle.check_histories.specs.Runs.{copy_run, left_sink_run, two_run, reader_closes_run, larger_run, tie_run, self_loop_run, two_readers_run, ended_reader_run, freed_writer_run, zero_divisor_run, overflow_run, kahn_run, two_at_limit_run, clogged_run, doubling_run, doubled_to_limit_run};
+ghost use Rattle.check_histories.specs.Networks.{copy_network, kahn_network, two_network, two_at_limit, larger_network, tie_network, self_loop_network, two_readers_network, ended_reader_network, clogged_network, zero_divisor_network, overflow_network, doubling_network, doubling_to_limit_network, resolved_network, resolved_to_limit_network, small_full_network, outside_network, cycle_below_limit, cycle_at_limit};
+ghost use Rattle.check_histories.specs.Runs.{copy_run, left_sink_run, two_run, reader_closes_run, larger_run, tie_run, self_loop_run, two_readers_run, ended_reader_run, freed_writer_run, zero_divisor_run, overflow_run, kahn_run, two_at_limit_run, clogged_run, doubling_run, doubled_to_limit_run, resolved_run, reader_waits_last_run, resolved_to_limit_run, small_full_run, end_settles_run, close_settles_run, take_settles_run, leave_settles_run, cycle_goes_first_run, other_grows_run};
 
 // ---- runs to the end
 
@@ -97,4 +97,41 @@ pub fn a_channel_doubles_to_the_limit()
 /// A writer waits on a full channel, in no cycle, for a process that waits in a cycle of empty channels.
 pub fn a_writer_is_clogged()
     ensures { StopsAs clogged_network clogged_run Clogged }
+{}
+
+// ---- runs under the policy `all`
+
+/// The same network runs to its end, since the channel on which the writer waits grows where all stand still.
+pub fn a_clogged_writer_goes_on()
+    ensures run { RunsToItsEnd resolved_network resolved_run }
+    ensures capacity { capacity_after resolved_network resolved_run 0 ≡ Some 3 }
+{}
+
+/// Whatever makes the last thing stand still: a wait on a full or an empty channel, an end, and a call of the outside
+/// that closes a source, takes the last item of a sink or leaves it.
+pub fn whatever_settles_lets_a_channel_grow()
+    ensures wait_on_empty { Legal resolved_network reader_waits_last_run }
+    ensures end { Legal outside_network end_settles_run }
+    ensures close { Legal outside_network close_settles_run }
+    ensures take { Legal outside_network take_settles_run }
+    ensures leave { Legal outside_network leave_settles_run }
+{}
+
+/// A full channel on which nobody waits stays as it is, however small.
+pub fn an_awaited_channel_grows()
+    ensures run { RunsToItsEnd small_full_network small_full_run }
+    ensures awaited { capacity_after small_full_network small_full_run 0 ≡ Some 3 }
+    ensures other { capacity_after small_full_network small_full_run 3 ≡ Some 1 }
+{}
+
+/// A channel that doubles grows to the limit, which is 3, and the writer stays clogged there.
+pub fn a_clogged_writer_stops_at_the_limit()
+    ensures run { StopsAs resolved_to_limit_network resolved_to_limit_run Clogged }
+    ensures capacity { capacity_after resolved_to_limit_network resolved_to_limit_run 0 ≡ Some 3 }
+{}
+
+/// The growth for a cycle goes first. A cycle whose channel is at the limit has none, and the other growth comes.
+pub fn the_cycle_goes_first()
+    ensures below_limit { RunsToItsEnd cycle_below_limit cycle_goes_first_run }
+    ensures at_limit { StopsAs cycle_at_limit other_grows_run Jammed }
 {}

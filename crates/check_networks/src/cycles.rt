@@ -7,7 +7,7 @@ use crate::worked::idle_network;
 use kpn_cycle::Wait::{Empty, Full, Nobody};
 use kpn_cycle::{Found, Wait, Waits, cycle_through, scan_all};
 use kpn_net::ChannelSpec::{Inner, Sink};
-use kpn_net::{ChannelSpec, End, Growth, Network};
+use kpn_net::{ChannelSpec, End, Growth, Network, Policy};
 use linked_list_allocator::LocalHeap;
 use std::alloc::{AllocError, Global};
 use std::process::Abort;
@@ -72,7 +72,7 @@ fn assert_found(
     limit: u32,
     rows: &[Row<'_>],
 ) -> Result<(), Fail> {
-    let network = idle_network(alloc, ports, channels, limit, Growth::One)?;
+    let network = idle_network(alloc, ports, channels, limit, Policy::Cycles, Growth::One)?;
     for (k, row) in rows.iter().enumerate() {
         let found = is_found(rt, alloc, &network, row)?;
         assert!(rt; found, "row {k}");

@@ -3,7 +3,7 @@
 use crate::worked::{idle, idle_network, instance};
 use kpn_limits::MAX_CAPACITY;
 use kpn_net::ChannelSpec::{Inner, Sink, Source};
-use kpn_net::{ChannelSpec, End, Growth, Instance, NetFault, Network, same};
+use kpn_net::{ChannelSpec, End, Growth, Instance, NetFault, Network, Policy, same};
 use std::alloc::{AllocError, Global};
 use std::test::Fail;
 
@@ -25,7 +25,8 @@ fn refusal(
     let ins = idle(alloc, 2, 0)?;
     let programs = vec![in alloc; both, outs, ins]?;
     let channels = channels.to_vec(alloc)?;
-    Ok(Network::new(alloc, programs, instances, channels, 9, Growth::One).err())
+    let (policy, growth) = (Policy::Cycles, Growth::One);
+    Ok(Network::new(alloc, programs, instances, channels, 9, policy, growth).err())
 }
 
 /// Processes and channels, and why their network is refused, or None.
@@ -141,6 +142,7 @@ fn ring(alloc: Global, processes: usize) -> Result<(Vec<Instance>, Vec<ChannelSp
 #[test]
 fn takes_networks_at_the_limits(rt: HostRuntime) -> Result<(), Fail> {
     let a = rt.alloc();
+    let (policy, growth) = (Policy::Cycles, Growth::One);
     for (processes, limit, wanted) in [
         (256, 1_048_576, None),
         (257, 1_048_576, Some(NetFault::TooMany)),
@@ -150,7 +152,7 @@ fn takes_networks_at_the_limits(rt: HostRuntime) -> Result<(), Fail> {
         let (instances, channels) = ring(a, processes)?;
         let program = idle(a, 4, 4)?;
         let programs = vec![in a; program]?;
-        let answer = Network::new(a, programs, instances, channels, limit, Growth::One).err();
+        let answer = Network::new(a, programs, instances, channels, limit, policy, growth).err();
         assert_eq!(rt; answer, wanted, "{processes} processes, limit {limit}");
     }
     Ok(())
@@ -162,7 +164,7 @@ fn has_its_tables(network: &Network) -> bool {
         && network.instances() == 1
         && network.channels() == 2
         && network.limit() == 9
-        && network.growth() == Growth::One
+        && (network.policy(), network.growth()) == (Policy::Cycles, Growth::One)
         && (network.writer_of(0), network.reader_of(0)) == (End::Source, End::Process(0))
         && (network.writer_of(1), network.reader_of(1)) == (End::Process(0), End::Sink)
         && (network.is_source(0), network.is_source(1)) == (true, false)
@@ -179,20 +181,17 @@ fn tables_of_a_network(rt: HostRuntime) -> Result<(), Fail> {
     let a = rt.alloc();
     let ports: [(&[usize], &[usize]); 1] = [(&[0], &[1])];
     let channels = [Source, Sink(1)];
-    let network = idle_network(a, &ports, &channels, 9, Growth::One)?;
+    let network = idle_network(a, &ports, &channels, 9, Policy::Cycles, Growth::One)?;
     assert!(rt; has_its_tables(&network));
-    assert!(rt;
-        same(
-            &network,
-            &idle_network(a, &ports, &channels, 9, Growth::One)?
-        )
-    );
-    assert!(rt;
-        !same(
-            &network,
-            &idle_network(a, &ports, &channels, 8, Growth::One)?
-        )
-    );
+    for (limit, policy, is_same) in [
+        (9, Policy::Cycles, true),
+        (8, Policy::Cycles, false),
+        (9, Policy::All, false),
+    ] {
+        let other = idle_network(a, &ports, &channels, limit, policy, Growth::One)?;
+        assert_eq!(rt; same(&network, &other), is_same);
+        assert!(rt; other.policy() == policy);
+    }
     Ok(())
 }
 
@@ -201,8 +200,8 @@ fn growths_of_a_network(rt: HostRuntime) -> Result<(), Fail> {
     let a = rt.alloc();
     let ports: [(&[usize], &[usize]); 1] = [(&[0], &[1])];
     let channels = [Source, Sink(1)];
-    let by_one = idle_network(a, &ports, &channels, 5, Growth::One)?;
-    let doubling = idle_network(a, &ports, &channels, 5, Growth::Double)?;
+    let by_one = idle_network(a, &ports, &channels, 5, Policy::Cycles, Growth::One)?;
+    let doubling = idle_network(a, &ports, &channels, 5, Policy::Cycles, Growth::Double)?;
     assert!(rt; by_one.growth() == Growth::One && doubling.growth() == Growth::Double);
     assert!(rt; !same(&by_one, &doubling));
     for (cap, one_more, doubled) in [(1, 2, 2), (2, 3, 4), (3, 4, 5), (4, 5, 5)] {

@@ -1,6 +1,6 @@
 //! Networks of processes that do nothing.
 use kpn_lang::{Program, Sequence};
-use kpn_net::{ChannelSpec, Growth, Instance, Network};
+use kpn_net::{ChannelSpec, Growth, Instance, Network, Policy};
 use std::alloc::{AllocError, Global};
 use std::test::Fail;
 
@@ -31,6 +31,7 @@ pub fn idle_network(
     ports: &[(&[usize], &[usize])],
     channels: &[ChannelSpec],
     limit: u32,
+    policy: Policy,
     growth: Growth,
 ) -> Result<Network, Fail> {
     let mut programs = Vec::new(alloc);
@@ -45,6 +46,7 @@ pub fn idle_network(
         instances,
         channels.to_vec(alloc)?,
         limit,
+        policy,
         growth,
     )?)
 }

@@ -32,6 +32,18 @@ process spin() { while 1 { } }
 network { sink z cap 1; w = w(; z); s = spin(;); }
 ";
 
+/// The first growth is owed once the outside has taken the first item and closed the source. Then the items of `a` find
+/// room one after the other.
+const UNCLOGGED: &str =
+    "process p(out z, a) { write z 1; write a 1; write a 2; write a 3; write z 2; }
+process q(in s, a) { read s x; read a y; }
+network {
+  limit 3; policy all;
+  source s; sink z cap 1; channel a cap 1;
+  p = p(; z, a); q = q(s, a;);
+}
+";
+
 /// Two sources, whose items are read and dropped.
 const DROPPED: &str = "process drop(in i) { while 1 { read i x; } }
 network { source r; source s; d = drop(r;); e = drop(s;); }
@@ -156,11 +168,17 @@ fn refutes_run_always_refuses(rt: HostRuntime) -> Result<(), Fail> {
     let alloc = rt.alloc();
     let items = Sequence::from_vec(vec![in alloc; 1, 2, 3]?);
     let lists = vec![in alloc; items]?;
+    let nothing = Sequence::from_vec(Vec::new(alloc));
+    let closed = vec![in alloc; nothing]?;
     let gate = Always(Go::On);
     for workers in [1, 2, 16] {
         assert!(rt;
             runs_as_here(&rt, alloc, COPY, &lists, workers, &gate, &ALL)?,
             "copy, {workers}"
+        );
+        assert!(rt;
+            runs_as_here(&rt, alloc, UNCLOGGED, &closed, workers, &gate, &ALL)?,
+            "unclogged, {workers}"
         );
         for (name, text, limits) in [
             ("two", TWO, ALL),

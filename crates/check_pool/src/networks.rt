@@ -1,7 +1,7 @@
 //! The networks of the tests: in each, all processes have one program.
 use kpn_lang::{Expr, Op, Program, Sequence, Stmt};
 use kpn_net::ChannelSpec::{Inner, Sink, Source};
-use kpn_net::{ChannelSpec, Growth, Instance, Network};
+use kpn_net::{ChannelSpec, Growth, Instance, Network, Policy};
 use std::alloc::{AllocError, Global};
 use std::test::Fail;
 
@@ -34,6 +34,7 @@ fn processes(
         instances,
         channels.to_vec(alloc)?,
         LIMIT,
+        Policy::Cycles,
         Growth::One,
     )?)
 }

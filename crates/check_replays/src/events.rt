@@ -1,6 +1,7 @@
 //! Events made by their calls, each after a look whether it may follow.
-ghost use Rattle.std.specs.Prelude.{◌≡◌, ◌↔◌, ◌<◌, length, IfOk, OnOk, IsTrue};
+ghost use Rattle.std.specs.Prelude.{◌≡◌, ◌↔◌, ◌<◌, length, IfOk, IfSome, OnOk, IsTrue};
 ghost use Rattle.kpn_configuration.specs.Configuration.{IsConfiguration, IsFree};
+ghost use Rattle.kpn_configuration.specs.Owed.{IsAwaitedBelowLimit};
 ghost use Rattle.kpn_configuration.specs.Due.{Stands, ReadsFrom, WritesTo, stop_of};
 
 use anyhow::{Result, bail, ensure};
@@ -191,12 +192,30 @@ fn leave(state: &mut Configuration, network: &Network, c: usize) -> Woken
     woken(state.leave(network, c))
 }
 
+/// The channel whose growth is owed for process `p`: for a cycle, or else for a stop.
+fn owed(state: &Configuration, network: &Network, p: usize) -> Option<usize>
+    requires shape { IsConfiguration network.now state.now }
+    requires process { p < length network.now.instances }
+    ensures { IfSome result (IsAwaitedBelowLimit network.now state.now) }
+{
+    if let Some(channel) = state.owed(network, p) {
+        return Some(channel);
+    }
+    match state.owed_at_stop(network) {
+        Some(owed) if owed.process == p => Some(owed.channel),
+        _ => None,
+    }
+}
+
 fn grow(state: &mut Configuration, network: &Network, p: usize, c: usize) -> Woken
     requires { IsConfiguration network.now state.old }
     ensures { IsConfiguration network.now state.new }
 {
     ensure!(p < network.instances(), "there is no such process");
-    ensure!(state.owed(network, p) == Some(c), "this growth is not owed");
+    ensure!(
+        owed(state, network, p) == Some(c),
+        "this growth is not owed"
+    );
     woken(state.grow(network, p, c))
 }
 

@@ -4,7 +4,7 @@ ghost use Rattle.kpn_configuration.specs.Configuration.{IsConfiguration};
 
 use anyhow::Result;
 use kpn_configuration::Configuration;
-use kpn_net::Network;
+use kpn_net::{Network, Policy};
 use std::alloc::Global;
 use std::io::Write;
 
@@ -74,7 +74,23 @@ fn write_processes<O: Write>(network: &Network, state: &Configuration, out: &mut
     Ok(())
 }
 
-/// The channels, the processes, and a line that says whether all is quiet and which verdict there is.
+/// Under the policy `all`, the growth that is owed for a stop.
+fn write_growth_at_stop<O: Write>(
+    network: &Network,
+    state: &Configuration,
+    out: &mut O,
+) -> Result<()>
+    requires { IsConfiguration network.now state.now }
+{
+    if network.policy() == Policy::All {
+        let owed = state.owed_at_stop(network);
+        writeln!(out, "  owes at the stop {owed:?}")?;
+    }
+    Ok(())
+}
+
+/// The channels, the processes, a line that says whether all is quiet and which verdict there is, and the growth that
+/// is owed for a stop.
 pub(crate) fn write_state<O: Write>(
     alloc: Global,
     network: &Network,
@@ -87,5 +103,5 @@ pub(crate) fn write_state<O: Write>(
     write_processes(network, state, out)?;
     let (quiet, verdict) = (state.is_quiet(network), state.verdict(network));
     writeln!(out, "  quiet {quiet} verdict {verdict:?}")?;
-    Ok(())
+    write_growth_at_stop(network, state, out)
 }

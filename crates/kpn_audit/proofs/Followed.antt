@@ -1,8 +1,9 @@
 -- What holds once an event was made, and once a process was stepped.
-use Rattle.std.proofs.Common.{◌≡◌, ◌≢◌, ℕ, ◌+◌, ◌<◌, Bool, true, false, cond, eqb, ℤ, List, [], ◌∷◌, ◌++◌, length, None, SFits, w64, to_z, of_z, refl, sym, ap, ◌∙◌, subst}
+use Rattle.std.proofs.Common.{◌≡◌, ◌≢◌, ℕ, ◌+◌, ◌<◌, Bool, true, false, cond, eqb, ℤ, List, [], ◌∷◌, ◌++◌, length, None, SFits, w64, to_z, of_z, refl, sym, ap, ◌∙◌, subst, inl, inr}
 use Rattle.std.proofs.lemmas.Bool.{eqb-true, eq-eqb, both_ways, false≢true}
 use Rattle.std.proofs.lemmas.Int.{to_z-of_z}
 use Rattle.kpn_net.specs.Tables.{Tables, program_of}
+use Rattle.kpn_net.specs.Faults.{IsNetwork}
 use Rattle.kpn_step.specs.declared.stop.Stop.{Stop}
 use Rattle.kpn_step.specs.Frame.{Frame}
 use Rattle.kpn_step.specs.Step.{Goes, step_of, Steps}
@@ -13,7 +14,9 @@ use Rattle.kpn_trace.specs.declared.event.Event.TheVariants.{Get, Put, WaitEmpty
 use Rattle.kpn_trace.specs.Talks.{is_of, is_of_process}
 use Rattle.kpn_trace.specs.Legal.{waiter}
 use Rattle.kpn_trace.proofs.AfterEvent.{of_process}
-use Rattle.kpn_trace.proofs.Growth.{none_owed_after}
+use Rattle.kpn_trace.specs.Stops.{OwesNothing, OwesNoCycleGrowth, OwesNoStopGrowth, goes_on}
+use Rattle.kpn_trace.proofs.Growth.{no_cycle_owed_after}
+use Rattle.kpn_trace.proofs.OwedGrowth.{no_stop_owed_after}
 use Rattle.kpn_configuration.specs.Changes.{IsFrameAfter}
 use Rattle.kpn_configuration.specs.Configuration.{Configuration, end_in, wait_in, frame_in, with_frame, with_channel, IsFree}
 use Rattle.kpn_configuration.specs.Due.{Stands}
@@ -92,11 +95,22 @@ frames_from t e s m after same frames q below =
 
 -- ---- events
 
--- after an event that makes nobody wait nothing is owed
-pub followed : (t : Tables) (H : List Event) (e : Event) (before after : Configuration) → waiter e ≡ None
-    → IsRun t (H ++ e ∷ []) after → AllGoBy t e before after → IsFollowed t H e before after None
-followed t H e before after none run goes =
-    record { run = run; owes = none_owed_after t H e none; goes = goes }
+-- what is owed for neither a cycle nor a stop is not owed
+pub nothing_owed : (t : Tables) (H : List Event) → OwesNoCycleGrowth t H → OwesNoStopGrowth t H → OwesNothing t H
+nothing_owed t H cycle stop p d (inl owed) = cycle p d owed
+nothing_owed t H cycle stop p d (inr owed) = stop p d owed
+
+-- after an event that moves an item, or a growth, nothing is owed
+pub followed : (t : Tables) → IsNetwork t → (H : List Event) (e : Event) (before after : Configuration) → waiter e ≡ None
+    → goes_on e ≡ true → IsRun t (H ++ e ∷ []) after → AllGoBy t e before after → IsFollowed t H e before after None
+followed t network H e before after none on run goes =
+    record {
+      run = run;
+      owes =
+          nothing_owed t (H ++ e ∷ []) (no_cycle_owed_after t H e none)
+          (no_stop_owed_after t network H e run.legal on);
+      goes = goes;
+    }
 
 -- a step of a process leaves it free
 pub stays_free : (s after : Configuration) (p : ℕ) (f : Frame) → after ≡ with_frame p f s → IsFree s p → IsFree after p
@@ -114,8 +128,8 @@ judged_if_made t H e quota before after Budget made = absurd made
 -- the steps to the stop, and then the event
 module _ (t : Tables) (H : List Event) (e : Event) (p : ℕ) (own : is_of p e ≡ true)
     (before middle after : Configuration) (moved : IsMoved t p before middle) where
-  goes_on : AllGoBy t e middle after → AllGoBy t e before after
-  goes_on goes q below =
+  go_on : AllGoBy t e middle after → AllGoBy t e before after
+  go_on goes q below =
       record {
         own = λ same.
             let is : q ≡ p = one_process e q p same own in
@@ -145,6 +159,6 @@ module _ (t : Tables) (H : List Event) (e : Event) (p : ℕ) (own : is_of p e �
 
   pub made_after_steps : (j : Judged) → IsMade t H e middle after j → IsMade t H e before after j
   made_after_steps (Follows owed) made =
-      record { run = made.run; owes = made.owes; goes = goes_on made.goes }
+      record { run = made.run; owes = made.owes; goes = go_on made.goes }
   made_after_steps Illegal made = made
   made_after_steps Budget made = made

@@ -16,7 +16,7 @@ use Rattle.kpn_trace.proofs.Legality.{Legal-prefix}
 use Rattle.kpn_configuration.specs.Configuration.{Configuration, end_in, frame_in, IsFree}
 use Rattle.kpn_configuration.specs.Run.{IsEndOf, IsRun}
 use Rattle.kpn_configuration.proofs.Due.{may_go}
-use Rattle.kpn_audit.specs.declared.judged.Growth.{Growth}
+use Rattle.kpn_configuration.specs.declared.configuration.growth.OwedGrowth.{OwedGrowth}
 use Rattle.kpn_audit.specs.declared.judged.Judged.{Judged}
 use Rattle.kpn_audit.specs.declared.judged.Judged.TheVariants.{Follows, Illegal, Budget}
 use Rattle.kpn_audit.specs.Place.{GoesBy, ComesBy, IsPlaceAfter}
@@ -42,7 +42,7 @@ abbrev pub ArePlaces : Tables → List Event → Configuration → Type 0
 ArePlaces t H s = (p : ℕ) → p < length t.instances → IsPlaceAfter t H p (frame_in s p)
 
 -- what the loop over the events keeps
-pub record IsReplayed (t : Tables) (H : List Event) (s : Configuration) (owed : Option Growth) : Type 0 where
+pub record IsReplayed (t : Tables) (H : List Event) (s : Configuration) (owed : Option OwedGrowth) : Type 0 where
   pub run : IsRun t H s
   pub owes : Owes t H s owed
   pub places : ArePlaces t H s
@@ -55,7 +55,7 @@ comes_more t p (x ∷ H) e f g h comes goes =
     (comes.0, comes.1, comes_more t p H e comes.0 g h comes.2 goes)
 
 pub followed_by : (t : Tables) (H : List Event) (k : ℕ) (e d : Event) (before s : Configuration)
-    (owed : Option Growth) → k < length H → e ≡ get_or H k d → ArePlaces t (take k H) before
+    (owed : Option OwedGrowth) → k < length H → e ≡ get_or H k d → ArePlaces t (take k H) before
     → IsFollowed t (take k H) e before s owed → IsReplayed t (take (k + 1) H) s owed
 followed_by t H k e d before s owed below is places found =
     subst (λ B. IsReplayed t B s owed) (sym (one_event_more H k e d below is))
@@ -123,7 +123,7 @@ process_there t (Ended q how) p own numbers = subst (λ x. x < length t.instance
 process_there t e p own numbers = absurd (false≢true own)
 
 -- what owes nothing has no growth beside it
-nothing_kept : (t : Tables) (H : List Event) (s : Configuration) (owed : Option Growth) → Owes t H s owed
+nothing_kept : (t : Tables) (H : List Event) (s : Configuration) (owed : Option OwedGrowth) → Owes t H s owed
     → OwesNothing t H → owed ≡ None
 nothing_kept t H s None owes nothing = refl
 nothing_kept t H s (Some growth) owes nothing = absurd (nothing growth.process growth.channel owes.owed)
@@ -132,7 +132,7 @@ same_event : (o : Option Event) (e f : Event) → o ≡ Some e → o ≡ Some f 
 same_event o e f a b = let g : ◌≡◌ {A = Option Event} (Some e) (Some f) = sym a ∙ b in cc
 
 -- the event that was judged in time is within its steps
-within_at : (t : Tables) (H : List Event) (quota k : ℕ) (e d : Event) (s : Configuration) (owed : Option Growth)
+within_at : (t : Tables) (H : List Event) (quota k : ℕ) (e d : Event) (s : Configuration) (owed : Option OwedGrowth)
     → IsRun t (take k H) s → Owes t (take k H) s owed → ArePlaces t (take k H) s → k < length H → e ≡ get_or H k d
     → (owed ≡ None → IsInTime t s quota e) → IsWithinSteps t H quota k
 within_at t H quota k e d s owed run owes places below is in_time event p at own numbers nothing go =
@@ -149,7 +149,7 @@ within_at t H quota k e d s owed run owes places below is in_time event p at own
 pub none_within : (t : Tables) (H : List Event) (quota : ℕ) → AreWithinSteps t H quota 0
 none_within t H quota k below = absurd (omega (arith, below))
 
-pub within_more : (t : Tables) (H : List Event) (quota k : ℕ) (e d : Event) (s : Configuration) (owed : Option Growth)
+pub within_more : (t : Tables) (H : List Event) (quota k : ℕ) (e d : Event) (s : Configuration) (owed : Option OwedGrowth)
     → IsRun t (take k H) s → Owes t (take k H) s owed → ArePlaces t (take k H) s → k < length H → e ≡ get_or H k d
     → (owed ≡ None → IsInTime t s quota e) → AreWithinSteps t H quota k → AreWithinSteps t H quota (suc k)
 within_more t H quota k e d s owed run owes places below is in_time within j less =
@@ -161,7 +161,7 @@ within_more t H quota k e d s owed run owes places below is in_time within j les
     ]
 
 -- what follows or is illegal is not out of steps
-pub follows_in_time : {E : Type 0} (j : Judged) (owed : Option Growth) → j ≡ Follows owed
+pub follows_in_time : {E : Type 0} (j : Judged) (owed : Option OwedGrowth) → j ≡ Follows owed
     → ◌≢◌ {A = Result Judged E} (Ok j) (Ok Budget)
 follows_in_time j owed is e = absurd cc
 

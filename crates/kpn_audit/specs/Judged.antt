@@ -13,9 +13,9 @@ use Rattle.kpn_trace.specs.Stops.{OwesNothing}
 use Rattle.kpn_configuration.specs.Configuration.{Configuration, frame_in, IsFree}
 use Rattle.kpn_configuration.specs.Changes.{IsChannelAt}
 use Rattle.kpn_configuration.specs.Due.{Stands}
-use Rattle.kpn_configuration.specs.Owed.{IsOwed}
+use Rattle.kpn_configuration.specs.Owed.{IsAwaitedBelowLimit}
 use Rattle.kpn_configuration.specs.Run.{IsRun}
-use Rattle.kpn_audit.specs.declared.judged.Growth.{Growth}
+use Rattle.kpn_configuration.specs.declared.configuration.growth.OwedGrowth.{OwedGrowth}
 use Rattle.kpn_audit.specs.declared.judged.Judged.{Judged}
 use Rattle.kpn_audit.specs.declared.judged.Judged.TheVariants.{Follows, Illegal, Budget}
 use Rattle.kpn_audit.specs.Place.{StopsWithin, GoesBy}
@@ -37,13 +37,13 @@ pub record StandsFree (t : Tables) (s : Configuration) (p : ℕ) (stop : Stop) :
   pub ends : (next : Frame) → step_of (program_of t p).blocks (frame_in s p) ≢ Goes next
 
 -- a growth that is owed after a history, by the history and by the configuration
-pub record IsOwing (t : Tables) (H : List Event) (s : Configuration) (growth : Growth) : Type 0 where
+pub record IsOwing (t : Tables) (H : List Event) (s : Configuration) (growth : OwedGrowth) : Type 0 where
   pub there : growth.process < length t.instances
-  pub now : IsOwed t s growth.process growth.channel
+  pub now : IsAwaitedBelowLimit t s growth.channel
   pub owed : OwesGrowth t H growth.process growth.channel
 
 -- what a history owes: this growth, or nothing
-abbrev pub Owes : Tables → List Event → Configuration → Option Growth → Type 0
+abbrev pub Owes : Tables → List Event → Configuration → Option OwedGrowth → Type 0
 Owes t H s None = OwesNothing t H
 Owes t H s (Some growth) = IsOwing t H s growth
 
@@ -54,7 +54,7 @@ AllGoBy t event before after =
 
 -- an event follows a history, and leads to a configuration where this is owed
 pub record IsFollowed (t : Tables) (H : List Event) (event : Event) (before after : Configuration)
-    (owed : Option Growth) : Type 0 where
+    (owed : Option OwedGrowth) : Type 0 where
   pub run : IsRun t (H ++ event ∷ []) after
   pub owes : Owes t (H ++ event ∷ []) after owed
   pub goes : AllGoBy t event before after

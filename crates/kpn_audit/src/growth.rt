@@ -1,19 +1,19 @@
-//! Growth: what is owed once a process has come to wait, and the event that takes it.
-ghost use Rattle.std.specs.Prelude.{◌≡◌, ◌<◌, List, [], ◌∷◌, ◌++◌, length, Some};
+//! Growth: what is owed once an event was made, and the event that takes it.
+ghost use Rattle.std.specs.Prelude.{◌≡◌, ◌<◌, List, [], ◌∷◌, ◌++◌, length, Some, None};
 ghost use Rattle.kpn_trace.specs.declared.event.Event.{Event};
 ghost use Rattle.kpn_trace.specs.Legal.{waiter};
 ghost use Rattle.kpn_configuration.specs.Configuration.{Configuration as Seen, IsConfiguration};
 ghost use Rattle.kpn_configuration.specs.Run.{IsRun};
-ghost use Rattle.kpn_configuration.specs.Owed.{IsOwed};
+ghost use Rattle.kpn_configuration.specs.Owed.{IsAwaitedBelowLimit};
 ghost use Rattle.kpn_audit.specs.Judged.{IsOwing, AllGoBy, IsMade};
 
-use crate::judged::{Growth, Judged};
-use kpn_configuration::Configuration;
+use crate::judged::Judged;
+use kpn_configuration::{Configuration, OwedGrowth};
 use kpn_net::Network;
 use kpn_trace::Event;
 use std::alloc::Allocator;
 
-/// The wait of process `p`, which was just made, may follow, and this is what is owed then.
+/// The wait of process `p`, which was just made, may follow, and this is what is owed then: for a cycle or for a stop.
 pub(crate) fn after_wait<A: Allocator>(
     configuration: &Configuration<A>,
     network: &Network,
@@ -28,24 +28,39 @@ pub(crate) fn after_wait<A: Allocator>(
 {
     network.known();
     match configuration.owed(network, p) {
-        Some(channel) => Judged::Follows(Some(Growth {
+        Some(channel) => Judged::Follows(Some(OwedGrowth {
             process: p,
             channel,
         })),
-        None => Judged::Follows(None),
+        None => Judged::Follows(configuration.owed_at_stop(network)),
     }
+}
+
+/// An event that was just made and is no wait may follow, and this is what is owed then: for a stop.
+pub(crate) fn after_event<A: Allocator>(
+    configuration: &Configuration<A>,
+    network: &Network,
+) -> Judged
+    requires shape { IsConfiguration network.now configuration.now }
+    ensures { (H : List Event) (event : Event) (before : Seen) → waiter event ≡ None
+        → IsRun network.now (H ++ event ∷ []) configuration.now
+        → AllGoBy network.now event before configuration.now
+        → IsMade network.now H event before configuration.now result }
+{
+    network.known();
+    Judged::Follows(configuration.owed_at_stop(network))
 }
 
 /// Judges an event where this growth is owed: it has to be that growth.
 pub(crate) fn judge_owed<A: Allocator>(
     configuration: &mut Configuration<A>,
     network: &Network,
-    owed: Growth,
+    owed: OwedGrowth,
     event: Event,
 ) -> Judged
     requires shape { IsConfiguration network.now configuration.old }
     requires process { owed.process < length network.now.instances }
-    requires owed { IsOwed network.now configuration.old owed.process owed.channel }
+    requires awaited { IsAwaitedBelowLimit network.now configuration.old owed.channel }
     ensures shape { IsConfiguration network.now configuration.new }
     ensures judged { (H : List Event) → IsRun network.now H configuration.old
         → IsOwing network.now H configuration.old owed

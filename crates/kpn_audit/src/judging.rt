@@ -6,16 +6,16 @@ ghost use Rattle.kpn_trace.specs.Talks.{is_of, is_of_process};
 ghost use Rattle.kpn_trace.specs.Legal.{HasNumbers};
 ghost use Rattle.kpn_trace.specs.Stops.{OwesNothing};
 ghost use Rattle.kpn_configuration.specs.Configuration.{IsConfiguration};
-ghost use Rattle.kpn_configuration.specs.Owed.{IsOwed};
+ghost use Rattle.kpn_configuration.specs.Owed.{IsAwaitedBelowLimit};
 ghost use Rattle.kpn_configuration.specs.Run.{IsRun};
 ghost use Rattle.kpn_audit.specs.declared.judged.Judged.TheVariants.{Budget};
 ghost use Rattle.kpn_audit.specs.Judged.{StandsFree, Owes, IsFound, IsJudged, StopsInTime, IsInTime};
 
 use crate::growth::judge_owed;
-use crate::judged::{Growth, Judged};
+use crate::judged::Judged;
 use crate::stepping::come_to_stop;
 use crate::{outside, processes};
-use kpn_configuration::Configuration;
+use kpn_configuration::{Configuration, OwedGrowth};
 use kpn_net::Network;
 use kpn_step::Stop;
 use kpn_trace::{Event, How};
@@ -167,14 +167,14 @@ fn judge_next<A: Allocator + Copy>(
 pub(crate) fn judge<A: Allocator + Copy>(
     configuration: &mut Configuration<A>,
     network: &Network,
-    owed: Option<Growth>,
+    owed: Option<OwedGrowth>,
     event: Event,
     quota: u64,
 ) -> Result<Judged, AllocError>
     requires shape { IsConfiguration network.now configuration.old }
-    requires owed { (growth : Growth) → owed ≡ Some growth
+    requires owed { (growth : OwedGrowth) → owed ≡ Some growth
         → (growth.process < length network.now.instances)
-        × IsOwed network.now configuration.old growth.process growth.channel }
+        × IsAwaitedBelowLimit network.now configuration.old growth.channel }
     ensures shape { IsConfiguration network.now configuration.new }
     ensures in_time { owed ≡ None → result ≢ Ok Budget
         → IsInTime network.now configuration.old quota event }

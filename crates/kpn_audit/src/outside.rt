@@ -5,6 +5,7 @@ ghost use Rattle.kpn_trace.specs.declared.event.Event.TheVariants as event;
 ghost use Rattle.kpn_configuration.specs.Configuration.{closed_in, IsConfiguration};
 ghost use Rattle.kpn_audit.specs.Judged.{IsFound};
 
+use crate::growth::after_event;
 use crate::judged::Judged;
 use kpn_configuration::Configuration;
 use kpn_net::Network;
@@ -63,7 +64,7 @@ pub(crate) fn close<A: Allocator>(
         return Judged::Illegal;
     }
     configuration.close(network, c);
-    Judged::Follows(None)
+    after_event(configuration, network)
 }
 
 /// The outside takes this item from channel `c`.
@@ -85,7 +86,7 @@ pub(crate) fn take<A: Allocator>(
     }
     let got = configuration.take(network, c);
     if got.item == item {
-        Judged::Follows(None)
+        after_event(configuration, network)
     } else {
         Judged::Illegal
     }
@@ -108,5 +109,5 @@ pub(crate) fn leave<A: Allocator>(
         return Judged::Illegal;
     }
     configuration.leave(network, c);
-    Judged::Follows(None)
+    after_event(configuration, network)
 }

@@ -4,7 +4,7 @@ ghost use Rattle.kpn_trace.specs.declared.event.Event.TheVariants as event;
 ghost use Rattle.kpn_configuration.specs.Configuration.{IsConfiguration};
 ghost use Rattle.kpn_audit.specs.Judged.{StandsFree, IsFound};
 
-use crate::growth::after_wait;
+use crate::growth::{after_event, after_wait};
 use crate::judged::Judged;
 use crate::ports::{is_end, is_read_from, is_write_of, is_write_to};
 use kpn_configuration::Configuration;
@@ -133,5 +133,5 @@ pub(crate) fn end<A: Allocator>(
         return Judged::Illegal;
     }
     configuration.end(network, p, how);
-    Judged::Follows(None)
+    after_event(configuration, network)
 }

@@ -3,6 +3,7 @@ use Rattle.std.proofs.Common.{◌≡◌, ◌↔◌, ℕ, ◌+◌, ◌<◌, ◌�
 use Rattle.std.proofs.lemmas.Bool.{cases_eq}
 use Rattle.std.proofs.lemmas.List.Sums.{sum_by-append}
 use Rattle.std.proofs.lemmas.List.{length-set, get_or-set_same, get_or-set_other}
+use Rattle.kpn_net.specs.Tables.{Tables}
 use Rattle.kpn_net.specs.Faults.{IsNetwork}
 use Rattle.kpn_step.specs.declared.stop.Stop.{Stop}
 use Rattle.kpn_step.specs.declared.stop.Stop.TheVariants as stop
@@ -12,10 +13,12 @@ use Rattle.kpn_trace.specs.declared.event.Event.TheVariants as event
 use Rattle.kpn_trace.specs.declared.event.How.{How}
 use Rattle.kpn_trace.specs.declared.state.State.TheVariants.{Ready}
 use Rattle.kpn_trace.specs.Talks.{is_of_process, process_events}
-use Rattle.kpn_trace.specs.Legal.{OwesGrowth, waiter, waiter_of_last}
-use Rattle.kpn_trace.specs.Stops.{OwesNothing}
+use Rattle.kpn_trace.specs.Legal.{OwesCycleGrowth, OwesGrowth, Legal, waiter, waiter_of_last}
+use Rattle.kpn_trace.specs.Stops.{OwesNothing, OwesNoCycleGrowth, OwesNoStopGrowth, goes_on}
 use Rattle.kpn_trace.proofs.Events.{last_or-push}
-use Rattle.kpn_trace.proofs.Growth.{Some-number, none_owed_after}
+use Rattle.kpn_trace.proofs.AfterEvent.{process_events-next}
+use Rattle.kpn_trace.proofs.Growth.{Some-number, no_cycle_owed_after}
+use Rattle.kpn_trace.proofs.OwedGrowth.{no_stop_owed_after}
 use Rattle.kpn_configuration.specs.Configuration.{channel_in, end_in, wait_in}
 use Rattle.kpn_configuration.specs.Due.{stop_of}
 use Rattle.kpn_configuration.specs.Owed.{IsOwed}
@@ -25,10 +28,10 @@ use Rattle.kpn_schedule.specs.Schedule.{state_at, made_ready}
 use Rattle.kpn_book.specs.declared.answers.Done.{Done}
 use Rattle.kpn_book.specs.declared.answers.Done.TheVariants as done
 use Rattle.kpn_book.specs.Book.{Book, IsHeld, held_count, put_back, counted}
-use Rattle.kpn_book.specs.Appending.{AppendsAll}
+use Rattle.kpn_book.specs.Appending.{AppendsAll, IsGrowthOwed, Happens}
 use Rattle.kpn_book.specs.Commits.{IsReadFrom, IsWriteTo, HasToWait, IsAnswer, ready_if_paused, HandlesStop}
 use Rattle.kpn_book.specs.Kept.{IsStateBy, IsInStep, IsKept}
-use Rattle.kpn_book.specs.Open.{Follows, IsSound, AnswersAt, Answered, EndsWithWait, grows_if_owed, GrowsIfOwed, of_process}
+use Rattle.kpn_book.specs.Open.{Follows, IsSound, AnswersAt, Answered, EndsWithWait, grows_if_owed, GrowsIfOwed, GrowsAtStop, of_process}
 use Rattle.kpn_book.proofs.Following.{held_is_free}
 use Rattle.kpn_book.proofs.Counting.{held_less}
 use Rattle.kpn_book.proofs.Appended.{history_then, commits_stay, counts_all, counts_ready, base_history, base_commits}
@@ -40,11 +43,28 @@ next_history : (e : Event) (b a : Book) → Follows e b a → (P : List Event �
     → P a.history
 next_history e b a follows P is = subst P (sym follows.appends.history) is
 
-pub sound_after : (e : Event) (b a : Book) → Follows e b a → waiter e ≡ None → IsSound a
-sound_after e b a follows none = record {
+-- after an event that is no wait no growth is owed for a cycle
+pub no_cycle_then : (e : Event) (b a : Book) → Follows e b a → waiter e ≡ None → OwesNoCycleGrowth a.tables a.history
+no_cycle_then e b a follows none =
+    next_history e b a follows (λ H. OwesNoCycleGrowth a.tables H) (no_cycle_owed_after a.tables b.history e none)
+
+-- after an event that moves an item, or a growth, nothing is owed
+pub sound_after : (e : Event) (b a : Book) → IsNetwork b.tables → Follows e b a → waiter e ≡ None → goes_on e ≡ true
+    → IsSound a
+sound_after e b a network follows none goes = record {
   in_step = follows.in_step;
-  nothing_owed = next_history e b a follows (λ H. OwesNothing a.tables H) (none_owed_after a.tables b.history e none);
+  nothing_owed = nothing;
 }
+  where
+    legal : Legal a.tables (b.history ++ e ∷ [])
+    legal = subst (Legal a.tables) follows.appends.history follows.in_step.run.legal
+
+    nothing : OwesNothing a.tables a.history
+    nothing p d (inl owed) = no_cycle_then e b a follows none p d owed
+    nothing p d (inr owed) =
+        next_history e b a follows (λ H. OwesNoStopGrowth a.tables H)
+        (no_stop_owed_after a.tables (subst IsNetwork (sym follows.appends.tables) network) b.history e legal goes)
+        p d owed
 
 -- ---- the growth that is owed
 
@@ -54,76 +74,127 @@ module _ (b : Book) (network : IsNetwork b.tables) (step : IsInStep b) (p : ℕ)
   run_of = subst (λ H. IsRun b.tables H b.configuration) ends.is step.run
 
   by_history : (d : ℕ) → IsOwed b.tables b.configuration p d
-      ↔ OwesGrowth b.tables (ends.before ++ ends.wait ∷ []) p d
+      ↔ OwesCycleGrowth b.tables (ends.before ++ ends.wait ∷ []) p d
   by_history d = owed_by_history b.tables network ends.before ends.wait p ends.waits b.configuration run_of d
 
   pub owes_found : (d : ℕ) → found ≡ Some d → OwesGrowth b.tables b.history p d
-  owes_found d is = subst (λ H. OwesGrowth b.tables H p d) (sym ends.is) ((by_history d).0 ((exact d).0 is))
+  owes_found d is = inl (subst (λ H. OwesCycleGrowth b.tables H p d) (sym ends.is) ((by_history d).0 ((exact d).0 is)))
 
-  pub owes_none : found ≡ None → OwesNothing b.tables b.history
+  pub owes_none : found ≡ None → OwesNoCycleGrowth b.tables b.history
   owes_none none q d owes =
-      let here : OwesGrowth b.tables (ends.before ++ ends.wait ∷ []) q d =
-      subst (λ H. OwesGrowth b.tables H q d) ends.is owes in
+      let here : OwesCycleGrowth b.tables (ends.before ++ ends.wait ∷ []) q d =
+      subst (λ H. OwesCycleGrowth b.tables H q d) ends.is owes in
       let same : q ≡ p =
       Some-number q p (sym here.wait ∙ ap waiter_of_last (last_or-push None ends.before ends.wait) ∙ ends.waits) in
       let some : found ≡ Some d =
       (exact d).1 ((by_history d).1
-      (subst (λ x. OwesGrowth b.tables (ends.before ++ ends.wait ∷ []) x d) same here)) in
+      (subst (λ x. OwesCycleGrowth b.tables (ends.before ++ ends.wait ∷ []) x d) same here)) in
       let clash : ◌≡◌ {A = Option ℕ} None (Some d) = sym none ∙ some in
       absurd cc
 
-  pub stays_blocked : found ≡ None → GrowsIfOwed p done.Blocked b b
-  stays_blocked none = record {
-    grows = (owes_none none, refl);
-    sound = record { in_step = step; nothing_owed = owes_none none };
-    held = refl;
-  }
+-- the growth that is owed is made
+pub has_grown : (b a : Book) → IsNetwork b.tables → (p q d : ℕ) → OwesGrowth b.tables b.history q d
+    → Follows (event.Grow q d) b a → GrowsIfOwed p (done.Grew d) b a
+has_grown b a network p q d owes follows = record {
+  grows = record { grower = q; owed = owes; appends = follows.appends };
+  sound = sound_after (event.Grow q d) b a network follows refl refl;
+  held = let now = follows.held in omega (arith, now);
+}
 
-  pub has_grown : (d : ℕ) → found ≡ Some d → (a : Book) → Follows (event.Grow p d) b a
-      → GrowsIfOwed p (done.Grew d) b a
-  has_grown d some a follows = record {
-    grows = (owes_found d some, follows.appends);
-    sound = sound_after (event.Grow p d) b a follows refl;
-    held = let now = follows.held in omega (arith, now);
-  }
+pub has_grown_at_stop : (b a : Book) → IsNetwork b.tables → (q d : ℕ) → OwesGrowth b.tables b.history q d
+    → Follows (event.Grow q d) b a → GrowsAtStop (Some d) b a
+has_grown_at_stop b a network q d owes follows = record {
+  grows = record { grower = q; owed = owes; appends = follows.appends };
+  sound = sound_after (event.Grow q d) b a network follows refl refl;
+  held = let now = follows.held in omega (arith, now);
+}
+
+pub none_at_stop : (b : Book) → IsInStep b → OwesNoCycleGrowth b.tables b.history
+    → OwesNoStopGrowth b.tables b.history → GrowsAtStop None b b
+none_at_stop b step cycle stop =
+    record { grows = (nothing, refl); sound = record { in_step = step; nothing_owed = nothing }; held = refl }
+  where
+    nothing : OwesNothing b.tables b.history
+    nothing p d (inl owed) = cycle p d owed
+    nothing p d (inr owed) = stop p d owed
+
+-- what a growth at a stop makes of a wait
+pub blocked_then : (p : ℕ) (b a : Book) → GrowsAtStop None b a → GrowsIfOwed p done.Blocked b a
+blocked_then p b a is = record { grows = is.grows; sound = is.sound; held = is.held }
+
+pub grew_then : (p d : ℕ) (b a : Book) → GrowsAtStop (Some d) b a → GrowsIfOwed p (done.Grew d) b a
+grew_then p d b a is = record { grows = is.grows; sound = is.sound; held = is.held }
+
+-- ---- an event, and the growth that is owed then
+
+pub happens : (e : Event) (b m a : Book) (channel : Option ℕ) → Follows e b m → GrowsAtStop channel m a → Happens e b a
+happens e b m a None follows grows = record {
+  growth = [];
+  owed =
+      subst (λ t. OwesNothing t (b.history ++ e ∷ [])) follows.appends.tables
+      (subst (λ H. OwesNothing m.tables H) follows.appends.history grows.grows.0);
+  appends = (m, follows.appends, grows.grows.1);
+}
+happens e b m a (Some d) follows grows = record {
+  growth = event.Grow grows.grows.grower d ∷ [];
+  owed =
+      subst (λ t. OwesGrowth t (b.history ++ e ∷ []) grows.grows.grower d) follows.appends.tables
+      (subst (λ H. OwesGrowth m.tables H grows.grows.grower d) follows.appends.history grows.grows.owed);
+  appends = (m, follows.appends, (a, grows.grows.appends, refl));
+}
+
+-- a growth is no event of a process
+pub events_at_stop : (b a : Book) (channel : Option ℕ) → GrowsAtStop channel b a
+    → process_events a.history ≡ process_events b.history
+events_at_stop b a None grows = ap (λ x. process_events x.history) grows.grows.1
+events_at_stop b a (Some d) grows =
+    ap process_events grows.grows.appends.history
+    ∙ process_events-next b.history (event.Grow grows.grows.grower d)
+    ∙ (let same : process_events b.history + 0 ≡ process_events b.history = omega arith in same)
+
+pub commits_at_stop : (b a : Book) (channel : Option ℕ) → GrowsAtStop channel b a → a.commits ≡ b.commits
+commits_at_stop b a None grows = ap (λ x. x.commits) grows.grows.1
+commits_at_stop b a (Some d) grows = grows.grows.appends.commits
 
 -- ---- answers
 
-pub answered_got : (b a : Book) (p c : ℕ) (v : ℤ) → next_item (channel_in b.configuration c) ≡ Some v
+pub answered_got : (b a : Book) → IsNetwork b.tables → (p c : ℕ) (v : ℤ) → next_item (channel_in b.configuration c) ≡ Some v
     → Follows (event.Get p c v) b a → Answered p (λ s. IsReadFrom b.tables p s c) (done.Got v) b a
-answered_got b a p c v item follows = record {
+answered_got b a network p c v item follows = record {
   answers = λ s asks. record {
     events = event.Get p c v ∷ [];
     answers = record { channel = c; asks = asks; item = item; appends = refl };
     appends = (a, follows.appends, refl);
   };
-  sound = sound_after (event.Get p c v) b a follows refl;
+  sound = sound_after (event.Get p c v) b a network follows refl refl;
   released = follows.held;
 }
 
-pub answered_put : (b a : Book) (p c : ℕ) (v : ℤ) → is_full (channel_in b.configuration c) ≡ false
+pub answered_put : (b a : Book) → IsNetwork b.tables → (p c : ℕ) (v : ℤ) → is_full (channel_in b.configuration c) ≡ false
     → Follows (event.Put p c v) b a → Answered p (λ s. IsWriteTo b.tables p s c v) done.Put b a
-answered_put b a p c v ready follows = record {
+answered_put b a network p c v ready follows = record {
   answers = λ s asks. record {
     events = event.Put p c v ∷ [];
     answers = record { channel = c; item = v; asks = asks; ready = ready; appends = refl };
     appends = (a, follows.appends, refl);
   };
-  sound = sound_after (event.Put p c v) b a follows refl;
+  sound = sound_after (event.Put p c v) b a network follows refl refl;
   released = follows.held;
 }
 
-pub answered_ended : (b a : Book) (p : ℕ) (how : How) → Follows (event.Ended p how) b a
-    → Answered p (λ s. s ≡ stop_of how) done.Ended b a
-answered_ended b a p how follows = record {
-  answers = λ s asks. record {
-    events = event.Ended p how ∷ [];
-    answers = record { how = how; asks = asks; appends = refl };
-    appends = (a, follows.appends, refl);
-  };
-  sound = sound_after (event.Ended p how) b a follows refl;
-  released = follows.held;
-}
+pub answered_ended : (b m a : Book) (p : ℕ) (how : How) (channel : Option ℕ) → Follows (event.Ended p how) b m
+    → GrowsAtStop channel m a → Answered p (λ s. s ≡ stop_of how) done.Ended b a
+answered_ended b m a p how channel follows grows =
+    let is = happens (event.Ended p how) b m a channel follows grows in
+    record {
+      answers = λ s asks. record {
+        events = event.Ended p how ∷ is.growth;
+        answers = record { how = how; asks = asks; growth = is.growth; owed = is.owed; appends = refl };
+        appends = is.appends;
+      };
+      sound = grows.sound;
+      released = let now = grows.held in let then = follows.held in omega (arith, now, then);
+    }
 
 module _ (b m : Book) (p : ℕ) (wait : Event) (one : of_process wait ≡ 1) (asks : Stop → Type 0)
     (has : (s : Stop) → asks s → HasToWait b p s wait) (follows : Follows wait b m) where
@@ -145,16 +216,17 @@ module _ (b m : Book) (p : ℕ) (wait : Event) (one : of_process wait ≡ 1) (as
     appends = (m, follows.appends, grows.1);
   }
   answers_wait (done.Grew d) a grows s is = record {
-    events = wait ∷ event.Grow p d ∷ [];
+    events = wait ∷ event.Grow grows.grower d ∷ [];
     answers = record {
       wait = wait;
       waits = has s is;
+      grower = grows.grower;
       owed =
-          before_it (λ H. OwesGrowth b.tables H p d)
-          (subst (λ t. OwesGrowth t m.history p d) follows.appends.tables grows.0);
+          before_it (λ H. OwesGrowth b.tables H grows.grower d)
+          (subst (λ t. OwesGrowth t m.history grows.grower d) follows.appends.tables grows.owed);
       appends = refl;
     };
-    appends = (m, follows.appends, (a, grows.1, refl));
+    appends = (m, follows.appends, (a, grows.appends, refl));
   }
   answers_wait other a grows s is = absurd grows
 
@@ -221,6 +293,12 @@ growth_is_none wait p d = by_test (is_of_process wait)
     by_test true = omega arith
     by_test false = omega arith
 
+with_growth : (t : Tables) (H : List Event) (e : Event) (growth : List Event) → IsGrowthOwed t H growth
+    → count_by is_of_process (e ∷ growth) ≤ 1
+with_growth t H e [] owed = one_event e
+with_growth t H e (event.Grow p d ∷ []) owed = growth_is_none e p d
+with_growth t H e growth owed = absurd owed
+
 at_most_one : (answer : Done) (b : Book) (p : ℕ) (s : Stop) (events : List Event) → IsAnswer b p s answer events
     → count_by is_of_process events ≤ 1
 at_most_one (done.Got v) b p s events is =
@@ -230,9 +308,10 @@ at_most_one done.Put b p s events is =
 at_most_one done.Blocked b p s events is =
     subst (λ es. count_by is_of_process es ≤ 1) (sym is.appends) (one_event is.wait)
 at_most_one (done.Grew d) b p s events is =
-    subst (λ es. count_by is_of_process es ≤ 1) (sym is.appends) (growth_is_none is.wait p d)
+    subst (λ es. count_by is_of_process es ≤ 1) (sym is.appends) (growth_is_none is.wait is.grower d)
 at_most_one done.Ended b p s events is =
-    subst (λ es. count_by is_of_process es ≤ 1) (sym is.appends) (one_event (event.Ended p is.how))
+    subst (λ es. count_by is_of_process es ≤ 1) (sym is.appends)
+    (with_growth b.tables (b.history ++ event.Ended p is.how ∷ []) (event.Ended p is.how) is.growth is.owed)
 at_most_one done.Paused b p s events is = subst (λ es. count_by is_of_process es ≤ 1) (sym is.appends) (omega arith)
 
 module _ (b a : Book) (p : ℕ) (s : Stop) (answer : Done) (kept : IsKept b) (answers : AnswersAt p s answer b a)

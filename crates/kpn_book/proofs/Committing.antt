@@ -10,7 +10,9 @@ use Rattle.kpn_step.specs.Stops.{Advanced, IsAdvance, IsAtPort, IsWithinQuota}
 use Rattle.kpn_trace.specs.declared.event.Event.{Event}
 use Rattle.kpn_trace.specs.declared.state.State.TheVariants.{Ready, Held}
 use Rattle.kpn_trace.specs.Talks.{is_of_process, process_events}
+use Rattle.kpn_net.specs.Faults.{IsNetwork}
 use Rattle.kpn_trace.specs.Legal.{waiter}
+use Rattle.kpn_trace.specs.Stops.{goes_on}
 use Rattle.kpn_trace.proofs.AfterEvent.{process_events-next}
 use Rattle.kpn_trace.specs.Views.{is_held}
 use Rattle.kpn_chan.specs.Channel.{with_room}
@@ -22,14 +24,14 @@ use Rattle.kpn_book.specs.declared.answers.Done.{Done}
 use Rattle.kpn_book.specs.Book.{Book, IsHeld, held_count, standing_at, put_back, IsClaimed}
 use Rattle.kpn_book.specs.Commits.{IsWriteTo, HandlesStop, IsOwnAdvance, Commits}
 use Rattle.kpn_book.specs.Kept.{IsStateBy, IsKept}
-use Rattle.kpn_book.specs.Open.{Follows, of_process, claims_by, reserves_by, IsReserved, is_but_reserved, reserved_on}
+use Rattle.kpn_book.specs.Open.{Follows, GrowsAtStop, of_process, claims_by, reserves_by, IsReserved, is_but_reserved, reserved_on}
 use Rattle.kpn_book.proofs.Counting.{held_in, held_more}
 use Rattle.kpn_book.specs.Stepping.{ClaimsAndSteps, StepsNext, StepsInVain}
 use Rattle.kpn_book.proofs.Appended.{claimed_is_held}
 use Rattle.kpn_book.proofs.Reserved.{handles_unreserved, is_reserved_here}
 use Rattle.kpn_configuration.specs.Changes.{IsChannelAt}
 use Rattle.kpn_book.proofs.Following.{recorded}
-use Rattle.kpn_book.proofs.Answering.{put_back_in_step, put_back_released, sound_after}
+use Rattle.kpn_book.proofs.Answering.{put_back_in_step, put_back_released, sound_after, events_at_stop, commits_at_stop}
 
 -- ---- memory that is reserved
 
@@ -208,10 +210,11 @@ commits_from b o1 o2 a p x answer held own but is handles = record {
 
 -- ---- an event of the outside
 
-pub kept_outside : (b a : Book) (e : Event) → IsKept b → Follows e b a → is_of_process e ≡ false → waiter e ≡ None
-    → IsKept a
-kept_outside b a e kept follows nobody none =
-    let sound = sound_after e b a follows none in
+-- no growth is owed after it
+pub kept_outside : (b a : Book) (e : Event) → IsNetwork b.tables → IsKept b → Follows e b a → is_of_process e ≡ false
+    → waiter e ≡ None → goes_on e ≡ true → IsKept a
+kept_outside b a e network kept follows nobody none goes =
+    let sound = sound_after e b a network follows none goes in
     let count = kept.countable in
     let before = kept.committed in
     let held = follows.held in
@@ -224,6 +227,27 @@ kept_outside b a e kept follows nobody none =
       nothing_owed = sound.nothing_owed;
       committed = omega (arith, before, zero, same, more);
       countable = omega (arith, count, held, zero, same);
+    }
+
+-- the growth that is owed after it is made
+pub kept_grown : (b m a : Book) (e : Event) (channel : Option ℕ) → IsKept b → Follows e b m → is_of_process e ≡ false
+    → GrowsAtStop channel m a → IsKept a
+kept_grown b m a e channel kept follows nobody grows =
+    let count = kept.countable in
+    let before = kept.committed in
+    let held = follows.held in
+    let still = grows.held in
+    let zero : of_process e ≡ 0 = ap (λ x. cond x 1 0) nobody in
+    let same = follows.appends.commits in
+    let again = commits_at_stop m a channel grows in
+    let more : process_events m.history ≡ process_events b.history + of_process e =
+    ap process_events follows.appends.history ∙ process_events-next b.history e in
+    let no_more = events_at_stop m a channel grows in
+    record {
+      in_step = grows.sound.in_step;
+      nothing_owed = grows.sound.nothing_owed;
+      committed = omega (arith, before, zero, same, again, more, no_more);
+      countable = omega (arith, count, held, still, zero, same, again);
     }
 
 -- a source or a sink is a channel of the network

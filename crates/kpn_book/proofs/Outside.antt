@@ -11,9 +11,9 @@ use Rattle.kpn_configuration.specs.Changes.{Changes}
 use Rattle.kpn_configuration.proofs.Due.{Legal-due}
 use Rattle.kpn_schedule.specs.Schedule.{Schedule}
 use Rattle.kpn_book.specs.Book.{Book}
-use Rattle.kpn_book.specs.Appending.{Appends, all_made_ready, woken_by}
-use Rattle.kpn_book.specs.Refusals.{IsAtBound, Feeds, Takes}
-use Rattle.kpn_book.specs.Open.{Follows, reserved_on}
+use Rattle.kpn_book.specs.Appending.{Appends, Happens, all_made_ready, woken_by}
+use Rattle.kpn_book.specs.Refusals.{IsAtBound, Feeds, Closes, closes_by, Takes, Leaves, leaves_by}
+use Rattle.kpn_book.specs.Open.{Follows, IsSound, reserved_on}
 use Rattle.kpn_book.specs.Kept.{IsKept}
 use Rattle.kpn_book.proofs.Following.{recorded, followed, own_none}
 use Rattle.kpn_book.proofs.Committing.{kept_reserved_on, source_there}
@@ -30,11 +30,30 @@ fed b o a c v bound source not_closed below there is follows = record {
       (subst (λ x. Appends (event.Feed c v) x a) is follows.appends);
 }
 
+-- a book with room for more events is the same book
+module _ (b : Book) (H : List Event) (same : H ≡ b.history) where
+  pub sound_reserved : IsKept b → IsSound (recorded b H b.configuration b.schedule)
+  sound_reserved kept =
+      subst (λ x. IsSound (recorded b x b.configuration b.schedule)) (sym same)
+      (record { in_step = kept.in_step; nothing_owed = kept.nothing_owed })
+
+  pub follows_reserved : (e : Event) (m : Book) → Follows e (recorded b H b.configuration b.schedule) m → Follows e b m
+  follows_reserved e m follows = subst (λ x. Follows e (recorded b x b.configuration b.schedule) m) same follows
+
+pub closed : (b a : Book) (c : ℕ) → is_source (channel_at b.tables c) ≡ true → closed_in b.configuration c ≡ false
+    → Happens (event.Close c) b a → Closes c b a
+closed b a c source not_closed is =
+    record { source = source; closes = subst (λ x. closes_by x c b a) (sym not_closed) is }
+
 pub taken : (b a : Book) (c : ℕ) (v : ℤ) → is_sink (channel_at b.tables c) ≡ true
     → (channel_in b.configuration c).is_retired ≡ false → next_item (channel_in b.configuration c) ≡ Some v
-    → Follows (event.Take c v) b a → Takes c (Some v) b a
-taken b a c v sink not_left item follows =
-    record { sink = record { sink = sink; not_left = not_left }; takes = (item, follows.appends) }
+    → Happens (event.Take c v) b a → Takes c (Some v) b a
+taken b a c v sink not_left item is =
+    record { sink = record { sink = sink; not_left = not_left }; takes = (item, is) }
+
+pub left : (b a : Book) (c : ℕ) → is_sink (channel_at b.tables c) ≡ true
+    → (channel_in b.configuration c).is_retired ≡ false → Happens (event.Leave c) b a → Leaves c b a
+left b a c sink not_left is = record { sink = sink; leaves = subst (λ x. leaves_by x c b a) (sym not_left) is }
 
 pub kept_with_item : (b o : Book) (c : ℕ) → c < length b.configuration.channels → o ≡ reserved_on c b → IsKept b
     → IsKept o

@@ -120,10 +120,12 @@ module _ (b : Book) (c : ℕ) (below : c < length b.configuration.channels) wher
   answer_unreserved (done.Grew d) p s events is = record {
     wait = is.wait;
     waits = waits_unreserved p s is.wait is.waits;
+    grower = is.grower;
     owed = is.owed;
     appends = is.appends;
   }
-  answer_unreserved done.Ended p s events is = is
+  answer_unreserved done.Ended p s events is =
+      record { how = is.how; asks = is.asks; growth = is.growth; owed = is.owed; appends = is.appends }
   answer_unreserved done.Paused p s events is = is
 
 cons_is_some : (e : Event) (es events : List Event) → events ≡ e ∷ es → events ≡ [] → ⊥

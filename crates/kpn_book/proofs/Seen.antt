@@ -4,14 +4,14 @@ use Rattle.kpn_trace.specs.Ends.{IsSettled}
 use Rattle.kpn_trace.proofs.States.{stopped_state}
 use Rattle.kpn_schedule.specs.Schedule.{HaveStopped, state_at}
 use Rattle.kpn_book.specs.Book.{Book}
-use Rattle.kpn_book.specs.Kept.{IsKept}
+use Rattle.kpn_book.specs.Kept.{IsInStep}
 use Rattle.kpn_book.proofs.Standing.{states_in_step}
 
-pub not_settled : (b : Book) → IsKept b → (HaveStopped b.schedule.states → ⊥) → ¬ IsSettled b.tables b.history
-not_settled b kept some settled =
+pub not_settled : (b : Book) → IsInStep b → (HaveStopped b.schedule.states → ⊥) → ¬ IsSettled b.tables b.history
+not_settled b step some settled =
     some
     (λ p below.
-    let long = kept.in_step.processes in
+    let long = step.processes in
     let there : p < length b.tables.instances = omega (arith, long, below) in
-    (stopped_state b.tables b.history p (state_at b.schedule.states p) (states_in_step b kept.in_step p there)).1
+    (stopped_state b.tables b.history p (state_at b.schedule.states p) (states_in_step b step p there)).1
     (settled.processes p there))

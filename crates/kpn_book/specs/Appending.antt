@@ -1,4 +1,5 @@
--- What a book is after it has one event more: the event changes the configuration and the schedule.
+-- What a book is after it has one event more: the event changes the configuration and the schedule. After some events a
+-- growth is owed, which is appended at once.
 use Rattle.std.specs.Prelude.{◌≡◌, ℕ, List, [], ◌∷◌, ◌++◌}
 use Rattle.std.specs.List.{filter_map}
 use Rattle.std.specs.Option.{option_to_list}
@@ -7,6 +8,8 @@ use Rattle.kpn_net.specs.Tables.{Tables, instance_at}
 use Rattle.kpn_trace.specs.declared.event.Event.{Event}
 use Rattle.kpn_trace.specs.declared.event.Event.TheVariants as event
 use Rattle.kpn_trace.specs.declared.state.State.TheVariants as state
+use Rattle.kpn_trace.specs.Legal.{OwesGrowth}
+use Rattle.kpn_trace.specs.Stops.{OwesNothing}
 use Rattle.kpn_configuration.specs.Changes.{Changes}
 use Rattle.kpn_configuration.specs.Woken.{waiting_writer, waiting_reader}
 use Rattle.kpn_schedule.specs.Schedule.{Schedule, made_ready, with_state}
@@ -60,3 +63,22 @@ pub record Appends (e : Event) (before after : Book) : Type 0 where
 abbrev pub AppendsAll : List Event → (before after : Book) → Type 0
 AppendsAll [] before after = after ≡ before
 AppendsAll (e ∷ events) before after = (between : Book) × Appends e before between × AppendsAll events between after
+
+-- ---- events, and the growths that are owed
+
+-- the growth that is owed after a history: none, or this one
+abbrev pub IsGrowthOwed : Tables → List Event → (growth : List Event) → Type 0
+IsGrowthOwed t H [] = OwesNothing t H
+IsGrowthOwed t H (event.Grow p d ∷ []) = OwesGrowth t H p d
+IsGrowthOwed t H growth = ⊥
+
+-- the event happens: it is appended, and so is the growth that is owed then
+pub record Happens (e : Event) (before after : Book) : Type 0 where
+  pub growth : List Event
+  pub owed : IsGrowthOwed before.tables (before.history ++ e ∷ []) growth
+  pub appends : AppendsAll (e ∷ growth) before after
+
+-- these events happen, one after the other
+abbrev pub AllHappen : List Event → (before after : Book) → Type 0
+AllHappen [] before after = after ≡ before
+AllHappen (e ∷ events) before after = (between : Book) × Happens e before between × AllHappen events between after

@@ -16,7 +16,7 @@ use Rattle.kpn_configuration.specs.Due.{stop_of}
 use Rattle.kpn_book.specs.declared.answers.Done.{Done}
 use Rattle.kpn_book.specs.declared.answers.Done.TheVariants as done
 use Rattle.kpn_book.specs.Book.{Book, IsHeld, standing_at, put_back, counted}
-use Rattle.kpn_book.specs.Appending.{AppendsAll}
+use Rattle.kpn_book.specs.Appending.{AppendsAll, IsGrowthOwed}
 
 -- ---- what a stop of process p asks for
 
@@ -75,18 +75,21 @@ pub record IsBlocked (b : Book) (p : ℕ) (s : Stop) (events : List Event) : Typ
   pub nothing : OwesNothing b.tables (b.history ++ wait ∷ [])
   pub appends : events ≡ wait ∷ []
 
--- it waits, and the growth of channel d, which is owed for this, follows at once
+-- it waits, and the growth of channel d, which is owed then for some process, follows at once
 pub record WaitsAndGrows (b : Book) (p : ℕ) (s : Stop) (d : ℕ) (events : List Event) : Type 0 where
   pub wait : Event
   pub waits : HasToWait b p s wait
-  pub owed : OwesGrowth b.tables (b.history ++ wait ∷ []) p d
-  pub appends : events ≡ wait ∷ event.Grow p d ∷ []
+  pub grower : ℕ
+  pub owed : OwesGrowth b.tables (b.history ++ wait ∷ []) grower d
+  pub appends : events ≡ wait ∷ event.Grow grower d ∷ []
 
--- it has ended
-pub record Ends (p : ℕ) (s : Stop) (events : List Event) : Type 0 where
+-- it has ended, and the growth that is owed then follows at once
+pub record Ends (b : Book) (p : ℕ) (s : Stop) (events : List Event) : Type 0 where
   pub how : How
   pub asks : s ≡ stop_of how
-  pub appends : events ≡ event.Ended p how ∷ []
+  pub growth : List Event
+  pub owed : IsGrowthOwed b.tables (b.history ++ event.Ended p how ∷ []) growth
+  pub appends : events ≡ event.Ended p how ∷ growth
 
 -- it has made as many steps as it was allowed
 pub record Pauses (s : Stop) (events : List Event) : Type 0 where
@@ -99,7 +102,7 @@ IsAnswer b p s (done.Got v) events = Gets b p s v events
 IsAnswer b p s done.Put events = Puts b p s events
 IsAnswer b p s done.Blocked events = IsBlocked b p s events
 IsAnswer b p s (done.Grew d) events = WaitsAndGrows b p s d events
-IsAnswer b p s done.Ended events = Ends p s events
+IsAnswer b p s done.Ended events = Ends b p s events
 IsAnswer b p s done.Paused events = Pauses s events
 
 -- ---- the book after a commit

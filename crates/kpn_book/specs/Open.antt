@@ -62,11 +62,21 @@ pub record EndsWithWait (H : List Event) (p : ℕ) : Type 0 where
   pub is : H ≡ before ++ wait ∷ []
   pub waits : waiter wait ≡ Some p
 
+-- the growth of channel d, which is owed for some process, is made
+pub record MakesGrowth (d : ℕ) (before after : Book) : Type 0 where
+  pub grower : ℕ
+  pub owed : OwesGrowth before.tables before.history grower d
+  pub appends : Appends (event.Grow grower d) before after
+
+-- the growth that is owed at a stop, if one is, is made: that of this channel
+abbrev pub grows_at_stop : Option ℕ → (before after : Book) → Type 0
+grows_at_stop None before after = OwesNothing before.tables before.history × (after ≡ before)
+grows_at_stop (Some d) before after = MakesGrowth d before after
+
 -- the growth that is owed for a wait of process p, if one is, is made
 abbrev pub grows_if_owed : (p : ℕ) → Done → (before after : Book) → Type 0
 grows_if_owed p done.Blocked before after = OwesNothing before.tables before.history × (after ≡ before)
-grows_if_owed p (done.Grew d) before after =
-    OwesGrowth before.tables before.history p d × Appends (event.Grow p d) before after
+grows_if_owed p (done.Grew d) before after = MakesGrowth d before after
 grows_if_owed p other before after = ⊥
 
 -- process p, which stands at this stop, is answered, and the events are appended
@@ -101,6 +111,12 @@ pub record Answered (p : ℕ) (asks : Stop → Type 0) (answer : Done) (before a
 -- the growth that is owed, if one is, is made, and the book is sound again
 pub record GrowsIfOwed (p : ℕ) (answer : Done) (before after : Book) : Type 0 where
   pub grows : grows_if_owed p answer before after
+  pub sound : IsSound after
+  pub held : held_count after ≡ held_count before
+
+-- the growth that is owed at a stop, if one is, is made, and the book is sound again
+pub record GrowsAtStop (channel : Option ℕ) (before after : Book) : Type 0 where
+  pub grows : grows_at_stop channel before after
   pub sound : IsSound after
   pub held : held_count after ≡ held_count before
 

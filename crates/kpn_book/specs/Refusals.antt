@@ -9,7 +9,7 @@ use Rattle.kpn_configuration.specs.Configuration.{channel_in, closed_in}
 use Rattle.kpn_book.specs.declared.answers.Refused.{Refused}
 use Rattle.kpn_book.specs.declared.answers.Refused.TheVariants.{NotHeld, Stranger, NoMemory, NoSuchEnd, SourceClosed, Full, SinkLeft}
 use Rattle.kpn_book.specs.Book.{Book, IsHeld}
-use Rattle.kpn_book.specs.Appending.{Appends}
+use Rattle.kpn_book.specs.Appending.{Appends, Happens}
 use Rattle.kpn_book.specs.Commits.{IsOwnAdvance}
 
 -- ---- why
@@ -87,7 +87,7 @@ pub record Feeds (c : ℕ) (item : ℤ) (bound : ℕ) (before after : Book) : Ty
 -- a closed source stays as it is, and nothing is appended
 abbrev pub closes_by : (closed : Bool) → (c : ℕ) → (before after : Book) → Type 0
 closes_by true c before after = after ≡ before
-closes_by false c before after = Appends (event.Close c) before after
+closes_by false c before after = Happens (event.Close c) before after
 
 -- the source is closed, once
 pub record Closes (c : ℕ) (before after : Book) : Type 0 where
@@ -98,7 +98,7 @@ pub record Closes (c : ℕ) (before after : Book) : Type 0 where
 abbrev pub takes_item : (c : ℕ) → Option ℤ → (before after : Book) → Type 0
 takes_item c None before after = (unread (channel_in before.configuration c) ≡ []) × (after ≡ before)
 takes_item c (Some v) before after =
-    (next_item (channel_in before.configuration c) ≡ Some v) × Appends (event.Take c v) before after
+    (next_item (channel_in before.configuration c) ≡ Some v) × Happens (event.Take c v) before after
 
 -- what is taken from a sink that was not left
 pub record Takes (c : ℕ) (item : Option ℤ) (before after : Book) : Type 0 where
@@ -108,7 +108,7 @@ pub record Takes (c : ℕ) (item : Option ℤ) (before after : Book) : Type 0 wh
 -- a sink that was left stays as it is, and nothing is appended
 abbrev pub leaves_by : (left : Bool) → (c : ℕ) → (before after : Book) → Type 0
 leaves_by true c before after = after ≡ before
-leaves_by false c before after = Appends (event.Leave c) before after
+leaves_by false c before after = Happens (event.Leave c) before after
 
 -- the sink is left, once
 pub record Leaves (c : ℕ) (before after : Book) : Type 0 where

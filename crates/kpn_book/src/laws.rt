@@ -2,6 +2,8 @@
 ghost use Rattle.std.specs.Prelude.{◌≡◌, ◌≢◌, ℕ, ◌+◌, ◌<◌, ◌≤◌, false, List, [], ◌∷◌, ◌++◌, length, map, count_by, Some};
 ghost use Rattle.kpn_lang.specs.declared.talk.Said.{Said};
 ghost use Rattle.kpn_lang.specs.Alone.{alone};
+ghost use Rattle.kpn_net.specs.declared.tables.Policy.TheVariants.{All};
+ghost use Rattle.kpn_net.specs.declared.wait.Wait.TheVariants.{Full as FullOn};
 ghost use Rattle.kpn_net.specs.Tables.{instance_at, program_of};
 ghost use Rattle.kpn_net.specs.Process.{Family, at_channel};
 ghost use Rattle.kpn_net.specs.Iteration.{IsBelowLeast, IsLeast};
@@ -15,7 +17,7 @@ ghost use Rattle.kpn_trace.specs.declared.state.Counts.{Counts};
 ghost use Rattle.kpn_trace.specs.declared.state.Verdict.TheVariants.{Ended, Clogged, Jammed};
 ghost use Rattle.kpn_trace.specs.Channels.{written_on, read_on, fed, capacity_after};
 ghost use Rattle.kpn_trace.specs.Talks.{talk_of};
-ghost use Rattle.kpn_trace.specs.Waiting.{waits_of, HasFullCycle};
+ghost use Rattle.kpn_trace.specs.Waiting.{wait_of, waits_of, HasFullCycle};
 ghost use Rattle.kpn_trace.specs.Legal.{Legal, OwesGrowth};
 ghost use Rattle.kpn_trace.specs.Stops.{CanGrow, IsJammedAtLimit, WaitsForBlocked};
 ghost use Rattle.kpn_trace.specs.Ends.{WaitsOnFull, IsQuiet, IsSettled, IsVerdict};
@@ -59,12 +61,17 @@ pub fn the_history()
         → counts.full ≡ count_by is_full_wait (waits_of b.tables b.history) }
 {}
 
-/// Each growth took the smallest full channel of a blocked cycle, below the limit, at the moment when it was owed; and
-/// no blocked cycle with a full channel below the limit is left.
+/// Each growth took the smallest awaited full channel of a blocked cycle or of a settled network, below the limit, at
+/// the moment when it was owed. No blocked cycle with a full channel below the limit is left, and under the policy `all`
+/// no settled book has a process that waits on a full channel below the limit.
 pub fn growths()
     ensures owed { (b : Book) → IsBook b → (B rest : List Event) (p d : ℕ)
         → b.history ≡ B ++ event.Grow p d ∷ rest → OwesGrowth b.tables B p d }
     ensures none_is_left { (b : Book) → IsBook b → ¬ CanGrow b.tables b.history }
+    ensures at_stop { (b : Book) → IsBook b → b.tables.policy ≡ All
+        → IsSettled b.tables b.history → (p c : ℕ) → p < length b.tables.instances
+        → wait_of b.tables b.history p ≡ FullOn c
+        → capacity_after b.tables b.history c ≡ Some b.tables.limit }
 {}
 
 /// Where each process stands: its frame goes on as the process does after what it has said. On lists that begin with

@@ -15,6 +15,7 @@ use kpn_trace::{History, State, Verdict};
 use std::alloc::Allocator;
 
 mod commits;
+mod outside;
 
 /// The network, the history so far, the configuration to which it leads, the schedule of the processes, and how many
 /// commits were made.

@@ -4,6 +4,8 @@ use Rattle.std.specs.Fmt.{decimal}
 use Rattle.std.specs.List.{AllByRecursion}
 use Rattle.kpn_net.specs.declared.tables.Growth.{Growth}
 use Rattle.kpn_net.specs.declared.tables.Growth.TheVariants as growth
+use Rattle.kpn_net.specs.declared.tables.Policy.{Policy}
+use Rattle.kpn_net.specs.declared.tables.Policy.TheVariants as policy
 use Rattle.kpn_tokens.specs.declared.tokens.Keyword.{Keyword}
 use Rattle.kpn_tokens.specs.declared.tokens.Keyword.TheVariants as keyword
 use Rattle.kpn_tokens.specs.declared.tokens.Mark.TheVariants as mark
@@ -11,12 +13,12 @@ use Rattle.kpn_tokens.specs.declared.tokens.Token.{Token}
 use Rattle.kpn_tokens.specs.declared.tokens.Token.TheVariants as token
 use Rattle.kpn_tokens.specs.Rules.{IsName}
 use Rattle.kpn_tokens.specs.Spelling.{keyword_bytes, keyword_of}
-use Rattle.kpn_grammar.specs.Words.{growth_word}
+use Rattle.kpn_grammar.specs.Words.{growth_word, policy_word}
 use Rattle.kpn_grammar.specs.Syntax.{Name, Literal, plain, negated, Instance, Item, channel, source, sink, instance, Network, Description}
-use Rattle.kpn_grammar.specs.Spelling.{spell_literal, spell_names, spell_values, spell_call, spell_item, spell_limit, spell_growth, spell_network, spell_process, spell_description}
+use Rattle.kpn_grammar.specs.Spelling.{spell_literal, spell_names, spell_values, spell_call, spell_item, spell_limit, spell_policy, spell_growth, spell_network, spell_process, spell_description}
 use Rattle.kpn_canonical.specs.Laws.{EndsWord}
 use Rattle.kpn_canonical.specs.Proper.{AreNames, IsProperLiteral, IsProperInstance, IsProperItem, IsProperLimit, IsProperNetwork, IsProperProcess, IsProper}
-use Rattle.kpn_canonical.specs.Text.{literal_text, list_text, outs_text, values_text, call_text, item_text, limit_text, growth_text, network_text, process_text, description_text}
+use Rattle.kpn_canonical.specs.Text.{literal_text, list_text, outs_text, values_text, call_text, item_text, limit_text, policy_text, growth_text, network_text, process_text, description_text}
 use Rattle.kpn_canonical.proofs.TokenLemmas.{IsReadAs, nothing_read, name_read, number_read, mark_read, keyword_read, space_read, indent_read}
 use Rattle.kpn_canonical.proofs.StatementLemmas.{end_read, open_read, close_read}
 use Rattle.kpn_canonical.proofs.ListLemmas.{all_read, list_read, names_read}
@@ -100,6 +102,22 @@ limit_read : (limit : Option ℕ) (more : List ℕ) (tokens : List Token) → Is
 limit_read None more tokens is h = h
 limit_read (Some n) more tokens is h = line_read _ _ (word_number_read keyword.Limit n more tokens is h)
 
+-- the word of a policy is a name
+policy_is_name : (q : Policy) → IsName (policy_word q)
+unfolding keyword_of
+policy_is_name policy.Cycles =
+    record { word = record { begins = refl; goes_on = refl }; short = lit≤ tt; free = refl }
+policy_is_name policy.All =
+    record { word = record { begins = refl; goes_on = refl }; short = lit≤ tt; free = refl }
+
+policy_read : (written : Option Policy) (more : List ℕ) (tokens : List Token) → IsReadAs more tokens
+    → IsReadAs (policy_text written more) (spell_policy written tokens)
+policy_read None more tokens h = h
+policy_read (Some q) more tokens h =
+    line_read _ _
+    (word_name_read keyword.Policy (policy_word q) (codes ";\n" ++ more) _ (policy_is_name q) refl
+    (end_read more tokens h))
+
 -- the word of a growth is a name
 growth_is_name : (g : Growth) → IsName (growth_word g)
 unfolding keyword_of
@@ -121,8 +139,8 @@ network_read : (n : Network) (more : List ℕ) (tokens : List Token) → IsPrope
 network_read n more tokens is h =
     let items =
     all_read item_text spell_item IsProperItem item_read n.items _ _ is.items (close_read 0 more tokens h) in
-    keyword_read keyword.Network _ _ refl
-    (open_read _ _ (limit_read n.limit _ _ is.limit (growth_read n.growth _ _ items)))
+    let policy = policy_read n.policy _ _ (growth_read n.growth _ _ items) in
+    keyword_read keyword.Network _ _ refl (open_read _ _ (limit_read n.limit _ _ is.limit policy))
 
 pub description_read : (d : Description) → IsProper d → IsReadAs (description_text d) (spell_description d)
 description_read d is =

@@ -2,6 +2,7 @@
 use Rattle.std.proofs.Common.{◌≡◌, ℕ, ◌<◌, ◌^◌, List, [], ◌∷◌, Option, Some, None, arith}
 use Rattle.std.specs.List.{AllByRecursion}
 use Rattle.kpn_net.specs.declared.tables.Growth.{Growth}
+use Rattle.kpn_net.specs.declared.tables.Policy.{Policy}
 use Rattle.kpn_tokens.specs.declared.tokens.Keyword.{Keyword}
 use Rattle.kpn_tokens.specs.declared.tokens.Keyword.TheVariants as keyword
 use Rattle.kpn_tokens.specs.declared.tokens.Token.{Token}
@@ -10,7 +11,7 @@ use Rattle.kpn_tokens.specs.Laws.{HasSpelling, tokens_of}
 use Rattle.kpn_tokens.specs.Rules.{IsName}
 use Rattle.kpn_tokens.proofs.WithoutPlaces.{read_spelled}
 use Rattle.kpn_grammar.specs.Syntax.{Name, Term, numeral, variable, minus, negation, binary, Statement, assign, receive, send, choice, loop, Statements, no_statements, statement, Process, Literal, plain, negated, Item, channel, source, sink, instance, Network, Description}
-use Rattle.kpn_grammar.specs.Spelling.{spell_term, spell_statement, spell_statements, spell_all, spell_further, spell_list, spell_name, spell_names, spell_part, spell_later_part, spell_parts, spell_process, spell_literal, spell_values, spell_item, spell_limit, spell_growth, spell_network, spell_description}
+use Rattle.kpn_grammar.specs.Spelling.{spell_term, spell_statement, spell_statements, spell_all, spell_further, spell_list, spell_name, spell_names, spell_part, spell_later_part, spell_parts, spell_process, spell_literal, spell_values, spell_item, spell_limit, spell_policy, spell_growth, spell_network, spell_description}
 use Rattle.kpn_canonical.specs.Proper.{IsProperTerm, IsProperStatement, AreProper, AreNames, IsProperProcess, IsProperLiteral, IsProperItem, IsProperLimit, IsProperNetwork, IsProper}
 
 -- each of the tokens can be spelled
@@ -186,6 +187,10 @@ limit_is : (limit : Option ℕ) (more : List Token) → AreSpelled (spell_limit 
 limit_is None more h = record { is = tt; rest = h }
 limit_is (Some n) more h = record { is = number_small n h.1.0; rest = h.1.1.1 }
 
+policy_is : (written : Option Policy) (more : List Token) → AreSpelled (spell_policy written more) → AreSpelled more
+policy_is None more h = h
+policy_is (Some q) more h = h.1.1.1
+
 growth_is : (written : Option Growth) (more : List Token) → AreSpelled (spell_growth written more) → AreSpelled more
 growth_is None more h = h
 growth_is (Some g) more h = h.1.1.1
@@ -193,7 +198,8 @@ growth_is (Some g) more h = h.1.1.1
 network_is : (n : Network) (more : List Token) → AreSpelled (spell_network n more) → And (IsProperNetwork n) more
 network_is n more h =
     let limit = limit_is n.limit _ h.1.1 in
-    let items = all_are spell_item IsProperItem item_is n.items _ (growth_is n.growth _ limit.rest) in
+    let growth = policy_is n.policy _ limit.rest in
+    let items = all_are spell_item IsProperItem item_is n.items _ (growth_is n.growth _ growth) in
     record { is = record { limit = limit.is; items = items.is }; rest = items.rest.1 }
 
 pub description_is : (text : List ℕ) (d : Description) → tokens_of text ≡ Some (spell_description d) → IsProper d

@@ -8,6 +8,8 @@ use Rattle.kpn_net.specs.declared.tables.ChannelSpec.{ChannelSpec}
 use Rattle.kpn_net.specs.declared.tables.ChannelSpec.TheVariants.{Inner, Source, Sink}
 use Rattle.kpn_net.specs.declared.tables.Growth.{Growth}
 use Rattle.kpn_net.specs.declared.tables.Growth.TheVariants as growth
+use Rattle.kpn_net.specs.declared.tables.Policy.{Policy}
+use Rattle.kpn_net.specs.declared.tables.Policy.TheVariants as policy
 use Rattle.kpn_net.specs.declared.tables.Instance as net
 use Rattle.kpn_net.specs.Tables.{Tables}
 use Rattle.kpn_grammar.specs.Syntax.{Name, Term, numeral, variable, minus, negation, binary, assign, receive, send, choice, loop, Statements, no_statements, statement, Process, Literal, plain, negated, Instance, Item, channel, source, sink, instance, Network, Description}
@@ -80,6 +82,11 @@ instance_named names x i = instance (call_named names x i)
 abbrev pub limit_named : ℕ → Option ℕ
 limit_named n = if nat_lt n MAX_CAPACITY then Some n else None
 
+-- the policy is written where it is another than the one that holds where none is written
+abbrev pub policy_named : Policy → Option Policy
+policy_named policy.Cycles = None
+policy_named policy.All = Some policy.All
+
 -- the growth is written where it is another than the one that holds where none is written
 abbrev pub growth_named : Growth → Option Growth
 growth_named growth.One = None
@@ -89,6 +96,7 @@ growth_named growth.Double = Some growth.Double
 abbrev pub network_named : NetworkNames → Tables → Network
 network_named names t = record {
   limit = limit_named t.limit;
+  policy = policy_named t.policy;
   growth = growth_named t.growth;
   items = paired channel_named names.channels t.channels ++ paired (instance_named names) names.instances t.instances;
 }

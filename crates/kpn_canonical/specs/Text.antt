@@ -3,12 +3,13 @@
 use Rattle.std.specs.Prelude.{ℕ, zero, suc, List, [], ◌∷◌, ◌++◌, codes, Option, Some, None}
 use Rattle.std.specs.Fmt.{decimal}
 use Rattle.kpn_net.specs.declared.tables.Growth.{Growth}
+use Rattle.kpn_net.specs.declared.tables.Policy.{Policy}
 use Rattle.kpn_tokens.specs.declared.tokens.Keyword.{Keyword}
 use Rattle.kpn_tokens.specs.declared.tokens.Keyword.TheVariants as keyword
 use Rattle.kpn_tokens.specs.Spelling.{keyword_bytes, mark_bytes}
 use Rattle.kpn_grammar.specs.Syntax.{Name, Term, numeral, variable, minus, negation, binary, Statement, assign, receive, send, choice, loop, Statements, no_statements, statement, Process, Literal, plain, negated, Instance, Item, channel, source, sink, instance, Network, Description}
 use Rattle.kpn_grammar.specs.Operators.{operator_mark}
-use Rattle.kpn_grammar.specs.Words.{growth_word}
+use Rattle.kpn_grammar.specs.Words.{growth_word, policy_word}
 
 -- ---- expressions and statements
 
@@ -137,6 +138,11 @@ abbrev pub limit_text : Option ℕ → List ℕ → List ℕ
 limit_text None more = more
 limit_text (Some n) more = codes "  limit " ++ (decimal n ++ (codes ";\n" ++ more))
 
+-- the policy on a line of its own, where there is one
+abbrev pub policy_text : Option Policy → List ℕ → List ℕ
+policy_text None more = more
+policy_text (Some q) more = codes "  policy " ++ (policy_word q ++ (codes ";\n" ++ more))
+
 -- the growth on a line of its own, where there is one
 abbrev pub growth_text : Option Growth → List ℕ → List ℕ
 growth_text None more = more
@@ -146,7 +152,8 @@ growth_text (Some g) more = codes "  grow " ++ (growth_word g ++ (codes ";\n" ++
 abbrev pub network_text : Network → List ℕ → List ℕ
 network_text n more =
     codes "network {\n"
-    ++ limit_text n.limit (growth_text n.growth (all_text item_text n.items (codes "}\n" ++ more)))
+    ++ limit_text n.limit
+    (policy_text n.policy (growth_text n.growth (all_text item_text n.items (codes "}\n" ++ more))))
 
 -- ---- the whole
 

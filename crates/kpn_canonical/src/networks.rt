@@ -5,18 +5,18 @@ ghost use Rattle.std.specs.Fmt.{decimal};
 ghost use Rattle.kpn_net.specs.Tables.{channel_at, instance_at};
 ghost use Rattle.kpn_names.specs.Names.{name_at};
 ghost use Rattle.kpn_names.specs.NetworkNames.{AreNamed, paired};
-ghost use Rattle.kpn_canonical.specs.Named.{call_named, channel_named, description_named, growth_named, instance_named, limit_named, literal_named, network_named, process_named};
-ghost use Rattle.kpn_canonical.specs.Text.{all_text, call_text, description_text, growth_text, item_text, limit_text, name_text, names_text, network_text, outs_text, process_text, values_text};
+ghost use Rattle.kpn_canonical.specs.Named.{call_named, channel_named, description_named, growth_named, instance_named, limit_named, literal_named, network_named, policy_named, process_named};
+ghost use Rattle.kpn_canonical.specs.Text.{all_text, call_text, description_text, growth_text, item_text, limit_text, name_text, names_text, network_text, outs_text, policy_text, process_text, values_text};
 ghost use Rattle.kpn_canonical.specs.Writing.{Writes};
 
 use crate::pieces::{bytes, name, number};
 use crate::processes::process;
 use itoa::Buffer;
-use kpn_grammar::growth_word;
+use kpn_grammar::{growth_word, policy_word};
 use kpn_lang::Sequence;
 use kpn_limits::MAX_CAPACITY;
 use kpn_names::{NetworkNames, ProcessNames};
-use kpn_net::{ChannelSpec, End, Growth, Network};
+use kpn_net::{ChannelSpec, End, Growth, Network, Policy};
 use std::alloc::{AllocError, Global};
 
 /// The canonical text of a network with these names.
@@ -67,9 +67,11 @@ fn processes(out: &mut Vec<u8>, network: &Network, names: &[ProcessNames]) -> Re
 fn settings(out: &mut Vec<u8>, network: &Network) -> Result<(), AllocError>
     ensures { OnOk result (Writes out.old.items out.new.items (λ more.
         limit_text (limit_named network.now.limit)
-        (growth_text (growth_named network.now.growth) more))) }
+        (policy_text (policy_named network.now.policy)
+        (growth_text (growth_named network.now.growth) more)))) }
 {
     limit(out, network.limit())?;
+    policy(out, network.policy())?;
     growth(out, network.growth())
 }
 
@@ -82,6 +84,25 @@ fn limit(out: &mut Vec<u8>, limit: u32) -> Result<(), AllocError>
     }
     bytes(out, b"  limit ")?;
     natural(out, limit)?;
+    bytes(out, b";\n")
+}
+
+/// The line of the policy, where it is another than the one that holds where none is written.
+fn policy(out: &mut Vec<u8>, policy: Policy) -> Result<(), AllocError>
+    ensures { OnOk result (Writes out.old.items out.new.items (policy_text (policy_named policy))) }
+{
+    match policy {
+        Policy::Cycles => Ok(()),
+        Policy::All => policy_line(out, policy),
+    }
+}
+
+/// The line of a policy.
+fn policy_line(out: &mut Vec<u8>, policy: Policy) -> Result<(), AllocError>
+    ensures { OnOk result (Writes out.old.items out.new.items (policy_text (Some policy))) }
+{
+    bytes(out, b"  policy ")?;
+    bytes(out, policy_word(policy))?;
     bytes(out, b";\n")
 }
 

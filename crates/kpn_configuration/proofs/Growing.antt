@@ -11,11 +11,11 @@ use Rattle.kpn_net.specs.declared.wait.Wait.{Wait}
 use Rattle.kpn_net.specs.declared.wait.Wait.TheVariants as wait
 use Rattle.kpn_net.specs.Tables.{Tables, channel_at, is_source, capacity, larger_capacity, writer_of}
 use Rattle.kpn_net.specs.Faults.{IsNetwork}
-use Rattle.kpn_net.specs.Waits.{wait_at, full_channel, AreWaits}
+use Rattle.kpn_net.specs.Waits.{wait_at, full_channel, IsOwnWait, AreWaits}
 use Rattle.kpn_net.specs.Finding.{Finds}
 use Rattle.kpn_net.proofs.Cycles.{full_at, cycle_below}
-use Rattle.kpn_net.proofs.Findings.{full_is_written, full_below, full_cycle_unique, finding_unique, finding_with_same_capacities}
-use Rattle.kpn_net.proofs.Networks.{Writes-writer_of, source_if_not_written, limit_in_range, larger_capacity_in_range}
+use Rattle.kpn_net.proofs.Findings.{full_cycle_unique, finding_unique, finding_with_same_capacities}
+use Rattle.kpn_net.proofs.Networks.{Writes, Writes-writer_of, Writes-below, source_if_not_written, limit_in_range, larger_capacity_in_range}
 use Rattle.kpn_cycle.specs.Scan.{cap_in}
 use Rattle.kpn_chan.specs.Channel.{opened, grown_to, MayGrowTo}
 use Rattle.kpn_limits.specs.declared.TheConstants.{MAX_CAPACITY}
@@ -24,16 +24,15 @@ use Rattle.kpn_trace.specs.declared.event.Event.TheVariants.{Grow}
 use Rattle.kpn_trace.specs.Channels.{after_growths, capacity_after, capacity_or_zero}
 use Rattle.kpn_trace.specs.AfterEvent.{capacity_then}
 use Rattle.kpn_trace.specs.Waiting.{wait_of, waits_of}
-use Rattle.kpn_trace.specs.Legal.{Legal, HasNumbers, OwesGrowth, waiter}
+use Rattle.kpn_trace.specs.Legal.{Legal, HasNumbers, OwesCycleGrowth, OwesGrowth, waiter}
 use Rattle.kpn_trace.proofs.Legality.{by_events, Legal-last}
 use Rattle.kpn_trace.proofs.Capacities.{capacity_after-next}
 use Rattle.kpn_trace.proofs.EarlierWaits.{wait_at-waits_of}
-use Rattle.kpn_trace.proofs.Growth.{one_owed}
-use Rattle.kpn_trace.proofs.OwedGrowth.{owed_as_found}
+use Rattle.kpn_trace.proofs.OwedGrowth.{one_owed, owed_as_found}
 use Rattle.kpn_trace.proofs.OneMore.{Legal-exactly}
 use Rattle.kpn_configuration.specs.Configuration.{Configuration, channel_in, IsConfiguration, capacities}
 use Rattle.kpn_configuration.specs.Run.{IsRun}
-use Rattle.kpn_configuration.specs.Owed.{IsOwed, channel_to_grow}
+use Rattle.kpn_configuration.specs.Owed.{IsOwed, IsAwaitedBelowLimit, channel_to_grow}
 use Rattle.kpn_configuration.specs.Woken.{is_wait, woken_at}
 use Rattle.kpn_configuration.proofs.Parts.{or-false, keeps_reader, wakes-grow}
 use Rattle.kpn_configuration.proofs.Calls.{Made, made_on}
@@ -124,7 +123,7 @@ module _ (t : Tables) (network : IsNetwork t) (H : List Event) (s : Configuratio
 
 module _ (t : Tables) (network : IsNetwork t) (B : List Event) (e : Event) (p : ℕ) (last : waiter e ≡ Some p)
     (s : Configuration) (run : IsRun t (B ++ e ∷ []) s) where
-  pub owed_by_history : (d : ℕ) → IsOwed t s p d ↔ OwesGrowth t (B ++ e ∷ []) p d
+  pub owed_by_history : (d : ℕ) → IsOwed t s p d ↔ OwesCycleGrowth t (B ++ e ∷ []) p d
   owed_by_history d = (
     λ owed.
         (owed_as_found t B e p last (Full d) (finds_same t network (B ++ e ∷ []) s run p (Full d) owed.smallest) d).1
@@ -145,17 +144,34 @@ both h k = (λ p. k.0 (h.0 p), λ r. h.1 (k.1 r))
 
 -- ---- the channel made larger
 
+pub full_wait : (w : Wait) (d : ℕ) → full_channel w ≡ Some d → w ≡ wait.Full d
+full_wait wait.Nobody d is = absurd cc
+full_wait (wait.Empty c) d is = absurd cc
+full_wait (wait.Full c) d is = let same : c ≡ d = cc in ap wait.Full same
+
+-- the channel of a growth that is owed for a cycle is waited on by a member of the cycle
+pub awaited_in_cycle : (t : Tables) (s : Configuration) (p d : ℕ) → IsOwed t s p d → IsAwaitedBelowLimit t s d
+awaited_in_cycle t s p d owed =
+    let at = full_at s.waits (p ∷ owed.smallest.others) d owed.smallest.smallest.among in
+    record {
+      process = at.member;
+      there = cycle_below t s.waits p owed.smallest.others owed.smallest.cycle at.member at.among;
+      waits = full_wait (wait_at s.waits at.member) d at.full;
+      below_limit = owed.below_limit;
+    }
+
 module _ (t : Tables) (network : IsNetwork t) (s : Configuration) (shape : IsConfiguration t s) (p d : ℕ)
-    (owed : IsOwed t s p d) where
+    (owed : IsAwaitedBelowLimit t s d) where
+  written : Writes t owed.process d
+  written =
+      Writes-writer_of t owed.process d
+      (subst (IsOwnWait t owed.process) owed.waits (shape.waits.own owed.process owed.there))
+
   pub owed_below : d < length t.channels
-  owed_below = full_below t s.waits network shape.waits (cap_in (capacities s)) p d owed.smallest
+  owed_below = Writes-below t network owed.process d written
 
   no_source : is_source (channel_at t d) ≡ false
-  no_source =
-      let written =
-      full_is_written t s.waits shape.waits p owed.smallest.others owed.smallest.cycle d
-      owed.smallest.smallest.among in
-      source_if_not_written t network written.0 d (Writes-writer_of t written.0 d written.1)
+  no_source = source_if_not_written t network owed.process d written
 
   owed_capacity : (channel_in s d).capacity ≡ Some (cap_in (capacities s) d)
   owed_capacity =
@@ -179,18 +195,9 @@ module _ (t : Tables) (network : IsNetwork t) (s : Configuration) (shape : IsCon
         omega arith,
       )
 
-  full_of : (w : Wait) → full_channel w ≡ Some d → w ≡ wait.Full d
-  full_of wait.Nobody is = absurd cc
-  full_of (wait.Empty c) is = absurd cc
-  full_of (wait.Full c) is = let same : c ≡ d = cc in ap wait.Full same
-
-  -- a process of the cycle waits on the channel as full, so that an item is reserved there
+  -- a process waits on the channel as full, so that an item is reserved there
   pub owed_is_reserved : IsTrue (channel_in s d).is_reserved
-  owed_is_reserved =
-      let at = full_at s.waits (p ∷ owed.smallest.others) d owed.smallest.smallest.among in
-      shape.reserved at.member d
-      (cycle_below t s.waits p owed.smallest.others owed.smallest.cycle at.member at.among) owed_below
-      (full_of (wait_at s.waits at.member) at.full)
+  owed_is_reserved = shape.reserved owed.process d owed.there owed_below owed.waits
 
   pub Made-grown : (r : Bool) → IsTrue r → (waits : List Wait)
       → waits ≡ woken_at (is_wait (wait.Full d)) s.waits (writer_of t d) → (after : Configuration)
@@ -230,7 +237,7 @@ module _ (t : Tables) (network : IsNetwork t) (s : Configuration) (shape : IsCon
           numbers = (there, owed_below);
           due = owes;
           growth = λ q e other. let same =
-              one_owed t H p d q e owes other in ap (λ x. Grow x d) same.0 ∙ ap (λ x. Grow q x) same.1;
+              one_owed t network H run.legal p d q e owes other in ap (λ x. Grow x d) same.0 ∙ ap (λ x. Grow q x) same.1;
         },
         tt,
       )

@@ -14,6 +14,7 @@ pub mod Ports
 pub mod Reserving
 pub mod Running
 pub mod Settling
+pub mod StopGrowth
 pub mod Starting
 pub mod Talking
 pub mod Woken

@@ -2,10 +2,10 @@ pub mod Configuration
 pub mod Run
 pub mod Changes
 pub mod Due
-pub mod Owed
 pub mod Woken
 pub mod EndSoFar
 pub mod Quiet
 pub mod Settled
+pub mod Owed
 pub mod Stopped
 pub mod Determined

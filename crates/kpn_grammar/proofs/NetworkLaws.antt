@@ -8,15 +8,16 @@ use Rattle.kpn_tokens.specs.declared.tokens.Mark.TheVariants as mark_
 use Rattle.kpn_tokens.specs.declared.tokens.Keyword.{Keyword}
 use Rattle.kpn_tokens.specs.declared.tokens.Keyword.TheVariants as keyword_
 use Rattle.kpn_net.specs.declared.tables.Growth.{Growth}
+use Rattle.kpn_net.specs.declared.tables.Policy.{Policy}
 use Rattle.kpn_grammar.specs.declared.fault.GrammarFault.TheVariants as fault
 use Rattle.kpn_grammar.specs.declared.parser.Scope.{Scope}
 use Rattle.kpn_grammar.specs.Syntax.{Name, Literal, plain, negated, Instance, Item, channel, source, sink, instance, Network}
-use Rattle.kpn_grammar.specs.Words.{growth_word, growth_spelled}
-use Rattle.kpn_grammar.specs.Spelling.{kinds, spell_all, spell_further, spell_list, spell_names, spell_literal, spell_values, spell_call, spell_item, spell_setting, spell_number, spell_growth_word, spell_limit, spell_growth, spell_network}
+use Rattle.kpn_grammar.specs.Words.{growth_word, growth_spelled, policy_word, policy_spelled}
+use Rattle.kpn_grammar.specs.Spelling.{kinds, spell_all, spell_further, spell_list, spell_names, spell_literal, spell_values, spell_call, spell_item, spell_setting, spell_number, spell_policy_word, spell_growth_word, spell_limit, spell_policy, spell_growth, spell_network}
 use Rattle.kpn_tokens.specs.Results.{and_then}
 use Rattle.kpn_grammar.specs.TokenTests.{is_keyword, is_name}
-use Rattle.kpn_grammar.specs.Reading.{Read, first_is, mark, keyword, name, number, many, further, optional_names, goes_on, capacity, channel_behind, source_behind, sink_behind, literal_behind, literal, values, optional_values, call, instance_behind, item_behind, item, items, word_of, setting, limit, growth, network}
-use Rattle.kpn_grammar.proofs.Steps.{bind_ok, by_test, moved, no_value, front, next_takes, next_again, mark_takes, mark_again, keyword_takes, keyword_again, name_takes, name_again, number_takes, number_again, is_keyword_same, word_takes, word_again, growths_spelled}
+use Rattle.kpn_grammar.specs.Reading.{Read, first_is, mark, keyword, name, number, many, further, optional_names, goes_on, capacity, channel_behind, source_behind, sink_behind, literal_behind, literal, values, optional_values, call, instance_behind, item_behind, item, items, word_of, setting, limit, policy, growth, network}
+use Rattle.kpn_grammar.proofs.Steps.{bind_ok, by_test, moved, no_value, front, next_takes, next_again, mark_takes, mark_again, keyword_takes, keyword_again, name_takes, name_again, number_takes, number_again, is_keyword_same, word_takes, word_again, growths_spelled, policies_spelled}
 use Rattle.kpn_grammar.proofs.ManyLaws.{TakesOne, Reads, TakesSome, Begins, begins, first_begins, is_comma, one_shortens, many_takes, many_again, further_shortens, separated_takes, separated_again}
 use Rattle.kpn_grammar.proofs.HeadLaws.{close, semicolon, names_no_less, optional_names_takes, optional_names_again}
 
@@ -487,6 +488,15 @@ number_laws s = record {
   again = λ ls n more within h. number_again s ls n more h;
 }
 
+policy_word_laws : (s : Scope) → Reads spell_policy_word AnySetting (word_of policy_spelled s)
+policy_word_laws s = record {
+  takes = λ ls q rest h. record {
+    spelled = word_takes policy_spelled policy_word policies_spelled s ls q rest h;
+    within = tt;
+  };
+  again = λ ls q more within h. word_again policy_spelled policy_word policies_spelled s ls q more h;
+}
+
 growth_word_laws : (s : Scope) → Reads spell_growth_word AnySetting (word_of growth_spelled s)
 growth_word_laws s = record {
   takes = λ ls g rest h. record {
@@ -507,6 +517,19 @@ limit_again : (s : Scope) (n : Option ℕ) (ls : List Lexeme) (more : List Token
 unfolding limit
 limit_again s n ls more ends h = setting_again keyword_.Limit spell_number number s (number_laws s) n ls more ends h
 
+policy_takes : (s : Scope) (ls : List Lexeme) (q : Option Policy) (rest : List Lexeme) → policy s ls ≡ Ok (q, rest)
+    → kinds ls ≡ spell_policy q (kinds rest)
+unfolding policy
+policy_takes s ls q rest h =
+    setting_takes keyword_.Policy spell_policy_word (word_of policy_spelled) s (policy_word_laws s) ls q rest h
+
+policy_again : (s : Scope) (q : Option Policy) (ls : List Lexeme) (more : List Token)
+    → begins (is_keyword keyword_.Policy) more ≡ false → kinds ls ≡ spell_policy q more
+    → (rest : List Lexeme) × (policy s ls ≡ Ok (q, rest)) × (kinds rest ≡ more)
+unfolding policy
+policy_again s q ls more ends h =
+    setting_again keyword_.Policy spell_policy_word (word_of policy_spelled) s (policy_word_laws s) q ls more ends h
+
 growth_takes : (s : Scope) (ls : List Lexeme) (g : Option Growth) (rest : List Lexeme) → growth s ls ≡ Ok (g, rest)
     → kinds ls ≡ spell_growth g (kinds rest)
 unfolding growth
@@ -522,12 +545,14 @@ growth_again s g ls more ends h =
 
 -- ---- the network
 
-network_spelled : (n : Network) (ls a b c d e : List Lexeme) (more : List Token)
+network_spelled : (n : Network) (ls a b c d e f : List Lexeme) (more : List Token)
     → kinds ls ≡ token.Keyword keyword_.Network ∷ kinds a → kinds a ≡ token.Mark mark_.LeftBrace ∷ kinds b
-    → kinds b ≡ spell_limit n.limit (kinds c) → kinds c ≡ spell_growth n.growth (kinds d)
-    → kinds d ≡ spell_all spell_item n.items (kinds e) → kinds e ≡ token.Mark mark_.RightBrace ∷ more
+    → kinds b ≡ spell_limit n.limit (kinds c) → kinds c ≡ spell_policy n.policy (kinds d)
+    → kinds d ≡ spell_growth n.growth (kinds e)
+    → kinds e ≡ spell_all spell_item n.items (kinds f) → kinds f ≡ token.Mark mark_.RightBrace ∷ more
     → kinds ls ≡ spell_network n more
-network_spelled n ls a b c d e more word opens top grows found shuts = rw (word, opens, top, grows, found, shuts) refl
+network_spelled n ls a b c d e f more word opens top by grows found shuts =
+    rw (word, opens, top, by, grows, found, shuts) refl
 
 pub network_takes : (s : Scope) (ls : List Lexeme) (n : Network) (rest : List Lexeme) → network s ls ≡ Ok (n, rest)
     → kinds ls ≡ spell_network n (kinds rest)
@@ -536,16 +561,18 @@ network_takes s ls n rest h =
     let w = bind_ok _ _ _ h in
     let o = bind_ok _ _ _ w.2 in
     let l = bind_ok _ _ _ o.2 in
-    let g = bind_ok _ _ _ l.2 in
+    let q = bind_ok _ _ _ l.2 in
+    let g = bind_ok _ _ _ q.2 in
     let f = bind_ok _ _ _ g.2 in
     let c = bind_ok _ _ _ f.2 in
     let found = many_takes goes_on spell_item AnyItem (item s) item_shape (item_laws s) 0 (length g.0.1) g.0.1 f.0.0
     f.0.1 f.1 in
-    let net : Network = record { limit = l.0.0; growth = g.0.0; items = f.0.0 } in
+    let net : Network = record { limit = l.0.0; policy = q.0.0; growth = g.0.0; items = f.0.0 } in
     moved (λ (p : Network × List Lexeme). kinds ls ≡ spell_network p.0 (kinds p.1)) (net, c.0) (n, rest) c.2
-    (network_spelled net ls w.0 o.0 l.0.1 g.0.1 f.0.1 (kinds c.0) (keyword_takes s keyword_.Network ls w.0 w.1)
+    (network_spelled net ls w.0 o.0 l.0.1 q.0.1 g.0.1 f.0.1 (kinds c.0) (keyword_takes s keyword_.Network ls w.0 w.1)
     (mark_takes s mark_.LeftBrace w.0 o.0 o.1) (limit_takes s o.0 l.0.0 l.0.1 l.1)
-    (growth_takes s l.0.1 g.0.0 g.0.1 g.1) found.spelled (mark_takes s mark_.RightBrace f.0.1 c.0 c.1))
+    (policy_takes s l.0.1 q.0.0 q.0.1 q.1) (growth_takes s q.0.1 g.0.0 g.0.1 g.1) found.spelled
+    (mark_takes s mark_.RightBrace f.0.1 c.0 c.1))
 
 -- neither an item nor the closing brace begins with a word of this kind
 record NoItemBegins (goes : Token → Bool) : Type 0 where
@@ -567,21 +594,28 @@ items_no_limit : NoItemBegins (is_keyword keyword_.Limit)
 items_no_limit =
     record { at_channel = refl; at_source = refl; at_sink = refl; at_instance = λ x. refl; at_brace = refl }
 
+items_no_policy : NoItemBegins (is_keyword keyword_.Policy)
+items_no_policy =
+    record { at_channel = refl; at_source = refl; at_sink = refl; at_instance = λ x. refl; at_brace = refl }
+
 items_no_growth : NoItemBegins (is_keyword keyword_.Grow)
 items_no_growth =
     record { at_channel = refl; at_source = refl; at_sink = refl; at_instance = λ x. refl; at_brace = refl }
 
-growth_no_limit : (g : Option Growth) (more : List Token) → begins (is_keyword keyword_.Limit) more ≡ false
-    → begins (is_keyword keyword_.Limit) (spell_growth g more) ≡ false
-growth_no_limit None more ends = ends
-growth_no_limit (Some g) more ends = refl
+-- a setting begins with no word but its own
+setting_begins : {A : Type 0} (goes : Token → Bool) (k : Keyword) (spell : A → List Token → List Token) (x : Option A)
+    (more : List Token) → goes (token.Keyword k) ≡ false → begins goes more ≡ false
+    → begins goes (spell_setting k spell x more) ≡ false
+setting_begins goes k spell None more other ends = ends
+setting_begins goes k spell (Some x) more other ends = other
 
-network_at : (s : Scope) (n : Network) (ls a b c d e rest : List Lexeme) → keyword s keyword_.Network ls ≡ Ok a
-    → mark s mark_.LeftBrace a ≡ Ok b → limit s b ≡ Ok (n.limit, c) → growth s c ≡ Ok (n.growth, d)
-    → many goes_on (item s) 0 (length d) d ≡ Ok (n.items, e)
-    → mark s mark_.RightBrace e ≡ Ok rest → network s ls ≡ Ok (n, rest)
+network_at : (s : Scope) (n : Network) (ls a b c d e f rest : List Lexeme) → keyword s keyword_.Network ls ≡ Ok a
+    → mark s mark_.LeftBrace a ≡ Ok b → limit s b ≡ Ok (n.limit, c) → policy s c ≡ Ok (n.policy, d)
+    → growth s d ≡ Ok (n.growth, e)
+    → many goes_on (item s) 0 (length e) e ≡ Ok (n.items, f)
+    → mark s mark_.RightBrace f ≡ Ok rest → network s ls ≡ Ok (n, rest)
 unfolding network items and_then
-network_at s n ls a b c d e rest w o l g f m = rw (w, o, l, g, f, m) refl
+network_at s n ls a b c d e f rest w o l q g i m = rw (w, o, l, q, g, i, m) refl
 
 pub network_again : (s : Scope) (n : Network) (ls : List Lexeme) (more : List Token) → kinds ls ≡ spell_network n more
     → (rest : List Lexeme) × (network s ls ≡ Ok (n, rest)) × (kinds rest ≡ more)
@@ -589,15 +623,22 @@ network_again s n ls more h =
     let ends = token.Mark mark_.RightBrace ∷ more in
     let at_items = spell_all spell_item n.items ends in
     let at_growth = spell_growth n.growth at_items in
-    let at_limit = spell_limit n.limit at_growth in
+    let at_policy = spell_policy n.policy at_growth in
+    let at_limit = spell_limit n.limit at_policy in
+    let no_growth = items_begin (is_keyword keyword_.Grow) items_no_growth n.items more in
+    let no_policy =
+    setting_begins (is_keyword keyword_.Policy) keyword_.Grow spell_growth_word n.growth at_items refl
+    (items_begin (is_keyword keyword_.Policy) items_no_policy n.items more) in
     let no_limit =
-    growth_no_limit n.growth at_items (items_begin (is_keyword keyword_.Limit) items_no_limit n.items more) in
+    setting_begins (is_keyword keyword_.Limit) keyword_.Policy spell_policy_word n.policy at_growth refl
+    (setting_begins (is_keyword keyword_.Limit) keyword_.Grow spell_growth_word n.growth at_items refl
+    (items_begin (is_keyword keyword_.Limit) items_no_limit n.items more)) in
     let w = keyword_again s keyword_.Network ls (token.Mark mark_.LeftBrace ∷ at_limit) h in
     let o = mark_again s mark_.LeftBrace w.0 at_limit w.2 in
-    let l = limit_again s n.limit o.0 at_growth no_limit o.2 in
-    let g =
-    growth_again s n.growth l.0 at_items (items_begin (is_keyword keyword_.Grow) items_no_growth n.items more) l.2 in
+    let l = limit_again s n.limit o.0 at_policy no_limit o.2 in
+    let q = policy_again s n.policy l.0 at_growth no_policy l.2 in
+    let g = growth_again s n.growth q.0 at_items no_growth q.2 in
     let f = many_again goes_on spell_item AnyItem (item s) item_shape (item_laws s) 0 (length g.0) g.0 n.items ends
     (omega arith) (any_items n.items) refl g.2 in
     let m = mark_again s mark_.RightBrace f.0 more f.2 in
-    (m.0, network_at s n ls w.0 o.0 l.0 g.0 f.0 m.0 w.1 o.1 l.1 g.1 f.1 m.1, m.2)
+    (m.0, network_at s n ls w.0 o.0 l.0 q.0 g.0 f.0 m.0 w.1 o.1 l.1 q.1 g.1 f.1 m.1, m.2)

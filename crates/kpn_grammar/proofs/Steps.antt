@@ -17,9 +17,11 @@ use Rattle.kpn_lang.specs.declared.syntax.Op.{Op}
 use Rattle.kpn_lang.specs.declared.syntax.Op.TheVariants as op
 use Rattle.kpn_net.specs.declared.tables.Growth.{Growth}
 use Rattle.kpn_net.specs.declared.tables.Growth.TheVariants as growth
+use Rattle.kpn_net.specs.declared.tables.Policy.{Policy}
+use Rattle.kpn_net.specs.declared.tables.Policy.TheVariants as policy
 use Rattle.kpn_grammar.specs.Syntax.{Name}
 use Rattle.kpn_grammar.specs.Operators.{operators, operator_mark, operator_of}
-use Rattle.kpn_grammar.specs.Words.{growth_word, growths, growth_spelled}
+use Rattle.kpn_grammar.specs.Words.{growth_word, growths, growth_spelled, policy_word, policies, policy_spelled}
 use Rattle.kpn_grammar.specs.Spelling.{kinds}
 use Rattle.kpn_tokens.specs.Results.{and_then, OkOr}
 use Rattle.kpn_grammar.specs.TokenTests.{same_mark, same_keyword, is_mark, is_keyword}
@@ -288,6 +290,19 @@ module _ {A : Type 0} (meant : Name → Option A) (spelled : A → Name) (table 
   word_again s ls x more h =
       let f = front ls (token.Name (spelled x)) more h in
       (f.rest, word_at s x ls f.lexeme f.rest f.whole f.kind, f.after)
+
+policy_found : (q : Policy) → policy_spelled (policy_word q) ≡ Some q
+unfolding policy_spelled
+policy_found policy.Cycles = refl
+policy_found policy.All = refl
+
+policy_back : (n : Name) (q : Policy) → policy_spelled n ≡ Some q → n ≡ policy_word q
+unfolding policy_spelled
+policy_back n q h =
+    sym ((bytes_eq-Decides (policy_word q) n).0 (find_passes (λ k. bytes_eq (policy_word k) n) policies q h))
+
+pub policies_spelled : Spells policy_spelled policy_word
+policies_spelled = record { back = policy_back; found = policy_found }
 
 growth_found : (g : Growth) → growth_spelled (growth_word g) ≡ Some g
 unfolding growth_spelled

@@ -17,8 +17,9 @@ use Rattle.kpn_grammar.specs.declared.fault.GrammarFault.TheVariants as fault
 use Rattle.kpn_grammar.specs.declared.parser.Scope.{Scope}
 use Rattle.kpn_grammar.specs.TokenTests.{is_mark, is_keyword, is_name}
 use Rattle.kpn_net.specs.declared.tables.Growth.{Growth}
+use Rattle.kpn_net.specs.declared.tables.Policy.{Policy}
 use Rattle.kpn_grammar.specs.Operators.{operator_of}
-use Rattle.kpn_grammar.specs.Words.{growth_spelled}
+use Rattle.kpn_grammar.specs.Words.{growth_spelled, policy_spelled}
 use Rattle.kpn_grammar.specs.Syntax.{Name, Term, numeral, variable, minus, negation, binary, Statement, assign, receive, send, choice, loop, Statements, statements_of, Process, Literal, plain, negated, Instance, Item, channel, source, sink, instance, Network, Description}
 
 -- what was read and the tokens after it, or the first fault
@@ -416,6 +417,10 @@ setting k one s ls =
 unfoldable pub limit : Scope → List Lexeme → Read (Option ℕ)
 limit = setting keyword_.Limit number
 
+-- the policy, where it is written
+unfoldable pub policy : Scope → List Lexeme → Read (Option Policy)
+policy = setting keyword_.Policy (word_of policy_spelled)
+
 -- the growth, where it is written
 unfoldable pub growth : Scope → List Lexeme → Read (Option Growth)
 growth = setting keyword_.Grow (word_of growth_spelled)
@@ -426,10 +431,11 @@ network s ls = do
   word ← keyword s keyword_.Network ls
   inside ← mark s mark_.LeftBrace word
   n ← limit s inside
-  g ← growth s n.1
+  q ← policy s n.1
+  g ← growth s q.1
   found ← items s g.1
   rest ← mark s mark_.RightBrace found.1
-  Ok (record { limit = n.0; growth = g.0; items = found.0 }, rest)
+  Ok (record { limit = n.0; policy = q.0; growth = g.0; items = found.0 }, rest)
 
 -- ---- the whole
 

@@ -10,8 +10,9 @@ use Rattle.kpn_tokens.specs.declared.tokens.Mark.TheVariants as mark
 use Rattle.kpn_tokens.specs.declared.tokens.Keyword.{Keyword}
 use Rattle.kpn_tokens.specs.declared.tokens.Keyword.TheVariants as keyword
 use Rattle.kpn_net.specs.declared.tables.Growth.{Growth}
+use Rattle.kpn_net.specs.declared.tables.Policy.{Policy}
 use Rattle.kpn_grammar.specs.Operators.{operator_mark}
-use Rattle.kpn_grammar.specs.Words.{growth_word}
+use Rattle.kpn_grammar.specs.Words.{growth_word, policy_word}
 use Rattle.kpn_grammar.specs.Syntax.{Name, Term, numeral, variable, minus, negation, binary, Statement, assign, receive, send, choice, loop, Statements, no_statements, statement, Process, Literal, plain, negated, Instance, Item, channel, source, sink, instance, Network, Description}
 
 -- the tokens of a text without their places
@@ -189,12 +190,19 @@ spell_setting word spell (Some x) more = token.Keyword word ∷ spell x (token.M
 abbrev pub spell_number : ℕ → List Token → List Token
 spell_number n more = token.Number n ∷ more
 
+abbrev pub spell_policy_word : Policy → List Token → List Token
+spell_policy_word q more = token.Name (policy_word q) ∷ more
+
 abbrev pub spell_growth_word : Growth → List Token → List Token
 spell_growth_word g more = token.Name (growth_word g) ∷ more
 
 -- limit 3;
 abbrev pub spell_limit : Option ℕ → List Token → List Token
 spell_limit = spell_setting keyword.Limit spell_number
+
+-- policy all;
+abbrev pub spell_policy : Option Policy → List Token → List Token
+spell_policy = spell_setting keyword.Policy spell_policy_word
 
 -- grow double;
 abbrev pub spell_growth : Option Growth → List Token → List Token
@@ -204,7 +212,9 @@ spell_growth = spell_setting keyword.Grow spell_growth_word
 abbrev pub spell_network : Network → List Token → List Token
 spell_network n more =
     token.Keyword keyword.Network ∷ token.Mark mark.LeftBrace
-    ∷ spell_limit n.limit (spell_growth n.growth (spell_all spell_item n.items (token.Mark mark.RightBrace ∷ more)))
+    ∷ spell_limit n.limit
+    (spell_policy n.policy
+    (spell_growth n.growth (spell_all spell_item n.items (token.Mark mark.RightBrace ∷ more))))
 
 -- ---- the whole
 

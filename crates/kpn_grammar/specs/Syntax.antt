@@ -3,6 +3,7 @@
 use Rattle.std.specs.Prelude.{ℕ, ℤ, pos, neg_ℤ, List, [], ◌∷◌, Option}
 use Rattle.kpn_lang.specs.declared.syntax.Op.{Op}
 use Rattle.kpn_net.specs.declared.tables.Growth.{Growth}
+use Rattle.kpn_net.specs.declared.tables.Policy.{Policy}
 
 -- a name, by its bytes
 abbrev pub Name : Type 0
@@ -69,9 +70,10 @@ pub data Item : Type 0 where
   sink : Name → ℕ → Item
   instance : Instance → Item
 
--- a network: its limit and its growth, each where it is written, and its items in order
+-- a network: its limit, its policy and its growth, each where it is written, and its items in order
 pub record Network : Type 0 where
   pub limit : Option ℕ
+  pub policy : Option Policy
   pub growth : Option Growth
   pub items : List Item
 

@@ -97,7 +97,7 @@ abbrev pub items_seen : List ItemCode → List Item
 items_seen is = map item_seen is
 
 abbrev pub network_seen : NetworkCode → Network
-network_seen n = record { limit = n.limit; growth = n.growth; items = items_seen n.items.items }
+network_seen n = record { limit = n.limit; policy = n.policy; growth = n.growth; items = items_seen n.items.items }
 
 abbrev pub document : DescriptionCode → Description
 document d = record { processes = processes_seen d.processes.items; network = network_seen d.network }

@@ -5,7 +5,22 @@ use Rattle.std.specs.List.{find}
 use Rattle.std.specs.Str.{bytes_eq}
 use Rattle.kpn_net.specs.declared.tables.Growth.{Growth}
 use Rattle.kpn_net.specs.declared.tables.Growth.TheVariants as growth
+use Rattle.kpn_net.specs.declared.tables.Policy.{Policy}
+use Rattle.kpn_net.specs.declared.tables.Policy.TheVariants as policy
 use Rattle.kpn_grammar.specs.Syntax.{Name}
+
+-- the word that stands for a policy
+abbrev pub policy_word : Policy → Name
+policy_word policy.Cycles = codes "cycles"
+policy_word policy.All = codes "all"
+
+-- every policy
+abbrev pub policies : List Policy
+policies = policy.Cycles ∷ policy.All ∷ []
+
+-- the policy that a word stands for, where it stands for one
+unfoldable pub policy_spelled : Name → Option Policy
+policy_spelled word = find (λ q. bytes_eq (policy_word q) word) policies
 
 -- the word that stands for a growth
 abbrev pub growth_word : Growth → Name

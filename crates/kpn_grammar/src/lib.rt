@@ -25,4 +25,4 @@ pub use tree::{
     Process, Statement,
 };
 pub use whole::description;
-pub use words::growth_word;
+pub use words::{growth_word, policy_word};

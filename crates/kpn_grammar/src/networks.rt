@@ -9,8 +9,8 @@ use crate::fault::GrammarFault;
 use crate::lists::{optional_names, optional_values};
 use crate::parser::{Read, Source, at_keyword, goes_on, keyword, mark, name, next, number};
 use crate::tree::{Identifier, Instance, Item, Network};
-use crate::words::growth_spelled;
-use kpn_net::Growth;
+use crate::words::{growth_spelled, policy_spelled};
+use kpn_net::{Growth, Policy};
 use kpn_tokens::{Keyword, Mark, Number, Token};
 use std::alloc::Global;
 
@@ -145,6 +145,36 @@ fn limit(source: Source<'_>, at: usize) -> Read<Option<Number>>
     Ok((Some(limit), at))
 }
 
+/// The word of a policy.
+#[tactic(auto, unfolding(crate::specs::Reading::word_of, kpn_tokens::specs::Results::and_then))]
+fn policy_word(source: Source<'_>, at: usize) -> Read<Policy>
+    ensures { Parses (λ q. q) (spec.word_of words.policy_spelled) source.entry at result }
+{
+    let (first, after) = next(source, at)?;
+    let spelled = match &first.token {
+        Token::Name(name) => policy_spelled(name.bytes()),
+        _ => None,
+    };
+    match spelled {
+        Some(policy) => Ok((policy, after)),
+        None => Err(GrammarFault::Grammar(first.start)),
+    }
+}
+
+/// The policy, where it is written.
+#[tactic(auto, unfolding(crate::specs::Reading::policy, crate::specs::Reading::setting, kpn_tokens::specs::Results::and_then))]
+fn policy(source: Source<'_>, at: usize) -> Read<Option<Policy>>
+    ensures { Parses (λ q. q) spec.policy source.entry at result }
+{
+    if !at_keyword(source, Keyword::Policy, at) {
+        return Ok((None, at));
+    }
+    let at = keyword(source, Keyword::Policy, at)?;
+    let (policy, at) = policy_word(source, at)?;
+    let at = mark(source, Mark::Semicolon, at)?;
+    Ok((Some(policy), at))
+}
+
 /// The word of a growth.
 #[tactic(auto, unfolding(crate::specs::Reading::word_of, kpn_tokens::specs::Results::and_then))]
 fn growth_word(source: Source<'_>, at: usize) -> Read<Growth>
@@ -183,11 +213,13 @@ pub(crate) fn network<'a>(alloc: Global, source: Source<'a>, at: usize) -> Read<
     let at = keyword(source, Keyword::Network, at)?;
     let at = mark(source, Mark::LeftBrace, at)?;
     let (limit, at) = limit(source, at)?;
+    let (policy, at) = policy(source, at)?;
     let (growth, at) = growth(source, at)?;
     let (items, at) = items(alloc, source, at)?;
     let at = mark(source, Mark::RightBrace, at)?;
     let network = Network {
         limit,
+        policy,
         growth,
         items,
     };

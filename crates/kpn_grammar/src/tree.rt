@@ -4,7 +4,7 @@
 ghost use Rattle.std.specs.Prelude.{◌≡◌};
 
 use kpn_lang::Op;
-use kpn_net::Growth;
+use kpn_net::{Growth, Policy};
 use kpn_tokens::{Name, Number};
 
 /// A name as written.
@@ -109,10 +109,11 @@ pub enum Item<'a> {
     Instance(Instance<'a>),
 }
 
-/// The network: its limit and its growth, each where it is written, and its items in order.
+/// The network: its limit, its policy and its growth, each where it is written, and its items in order.
 #[derive(Debug, Drop)]
 pub struct Network<'a> {
     pub limit: Option<Number>,
+    pub policy: Option<Policy>,
     pub growth: Option<Growth>,
     pub items: Vec<Item<'a>>,
 }

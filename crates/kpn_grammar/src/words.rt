@@ -3,10 +3,34 @@
 ghost use Rattle.std.specs.Prelude.{◌≡◌};
 ghost use Rattle.kpn_grammar.specs.Words as table;
 
-use kpn_net::Growth;
+use kpn_net::{Growth, Policy};
+
+/// Every policy.
+const POLICIES: [Policy; 2] = [Policy::Cycles, Policy::All];
 
 /// Every growth.
 const GROWTHS: [Growth; 2] = [Growth::One, Growth::Double];
+
+/// The word that stands for a policy behind `policy`.
+pub fn policy_word(policy: Policy) -> &'static [u8]
+    ensures { result.now ≡ table.policy_word policy }
+{
+    match policy {
+        Policy::Cycles => b"cycles",
+        Policy::All => b"all",
+    }
+}
+
+/// The policy that these bytes spell.
+#[tactic(auto, unfolding(crate::specs::Words::policy_spelled))]
+pub(crate) fn policy_spelled(word: &[u8]) -> Option<Policy>
+    ensures { result ≡ table.policy_spelled word.now }
+{
+    POLICIES
+        .iter()
+        .copied()
+        .find(|policy| policy_word(*policy) == word)
+}
 
 /// The word that stands for a growth behind `grow`.
 pub fn growth_word(growth: Growth) -> &'static [u8]

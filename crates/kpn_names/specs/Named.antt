@@ -70,6 +70,7 @@ named_with s p w = record {
         instances = w.instances;
         channels = w.channels;
         limit = s.limit;
+        policy = s.policy;
         growth = s.growth;
       };
   processes = p.names;

@@ -6,6 +6,8 @@ use Rattle.kpn_net.specs.declared.tables.ChannelSpec.{ChannelSpec}
 use Rattle.kpn_net.specs.declared.tables.ChannelSpec.TheVariants.{Inner, Source, Sink}
 use Rattle.kpn_net.specs.declared.tables.Growth.{Growth}
 use Rattle.kpn_net.specs.declared.tables.Growth.TheVariants as growth
+use Rattle.kpn_net.specs.declared.tables.Policy.{Policy}
+use Rattle.kpn_net.specs.declared.tables.Policy.TheVariants as policy
 use Rattle.kpn_net.specs.declared.tables.Instance.{Instance}
 use Rattle.kpn_grammar.specs.Syntax as grammar
 use Rattle.kpn_grammar.specs.Syntax.{Name, Item, channel, source, sink, instance, literal_value}
@@ -22,6 +24,11 @@ abbrev pub limit_of : Option ℕ → ℕ
 limit_of (Some n) = within_32_bits n
 limit_of None = MAX_CAPACITY
 
+-- the policy that is handed on: by cycles alone where none is written
+abbrev pub policy_of : Option Policy → Policy
+policy_of (Some q) = q
+policy_of None = policy.Cycles
+
 -- the growth that is handed on: by one where none is written
 abbrev pub growth_of : Option Growth → Growth
 growth_of (Some g) = g
@@ -30,11 +37,12 @@ growth_of None = growth.One
 -- the settings of a network
 pub record Settings : Type 0 where
   pub limit : ℕ
+  pub policy : Policy
   pub growth : Growth
 
 -- those that are handed on
 abbrev pub settings_of : grammar.Network → Settings
-settings_of n = record { limit = limit_of n.limit; growth = growth_of n.growth }
+settings_of n = record { limit = limit_of n.limit; policy = policy_of n.policy; growth = growth_of n.growth }
 
 -- the channel that an item declares: sources and sinks are channels
 abbrev pub channel_name : Item → Option Name

@@ -24,7 +24,7 @@ abbrev pub named_seen : NamedCode → Named
 named_seen n = record {
   tables =
       tables_with (map (λ q. q.parts) (map program_seen n.programs.items)) n.instances.items n.channels.items n.limit
-      n.growth;
+      n.policy n.growth;
   processes = n.processes;
   scopes = map (λ q. q.names) (map program_seen n.programs.items);
   instances = n.instance_names;

@@ -4,7 +4,7 @@ ghost use Rattle.std.specs.Prelude.{◌≡◌, IfOk};
 ghost use Rattle.kpn_grammar.specs.View.{document};
 ghost use Rattle.kpn_names.specs.Fault.{Gives};
 ghost use Rattle.kpn_names.specs.Named as spec;
-ghost use Rattle.kpn_names.specs.Network.{growth_of, limit_of};
+ghost use Rattle.kpn_names.specs.Network.{growth_of, limit_of, policy_of};
 ghost use Rattle.kpn_names.specs.View.{named_seen};
 
 use crate::fault::NameFault;
@@ -13,7 +13,7 @@ use crate::network::{Wiring, within_32_bits};
 use crate::process::{Processes, ProgramParts};
 use kpn_grammar::Description;
 use kpn_limits::MAX_CAPACITY;
-use kpn_net::{ChannelSpec, Growth, Instance};
+use kpn_net::{ChannelSpec, Growth, Instance, Policy};
 use kpn_tokens::Number;
 use std::alloc::Global;
 
@@ -36,6 +36,8 @@ pub struct Named<'a> {
     pub channels: Vec<ChannelSpec>,
     /// The greatest capacity that a channel may come to.
     pub limit: u32,
+    /// Which channels grow.
+    pub policy: Policy,
     /// How large a channel becomes where it grows.
     pub growth: Growth,
 }
@@ -47,6 +49,16 @@ fn limit(written: Option<Number>) -> u32
     match written {
         Some(number) => within_32_bits(number),
         None => MAX_CAPACITY,
+    }
+}
+
+/// The policy as it is written, or by cycles alone.
+fn policy(written: Option<Policy>) -> Policy
+    ensures { result ≡ policy_of written }
+{
+    match written {
+        Some(policy) => policy,
+        None => Policy::Cycles,
     }
 }
 
@@ -90,6 +102,7 @@ pub fn resolve<'a>(alloc: Global, description: &Description<'a>) -> Result<Named
         channel_names,
         channels,
         limit: limit(description.network.limit),
+        policy: policy(description.network.policy),
         growth: growth(description.network.growth),
     })
 }

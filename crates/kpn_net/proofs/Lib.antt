@@ -6,6 +6,7 @@ pub mod RoundLemmas
 pub mod Pairs
 pub mod Cycles
 pub mod WaitTables
+pub mod Awaited
 pub mod Findings
 pub mod PortsApart
 pub mod OwnIns

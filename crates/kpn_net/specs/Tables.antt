@@ -7,16 +7,18 @@ use Rattle.kpn_net.specs.declared.tables.ChannelSpec.TheVariants as channel
 use Rattle.kpn_net.specs.declared.tables.Instance.{Instance}
 use Rattle.kpn_net.specs.declared.tables.End.{End}
 use Rattle.kpn_net.specs.declared.tables.End.TheVariants.{Process, Source, Sink}
+use Rattle.kpn_net.specs.declared.tables.Policy.{Policy}
 use Rattle.kpn_net.specs.declared.tables.Growth.{Growth}
 use Rattle.kpn_net.specs.declared.tables.Growth.TheVariants.{One, Double}
 
--- the programs, the instances of them, which are the processes, the channels, the limit of each capacity, and how large
--- a channel becomes where it grows
+-- the programs, the instances of them, which are the processes, the channels, the limit of each capacity, which
+-- channels grow, and how large a channel becomes then
 pub record Tables : Type 0 where
   pub programs : List Parts
   pub instances : List Instance
   pub channels : List ChannelSpec
   pub limit : ℕ
+  pub policy : Policy
   pub growth : Growth
 
 -- ---- the tables by number

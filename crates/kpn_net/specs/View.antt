@@ -4,15 +4,23 @@ use Rattle.kpn_lang.specs.Parts.{Parts}
 use Rattle.kpn_net.specs.declared.tables.ChannelSpec.{ChannelSpec}
 use Rattle.kpn_net.specs.declared.tables.Instance.{Instance}
 use Rattle.kpn_net.specs.declared.tables.End.{End}
+use Rattle.kpn_net.specs.declared.tables.Policy.{Policy}
 use Rattle.kpn_net.specs.declared.tables.Growth.{Growth}
 use Rattle.kpn_net.specs.declared.network.parts.Parts as held
 use Rattle.kpn_net.specs.Tables.{Tables, writer_of, reader_of}
 use Rattle.kpn_net.specs.Faults.{IsNetwork, channel_numbers}
 
 -- the tables of the parts that are handed in
-abbrev pub tables_with : List Parts → List Instance → List ChannelSpec → (limit : ℕ) → Growth → Tables
-tables_with programs instances channels limit growth =
-    record { programs = programs; instances = instances; channels = channels; limit = limit; growth = growth }
+abbrev pub tables_with : List Parts → List Instance → List ChannelSpec → (limit : ℕ) → Policy → Growth → Tables
+tables_with programs instances channels limit policy growth =
+    record {
+      programs = programs;
+      instances = instances;
+      channels = channels;
+      limit = limit;
+      policy = policy;
+      growth = growth;
+    }
 
 -- ---- scaffolding
 
@@ -24,6 +32,7 @@ tables_of p =
       instances = p.instances.items;
       channels = p.channels.items;
       limit = p.limit;
+      policy = p.policy;
       growth = p.growth;
     }
 

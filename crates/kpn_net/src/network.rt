@@ -6,7 +6,7 @@ ghost use Rattle.kpn_net.specs.Iteration.{sources};
 ghost use Rattle.kpn_net.specs.View.{tables_with};
 
 use crate::fault::NetFault;
-use crate::tables::{ChannelSpec, End, Growth, Instance};
+use crate::tables::{ChannelSpec, End, Growth, Instance, Policy};
 use kpn_lang::Program;
 use kpn_limits::MAX_CHANNELS;
 use std::alloc::{AllocError, Global};
@@ -47,8 +47,8 @@ impl Model for Network {
 impl Network {
     /// The network of these tables.
     ///
-    /// `limit` bounds each capacity and is 1 to `MAX_CAPACITY`. `growth` says how large a channel becomes
-    /// where it grows. The fault is that of the first rule that the tables break, each looked for in the
+    /// `limit` bounds each capacity and is 1 to `MAX_CAPACITY`. `policy` says which channels grow,
+    /// `growth` how large. The fault is that of the first rule that the tables break, each looked for in the
     /// whole network before the next, at the least number. The order is that of `NetFault`. Memory is asked
     /// for last. The work grows no faster than the network's size.
     pub fn new(
@@ -57,13 +57,14 @@ impl Network {
         instances: Vec<Instance>,
         channels: Vec<ChannelSpec>,
         limit: u32,
+        policy: Policy,
         growth: Growth,
     ) -> Result<Network, NetFault>
-        ensures refused { let t =
-            tables_with programs.items instances.items channels.items limit growth in
+        ensures refused { let t = tables_with programs.items instances.items
+            channels.items limit policy growth in
             IfSome (first_fault t) (λ fault. result ≡ Err fault) }
-        ensures made { let t =
-            tables_with programs.items instances.items channels.items limit growth in
+        ensures made { let t = tables_with programs.items instances.items
+            channels.items limit policy growth in
             IfNone (first_fault t)
             (MatchResult result (λ network. network ≡ t) (λ fault. fault ≡ NetFault.NoMemory)) }
     {
@@ -72,6 +73,7 @@ impl Network {
             instances,
             channels,
             limit,
+            policy,
             growth,
         };
         if let Some(fault) = parts.instances_fault() {
@@ -224,6 +226,13 @@ impl Network {
         self.parts.limit
     }
 
+    /// Which channels grow.
+    pub fn policy(&self) -> Policy
+        ensures { result ≡ self.now.policy }
+    {
+        self.parts.policy
+    }
+
     /// How large a channel becomes where it grows.
     pub fn growth(&self) -> Growth
         ensures { result ≡ self.now.growth }
@@ -250,12 +259,13 @@ impl Network {
     }
 }
 
-/// Whether two networks are equal by value: the same programs, instances, channels, limit and growth.
+/// Whether two networks are equal by value: the same programs, instances, channels, limit, policy and growth.
 pub fn same(left: &Network, right: &Network) -> bool
     ensures { IsTrue result ↔ (left.now ≡ right.now) }
 {
     same_processes(&left.parts, &right.parts)
         && same_channels(&left.parts.channels, &right.parts.channels)
         && left.parts.limit == right.parts.limit
+        && left.parts.policy == right.parts.policy
         && left.parts.growth == right.parts.growth
 }

@@ -12,6 +12,15 @@ pub enum ChannelSpec {
     Sink(u32),
 }
 
+/// Which channels grow.
+#[derive(Clone, Copy, Debug, PartialEq, Eq)]
+pub enum Policy {
+    /// The smallest full channel of a cycle of waiting processes.
+    Cycles,
+    /// Such a channel, and, once the run has come to a stop, the smallest on which a process waits as full.
+    All,
+}
+
 /// How large a channel becomes where it grows.
 #[derive(Clone, Copy, Debug, PartialEq, Eq)]
 pub enum Growth {

@@ -3,13 +3,14 @@ use Rattle.std.proofs.Common.{◌≡◌, ℕ, ℤ, Option, Some, None, ap, ◌�
 use Rattle.kpn_book.specs.Book.{Book}
 use Rattle.kpn_book.specs.Kept.{IsBook}
 use Rattle.kpn_book.specs.Refusals.{Takes, takes_item}
+use Rattle.kpn_report.proofs.Happening.{happens_tables}
 use Rattle.kpn_report.proofs.Held.{held_after_take}
 use Rattle.kpn_parallel.specs.Ending.{KeepsHeld}
 
 tables_by : (c : ℕ) (item : Option ℤ) (before after : Book) → takes_item c item before after
     → after.tables ≡ before.tables
 tables_by c None before after same = ap (λ b. b.tables) same.1
-tables_by c (Some v) before after takes = takes.1.tables
+tables_by c (Some v) before after takes = happens_tables _ before after takes.1
 
 -- one call more
 pub keeps_on : (c : ℕ) (item : Option ℤ) (first before after : Book) → IsBook before → KeepsHeld first before

@@ -1,15 +1,16 @@
 -- The calls of the outside keep the network and the number of commits, and what they tell of the network.
-use Rattle.std.proofs.Common.{◌≡◌, ℕ, Bool, true, false, ℤ, List, ◌++◌, Option, Some, None, ap, sym, subst}
+use Rattle.std.proofs.Common.{◌≡◌, ℕ, Bool, true, false, ℤ, List, ◌∷◌, ◌++◌, Option, Some, None, ap, sym, subst}
 use Rattle.kpn_lang.specs.Prefix.{IsPrefix}
 use Rattle.kpn_lang.proofs.Prefixes.{IsPrefix-from_rest}
 use Rattle.kpn_net.specs.declared.tables.ChannelSpec.{ChannelSpec}
 use Rattle.kpn_net.specs.Tables.{Tables, channel_at, is_source, is_sink}
 use Rattle.kpn_trace.specs.declared.event.Event.{Event}
 use Rattle.kpn_book.specs.Book.{Book}
-use Rattle.kpn_book.specs.Appending.{Appends}
+use Rattle.kpn_book.specs.Appending.{Appends, Happens}
 use Rattle.kpn_book.specs.declared.answers.Refused.{Refused}
 use Rattle.kpn_book.specs.declared.answers.Refused.TheVariants.{NoMemory, NoSuchEnd, SourceClosed, Full, SinkLeft}
 use Rattle.kpn_book.specs.Refusals.{RefusesFeed, RefusesClose, RefusesTake, RefusesLeave, closes_by, takes_item, leaves_by}
+use Rattle.kpn_book.proofs.Appended.{commits_stay, tables_stay}
 use Rattle.kpn_pool.specs.OutsideSeats.{MayRefuseFeed, MayRefuseEnd, MayRefuseTake}
 
 -- the network and the number of commits are the same
@@ -23,17 +24,23 @@ stays before after same = record { tables = ap (λ b. b.tables) same; commits = 
 pub appends : (e : Event) (before after : Book) → Appends e before after → KeepsCount before after
 appends e before after h = record { tables = h.tables; commits = h.commits }
 
+happens : (e : Event) (before after : Book) → Happens e before after → KeepsCount before after
+happens e before after h = record {
+  tables = tables_stay (e ∷ h.growth) before after h.appends;
+  commits = commits_stay (e ∷ h.growth) before after h.appends;
+}
+
 pub closes : (closed : Bool) (c : ℕ) (before after : Book) → closes_by closed c before after → KeepsCount before after
 closes true c before after h = stays before after h
-closes false c before after h = appends _ before after h
+closes false c before after h = happens _ before after h
 
 pub takes : (c : ℕ) (item : Option ℤ) (before after : Book) → takes_item c item before after → KeepsCount before after
 takes c None before after h = stays before after h.1
-takes c (Some v) before after h = appends _ before after h.1
+takes c (Some v) before after h = happens _ before after h.1
 
 pub leaves : (left : Bool) (c : ℕ) (before after : Book) → leaves_by left c before after → KeepsCount before after
 leaves true c before after h = stays before after h
-leaves false c before after h = appends _ before after h
+leaves false c before after h = happens _ before after h
 
 -- ---- what a call tells of the network, whatever has happened
 

@@ -4,15 +4,16 @@ use Rattle.std.specs.Prelude.{slice_get}
 use Rattle.std.proofs.lemmas.Bool.{false≢true}
 use Rattle.std.proofs.lemmas.List.{append_assoc, map-append}
 use Rattle.std.proofs.lemmas.Option.{slice_get-get_or}
+use Rattle.kpn_net.specs.Tables.{Tables}
 use Rattle.kpn_net.proofs.Networks.{sink_there}
-use Rattle.kpn_chan.specs.Channel.{ChannelState, unread}
+use Rattle.kpn_chan.specs.Channel.{ChannelState, next_item, unread}
 use Rattle.kpn_chan.proofs.Reading.{given, drop-given}
 use Rattle.kpn_trace.specs.declared.event.Event.{Event}
 use Rattle.kpn_trace.specs.declared.event.Event.TheVariants as event
 use Rattle.kpn_trace.proofs.OneMore.{item_here}
 use Rattle.kpn_configuration.specs.Configuration.{channel_in}
 use Rattle.kpn_book.specs.Book.{Book}
-use Rattle.kpn_book.specs.Appending.{Appends, AppendsAll}
+use Rattle.kpn_book.specs.Appending.{Appends, AppendsAll, IsGrowthOwed, AllHappen}
 use Rattle.kpn_book.specs.Refusals.{Takes}
 use Rattle.kpn_pool.specs.Desk.{Desk}
 use Rattle.kpn_pool.specs.OutsideSeats.{EndSeat, with_item, with_taken, AreRecorded, FeedsUntil, TakesFirst}
@@ -23,13 +24,19 @@ appends_more : (es fs : List Event) (a b c : Book) → AppendsAll es a b → App
 appends_more [] fs a b c first rest = subst (λ x. AppendsAll fs x c) first rest
 appends_more (e ∷ es) fs a b c first rest = (first.0, first.1, appends_more es fs first.0 b c first.2 rest)
 
-events_more : (event_of : ℕ → ℤ → Event) (m n : ℕ) (xs ys : List ℤ) (a b c : Book) → n ≡ m
-    → AppendsAll (map (event_of m) xs) a b → AppendsAll (map (event_of n) ys) b c
-    → AppendsAll (map (event_of m) (xs ++ ys)) a c
-events_more event_of m n xs ys a b c same first rest =
-    subst (λ es. AppendsAll es a c) (sym (map-append (event_of m) xs ys))
-    (appends_more (map (event_of m) xs) (map (event_of m) ys) a b c first
-    (subst (λ k. AppendsAll (map (event_of k) ys) b c) same rest))
+happen_more : (es fs : List Event) (a b c : Book) → AllHappen es a b → AllHappen fs b c → AllHappen (es ++ fs) a c
+happen_more [] fs a b c first rest = subst (λ x. AllHappen fs x c) first rest
+happen_more (e ∷ es) fs a b c first rest = (first.0, first.1, happen_more es fs first.0 b c first.2 rest)
+
+-- the same of events that follow, where some and then more are all
+module _ (follow : List Event → Book → Book → Type 0)
+    (more : (es fs : List Event) (a b c : Book) → follow es a b → follow fs b c → follow (es ++ fs) a c) where
+  events_more : (event_of : ℕ → ℤ → Event) (m n : ℕ) (xs ys : List ℤ) (a b c : Book) → n ≡ m
+      → follow (map (event_of m) xs) a b → follow (map (event_of n) ys) b c → follow (map (event_of m) (xs ++ ys)) a c
+  events_more event_of m n xs ys a b c same first rest =
+      subst (λ es. follow es a c) (sym (map-append (event_of m) xs ys))
+      (more (map (event_of m) xs) (map (event_of m) ys) a b c first
+      (subst (λ k. follow (map (event_of k) ys) b c) same rest))
 
 items_more : (r s t : EndSeat) (xs ys : List ℤ) → s.items ≡ r.items ++ xs → t.items ≡ s.items ++ ys
     → t.items ≡ r.items ++ (xs ++ ys)
@@ -44,12 +51,13 @@ as_before P s t d e seat desk holds =
 
 -- one item more
 pub fed_then : (r s t : EndSeat) (a b c : Book) (v : ℤ) → s.channel ≡ r.channel → t ≡ with_item v s
-    → AreRecorded event.Feed r s a b → Appends (event.Feed s.channel v) b c → AreRecorded event.Feed r t a c
+    → AreRecorded AppendsAll event.Feed r s a b → Appends (event.Feed s.channel v) b c
+    → AreRecorded AppendsAll event.Feed r t a c
 fed_then r s t a b c v same is so_far feeds = record {
   more = so_far.more ++ v ∷ [];
   items = items_more r s t so_far.more (v ∷ []) so_far.items (ap (λ (e : EndSeat). e.items) is);
   events =
-      events_more event.Feed r.channel s.channel so_far.more (v ∷ []) a b c same so_far.events (c, feeds, refl);
+      events_more AppendsAll appends_more event.Feed r.channel s.channel so_far.more (v ∷ []) a b c same so_far.events (c, feeds, refl);
 }
 
 -- the next item is refused, for a cause that depends on the channel, the item and the book
@@ -67,20 +75,52 @@ fed_until items r s t k v refuses d e there is channel so_far seat desk refused 
 
 -- ---- what is taken
 
--- what is taken was the first unread item
-first_unread : (c : ℕ) (v : ℤ) (a b : Book) → Takes c (Some v) a b
+-- an item that is taken was the first unread one
+taken_first : (c : ℕ) (v : ℤ) (a b : Book) → c < length a.tables.channels
+    → next_item (channel_in a.configuration c) ≡ Some v → Appends (event.Take c v) a b
     → unread (channel_in a.configuration c) ≡ v ∷ unread (channel_in b.configuration c)
-first_unread c v a b takes =
+taken_first c v a b there next appends =
     let was : ChannelState = channel_in a.configuration c in
     let is : ChannelState = channel_in b.configuration c in
-    let after = takes.takes.1.configuration.channels c (sink_there a.tables c takes.sink.sink) in
+    let after = appends.configuration.channels c there in
     let one = ap length (item_here c v) in
     let read = after.read in
     let more : is.read ≡ was.read + 1 = omega arith in
     let journal : is.journal ≡ was.journal = after.journal ∙ append-nil was.journal in
-    drop-given was.journal was.read v (given was.is_retired (slice_get (unread was) 0) v takes.takes.0)
+    drop-given was.journal was.read v (given was.is_retired (slice_get (unread was) 0) v next)
     ∙ ap (λ xs. v ∷ xs)
     (ap (λ n. drop n was.journal) (sym more) ∙ ap (λ xs. drop is.read xs) (sym journal))
+
+-- a growth leaves what is unread as it is
+still_unread : (t : Tables) (H : List Event) (c : ℕ) (growth : List Event) (a b : Book) → IsGrowthOwed t H growth
+    → c < length a.tables.channels → AppendsAll growth a b
+    → unread (channel_in b.configuration c) ≡ unread (channel_in a.configuration c)
+still_unread t H c [] a b owed there none = ap (λ (x : Book). unread (channel_in x.configuration c)) none
+still_unread t H c (event.Grow p d ∷ []) a b owed there grows =
+    let was : ChannelState = channel_in a.configuration c in
+    let is : ChannelState = channel_in grows.0.configuration c in
+    let after = grows.1.configuration.channels c there in
+    let read = after.read in
+    let same : is.read ≡ was.read = omega arith in
+    let journal : is.journal ≡ was.journal = after.journal ∙ append-nil was.journal in
+    ap (λ (x : Book). unread (channel_in x.configuration c)) grows.2
+    ∙ ap (λ n. drop n is.journal) same ∙ ap (λ xs. drop was.read xs) journal
+still_unread t H c growth a b owed there grows = absurd owed
+
+-- what is taken was the first unread item
+first_unread : (c : ℕ) (v : ℤ) (a b : Book) → Takes c (Some v) a b
+    → unread (channel_in a.configuration c) ≡ v ∷ unread (channel_in b.configuration c)
+first_unread c v a b takes =
+    let there = sink_there a.tables c takes.sink.sink in
+    let happens = takes.takes.1 in
+    let between : Book = happens.appends.0 in
+    let first = happens.appends.1 in
+    let still_there : c < length between.tables.channels =
+    subst (λ (t : Tables). c < length t.channels) (sym first.tables) there in
+    let rest =
+    still_unread a.tables (a.history ++ event.Take c v ∷ []) c happens.growth between b happens.owed still_there
+    happens.appends.2 in
+    taken_first c v a between there takes.takes.0 first ∙ ap (λ xs. v ∷ xs) (sym rest)
 
 pub none_taken : (s : EndSeat) (b : Book) → TakesFirst s s b b
 none_taken s b = record {
@@ -113,7 +153,7 @@ taken_then r s t a b c first rest =
         more = first.recorded.more ++ rest.recorded.more;
         items = items_more r s t xs ys first.recorded.items rest.recorded.items;
         events =
-            events_more event.Take r.channel s.channel xs ys a b c first.channel first.recorded.events
+            events_more AllHappen happen_more event.Take r.channel s.channel xs ys a b c first.channel first.recorded.events
             rest.recorded.events;
       };
       first =

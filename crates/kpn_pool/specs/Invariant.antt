@@ -1,14 +1,16 @@
 -- What is promised of a run at each moment at which its lock is free.
 use Rattle.std.specs.Prelude.{◌≡◌, ℕ, ◌<◌, ◌≤◌, false, List, ◌∷◌, ◌++◌, length, count_by, Some}
+use Rattle.kpn_net.specs.declared.tables.Policy.TheVariants.{All}
+use Rattle.kpn_net.specs.declared.wait.Wait.TheVariants.{Full}
 use Rattle.kpn_net.specs.Iteration.{IsBelowLeast, IsLeast}
 use Rattle.kpn_chan.specs.Channel.{ChannelState, unread}
 use Rattle.kpn_trace.specs.declared.event.Event.{Event}
 use Rattle.kpn_trace.specs.declared.event.Event.TheVariants.{Grow}
 use Rattle.kpn_trace.specs.declared.state.Counts.{Counts}
-use Rattle.kpn_trace.specs.Channels.{read_on, fed}
-use Rattle.kpn_trace.specs.Waiting.{waits_of}
+use Rattle.kpn_trace.specs.Channels.{read_on, fed, capacity_after}
+use Rattle.kpn_trace.specs.Waiting.{wait_of, waits_of}
 use Rattle.kpn_trace.specs.Legal.{OwesGrowth}
-use Rattle.kpn_trace.specs.Ends.{IsQuiet}
+use Rattle.kpn_trace.specs.Ends.{IsQuiet, IsSettled}
 use Rattle.kpn_trace.specs.Stops.{CanGrow}
 use Rattle.kpn_configuration.specs.Configuration.{channel_in, is_empty_wait, is_full_wait}
 use Rattle.kpn_book.specs.Book.{Book}
@@ -37,7 +39,8 @@ pub record AreBlockedCounts (b : Book) (counts : Counts) : Type 0 where
   pub empty : counts.empty ≡ count_by is_empty_wait (waits_of b.tables b.history)
   pub full : counts.full ≡ count_by is_full_wait (waits_of b.tables b.history)
 
--- each growth took the smallest full channel of a blocked cycle, at the moment when this was owed
+-- each growth took the smallest awaited full channel of a blocked cycle or of a settled network, at the moment when this
+-- was owed
 abbrev pub AreOwedGrowths : Book → Type 0
 AreOwedGrowths b = (B rest : List Event) (p d : ℕ) → b.history ≡ B ++ Grow p d ∷ rest → OwesGrowth b.tables B p d
 
@@ -49,3 +52,8 @@ AreLeastWhenQuiet b = IsQuiet b.tables b.history → (c : ℕ) → c < length b.
 -- no blocked cycle has a full channel below the limit
 abbrev pub HasNoneLeftToGrow : Book → Type 0
 HasNoneLeftToGrow b = ¬ CanGrow b.tables b.history
+
+-- under the policy `all` no process waits on a full channel below the limit once the book is settled
+abbrev pub HasNoneLeftAtStop : Book → Type 0
+HasNoneLeftAtStop b = b.tables.policy ≡ All → IsSettled b.tables b.history → (p c : ℕ) → p < length b.tables.instances
+    → wait_of b.tables b.history p ≡ Full c → capacity_after b.tables b.history c ≡ Some b.tables.limit

@@ -10,7 +10,7 @@ use Rattle.kpn_trace.specs.declared.event.Event.{Event}
 use Rattle.kpn_trace.specs.declared.event.Event.TheVariants as event
 use Rattle.kpn_configuration.specs.Configuration.{channel_in}
 use Rattle.kpn_book.specs.Book.{Book}
-use Rattle.kpn_book.specs.Appending.{AppendsAll}
+use Rattle.kpn_book.specs.Appending.{AllHappen}
 use Rattle.kpn_pool.specs.declared.outside_calls.SnapFault.{SnapFault}
 use Rattle.kpn_pool.specs.declared.outside_calls.SnapFault.TheVariants as snap_fault
 use Rattle.kpn_pool.specs.declared.outside_calls.SnapFault.TheVariants.{Foreign}
@@ -43,12 +43,13 @@ with_taken (Some item) s = with_item item s
 
 -- ---- many items in one call
 
--- the items that the seat has more than before are recorded in the book, each by its event, in order, and nothing else
--- happens there
-pub record AreRecorded (event_of : ℕ → ℤ → Event) (before after : EndSeat) (b b_after : Book) : Type 0 where
+-- The items that the seat has more than before are recorded in the book, each by its event, in order. `follow` says that
+-- these events follow in the book: nothing else happens there, or nothing but the growths that are owed.
+pub record AreRecorded (follow : List Event → Book → Book → Type 0) (event_of : ℕ → ℤ → Event) (before after : EndSeat)
+    (b b_after : Book) : Type 0 where
   pub more : List ℤ
   pub items : after.items ≡ before.items ++ more
-  pub events : AppendsAll (map (event_of before.channel) more) b b_after
+  pub events : follow (map (event_of before.channel) more) b b_after
 
 -- the seat has the first ones of these items more than before, and the next one is refused
 pub record FeedsUntil (items : List ℤ) (before after : EndSeat) (refuses : ℤ → Type 0) : Type 0 where
@@ -66,7 +67,7 @@ pub record TakesMore (before after : EndSeat) : Type 0 where
 -- the items that the seat has more than before were the first unread ones of its sink
 pub record TakesFirst (before after : EndSeat) (b b_after : Book) : Type 0 where
   pub channel : after.channel ≡ before.channel
-  pub recorded : AreRecorded event.Take before after b b_after
+  pub recorded : AreRecorded AllHappen event.Take before after b b_after
   pub first : unread (channel_in b.configuration before.channel)
       ≡ recorded.more ++ unread (channel_in b_after.configuration before.channel)
 

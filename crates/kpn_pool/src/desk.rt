@@ -5,7 +5,7 @@ ghost use Rattle.kpn_trace.specs.Views.{Agrees, AreCounts};
 ghost use Rattle.kpn_book.specs.Kept.{IsBook};
 ghost use Rattle.kpn_pool.specs.Desk.{halted, IsReason};
 ghost use Rattle.kpn_book.specs.Snapshot.{ShowsARun, ShowsJournals, IsBelowKahn, IsKahnAtRest};
-ghost use Rattle.kpn_pool.specs.Invariant.{AreBelowLeast, AreReadThenQueued, AreWithinCapacity, AreBlockedCounts, AreOwedGrowths, AreLeastWhenQuiet, HasNoneLeftToGrow};
+ghost use Rattle.kpn_pool.specs.Invariant.{AreBelowLeast, AreReadThenQueued, AreWithinCapacity, AreBlockedCounts, AreOwedGrowths, AreLeastWhenQuiet, HasNoneLeftToGrow, HasNoneLeftAtStop};
 
 use crate::crew::Crew;
 use crate::job::Job;
@@ -70,9 +70,10 @@ impl<'n, J: Job, A: Allocator> Desk<'n, J, A> {
     /// Does nothing. It tells a caller's proof what holds whenever the lock is free: the book is one of the run's
     /// network, the ledger's total is the number of its commits, and each journal is a prefix of Kahn's least solution
     /// for the items fed so far, and is what was read followed by what is queued, within capacity; the counts of
-    /// blocked processes are exact; each growth took the smallest full channel of a blocked cycle; when every process
-    /// has ended or waits on an empty channel, the journals are that solution; and no blocked cycle has a full channel
-    /// below the limit.
+    /// blocked processes are exact; each growth took the smallest awaited full channel of a blocked cycle or of a settled
+    /// network; when every process has ended or waits on an empty channel, the journals are that solution; no blocked
+    /// cycle has a full channel below the limit; and under the policy `all` no process waits on one once the book is
+    /// settled.
     pub fn known(&self)
         ensures network { self.now.book.tables ≡ J.network }
         ensures book { IsBook self.now.book }
@@ -85,6 +86,7 @@ impl<'n, J: Job, A: Allocator> Desk<'n, J, A> {
         ensures growths { AreOwedGrowths self.now.book }
         ensures quiet { AreLeastWhenQuiet self.now.book }
         ensures none_left { HasNoneLeftToGrow self.now.book }
+        ensures at_stop { HasNoneLeftAtStop self.now.book }
     {
         journals();
         the_history();

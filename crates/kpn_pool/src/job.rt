@@ -1,6 +1,7 @@
 //! Which run the parts of a pool belong to, for contracts.
 ghost use Rattle.std.specs.Prelude.{[]};
 ghost use Rattle.kpn_net.specs.declared.tables.Growth.TheVariants.{One};
+ghost use Rattle.kpn_net.specs.declared.tables.Policy.TheVariants.{Cycles};
 ghost use Rattle.kpn_net.specs.Tables.{Tables};
 ghost use Rattle.kpn_net.specs.View.{tables_with};
 
@@ -17,5 +18,5 @@ pub trait Job: Ledger {
 }
 
 impl Job for Brand {
-    ghost network = { tables_with [] [] [] 0 One };
+    ghost network = { tables_with [] [] [] 0 Cycles One };
 }

@@ -5,6 +5,7 @@ ghost use Rattle.kpn_net.specs.Tables.{channel_at, is_source, is_sink};
 ghost use Rattle.kpn_chan.specs.Channel.{unread};
 ghost use Rattle.kpn_trace.specs.declared.event.Event.TheVariants as event;
 ghost use Rattle.kpn_configuration.specs.Configuration.{channel_in};
+ghost use Rattle.kpn_book.specs.Appending.{AppendsAll};
 ghost use Rattle.kpn_book.specs.Refusals.{RefusesFeed, RefusesClose, RefusesTake, RefusesLeave, Feeds, Closes, Takes, Leaves};
 ghost use Rattle.kpn_pool.specs.Desk.{with_book};
 ghost use Rattle.kpn_pool.specs.OutsideSeats.{with_item, with_taken, HaveTaken, new_end, AreRecorded, FeedsUntil, TakesFirst, MayRefuseFeed, MayRefuseEnd, MayRefuseTake};
@@ -96,7 +97,8 @@ impl<A: Allocator> SourceSeat<A> {
         ensures channel { self.new.channel ≡ self.old.channel }
         ensures fed { OnOk result (self.new.items ≡ self.old.items ++ items.now) }
         ensures before { IsPrefix self.old.items self.new.items }
-        ensures recorded { AreRecorded event.Feed self.old self.new desk.old.book desk.new.book }
+        ensures recorded { AreRecorded AppendsAll event.Feed
+            self.old self.new desk.old.book desk.new.book }
         ensures source { OnOk result (0 < length items.now
             → is_source (channel_at J.network self.old.channel) ≡ true) }
         ensures desk { desk.new ≡ with_book desk.new.book desk.old }

@@ -1,17 +1,21 @@
 -- Kahn's theorem on reports: they stand on legal histories alone.
-use Rattle.std.proofs.Common.{◌≡◌, ℕ, ◌<◌, ◌≤◌, ℤ, List, [], length, take, get_or, Some, sym, ap, ◌∙◌, subst, inl, inr, arith}
+use Rattle.std.proofs.Common.{◌≡◌, ℕ, ◌<◌, ◌≤◌, ◌⊎◌, ℤ, List, [], length, take, get_or, Some, sym, ap, ◌∙◌, subst, inl, inr, arith}
 use Rattle.std.proofs.lemmas.Bool.{cases_lt}
+use Rattle.kpn_net.specs.declared.tables.Policy.TheVariants.{All}
+use Rattle.kpn_net.specs.declared.wait.Wait.TheVariants.{Full}
 use Rattle.kpn_net.specs.Tables.{Tables}
 use Rattle.kpn_net.specs.Faults.{IsNetwork, channel_numbers}
 use Rattle.kpn_net.specs.Iteration.{iterate, given_by, lists_of, IsPrefixOnSources, AgreeOnSources, IsBelowLeast, IsLeast}
 use Rattle.kpn_net.proofs.RoundLemmas.{list_of}
 use Rattle.kpn_lang.specs.Prefix.{IsPrefix}
 use Rattle.kpn_trace.specs.declared.state.Verdict.TheVariants as verdict
-use Rattle.kpn_trace.specs.Channels.{written_on, read_on, fed}
+use Rattle.kpn_trace.specs.Channels.{written_on, read_on, fed, capacity_after}
+use Rattle.kpn_trace.specs.Waiting.{wait_of}
 use Rattle.kpn_trace.specs.Ends.{IsVerdict, IsQuiet, WaitsOnFull}
 use Rattle.kpn_trace.specs.Stops.{IsJammedAtLimit, WaitsForBlocked}
 use Rattle.kpn_trace.proofs.Below.{fed-source}
 use Rattle.kpn_trace.proofs.Kahn.{below_least, least_if_quiet_given, one_iterate, first_items}
+use Rattle.kpn_trace.proofs.OwedGrowth.{no_wait_left}
 use Rattle.kpn_trace.proofs.Stops.{quiet_where_ended, jammed_at_limit, waits_for_blocked}
 use Rattle.kpn_report.specs.declared.outcome.Limits.{Limits}
 use Rattle.kpn_report.specs.declared.outcome.Outcome.TheVariants.{Ended, Clogged, Jammed, Enough}
@@ -165,3 +169,14 @@ module _ (t : Tables) (network : IsNetwork t) (lists : List (List ℤ)) where
   clogged_means limits report is e =
       waits_for_blocked t network (events_of report) is.legal
       (subst (λ o. IsOutcome t (events_of report) report.commits limits (Some o)) e is.outcome).1.0
+
+  pub waits_at_limit : (limits : Limits) (report : Report) → IsReport t lists limits report
+      → (report.outcome ≡ Clogged) ⊎ (report.outcome ≡ Jammed) → t.policy ≡ All → (p c : ℕ) → p < length t.instances
+      → wait_of t (events_of report) p ≡ Full c → capacity_after t (events_of report) c ≡ Some t.limit
+  waits_at_limit limits report is outcome all p c there waits =
+      no_wait_left t network (events_of report) is.legal is.nothing_owed all
+      (elim outcome [
+        | inl e ↦ (subst (λ o. IsOutcome t (events_of report) report.commits limits (Some o)) e is.outcome).1.0
+        | inr e ↦ (subst (λ o. IsOutcome t (events_of report) report.commits limits (Some o)) e is.outcome).1.0
+      ])
+      p c there waits

@@ -1,6 +1,7 @@
 -- Nobody is held after a call but who was held before it.
-use Rattle.std.proofs.Common.{◌≡◌, ℕ, ◌+◌, ◌<◌, ◌⊎◌, Bool, true, false, cond, ℤ, List, [], ◌∷◌, length, set, get_or, Option, Some, None, refl, sym, ap, ◌∙◌, subst, inl, inr, arith}
+use Rattle.std.proofs.Common.{◌≡◌, ℕ, ◌+◌, ◌<◌, ◌⊎◌, Bool, true, false, cond, ℤ, List, [], ◌∷◌, ◌++◌, length, set, get_or, Option, Some, None, refl, sym, ap, ◌∙◌, subst, inl, inr, arith}
 use Rattle.std.specs.List.{Contains}
+use Rattle.std.proofs.lemmas.List.Elements.{Contains-append_cases}
 use Rattle.std.specs.Option.{option_to_list}
 use Rattle.std.proofs.lemmas.Bool.{cases_eq, ne_eqb, false≢true}
 use Rattle.std.proofs.lemmas.List.{length-set, get_or-set_same, get_or-set_other}
@@ -22,8 +23,8 @@ use Rattle.kpn_trace.specs.declared.event.Event.TheVariants as event
 use Rattle.kpn_trace.specs.declared.state.State.{State}
 use Rattle.kpn_trace.specs.declared.state.State.TheVariants.{Ready, Held, WaitsEmpty, WaitsFull, Ended}
 use Rattle.kpn_trace.specs.Views.{is_held}
-use Rattle.kpn_trace.specs.Waking.{wakes, wait_then}
-use Rattle.kpn_configuration.specs.Configuration.{wait_in, end_in}
+use Rattle.kpn_trace.specs.Waking.{wait_then}
+use Rattle.kpn_configuration.specs.Configuration.{Configuration, wait_in, end_in}
 use Rattle.kpn_configuration.specs.Woken.{is_wait_on_full, is_wait_on_empty, waiting_at, waiting_writer, waiting_reader}
 use Rattle.kpn_configuration.proofs.Waking.{woken_at_end}
 use Rattle.kpn_schedule.specs.Schedule.{Schedule, state_at, made_ready}
@@ -31,7 +32,7 @@ use Rattle.kpn_book.specs.declared.answers.Done.{Done}
 use Rattle.kpn_book.specs.declared.answers.Done.TheVariants as done
 use Rattle.kpn_book.specs.Book.{Book, held_count, standing_at, counted, IsClaimed}
 use Rattle.kpn_book.specs.Kept.{IsBook, IsStateBy}
-use Rattle.kpn_book.specs.Appending.{AppendsAll, all_made_ready, own_part, woken_by}
+use Rattle.kpn_book.specs.Appending.{AppendsAll, all_made_ready, own_part, woken_by, IsGrowthOwed, Happens}
 use Rattle.kpn_book.specs.Commits.{IsAnswer, ready_if_paused}
 use Rattle.kpn_book.specs.Refusals.{Feeds, Takes, takes_item}
 use Rattle.kpn_book.specs.Stepping.{StepsNext}
@@ -93,6 +94,18 @@ module _ (t : Tables) (waits : List Wait) where
         λ none. false≢true (sym (ap (is_wait_on_empty c) none) ∙ is.1),
       )
 
+all_made_ready-append : (ps qs : List ℕ) (s : Schedule)
+    → all_made_ready (ps ++ qs) s ≡ all_made_ready qs (all_made_ready ps s)
+all_made_ready-append [] qs s = refl
+all_made_ready-append (p ∷ ps) qs s = all_made_ready-append ps qs (made_ready p s)
+
+-- who waits after an event that makes nobody wait who was free waited before it
+waited_before : (t : Tables) (e : Event) (s after : Configuration) (q : ℕ)
+    → (q < length t.instances → wait_in after q ≡ wait_then t e q (wait_in s q)) → wait_then t e q Nobody ≡ Nobody
+    → Waits t after.waits q → Waits t s.waits q
+waited_before t e s after q then none waits =
+    (waits.0, λ free. waits.1 (then waits.0 ∙ ap (wait_then t e q) free ∙ none))
+
 -- ---- the outside
 
 module _ (before : Book) (book : IsBook before) where
@@ -113,6 +126,48 @@ module _ (before : Book) (book : IsBook before) where
       ∙ held_as_before (option_to_list (waiting_reader before.tables before.configuration.waits c)) before.schedule
       (λ q among. idle q (a_reader before.tables before.configuration.waits c q among))
 
+  -- an event of the outside, and the growth that is owed then
+  held_after_event : (e : Event) → own_part e before.schedule ≡ before.schedule
+      → ((q : ℕ) → wait_then before.tables e q Nobody ≡ Nobody)
+      → ((q : ℕ) → Contains (woken_by before.tables before.configuration.waits e) q
+      → Waits before.tables before.configuration.waits q) → (after : Book) → Happens e before after
+      → held_count after ≡ held_count before
+  held_after_event e own none each after is = by is.growth is.owed is.appends
+    where
+      by : (growth : List Event) → IsGrowthOwed before.tables (before.history ++ e ∷ []) growth
+          → AppendsAll (e ∷ growth) before after → held_count after ≡ held_count before
+      by [] owed h =
+          let woken = woken_by before.tables before.configuration.waits e in
+          ap held_count h.2 ∙ ap (λ s. held_in s.states) h.1.schedule
+          ∙ ap (λ s. held_in (all_made_ready woken s).states) own
+          ∙ held_as_before woken before.schedule (λ q among. idle q (each q among))
+      by (event.Grow r d ∷ []) owed h =
+          let woken = woken_by before.tables before.configuration.waits e in
+          let middle = h.0 in
+          let writer = option_to_list (waiting_writer middle.tables middle.configuration.waits d) in
+          ap held_count h.2.2
+          ∙ ap (λ s. held_in s.states)
+          (h.2.1.schedule
+          ∙ ap (all_made_ready writer) (h.1.schedule ∙ ap (all_made_ready woken) own)
+          ∙ sym (all_made_ready-append woken writer before.schedule))
+          ∙ held_as_before (woken ++ writer) before.schedule
+          (λ q among.
+          elim (Contains-append_cases woken writer q among) [
+            | inl first ↦ idle q (each q first)
+            | inr second ↦
+                idle q
+                (waited_before before.tables e before.configuration middle.configuration q
+                (λ there. h.1.configuration.waits q there) (none q)
+                (subst (λ t. Waits t middle.configuration.waits q) h.1.tables
+                (a_writer middle.tables middle.configuration.waits d q second)))
+          ])
+      by growth owed h = absurd owed
+
+  pub held_after_close : (c : ℕ) (after : Book) → Happens (event.Close c) before after
+      → held_count after ≡ held_count before
+  held_after_close c after is =
+      held_after_event (event.Close c) refl (λ q. refl) (λ q among. absurd (Contains-none q among)) after is
+
   pub held_after_take : (c : ℕ) (item : Option ℤ) (after : Book) → Takes c item before after
       → held_count after ≡ held_count before
   held_after_take c item after takes = by item takes.takes
@@ -120,9 +175,8 @@ module _ (before : Book) (book : IsBook before) where
       by : (item : Option ℤ) → takes_item c item before after → held_count after ≡ held_count before
       by None same = ap held_count same.1
       by (Some v) taken =
-          ap (λ s. held_in s.states) taken.1.schedule
-          ∙ held_as_before (option_to_list (waiting_writer before.tables before.configuration.waits c)) before.schedule
-          (λ q among. idle q (a_writer before.tables before.configuration.waits c q among))
+          held_after_event (event.Take c v) refl (λ q. refl)
+          (λ q among. a_writer before.tables before.configuration.waits c q among) after taken.1
 
 -- ---- a step
 
@@ -228,54 +282,47 @@ module _ (before : Book) (book : IsBook before) (p : ℕ) (between : Book) (clai
         ap held_count h.2 ∙ ap (λ s. held_in s.states) h.1.schedule
         ∙ released y new (woken_by between.tables between.configuration.waits e) each (own_part e between.schedule) own
 
-    -- a wait of p and the growth for it
-    by_two : (e : Event) (d : ℕ) (y : State) → is_held y ≡ false
-        → woken_by between.tables between.configuration.waits e ≡ []
-        → ((q : ℕ) → (q ≡ p → ⊥) → (w : Wait) → wait_then between.tables e q w ≡ w)
+    -- an event of p and a growth
+    by_two : (e : Event) (r d : ℕ) (y : State) → is_held y ≡ false
+        → ((q : ℕ) → Contains (woken_by between.tables between.configuration.waits e) q
+        → (q ≡ p) ⊎ Waits between.tables between.configuration.waits q)
+        → ((q : ℕ) → (q ≡ p → ⊥) → wait_then between.tables e q Nobody ≡ Nobody)
         → (own_part e between.schedule).states ≡ set between.schedule.states p y → (es : List Event)
-        → es ≡ e ∷ event.Grow p d ∷ [] → AppendsAll es (counted stood) after → held_count after ≡ held_count before
-    by_two e d y new none keeps own es same appends =
+        → es ≡ e ∷ event.Grow r d ∷ [] → AppendsAll es (counted stood) after → held_count after ≡ held_count before
+    by_two e r d y new each none own es same appends =
         let h = subst (λ es. AppendsAll es (counted stood) after) same appends in
         let middle = h.0 in
-        let states : middle.schedule.states ≡ set between.schedule.states p y =
-        ap (λ s. s.states) h.1.schedule
-        ∙ ap (λ ws. (all_made_ready ws (own_part e between.schedule)).states) none ∙ own in
-        ap held_count h.2.2 ∙ ap (λ s. held_in s.states) h.2.1.schedule
-        ∙ released y new (option_to_list (waiting_writer middle.tables middle.configuration.waits d))
+        let woken = woken_by between.tables between.configuration.waits e in
+        let writer = option_to_list (waiting_writer middle.tables middle.configuration.waits d) in
+        ap held_count h.2.2
+        ∙ ap (λ s. held_in s.states)
+        (h.2.1.schedule ∙ ap (all_made_ready writer) h.1.schedule
+        ∙ sym (all_made_ready-append woken writer (own_part e between.schedule)))
+        ∙ released y new (woken ++ writer)
         (λ q among.
-        let waits = a_writer middle.tables middle.configuration.waits d q among in
-        elim (cases_eq q p) [
-          | inl own ↦ inl own
-          | inr other ↦
-              let there : q < length between.tables.instances =
-              subst (λ t. q < length t.instances) h.1.tables waits.0 in
-              let kept : wait_at middle.configuration.waits q ≡ wait_at between.configuration.waits q =
-              h.1.configuration.waits q there ∙ keeps q other (wait_at between.configuration.waits q) in
-              inr (there, λ nobody. waits.1 (kept ∙ nobody))
+        elim (Contains-append_cases woken writer q among) [
+          | inl first ↦ each q first
+          | inr second ↦
+              elim (cases_eq q p) [
+                | inl own ↦ inl own
+                | inr other ↦
+                    inr
+                    (waited_before between.tables e between.configuration middle.configuration q
+                    (λ there. h.1.configuration.waits q there) (none q other)
+                    (subst (λ t. Waits t middle.configuration.waits q) h.1.tables
+                    (a_writer middle.tables middle.configuration.waits d q second)))
+              ]
         ])
-        middle.schedule states
+        (own_part e between.schedule) own
 
-    empty_wakes : (c : ℕ) (w : Wait) → wakes between.tables (event.WaitEmpty p c) w ≡ false
-    empty_wakes c Nobody = refl
-    empty_wakes c (Empty d) = refl
-    empty_wakes c (Full d) = refl
+    empty_keeps : (c q : ℕ) → (q ≡ p → ⊥) → wait_then between.tables (event.WaitEmpty p c) q Nobody ≡ Nobody
+    empty_keeps c q other = ap (λ b. cond b (Empty c) Nobody) (ne_eqb p q (λ same. other (sym same)))
 
-    full_wakes : (c : ℕ) (w : Wait) → wakes between.tables (event.WaitFull p c) w ≡ false
-    full_wakes c Nobody = refl
-    full_wakes c (Empty d) = refl
-    full_wakes c (Full d) = refl
+    full_keeps : (c q : ℕ) → (q ≡ p → ⊥) → wait_then between.tables (event.WaitFull p c) q Nobody ≡ Nobody
+    full_keeps c q other = ap (λ b. cond b (Full c) Nobody) (ne_eqb p q (λ same. other (sym same)))
 
-    empty_keeps : (c q : ℕ) → (q ≡ p → ⊥) → (w : Wait) → wait_then between.tables (event.WaitEmpty p c) q w ≡ w
-    empty_keeps c q other w =
-        ap (λ b. cond b (Empty c) (cond (wakes between.tables (event.WaitEmpty p c) w) Nobody w))
-        (ne_eqb p q (λ same. other (sym same)))
-        ∙ ap (λ b. cond b Nobody w) (empty_wakes c w)
-
-    full_keeps : (c q : ℕ) → (q ≡ p → ⊥) → (w : Wait) → wait_then between.tables (event.WaitFull p c) q w ≡ w
-    full_keeps c q other w =
-        ap (λ b. cond b (Full c) (cond (wakes between.tables (event.WaitFull p c) w) Nobody w))
-        (ne_eqb p q (λ same. other (sym same)))
-        ∙ ap (λ b. cond b Nobody w) (full_wakes c w)
+    end_keeps : (how : How) (q : ℕ) → (q ≡ p → ⊥) → wait_then between.tables (event.Ended p how) q Nobody ≡ Nobody
+    end_keeps how q other = ap (λ b. cond b Nobody Nobody) (ne_eqb p q (λ same. other (sym same)))
 
     process_there : p < length between.tables.instances
     process_there =
@@ -312,14 +359,26 @@ module _ (before : Book) (book : IsBook before) (p : ℕ) (between : Book) (clai
     held_by_answer s (done.Grew d) es grew appends =
         elim grew.waits [
           | inl empty ↦
-              by_two (event.WaitEmpty p empty.channel) d (WaitsEmpty empty.channel) refl refl
-              (empty_keeps empty.channel) refl es (grew.appends ∙ ap (λ e. e ∷ event.Grow p d ∷ []) empty.is) appends
+              by_two (event.WaitEmpty p empty.channel) grew.grower d (WaitsEmpty empty.channel) refl nobody
+              (empty_keeps empty.channel) refl es
+              (grew.appends ∙ ap (λ e. e ∷ event.Grow grew.grower d ∷ []) empty.is) appends
           | inr full ↦
-              by_two (event.WaitFull p full.channel) d (WaitsFull full.channel) refl refl (full_keeps full.channel) refl
-              es (grew.appends ∙ ap (λ e. e ∷ event.Grow p d ∷ []) full.is) appends
+              by_two (event.WaitFull p full.channel) grew.grower d (WaitsFull full.channel) refl nobody
+              (full_keeps full.channel) refl es
+              (grew.appends ∙ ap (λ e. e ∷ event.Grow grew.grower d ∷ []) full.is) appends
         ]
     held_by_answer s done.Ended es ended appends =
-        by_one (event.Ended p ended.how) (Ended ended.how) refl at_end refl es ended.appends appends
+        by_growth ended.growth ended.owed ended.appends
+      where
+        by_growth : (growth : List Event)
+            → IsGrowthOwed between.tables (between.history ++ event.Ended p ended.how ∷ []) growth
+            → es ≡ event.Ended p ended.how ∷ growth → held_count after ≡ held_count before
+        by_growth [] owed same =
+            by_one (event.Ended p ended.how) (Ended ended.how) refl at_end refl es same appends
+        by_growth (event.Grow r d ∷ []) owed same =
+            by_two (event.Ended p ended.how) r d (Ended ended.how) refl at_end (end_keeps ended.how) refl es same
+            appends
+        by_growth growth owed same = absurd owed
     held_by_answer s done.Paused es paused appends =
         let h = subst (λ es. AppendsAll es (ready_if_paused p done.Paused (counted stood)) after) paused.appends appends
         in

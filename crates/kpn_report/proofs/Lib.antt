@@ -1,3 +1,4 @@
+pub mod Happening
 pub mod Parts
 pub mod Agreement
 pub mod Ends

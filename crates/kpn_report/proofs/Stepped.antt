@@ -20,7 +20,7 @@ use Rattle.kpn_book.specs.declared.answers.Done.{Done}
 use Rattle.kpn_book.specs.declared.answers.Done.TheVariants as done
 use Rattle.kpn_book.specs.Book.{Book, held_count, standing_at}
 use Rattle.kpn_book.specs.Kept.{IsBook}
-use Rattle.kpn_book.specs.Appending.{AppendsAll}
+use Rattle.kpn_book.specs.Appending.{IsGrowthOwed, AllHappen}
 use Rattle.kpn_book.specs.Commits.{HasToWait, IsAnswer}
 use Rattle.kpn_book.specs.Refusals.{Takes, takes_item}
 use Rattle.kpn_book.specs.Stepping.{ClaimsNobody, IsStep, StepsNext}
@@ -31,7 +31,8 @@ use Rattle.kpn_report.specs.Running.{IsLeftToItself, IsFrontStepped, IsLater, Is
 use Rattle.kpn_report.proofs.Ends.{AddNothing, nothing_more, sink_there, closed_later}
 use Rattle.kpn_report.specs.RunHere.{takes_of, takes_from_sinks}
 use Rattle.kpn_report.proofs.Held.{held_after_step, held_after_take}
-use Rattle.kpn_report.proofs.Turning.{one, nothing_lies, takes_nothing, takes_there, the_one}
+use Rattle.kpn_report.proofs.Happening.{happens_tables, happens_prefix, happens_commits, happens_written, happens_read, one}
+use Rattle.kpn_report.proofs.Turning.{nothing_lies, takes_nothing, takes_there, the_one}
 
 -- ---- what was read
 
@@ -94,6 +95,18 @@ wait_writes b p s wait waits c =
       | inr full ↦ (ap (written_in c) full.is, ap (read_in c) full.is)
     ]
 
+growth_writes : (t : Tables) (H growth : List Event) → IsGrowthOwed t H growth → (c : ℕ)
+    → AddNothing (written_in c) growth
+growth_writes t H [] owed c = tt
+growth_writes t H (event.Grow p d ∷ []) owed c = (refl, tt)
+growth_writes t H growth owed c = absurd owed
+
+growth_reads : (t : Tables) (H growth : List Event) → IsGrowthOwed t H growth → (c : ℕ)
+    → AddNothing (read_in c) growth
+growth_reads t H [] owed c = tt
+growth_reads t H (event.Grow p d ∷ []) owed c = (refl, tt)
+growth_reads t H growth owed c = absurd owed
+
 -- a process reads no sink
 got_elsewhere : (t : Tables) → IsNetwork t → (B : List Event) (p c : ℕ) (v : ℤ)
     → Legal t (B ++ event.Get p c v ∷ []) → (d : ℕ) → is_sink (channel_at t d) ≡ true
@@ -141,13 +154,18 @@ module _ (before after : Book) where
         let none = wait_writes b p s blocked.wait blocked.waits c in
         ((none.0, tt), (none.1, tt)))
     sinks_by (done.Grew d) grew =
-        keeps_sinks (grew.wait ∷ event.Grow p d ∷ []) (with_events (grew.wait ∷ event.Grow p d ∷ []) grew.appends)
+        keeps_sinks (grew.wait ∷ event.Grow grew.grower d ∷ [])
+        (with_events (grew.wait ∷ event.Grow grew.grower d ∷ []) grew.appends)
         (λ c sink.
         let none = wait_writes b p s grew.wait grew.waits c in
         ((none.0, (refl, tt)), (none.1, (refl, tt))))
     sinks_by done.Ended ended =
-        keeps_sinks (event.Ended p ended.how ∷ []) (with_events (event.Ended p ended.how ∷ []) ended.appends)
-        (λ c sink. ((refl, tt), (refl, tt)))
+        keeps_sinks (event.Ended p ended.how ∷ ended.growth)
+        (with_events (event.Ended p ended.how ∷ ended.growth) ended.appends)
+        (λ c sink. (
+          (refl, growth_writes b.tables (b.history ++ event.Ended p ended.how ∷ []) ended.growth ended.owed c),
+          (refl, growth_reads b.tables (b.history ++ event.Ended p ended.how ∷ []) ended.growth ended.owed c),
+        ))
     sinks_by done.Paused paused = keeps_sinks [] (with_events [] paused.appends) (λ c sink. (tt, tt))
 
 pub stepped : (quota : ℕ) (answer : Option Done) (before after : Book) → IsBook before → IsBook after
@@ -267,23 +285,22 @@ taken c item before after book takes = by item takes.takes
       elsewhere = λ d other. ap (λ b. read_on b.history d) same.1;
     }
     by (Some v) takes =
-        let history = takes.1.history in
+        let is = takes.1 in
+        let e : Event = event.Take c v in
         let here : read_on after.history c ≡ read_on before.history c ++ v ∷ [] =
-        ap (λ H. read_on H c) history ∙ read_on-push before.history (event.Take c v) c
+        happens_read e before after is c ∙ read_on-push before.history e c
         ∙ ap (λ xs. read_on before.history c ++ xs) (item_here c v) in
         let long = ap length here in
         let one = length-append (read_on before.history c) (v ∷ []) in
         record {
-          tables = takes.1.tables;
-          history =
-              subst (IsPrefix before.history) (sym history) (IsPrefix-append before.history (event.Take c v ∷ []));
-          commits = takes.1.commits;
-          written = λ d. ap (λ H. written_on H d) history ∙ written_on-same before.history (event.Take c v) d refl;
+          tables = happens_tables e before after is;
+          history = happens_prefix e before after is;
+          commits = happens_commits e before after is;
+          written = λ d. happens_written e before after is d ∙ written_on-same before.history e d refl;
           all = λ bound. omega arith;
           most = omega arith;
           elsewhere = λ d other.
-              ap (λ H. read_on H d) history
-              ∙ read_on-same before.history (event.Take c v) d (none_elsewhere c d v other);
+              happens_read e before after is d ∙ read_on-same before.history e d (none_elsewhere c d v other);
         }
 
 -- what was put on a sink was taken: of this sink at most one item more was read, and the outside has nothing to do
@@ -352,14 +369,14 @@ module _ (limits : Limits) (before now after : Book) (to_itself : IsLeftToItself
       let read = ap length (put_read before now p c v put d) in
       omega arith)
 
-  put_takes : AppendsAll (takes_from_sinks now.tables now.history) now after
+  put_takes : AllHappen (takes_from_sinks now.tables now.history) now after
   put_takes = by item takes.takes
     where
       there : c < length now.tables.channels
       there = sink_there now.tables c takes.sink.sink
 
       by : (item : Option ℤ) → takes_item c item now after
-          → AppendsAll (takes_from_sinks now.tables now.history) now after
+          → AllHappen (takes_from_sinks now.tables now.history) now after
       by None same =
           takes_there now after c there takes.sink.sink others_empty [] (sym unread_now ∙ same.0) same.1
       by (Some w) taken =

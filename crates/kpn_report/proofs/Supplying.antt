@@ -15,13 +15,14 @@ use Rattle.kpn_schedule.specs.Schedule.{all_ready}
 use Rattle.kpn_schedule.proofs.Tallies.{AreCounts-ready}
 use Rattle.kpn_book.specs.Book.{Book}
 use Rattle.kpn_book.specs.Kept.{IsBook}
-use Rattle.kpn_book.specs.Appending.{Appends, AppendsAll}
+use Rattle.kpn_book.specs.Appending.{Happens, AllHappen}
 use Rattle.kpn_book.specs.Refusals.{Feeds, Closes, closes_by}
 use Rattle.std.proofs.lemmas.Bool.{eq-eqb, or_right}
 use Rattle.kpn_report.specs.Running.{IsSupplied, IsFedBelow, IsLeftToItself}
 use Rattle.kpn_book.proofs.Committing.{source_there}
 use Rattle.kpn_report.proofs.Ends.{sink_is_no_source, closed_next}
-use Rattle.kpn_report.proofs.Held.{held_after_feed}
+use Rattle.kpn_report.proofs.Happening.{happens_tables, happens_commits, happens_written, happens_closed}
+use Rattle.kpn_report.proofs.Held.{held_after_feed, held_after_close}
 use Rattle.kpn_report.proofs.Turning.{open_elsewhere}
 
 -- ---- one source
@@ -50,35 +51,35 @@ IsSupplied-fed c items item bound before between after book so_far feeds = recor
 
 -- ---- it is closed
 
-closes_kept : (c : ℕ) (items : List ℤ) (before between after : Book) → IsSupplied c items before between → (b : Bool)
-    → closes_by b c between after → IsSupplied c items before after
-closes_kept c items before between after so_far true same =
+closes_kept : (c : ℕ) (items : List ℤ) (before between after : Book) → IsBook between
+    → IsSupplied c items before between → (b : Bool) → closes_by b c between after → IsSupplied c items before after
+closes_kept c items before between after book so_far true same =
     subst (IsSupplied c items before) (sym same) so_far
-closes_kept c items before between after so_far false appends = record {
-  tables = appends.tables ∙ so_far.tables;
-  held = ap (λ s. count_by is_held s.states) appends.schedule ∙ so_far.held;
+closes_kept c items before between after book so_far false is = record {
+  tables = happens_tables (Close c) between after is ∙ so_far.tables;
+  held = held_after_close between book c after is ∙ so_far.held;
   here =
-      ap (λ H. written_on H c) appends.history ∙ written_on-same between.history (Close c) c refl ∙ so_far.here;
+      happens_written (Close c) between after is c ∙ written_on-same between.history (Close c) c refl ∙ so_far.here;
   elsewhere = λ d other.
-      ap (λ H. written_on H d) appends.history
+      happens_written (Close c) between after is d
       ∙ written_on-same between.history (Close c) d refl
       ∙ so_far.elsewhere d other;
   closed = λ d closed.
-      ap (λ H. is_closed H d) appends.history ∙ closed_next between.history (Close c) d (so_far.closed d closed);
-  commits = appends.commits ∙ so_far.commits;
+      happens_closed (Close c) between after is d ∙ closed_next between.history (Close c) d (so_far.closed d closed);
+  commits = happens_commits (Close c) between after is ∙ so_far.commits;
 }
 
-pub IsSupplied-closed : (c : ℕ) (items : List ℤ) (before between after : Book) → IsSupplied c items before between
-    → Closes c between after → IsSupplied c items before after
-IsSupplied-closed c items before between after so_far closes =
-    closes_kept c items before between after so_far (closed_in between.configuration c) closes.closes
+pub IsSupplied-closed : (c : ℕ) (items : List ℤ) (before between after : Book) → IsBook between
+    → IsSupplied c items before between → Closes c between after → IsSupplied c items before after
+IsSupplied-closed c items before between after book so_far closes =
+    closes_kept c items before between after book so_far (closed_in between.configuration c) closes.closes
 
 closed_by : (c : ℕ) (before after : Book) → IsBook before → c < length before.tables.channels → (b : Bool)
     → closed_in before.configuration c ≡ b → closes_by b c before after → is_closed after.history c ≡ true
 closed_by c before after book there true is same =
     ap (λ b. is_closed b.history c) same ∙ sym (book.kept.in_step.run.leads.closed c there) ∙ is
-closed_by c before after book there false is appends =
-    ap (λ H. is_closed H c) appends.history ∙ is_closed-next before.history (Close c) c
+closed_by c before after book there false is happens =
+    happens_closed (Close c) before after happens c ∙ is_closed-next before.history (Close c) c
     ∙ or_right (is_closed before.history c) (is_close_of c (Close c)) (eq-eqb c c refl)
 
 pub closed_then : (c : ℕ) (before after : Book) → IsBook before → Closes c before after
@@ -88,7 +89,7 @@ closed_then c before after book closes =
     closes.closes
 
 pub closes_open : (c : ℕ) (before after : Book) → IsBook before → Closes c before after
-    → is_closed before.history c ≡ false → Appends (Close c) before after
+    → is_closed before.history c ≡ false → Happens (Close c) before after
 closes_open c before after book closes unclosed =
     subst (λ b. closes_by b c before after)
     (book.kept.in_step.run.leads.closed c (source_there before.tables c closes.source) ∙ unclosed) closes.closes
@@ -133,7 +134,7 @@ module _ (t : Tables) (given : Family) where
 
   pub IsFedBelow-more : (k : ℕ) (before after : Book) → is_source (channel_at t k) ≡ true → IsFedBelow t given k before
       → IsSupplied k (given k) before after → is_closed after.history k ≡ true
-      → AppendsAll (map (Feed k) (given k) ++ Close k ∷ []) before after → IsFedBelow t given (k + 1) after
+      → AllHappen (map (Feed k) (given k) ++ Close k ∷ []) before after → IsFedBelow t given (k + 1) after
   IsFedBelow-more k before after is so_far supplied closed appends = record {
     tables = supplied.tables ∙ so_far.tables;
     nobody_held = supplied.held ∙ so_far.nobody_held;

@@ -19,7 +19,7 @@ use Rattle.kpn_trace.specs.declared.state.View.{View}
 use Rattle.kpn_trace.proofs.Journals.{reads_begin_writes}
 use Rattle.kpn_trace.proofs.Kahn.{take-prefix}
 use Rattle.kpn_book.specs.Book.{Book, held_count}
-use Rattle.kpn_book.specs.Appending.{AppendsAll}
+use Rattle.kpn_book.specs.Appending.{AllHappen}
 use Rattle.kpn_book.specs.Kept.{IsBook}
 use Rattle.kpn_report.specs.declared.outcome.Limits.{Limits}
 use Rattle.kpn_report.specs.declared.outcome.Outcome.{Outcome}
@@ -30,7 +30,7 @@ use Rattle.kpn_report.specs.Reports.{events_of, read_of_sinks, IsWrittenFrom, Ar
 use Rattle.kpn_report.specs.RunHere.{supplies, takes_from_sinks, IsTurn, Turns, no_turn, one_turn_more, IsFirst, IsReportHere}
 use Rattle.kpn_report.specs.Running.{IsFedBelow, ComesToOutcome, first_read, ReadsWithin}
 use Rattle.kpn_book.proofs.Agreeing.{same_list}
-use Rattle.kpn_book.proofs.Appended.{commits_stay}
+use Rattle.kpn_report.proofs.Happening.{all_commits}
 use Rattle.kpn_book.proofs.Committing.{source_there}
 use Rattle.kpn_report.proofs.Ends.{closed_stays, closed_later}
 use Rattle.kpn_report.proofs.Parts.{sink_below}
@@ -131,7 +131,7 @@ module _ (t : Tables) (b : Book) (tables : b.tables ≡ t) (book : IsBook b) (ou
 
 turn_commits : (quota : ℕ) (before after : Book) → IsTurn quota before after → after.commits ≡ before.commits + 1
 turn_commits quota before after turn =
-    commits_stay (takes_from_sinks turn.stepped.tables turn.stepped.history) turn.stepped after turn.takes
+    all_commits (takes_from_sinks turn.stepped.tables turn.stepped.history) turn.stepped after turn.takes
     ∙ step_commits (max quota 1) turn.answer before turn.stepped turn.steps
 
 -- each turn is a commit
@@ -156,7 +156,7 @@ module _ (t : Tables) (lists : List (List ℤ)) (limits : Limits) (report : Repo
   where
     none_when_fed : is.runs.fed.commits ≡ 0
     none_when_fed =
-        commits_stay (supplies t (given_by t lists)) is.runs.first is.runs.fed is.runs.supplied
+        all_commits (supplies t (given_by t lists)) is.runs.first is.runs.fed is.runs.supplied
         ∙ is.runs.begins.commits
 
     pub turns_within : report.commits ≤ limits.commits
@@ -219,7 +219,7 @@ module _ (t : Tables) (network : IsNetwork t) (lists : List (List ℤ)) (limits 
       let same = tells.commits in
       let turns : comes.turns ≡ report.commits = omega arith in subst (λ n. Turns limits fed n after) turns comes.made
 
-  pub IsReportHere-told : (first : Book) → IsFirst t first → AppendsAll (supplies t (given_by t lists)) first fed
+  pub IsReportHere-told : (first : Book) → IsFirst t first → AllHappen (supplies t (given_by t lists)) first fed
       → (report : Report) → IsWrittenFrom after outcome report → IsReportHere t lists limits report
   IsReportHere-told first begins supplied report tells = record {
     last = after;

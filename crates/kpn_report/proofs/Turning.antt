@@ -1,4 +1,4 @@
--- What a run on one thread does, as the events that it appends: what supplies the sources, what is taken from the sinks
+-- What a run on one thread does, as the events that happen: what supplies the sources, what is taken from the sinks
 -- after a turn, and how many commits the turns are.
 use Rattle.std.proofs.Common.{◌≡◌, ℕ, zero, suc, ◌+◌, ◌<◌, ◌≤◌, Bool, true, false, ◌||◌, cond, ℤ, List, [], ◌∷◌, ◌++◌, length, map, slice_get, Option, Some, None, refl, sym, ap, ◌∙◌, subst, inl, inr, arith, append-nil, append_assoc}
 use Rattle.std.specs.List.{flat_map, range_with_len}
@@ -14,70 +14,59 @@ use Rattle.kpn_trace.specs.Channels.{written_on, read_on, unread_on, is_closed, 
 use Rattle.kpn_trace.proofs.AfterEvent.{is_closed-next}
 use Rattle.kpn_book.specs.declared.answers.Done.{Done}
 use Rattle.kpn_book.specs.Book.{Book}
-use Rattle.kpn_book.specs.Appending.{Appends, AppendsAll}
+use Rattle.kpn_book.specs.Appending.{Happens, AllHappen}
 use Rattle.kpn_book.specs.Stepping.{ClaimsNobody, IsStep}
 use Rattle.kpn_report.specs.RunHere.{supply_of, takes_of, takes_from_sinks}
 use Rattle.kpn_report.specs.Running.{IsFrontStepped, IsLeftToItself}
-use Rattle.kpn_book.proofs.Appended.{history_then}
-
--- ---- events that are appended
-
-pub join : (es fs : List Event) (a b c : Book) → AppendsAll es a b → AppendsAll fs b c → AppendsAll (es ++ fs) a c
-join [] fs a b c first second = subst (λ x. AppendsAll fs x c) first second
-join (e ∷ es) fs a b c first second = (first.0, first.1, join es fs first.0 b c first.2 second)
-
-pub one : (e : Event) (a b : Book) → Appends e a b → AppendsAll (e ∷ []) a b
-one e a b appends = (b, appends, refl)
+use Rattle.kpn_report.proofs.Happening.{happens_closed, join, one}
 
 -- ---- a source is supplied
 
 -- feeds close nothing
-fed_open : (c k : ℕ) (items : List ℤ) (B : List Event) → is_closed B c ≡ false
-    → is_closed (B ++ map (Feed k) items) c ≡ false
-fed_open c k [] B unclosed = ap (λ H. is_closed H c) (append-nil B) ∙ unclosed
-fed_open c k (v ∷ vs) B unclosed =
-    ap (λ H. is_closed H c) (sym (append_assoc B (Feed k v ∷ []) (map (Feed k) vs)))
-    ∙ fed_open c k vs (B ++ Feed k v ∷ []) (is_closed-next B (Feed k v) c ∙ ap (λ b. b || false) unclosed)
-
-pub open_after_feeds : (c k : ℕ) (items : List ℤ) (before after : Book) → AppendsAll (map (Feed k) items) before after
+pub open_after_feeds : (c k : ℕ) (items : List ℤ) (before after : Book) → AllHappen (map (Feed k) items) before after
     → is_closed before.history c ≡ false → is_closed after.history c ≡ false
-open_after_feeds c k items before after appends unclosed =
-    ap (λ H. is_closed H c) (history_then (map (Feed k) items) before after appends)
-    ∙ fed_open c k items before.history unclosed
+open_after_feeds c k [] before after same unclosed = ap (λ b. is_closed b.history c) same ∙ unclosed
+open_after_feeds c k (v ∷ vs) before after happen unclosed =
+    open_after_feeds c k vs happen.0 after happen.2
+    (happens_closed (Feed k v) before happen.0 happen.1 c ∙ is_closed-next before.history (Feed k v) c
+    ∙ ap (λ b. b || false) unclosed)
 
 pub open_elsewhere : (c k : ℕ) → (c ≡ k → ⊥) → (items : List ℤ) (before after : Book)
-    → AppendsAll (map (Feed k) items ++ Close k ∷ []) before after → is_closed before.history c ≡ false
+    → AllHappen (map (Feed k) items ++ Close k ∷ []) before after → is_closed before.history c ≡ false
     → is_closed after.history c ≡ false
-open_elsewhere c k other items before after appends unclosed =
-    ap (λ H. is_closed H c) (history_then (map (Feed k) items ++ Close k ∷ []) before after appends)
-    ∙ ap (λ H. is_closed H c) (sym (append_assoc before.history (map (Feed k) items) (Close k ∷ [])))
-    ∙ is_closed-next (before.history ++ map (Feed k) items) (Close k) c
-    ∙ ap (λ b. b || is_close_of c (Close k)) (fed_open c k items before.history unclosed)
+open_elsewhere c k other [] before after happen unclosed =
+    ap (λ b. is_closed b.history c) happen.2
+    ∙ happens_closed (Close k) before happen.0 happen.1 c ∙ is_closed-next before.history (Close k) c
+    ∙ ap (λ b. b || is_close_of c (Close k)) unclosed
     ∙ ne_eqb k c (λ same. other (sym same))
+open_elsewhere c k other (v ∷ vs) before after happen unclosed =
+    open_elsewhere c k other vs happen.0 after happen.2
+    (happens_closed (Feed k v) before happen.0 happen.1 c ∙ is_closed-next before.history (Feed k v) c
+    ∙ ap (λ b. b || false) unclosed)
 
 -- one source more
 pub supplies_next : (t : Tables) (given : Family) (k : ℕ) (first before after : Book)
-    → AppendsAll (flat_map (supply_of t given) (range_with_len 0 k)) first before
-    → AppendsAll (supply_of t given k) before after
-    → AppendsAll (flat_map (supply_of t given) (range_with_len 0 (k + 1))) first after
+    → AllHappen (flat_map (supply_of t given) (range_with_len 0 k)) first before
+    → AllHappen (supply_of t given k) before after
+    → AllHappen (flat_map (supply_of t given) (range_with_len 0 (k + 1))) first after
 supplies_next t given k first before after so_far more =
-    subst (λ es. AppendsAll es first after)
+    subst (λ es. AllHappen es first after)
     (ap (λ es. flat_map (supply_of t given) (range_with_len 0 k) ++ es) (sym (append-nil (supply_of t given k)))
     ∙ sym (flat_map-append (supply_of t given) (range_with_len 0 k) (k ∷ []))
     ∙ ap (flat_map (supply_of t given)) (sym (range_next k)))
     (join (flat_map (supply_of t given) (range_with_len 0 k)) (supply_of t given k) first before after so_far more)
 
 pub supplies_none : (t : Tables) (given : Family) (k : ℕ) (b : Book) → is_source (channel_at t k) ≡ false
-    → AppendsAll (supply_of t given k) b b
+    → AllHappen (supply_of t given k) b b
 supplies_none t given k b none =
-    subst (λ x. AppendsAll (cond x (map (Feed k) (given k) ++ Close k ∷ []) []) b b) (sym none) refl
+    subst (λ x. AllHappen (cond x (map (Feed k) (given k) ++ Close k ∷ []) []) b b) (sym none) refl
 
 pub supplies_one : (t : Tables) (given : Family) (k : ℕ) (items : List ℤ) (before between after : Book)
-    → is_source (channel_at t k) ≡ true → items ≡ given k → AppendsAll (map (Feed k) items) before between
-    → Appends (Close k) between after → AppendsAll (supply_of t given k) before after
+    → is_source (channel_at t k) ≡ true → items ≡ given k → AllHappen (map (Feed k) items) before between
+    → Happens (Close k) between after → AllHappen (supply_of t given k) before after
 supplies_one t given k items before between after source same fed closed =
-    subst (λ x. AppendsAll (cond x (map (Feed k) (given k) ++ Close k ∷ []) []) before after) (sym source)
-    (subst (λ xs. AppendsAll (map (Feed k) xs ++ Close k ∷ []) before after) same
+    subst (λ x. AllHappen (cond x (map (Feed k) (given k) ++ Close k ∷ []) []) before after) (sym source)
+    (subst (λ xs. AllHappen (map (Feed k) xs ++ Close k ∷ []) before after) same
     (join (map (Feed k) items) (Close k ∷ []) before between after fed (one (Close k) between after closed)))
 
 -- ---- what lies in the sinks
@@ -113,9 +102,9 @@ nothing_lies t H c all = by (is_sink (channel_at t c)) refl
     by false e = refl
 
 -- where nothing lies in any sink nothing is taken
-pub takes_nothing : (b : Book) → IsLeftToItself b → AppendsAll (takes_from_sinks b.tables b.history) b b
+pub takes_nothing : (b : Book) → IsLeftToItself b → AllHappen (takes_from_sinks b.tables b.history) b b
 takes_nothing b to_itself =
-    subst (λ es. AppendsAll es b b)
+    subst (λ es. AllHappen es b b)
     (sym (nowhere (takes_of b.tables b.history)
     (λ c. nothing_lies b.tables b.history c (λ sink. to_itself.all_read c sink)) (range_with_len 0 (length b.tables.channels))))
     refl
@@ -123,9 +112,9 @@ takes_nothing b to_itself =
 -- where something lies in one sink alone, that is taken
 pub takes_there : (b after : Book) (c : ℕ) → c < length b.tables.channels → is_sink (channel_at b.tables c) ≡ true
     → ((d : ℕ) → (d ≡ c → ⊥) → takes_of b.tables b.history d ≡ []) → (items : List ℤ) → unread_on b.history c ≡ items
-    → AppendsAll (map (Take c) items) b after → AppendsAll (takes_from_sinks b.tables b.history) b after
+    → AllHappen (map (Take c) items) b after → AllHappen (takes_from_sinks b.tables b.history) b after
 takes_there b after c there sink elsewhere items unread appends =
-    subst (λ es. AppendsAll es b after)
+    subst (λ es. AllHappen es b after)
     (sym (only (takes_of b.tables b.history) c elsewhere (length b.tables.channels) 0 (omega arith) (omega arith)
     ∙ ap (λ x. cond x (map (Take c) (unread_on b.history c)) []) sink ∙ ap (map (Take c)) unread))
     appends

@@ -15,7 +15,7 @@ use Rattle.kpn_schedule.specs.Schedule.{all_ready}
 use Rattle.kpn_book.specs.declared.answers.Done.{Done}
 use Rattle.kpn_book.specs.Book.{Book}
 use Rattle.kpn_book.specs.Kept.{IsBook}
-use Rattle.kpn_book.specs.Appending.{AppendsAll}
+use Rattle.kpn_book.specs.Appending.{AllHappen}
 use Rattle.kpn_book.specs.Stepping.{StepsNext}
 use Rattle.kpn_report.specs.declared.outcome.Limits.{Limits}
 use Rattle.kpn_report.specs.declared.outcome.Outcome.{Outcome}
@@ -49,7 +49,7 @@ pub record IsTurn (quota : ℕ) (before after : Book) : Type 0 where
   pub answer : Done
   pub stepped : Book
   pub steps : StepsNext (max quota 1) answer before stepped
-  pub takes : AppendsAll (takes_from_sinks stepped.tables stepped.history) stepped after
+  pub takes : AllHappen (takes_from_sinks stepped.tables stepped.history) stepped after
 
 -- so many turns lead from the first book to this one, and before each of them there was no outcome
 pub data Turns (limits : Limits) (first : Book) : ℕ → Book → Type 0 where
@@ -78,7 +78,7 @@ pub record RunsHere (t : Tables) (lists : List (List ℤ)) (limits : Limits) (tu
   pub first : Book
   pub begins : IsFirst t first
   pub fed : Book
-  pub supplied : AppendsAll (supplies t (given_by t lists)) first fed
+  pub supplied : AllHappen (supplies t (given_by t lists)) first fed
   pub made : Turns limits fed turns last
   pub comes_to : IsOutcome last.tables last.history last.commits limits (Some outcome)
 

@@ -5,7 +5,7 @@ ghost use Rattle.kpn_net.specs.Iteration.{sources, given_by};
 ghost use Rattle.kpn_trace.specs.Channels.{is_closed};
 ghost use Rattle.kpn_trace.specs.declared.event.Event.TheVariants as event;
 ghost use Rattle.kpn_book.specs.Book.{Book as Seen};
-ghost use Rattle.kpn_book.specs.Appending.{Appends, AppendsAll};
+ghost use Rattle.kpn_book.specs.Appending.{Happens, AllHappen};
 ghost use Rattle.kpn_report.specs.RunHere.{supply_of, supplies};
 ghost use Rattle.kpn_report.specs.Running.{IsSupplied, IsFedBelow};
 
@@ -25,7 +25,7 @@ pub(crate) fn feed_sources(
     ensures fed { let t = network.now in
         IfOk result (λ _. IsFedBelow t (given_by t lists.now) (length t.channels) book.new) }
     ensures supplies { let t = network.now in
-        IfOk result (λ _. AppendsAll (supplies t (given_by t lists.now)) book.old book.new) }
+        IfOk result (λ _. AllHappen (supplies t (given_by t lists.now)) book.old book.new) }
 {
     let mut source = 0;
     'channels: for c in 0..network.channels() {
@@ -52,7 +52,7 @@ fn supply_next(
     ensures more { IfOk result (λ _.
         IsFedBelow network.now (given_by network.now lists.now) (c + 1) book.new) }
     ensures supplies { let t = network.now in
-        IfOk result (λ _. AppendsAll (supply_of t (given_by t lists.now) c) book.old book.new) }
+        IfOk result (λ _. AllHappen (supply_of t (given_by t lists.now) c) book.old book.new) }
 {
     if !network.is_source(c) {
         return Ok(source);
@@ -66,13 +66,14 @@ fn supply_next(
 fn feed_items(book: &mut Book<'_>, c: usize, items: &[i64]) -> Result<(), AllocError>
     ensures supplied { IfOk result (λ _. IsSupplied c items.now book.old book.new) }
     ensures feeds { IfOk result (λ _.
-        AppendsAll (map (event.Feed c) items.now) book.old book.new) }
+        AllHappen (map (event.Feed c) items.now) book.old book.new) }
 {
     'items: for item in items {
         book.known();
         let Ok(()) = book.feed(c, *item, usize::MAX) else {
             return Err(AllocError);
         };
+        book.known();
     }
     Ok(())
 }
@@ -83,7 +84,7 @@ fn close(book: &mut Book<'_>, c: usize) -> Result<(), AllocError>
         → IsSupplied c items before book.old → IsSupplied c items before book.new) }
     ensures closed { IfOk result (λ _. is_closed book.new.history c ≡ true) }
     ensures closes { IfOk result (λ _. is_closed book.old.history c ≡ false
-        → Appends (event.Close c) book.old book.new) }
+        → Happens (event.Close c) book.old book.new) }
 {
     book.known();
     match book.close_source(c) {

@@ -1,13 +1,16 @@
 //! What holds of every report, as the contracts of functions with nothing to do: Kahn's theorem on reports, whatever
 //! the schedules of the runs and the number of those who stepped the processes.
-ghost use Rattle.std.specs.Prelude.{◌≡◌, ℕ, ◌<◌, ◌≤◌, ℤ, List, length, take, Option, Some};
+ghost use Rattle.std.specs.Prelude.{◌≡◌, ℕ, ◌<◌, ◌≤◌, ◌⊎◌, ℤ, List, length, take, Option, Some};
+ghost use Rattle.kpn_net.specs.declared.tables.Policy.TheVariants.{All};
+ghost use Rattle.kpn_net.specs.declared.wait.Wait.TheVariants.{Full};
 ghost use Rattle.kpn_net.specs.Tables.{Tables};
 ghost use Rattle.kpn_net.specs.Faults.{IsNetwork};
 ghost use Rattle.kpn_net.specs.Iteration.{iterate, given_by, lists_of, IsBelowLeast, IsLeast};
 ghost use Rattle.kpn_trace.specs.declared.event.Event.{Event};
+ghost use Rattle.kpn_trace.specs.Channels.{capacity_after};
 ghost use Rattle.kpn_trace.specs.Ends.{WaitsOnFull, IsQuiet};
 ghost use Rattle.kpn_trace.specs.Stops.{IsJammedAtLimit, WaitsForBlocked};
-ghost use Rattle.kpn_trace.specs.Waiting.{HasFullCycle};
+ghost use Rattle.kpn_trace.specs.Waiting.{wait_of, HasFullCycle};
 ghost use Rattle.kpn_report.specs.declared.outcome.Limits.{Limits};
 ghost use Rattle.kpn_report.specs.declared.outcome.Outcome.{Outcome};
 ghost use Rattle.kpn_report.specs.declared.outcome.Outcome.TheVariants.{Ended, Clogged, Jammed, Enough, Stopped};
@@ -76,7 +79,8 @@ pub fn one_outcome()
 {}
 
 /// Ended is quiet. Jammed: some blocked cycle has full channels, all at the limit. Clogged: each process that is
-/// blocked on a full channel waits for a blocked process, and no blocked cycle has a full channel.
+/// blocked on a full channel waits for a blocked process, and no blocked cycle has a full channel. Under the policy
+/// `all` each channel on which a process waits as full is then at the limit.
 pub fn what_an_outcome_means()
     ensures ended { (t : Tables) (lists : List (List ℤ)) (limits : Limits) (report : Report)
         → IsReport t lists limits report → report.outcome ≡ Ended → IsQuiet t (events_of report) }
@@ -89,6 +93,11 @@ pub fn what_an_outcome_means()
     ensures no_cycle { (t : Tables) (lists : List (List ℤ)) (limits : Limits) (report : Report)
         → IsReport t lists limits report → report.outcome ≡ Clogged
         → ¬ HasFullCycle t (events_of report) }
+    ensures at_limit { (t : Tables) → IsNetwork t → (lists : List (List ℤ)) (limits : Limits)
+        (report : Report) → IsReport t lists limits report
+        → (report.outcome ≡ Clogged) ⊎ (report.outcome ≡ Jammed) → t.policy ≡ All
+        → (p c : ℕ) → p < length t.instances → wait_of t (events_of report) p ≡ Full c
+        → capacity_after t (events_of report) c ≡ Some t.limit }
 {}
 
 // ---- on one thread

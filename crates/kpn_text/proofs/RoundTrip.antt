@@ -6,6 +6,8 @@ use Rattle.std.proofs.lemmas.Bool.Decides.{nat_tests}
 use Rattle.kpn_limits.specs.declared.TheConstants.{MAX_CAPACITY, MAX_TEXT_BYTES}
 use Rattle.kpn_net.specs.declared.tables.Growth.{Growth}
 use Rattle.kpn_net.specs.declared.tables.Growth.TheVariants as growth
+use Rattle.kpn_net.specs.declared.tables.Policy.{Policy}
+use Rattle.kpn_net.specs.declared.tables.Policy.TheVariants as policy
 use Rattle.kpn_net.specs.Tables.{Tables}
 use Rattle.kpn_net.specs.Faults.{IsNetwork}
 use Rattle.kpn_tokens.specs.Laws.{tokens_of}
@@ -13,11 +15,11 @@ use Rattle.kpn_grammar.specs.Syntax.{Description}
 use Rattle.kpn_grammar.specs.Spelling.{spell_description, ProcessIsWithin, IsDescription}
 use Rattle.kpn_tokens.specs.Results.{and_then}
 use Rattle.kpn_names.specs.Laws.{BlocksAreTheTree}
-use Rattle.kpn_names.specs.Network.{growth_of, limit_of, Settings, settings_of, Wiring, wiring}
+use Rattle.kpn_names.specs.Network.{growth_of, limit_of, policy_of, Settings, settings_of, Wiring, wiring}
 use Rattle.kpn_names.specs.Named.{Programs, programs_of, Named, named_with, resolve}
 use Rattle.kpn_names.specs.declared.network_names.NetworkNames.{NetworkNames}
 use Rattle.kpn_canonical.specs.Laws.{DescriptionIsRead, ReadDescriptionsAreProper}
-use Rattle.kpn_canonical.specs.Named.{growth_named, limit_named, description_named}
+use Rattle.kpn_canonical.specs.Named.{growth_named, limit_named, policy_named, description_named}
 use Rattle.kpn_canonical.specs.Proper.{IsProperProcess, IsProperLimit, IsProperItem, IsProper}
 use Rattle.kpn_canonical.specs.Text.{description_text}
 use Rattle.kpn_names.specs.NetworkNames.{names_in}
@@ -48,17 +50,30 @@ limit_proper_by false n h = tt
 limit_proper : (n : ℕ) → n ≤ MAX_CAPACITY → IsProperLimit (limit_named n)
 limit_proper n h = limit_proper_by (nat_lt n MAX_CAPACITY) n h
 
+policy_again : (q : Policy) → policy_of (policy_named q) ≡ q
+policy_again policy.Cycles = refl
+policy_again policy.All = refl
+
 growth_again : (g : Growth) → growth_of (growth_named g) ≡ g
 growth_again growth.One = refl
 growth_again growth.Double = refl
 
 -- the settings of the network that is printed
 abbrev settings_named : Settings → Settings
-settings_named s = record { limit = limit_of (limit_named s.limit); growth = growth_of (growth_named s.growth) }
+settings_named s = record {
+  limit = limit_of (limit_named s.limit);
+  policy = policy_of (policy_named s.policy);
+  growth = growth_of (growth_named s.growth);
+}
 
 settings_again : (s : Settings) → s.limit ≤ MAX_CAPACITY → settings_named s ≡ s
 settings_again s small =
-    λ i. record { limit = limit_again s.limit small i; growth = growth_again s.growth i }
+    λ i.
+    record {
+      limit = limit_again s.limit small i;
+      policy = policy_again s.policy i;
+      growth = growth_again s.growth i;
+    }
 
 -- ---- what a description names, part by part
 

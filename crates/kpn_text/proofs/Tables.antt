@@ -12,6 +12,7 @@ use Rattle.kpn_net.specs.declared.fault.NetFault.{NetFault}
 use Rattle.kpn_net.specs.declared.fault.NetFault.TheVariants as net
 use Rattle.kpn_net.specs.declared.tables.ChannelSpec.{ChannelSpec}
 use Rattle.kpn_net.specs.declared.tables.Growth.{Growth}
+use Rattle.kpn_net.specs.declared.tables.Policy.{Policy}
 use Rattle.kpn_net.specs.declared.tables.Instance.{Instance}
 use Rattle.kpn_net.specs.View.{tables_with}
 use Rattle.kpn_net.specs.Tables.{Tables}
@@ -238,18 +239,18 @@ net_broken None fault refused made = inl made
 net_broken (Some found) fault refused made = inr cc
 
 module _ (programs parts : List Parts) (instances : List Instance) (channels : List ChannelSpec) (limit : ℕ)
-    (growth : Growth) where
+    (policy : Policy) (growth : Growth) where
   abbrev given : Tables
-  given = tables_with programs instances channels limit growth
+  given = tables_with programs instances channels limit policy growth
 
   abbrev meant : Tables
-  meant = tables_with parts instances channels limit growth
+  meant = tables_with parts instances channels limit policy growth
 
   pub network_made : (network : Tables) → programs_cause 0 parts ≡ None → programs ≡ parts
       → IfSome (first_network_fault given) (λ fault. ◌≡◌ {A = Result Tables NetFault} (Ok network) (Err fault))
       → IfNone (first_network_fault given) (network ≡ given) → (tables_cause meant ≡ None) × (network ≡ meant)
   network_made network none e refused made =
-      let same : given ≡ meant = ap (λ ps. tables_with ps instances channels limit growth) e in
+      let same : given ≡ meant = ap (λ ps. tables_with ps instances channels limit policy growth) e in
       let h = net_made (first_network_fault given) network given refused made in
       made_network meant (λ n. n ≡ meant) network none (ap first_network_fault (sym same) ∙ h.0) (h.1 ∙ same)
 
@@ -258,7 +259,7 @@ module _ (programs parts : List Parts) (instances : List Instance) (channels : L
       → IfNone (first_network_fault given) (fault ≡ net.NoMemory) → told ≡ net_fault fault
       → (told ≡ text.NoMemory) ⊎ TellsCause (tables_cause meant) told
   network_broken fault told none e refused made h =
-      let same : given ≡ meant = ap (λ ps. tables_with ps instances channels limit growth) e in
+      let same : given ≡ meant = ap (λ ps. tables_with ps instances channels limit policy growth) e in
       elim (net_broken (first_network_fault given) fault refused made) [
         | inl m ↦ inl (h ∙ ap net_fault m)
         | inr f ↦ inr (network_then meant fault told none (ap first_network_fault (sym same) ∙ f) h)

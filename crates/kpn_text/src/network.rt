@@ -68,9 +68,10 @@ pub(crate) fn network(alloc: Global, named: Named<'_>) -> Result<Network, TextFa
         channel_names: _,
         channels,
         limit,
+        policy,
         growth,
     } = named;
     let programs = programs(alloc, processes)?;
-    let network = Network::new(alloc, programs, instances, channels, limit, growth)?;
+    let network = Network::new(alloc, programs, instances, channels, limit, policy, growth)?;
     Ok(network)
 }

@@ -1,7 +1,7 @@
 -- Capacities after one more event: a growth makes one larger, no event makes one smaller, and they stay from 1 to the
 -- limit.
 use Rattle.std.specs.Option.{option_map, unwrap_or}
-use Rattle.std.proofs.Common.{◌≡◌, ℕ, suc, ◌+◌, ◌<◌, ◌≤◌, Bool, true, false, cond, eqb, eq-eqb, List, [], ◌∷◌, ◌++◌, length, count_by, Option, Some, None, refl, sym, ap, ◌∙◌, subst, arith}
+use Rattle.std.proofs.Common.{◌≡◌, ℕ, suc, ◌+◌, ◌<◌, ◌≤◌, Bool, true, false, cond, eqb, eq-eqb, List, [], ◌∷◌, ◌++◌, length, count_by, Option, Some, None, refl, sym, ap, ◌∙◌, subst, inl, inr, arith}
 use Rattle.std.proofs.lemmas.List.Sums.{sum_by_push}
 use Rattle.std.proofs.lemmas.Bool.{eqb-true, false≢true}
 use Rattle.kpn_net.specs.Tables.{Tables, channel_at, capacity, larger_capacity}
@@ -11,7 +11,7 @@ use Rattle.kpn_trace.specs.declared.event.Event.{Event}
 use Rattle.kpn_trace.specs.declared.event.Event.TheVariants.{Grow}
 use Rattle.kpn_trace.specs.Channels.{is_growth_of, after_growths, capacity_after, capacity_or_zero}
 use Rattle.kpn_trace.specs.AfterEvent.{capacity_then}
-use Rattle.kpn_trace.specs.Legal.{MayFollow, Legal}
+use Rattle.kpn_trace.specs.Legal.{OwesGrowth, MayFollow, Legal}
 use Rattle.kpn_trace.proofs.Legality.{Legal-last, Legal-before, by_events}
 
 -- ---- one more event
@@ -64,11 +64,16 @@ capacity_after-next t B event c = capacity_after-same t B event c refl
 
 -- ---- no capacity falls
 
+-- the channel of an owed growth is below the limit
+pub below_limit : (t : Tables) (H : List Event) (p d : ℕ) → OwesGrowth t H p d → capacity_or_zero t H d < t.limit
+below_limit t H p d (inl owed) = owed.below_limit
+below_limit t H p d (inr owed) = owed.below_limit
+
 -- a channel that may grow is below the limit
 below_at_growth : (t : Tables) (B : List Event) (e : Event) (c n : ℕ) → MayFollow t B e
     → capacity_after t B c ≡ Some n → is_growth_of c e ≡ true → n < t.limit
 below_at_growth t B (Grow p d) c n follows was same =
-    let below = follows.due.below_limit in
+    let below = below_limit t B p d follows.due in
     let room : capacity_or_zero t B d ≡ n =
     ap (λ x. capacity_or_zero t B x) (eqb-true d c same) ∙ ap (λ o. unwrap_or o 0) was in
     omega arith

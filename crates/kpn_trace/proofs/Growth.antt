@@ -16,9 +16,9 @@ use Rattle.kpn_trace.specs.declared.event.Event.{Event}
 use Rattle.kpn_trace.specs.declared.event.Event.TheVariants.{WaitEmpty, WaitFull, Grow}
 use Rattle.kpn_trace.specs.Channels.{reaches, unread_on, reader_lives, is_empty, capacity_after, capacity_or_zero, is_full}
 use Rattle.kpn_trace.specs.Waiting.{wait_of_last, wait_of, waits_of, full_in_cycle}
-use Rattle.kpn_trace.specs.Legal.{waiter, waiter_of_last, OwesGrowth, Legal}
+use Rattle.kpn_trace.specs.Legal.{waiter, waiter_of_last, OwesCycleGrowth, OwesGrowth, Legal}
 use Rattle.kpn_trace.specs.Talks.{last_event}
-use Rattle.kpn_trace.specs.Stops.{OwesNothing, CanGrow}
+use Rattle.kpn_trace.specs.Stops.{OwesNothing, OwesNoCycleGrowth, CanGrow}
 use Rattle.kpn_trace.proofs.Events.{last_or-push}
 use Rattle.kpn_trace.proofs.Legality.{Legal-last, Legal-before, Legal-consistent, by_events}
 use Rattle.kpn_trace.proofs.Capacities.{capacity_grows, capacity_of_growth, larger_by_growth}
@@ -79,7 +79,7 @@ AreWaiters t H = (g : CanGrow t H) → IsWaiters H g.process g.others
 record Owed (t : Tables) (H : List Event) : Type 0 where
   process : ℕ
   channel : ℕ
-  owed : OwesGrowth t H process channel
+  owed : OwesCycleGrowth t H process channel
 
 grows_of : (t : Tables) (H : List Event) (g : CanGrow t H) → IsWaiters H g.process g.others → Owed t H
 grows_of t H g w =
@@ -105,22 +105,24 @@ grows_of t H g w =
       };
     }
 
--- at most one growth is owed
-pub one_owed : (t : Tables) (H : List Event) (p d q e : ℕ) → OwesGrowth t H p d → OwesGrowth t H q e
+-- at most one growth is owed for a cycle
+pub one_cycle_owed : (t : Tables) (H : List Event) (p d q e : ℕ) → OwesCycleGrowth t H p d → OwesCycleGrowth t H q e
     → (p ≡ q) × (d ≡ e)
-one_owed t H p d q e owed other =
+one_cycle_owed t H p d q e owed other =
     let process : q ≡ p = Some-number q p (sym other.wait ∙ owed.wait) in
-    let here : OwesGrowth t H p e = subst (λ r. OwesGrowth t H r e) process other in
+    let here : OwesCycleGrowth t H p e = subst (λ r. OwesCycleGrowth t H r e) process other in
     let others = cycle_unique t (waits_of t H) p owed.others here.others owed.cycle here.cycle in
     let smallest : IsSmallest (capacity_or_zero t H) (full_in_cycle t H p here.others) d =
     subst (λ xs. IsSmallest (capacity_or_zero t H) (full_in_cycle t H p xs) d) others owed.smallest in
     (sym process, smallest_unique (capacity_or_zero t H) (full_in_cycle t H p here.others) d e smallest here.smallest)
 
 pub none_owed_at_first : (t : Tables) → OwesNothing t []
-none_owed_at_first t p d owed = let wait = owed.wait in absurd cc
+none_owed_at_first t p d (inl owed) = let wait = owed.wait in absurd cc
+none_owed_at_first t p d (inr owed) = let waits = owed.waits in absurd cc
 
-pub none_owed_after : (t : Tables) (B : List Event) (e : Event) → waiter e ≡ None → OwesNothing t (B ++ e ∷ [])
-none_owed_after t B e none p d owed =
+pub no_cycle_owed_after : (t : Tables) (B : List Event) (e : Event) → waiter e ≡ None
+    → OwesNoCycleGrowth t (B ++ e ∷ [])
+no_cycle_owed_after t B e none p d owed =
     let clash : ◌≡◌ {A = Option ℕ} None (Some p) = sym none ∙ (sym (last_waiter-push B e) ∙ owed.wait) in absurd cc
 
 -- ---- one more event
@@ -190,16 +192,15 @@ full_in_table t H p c below is = full_where_waited t H (last_event H p) c (block
 
 -- ---- a cycle that can grow has the last waiter
 
--- a growth that was owed takes the cycle away that it was owed for
+-- a growth that was owed for a cycle takes this cycle away
 no_cycle_then : (t : Tables) → IsNetwork t → (B : List Event) (p d : ℕ) → Legal t (B ++ Grow p d ∷ [])
-    → AreWaiters t B → (g : CanGrow t (B ++ Grow p d ∷ [])) → ⊥
+    → OwesCycleGrowth t B p d → AreWaiters t B → (g : CanGrow t (B ++ Grow p d ∷ [])) → ⊥
 unfolding could_grow
-no_cycle_then t network B p d legal waiters g =
+no_cycle_then t network B p d legal owed waiters g =
     let H : List Event = B ++ Grow p d ∷ [] in
     let before = had_cycle t network B (Grow p d) legal g.process g.others (λ q h e. absurd cc) g.cycle in
     let w = waiters (could_grow t B (Grow p d) legal g before) in
     let next = Legal-last t B (Grow p d) legal in
-    let owed = next.due in
     let process : w.waiting ≡ p = Some-number _ _ (sym w.last ∙ owed.wait) in
     let round =
     rotated t (waits_of t B) g.process g.others before.cycle p
@@ -222,12 +223,20 @@ no_cycle_then t network B p d legal waiters g =
 -- an event that is no wait of a member leaves no cycle that can grow
 no_cycle : (t : Tables) → IsNetwork t → (B : List Event) (e : Event) → Legal t (B ++ e ∷ []) → AreWaiters t B
     → (g : CanGrow t (B ++ e ∷ [])) → ((q : ℕ) → Contains (g.process ∷ g.others) q → waiter e ≡ Some q → ⊥) → ⊥
-no_cycle t network B (Grow p d) legal waiters g none = no_cycle_then t network B p d legal waiters g
+no_cycle t network B (Grow p d) legal waiters g none = by_reason (Legal-last t B (Grow p d) legal).due
+  where
+    by_reason : OwesGrowth t B p d → ⊥
+    by_reason (inl owed) = no_cycle_then t network B p d legal owed waiters g
+    by_reason (inr owed) =
+        let before = had_cycle t network B (Grow p d) legal g.process g.others none g.cycle in
+        let old = could_grow t B (Grow p d) legal g before in
+        let cycle = grows_of t B old (waiters old) in
+        owed.no_cycle cycle.process cycle.channel cycle.owed
 no_cycle t network B e legal waiters g none =
     let before = had_cycle t network B e legal g.process g.others none g.cycle in
     let old = could_grow t B e legal g before in
     let owed = grows_of t B old (waiters old) in
-    let next = (Legal-last t B e legal).growth owed.process owed.channel owed.owed in
+    let next = (Legal-last t B e legal).growth owed.process owed.channel (inl owed.owed) in
     cc
 
 by_waiter : (t : Tables) → IsNetwork t → (B : List Event) (e : Event) → Legal t (B ++ e ∷ []) → AreWaiters t B
@@ -267,4 +276,4 @@ are_waiters t network =
 -- where no growth is owed no cycle can grow
 pub nothing_can_grow : (t : Tables) → IsNetwork t → (H : List Event) → Legal t H → OwesNothing t H → ¬ CanGrow t H
 nothing_can_grow t network H legal nothing g =
-    let owed = grows_of t H g (are_waiters t network H legal g) in nothing owed.process owed.channel owed.owed
+    let owed = grows_of t H g (are_waiters t network H legal g) in nothing owed.process owed.channel (inl owed.owed)

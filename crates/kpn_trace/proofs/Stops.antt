@@ -116,7 +116,7 @@ blocked_on : (t : Tables) (H : List Event) (p : ℕ) (w : Wait) → wait_of t H 
     → wait_of t H p ≢ Nobody
 blocked_on t H p w is some none = some (sym is ∙ none)
 
-is_blocked : (t : Tables) (H : List Event) → IsSettled t H → (p : ℕ) → p < length t.instances → has_ended H p ≡ false
+pub is_blocked : (t : Tables) (H : List Event) → IsSettled t H → (p : ℕ) → p < length t.instances → has_ended H p ≡ false
     → wait_of t H p ≢ Nobody
 is_blocked t H settled p below lives =
     elim (settled.processes p below) [
@@ -197,11 +197,6 @@ only_a_leave t H settled nothing (Take c v) legal =
     absurd (cannot_take t H settled c v next.numbers next.due (KeepsConsistent-last t H (Take c v) legal))
 only_a_leave t H settled nothing (Leave c) legal = (c, refl)
 only_a_leave t H settled nothing (Grow p d) legal = absurd (nothing p d (Legal-last t H (Grow p d) legal).due)
-
--- without a full channel in a blocked cycle no growth is owed
-pub without_full_cycle : (t : Tables) (H : List Event) → (¬ HasFullCycle t H) → OwesNothing t H
-without_full_cycle t H none p d owed =
-    none (record { process = p; others = owed.others; cycle = owed.cycle; channel = d; full = owed.smallest.among })
 
 -- ---- one verdict
 

@@ -1,23 +1,25 @@
 -- Legal histories: what a run of a network may bring, whatever the order in which its processes go. One more event is
 -- judged by the history before it, and the history with it has to be consistent.
-use Rattle.std.specs.Prelude.{◌≡◌, ℕ, ◌<◌, ◌≤◌, true, false, ℤ, List, [], ◌∷◌, ◌++◌, length, Option, Some, None}
+use Rattle.std.specs.Prelude.{◌≡◌, ℕ, ◌<◌, ◌≤◌, ◌⊎◌, true, false, ℤ, List, [], ◌∷◌, ◌++◌, length, Option, Some, None}
 use Rattle.std.specs.List.{last_or}
 use Rattle.kpn_lang.specs.declared.value.Fault.TheVariants as fault
 use Rattle.kpn_lang.specs.declared.talk.Said.TheVariants as said
 use Rattle.kpn_lang.specs.declared.talk.Ending.{Ending}
 use Rattle.kpn_lang.specs.declared.talk.Ending.TheVariants as ending
 use Rattle.kpn_lang.specs.Prefix.{IsPrefix}
-use Rattle.kpn_net.specs.declared.wait.Wait.TheVariants.{Nobody}
+use Rattle.kpn_net.specs.declared.tables.Policy.TheVariants.{All}
+use Rattle.kpn_net.specs.declared.wait.Wait.TheVariants.{Nobody, Full}
 use Rattle.kpn_net.specs.Tables.{Tables, channel_at, is_source, is_sink}
 use Rattle.kpn_net.specs.Process.{CanSay, ComesTo}
-use Rattle.kpn_net.specs.Waits.{IsSmallest}
+use Rattle.kpn_net.specs.Waits.{IsSmallest, awaited_as_full}
 use Rattle.kpn_trace.specs.declared.event.How.{How}
 use Rattle.kpn_trace.specs.declared.event.How.TheVariants as how
 use Rattle.kpn_trace.specs.declared.event.Event.{Event}
 use Rattle.kpn_trace.specs.declared.event.Event.TheVariants.{Get, Put, WaitEmpty, WaitFull, Ended, Feed, Close, Take, Leave, Grow}
 use Rattle.kpn_trace.specs.Talks.{talk_of, has_ended}
 use Rattle.kpn_trace.specs.Channels.{written_on, read_on, unread_on, is_closed, is_left, reader_lives, capacity_after, capacity_or_zero, is_empty, is_full}
-use Rattle.kpn_trace.specs.Waiting.{wait_of, IsBlockedCycle, full_in_cycle}
+use Rattle.kpn_trace.specs.Waiting.{wait_of, waits_of, IsBlockedCycle, full_in_cycle}
+use Rattle.kpn_trace.specs.Ends.{IsSettled}
 
 -- ---- consistency
 
@@ -41,14 +43,29 @@ abbrev pub waiter_of_last : Option Event → Option ℕ
 waiter_of_last None = None
 waiter_of_last (Some event) = waiter event
 
--- a growth of d is owed: the history ends with a wait of p, the cycle through p has a full channel, and its smallest
--- one, d, is below the limit
-pub record OwesGrowth (t : Tables) (B : List Event) (p d : ℕ) : Type 0 where
+-- a growth of d is owed for a cycle: the history ends with a wait of p, the cycle through p has a full channel, and its
+-- smallest one, d, is below the limit
+pub record OwesCycleGrowth (t : Tables) (B : List Event) (p d : ℕ) : Type 0 where
   pub wait : waiter_of_last (last_or None B) ≡ Some p
   pub others : List ℕ
   pub cycle : IsBlockedCycle t B p others
   pub smallest : IsSmallest (capacity_or_zero t B) (full_in_cycle t B p others) d
   pub below_limit : capacity_or_zero t B d < t.limit
+
+-- a growth of d is owed for a stop under the policy `all`: the history is settled, no growth is owed for a cycle, and d,
+-- the smallest of the channels on which processes wait as full, is below the limit; p waits on it
+pub record OwesStopGrowth (t : Tables) (B : List Event) (p d : ℕ) : Type 0 where
+  pub policy : t.policy ≡ All
+  pub settled : IsSettled t B
+  pub no_cycle : (q e : ℕ) → ¬ OwesCycleGrowth t B q e
+  pub smallest : IsSmallest (capacity_or_zero t B) (awaited_as_full t (waits_of t B)) d
+  pub below_limit : capacity_or_zero t B d < t.limit
+  pub there : p < length t.instances
+  pub waits : wait_of t B p ≡ Full d
+
+-- a growth of d is owed, and p is the process that waits for it
+abbrev pub OwesGrowth : Tables → List Event → (p d : ℕ) → Type 0
+OwesGrowth t B p d = OwesCycleGrowth t B p d ⊎ OwesStopGrowth t B p d
 
 -- ---- one more event
 

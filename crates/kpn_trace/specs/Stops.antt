@@ -1,18 +1,35 @@
 -- What growth leaves behind, and what a stop rests on (Parks 1995: an artificial deadlock is a cycle of blocked
 -- processes with a full channel, which a larger capacity resolves; Geilen and Basten 2003: such a cycle may be local).
-use Rattle.std.specs.Prelude.{◌≡◌, ◌≢◌, ℕ, ◌<◌, List, Some, Contains, length}
+use Rattle.std.specs.Prelude.{◌≡◌, ◌≢◌, ℕ, ◌<◌, Bool, true, false, List, Some, Contains, length}
 use Rattle.kpn_net.specs.declared.wait.Wait.TheVariants.{Nobody, Full}
 use Rattle.kpn_net.specs.declared.tables.End.TheVariants.{Process}
 use Rattle.kpn_net.specs.Tables.{Tables, writer_of}
 use Rattle.kpn_net.specs.Waits.{awaited}
 use Rattle.kpn_trace.specs.declared.event.Event.{Event}
+use Rattle.kpn_trace.specs.declared.event.Event.TheVariants.{Get, Put, Feed, Grow}
 use Rattle.kpn_trace.specs.Channels.{capacity_after, capacity_or_zero}
 use Rattle.kpn_trace.specs.Waiting.{wait_of, IsBlockedCycle, full_in_cycle}
-use Rattle.kpn_trace.specs.Legal.{OwesGrowth}
+use Rattle.kpn_trace.specs.Legal.{OwesCycleGrowth, OwesStopGrowth, OwesGrowth}
 
 -- no growth is owed
 abbrev pub OwesNothing : Tables → List Event → Type 0
 OwesNothing t H = (p d : ℕ) → ¬ OwesGrowth t H p d
+
+-- no growth is owed for a cycle
+abbrev pub OwesNoCycleGrowth : Tables → List Event → Type 0
+OwesNoCycleGrowth t H = (p d : ℕ) → ¬ OwesCycleGrowth t H p d
+
+-- no growth is owed for a stop
+abbrev pub OwesNoStopGrowth : Tables → List Event → Type 0
+OwesNoStopGrowth t H = (p d : ℕ) → ¬ OwesStopGrowth t H p d
+
+-- after the event something may still go on: an item has moved, or a channel has grown
+abbrev pub goes_on : Event → Bool
+goes_on (Get p c v) = true
+goes_on (Put p c v) = true
+goes_on (Feed c v) = true
+goes_on (Grow p d) = true
+goes_on event = false
 
 -- the writer of a channel is a process that waits on it as full
 pub record IsAwaitedByWriter (t : Tables) (H : List Event) (d : ℕ) : Type 0 where

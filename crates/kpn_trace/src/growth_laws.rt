@@ -1,8 +1,10 @@
 //! What growth leaves behind and what a stop rests on, as the contracts of functions with nothing to do: the layers
 //! above cite them.
-ghost use Rattle.std.specs.Prelude.{◌≡◌, ◌↔◌, ℕ, ◌<◌, ◌≤◌, List, [], ◌∷◌, ◌++◌, length, Option, Some, None};
+ghost use Rattle.std.specs.Prelude.{◌≡◌, ◌↔◌, ℕ, ◌<◌, ◌≤◌, List, [], ◌∷◌, ◌++◌, true, length, Option, Some, None};
 ghost use Rattle.kpn_net.specs.Tables.{Tables};
 ghost use Rattle.kpn_net.specs.Faults.{IsNetwork};
+ghost use Rattle.kpn_net.specs.declared.tables.Policy.TheVariants.{Cycles, All};
+ghost use Rattle.kpn_net.specs.declared.wait.Wait.TheVariants.{Full as FullOn};
 ghost use Rattle.kpn_net.specs.declared.found.Found.{Found};
 ghost use Rattle.kpn_net.specs.declared.found.Found.TheVariants.{Full};
 ghost use Rattle.kpn_net.specs.Finding.{Finds};
@@ -11,10 +13,10 @@ ghost use Rattle.kpn_trace.specs.declared.event.Event.TheVariants.{Leave};
 ghost use Rattle.kpn_trace.specs.declared.state.Verdict.{Verdict};
 ghost use Rattle.kpn_trace.specs.declared.state.Verdict.TheVariants.{Ended, Clogged, Jammed};
 ghost use Rattle.kpn_trace.specs.Channels.{capacity_after, capacity_or_zero};
-ghost use Rattle.kpn_trace.specs.Waiting.{waits_of, HasFullCycle};
-ghost use Rattle.kpn_trace.specs.Legal.{waiter, OwesGrowth, Legal};
+ghost use Rattle.kpn_trace.specs.Waiting.{wait_of, waits_of, HasFullCycle};
+ghost use Rattle.kpn_trace.specs.Legal.{waiter, OwesCycleGrowth, OwesGrowth, Legal};
 ghost use Rattle.kpn_trace.specs.Ends.{WaitsOnFull, IsQuiet, IsSettled, IsVerdict};
-ghost use Rattle.kpn_trace.specs.Stops.{OwesNothing, IsAwaitedByWriter, HasCapacityBelow, CanGrow, IsJammedAtLimit, WaitsForBlocked};
+ghost use Rattle.kpn_trace.specs.Stops.{OwesNothing, OwesNoCycleGrowth, OwesNoStopGrowth, goes_on, IsAwaitedByWriter, HasCapacityBelow, CanGrow, IsJammedAtLimit, WaitsForBlocked};
 
 use kpn_limits::MAX_CAPACITY;
 
@@ -27,29 +29,32 @@ pub fn capacities_stay_within_the_limit()
         → capacity_after t H c ≡ Some cap → (0 < cap) × (cap ≤ t.limit) }
 {}
 
-/// At most one growth is owed, and none unless the last event is a wait.
+/// At most one growth is owed: none at first, none for a cycle unless the last event is a wait, none for a stop after
+/// an event that moves an item or lets a channel grow, and none for a stop under the policy `cycles`.
 pub fn one_growth_is_owed()
-    ensures one { (t : Tables) (H : List Event) (p d q e : ℕ) → OwesGrowth t H p d
-        → OwesGrowth t H q e
-        → (p ≡ q) × (d ≡ e) }
+    ensures one { (t : Tables) → IsNetwork t → (H : List Event) → Legal t H → (p d q e : ℕ)
+        → OwesGrowth t H p d → OwesGrowth t H q e → (p ≡ q) × (d ≡ e) }
     ensures none_at_first { (t : Tables) → OwesNothing t [] }
-    ensures none_but_after_waits { (t : Tables) (B : List Event) (event : Event)
-        → waiter event ≡ None
-        → OwesNothing t (B ++ event ∷ []) }
+    ensures waits { (t : Tables) (B : List Event) (event : Event) → waiter event ≡ None
+        → OwesNoCycleGrowth t (B ++ event ∷ []) }
+    ensures stops { (t : Tables) → IsNetwork t → (B : List Event) (event : Event)
+        → Legal t (B ++ event ∷ []) → goes_on event ≡ true
+        → OwesNoStopGrowth t (B ++ event ∷ []) }
+    ensures cycles { (t : Tables) (H : List Event) → t.policy ≡ Cycles → OwesNoStopGrowth t H }
 {}
 
-/// After a wait of `p` a growth is owed exactly where a search finds that the cycle through `p` has a full channel
+/// After a wait of `p` a growth is owed for a cycle exactly where a search finds that the cycle through `p` has a full channel
 /// and its smallest one is below the limit; it is the growth of that channel. Else nothing is owed.
 pub fn growth_is_owed_by_the_cycle()
     ensures owed { (t : Tables) (B : List Event) (event : Event) (p : ℕ) → waiter event ≡ Some p
         → (found : Found)
         → Finds t (waits_of t (B ++ event ∷ [])) (capacity_or_zero t (B ++ event ∷ [])) p found
-        → (d : ℕ) → (OwesGrowth t (B ++ event ∷ []) p d
+        → (d : ℕ) → (OwesCycleGrowth t (B ++ event ∷ []) p d
         ↔ ((found ≡ Full d) × (capacity_or_zero t (B ++ event ∷ []) d < t.limit))) }
     ensures nothing { (t : Tables) (B : List Event) (event : Event) (p : ℕ) → waiter event ≡ Some p
         → (found : Found)
         → Finds t (waits_of t (B ++ event ∷ [])) (capacity_or_zero t (B ++ event ∷ [])) p found
-        → (OwesNothing t (B ++ event ∷ [])
+        → (OwesNoCycleGrowth t (B ++ event ∷ [])
         ↔ ((d : ℕ) → found ≡ Full d → t.limit ≤ capacity_or_zero t (B ++ event ∷ []) d)) }
 {}
 
@@ -69,6 +74,14 @@ pub fn an_owed_growth_can_be_made()
 pub fn no_cycle_is_left_to_grow()
     ensures { (t : Tables) → IsNetwork t → (H : List Event) → Legal t H → OwesNothing t H
         → ¬ CanGrow t H }
+{}
+
+/// Under the policy `all` a settled legal history that owes no growth has each channel on which a process waits as full
+/// at the limit.
+pub fn no_wait_is_left_to_grow()
+    ensures { (t : Tables) → IsNetwork t → (H : List Event) → Legal t H → OwesNothing t H
+        → t.policy ≡ All → IsSettled t H → (p c : ℕ) → p < length t.instances
+        → wait_of t H p ≡ FullOn c → capacity_after t H c ≡ Some t.limit }
 {}
 
 // ---- verdicts
@@ -93,14 +106,14 @@ pub fn jammed_is_at_the_limit()
 {}
 
 /// Clogged: each process that is blocked on a full channel waits for a blocked process, no blocked cycle has
-/// a full channel, and no legal event but a leave can follow.
+/// a full channel, and no legal event but a leave can follow if no growth is owed.
 pub fn clogged_waits_for_the_blocked()
     ensures waits { (t : Tables) → IsNetwork t → (H : List Event) → Legal t H
         → IsVerdict t H (Some Clogged)
         → (p : ℕ) → WaitsOnFull t H p → WaitsForBlocked t H p }
     ensures no_cycle { (t : Tables) (H : List Event) → IsVerdict t H (Some Clogged)
         → ¬ HasFullCycle t H }
-    ensures last { (t : Tables) (H : List Event) → IsVerdict t H (Some Clogged)
+    ensures last { (t : Tables) (H : List Event) → OwesNothing t H → IsVerdict t H (Some Clogged)
         → (event : Event) → Legal t (H ++ event ∷ []) → ((c : ℕ) × (event ≡ Leave c)) }
 {}
 

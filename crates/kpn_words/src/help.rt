@@ -43,9 +43,10 @@ want of memory.";
 pub(crate) const RUN_HELP: &str = "\
 Feeds each source its items and closes it, and then steps the processes in turn. A process waits
 where it reads an empty channel or writes a full one. Where processes wait for one another in a cycle
-that has full channels, the one of least capacity grows, unless it is at the limit. Writes the
-items that were taken from each sink, which processes have faulted, which wait, and what the run has
-come to:
+that has full channels, the one of least capacity grows, unless it is at the limit. If the network
+says `policy all;`, where no process can go on the one of least capacity among all full channels on
+which processes wait grows too. Writes the items that were taken from each sink, which processes have
+faulted, which wait, and what the run has come to:
 
   ended    each process has ended, or waits for an item that never comes
   enough   each sink has given the K items of --take

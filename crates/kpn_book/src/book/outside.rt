@@ -68,9 +68,9 @@ impl<'n, A: Allocator> Book<'n, A> {
         if self.parts.configuration.is_closed(source) {
             return Ok(());
         }
-        self.parts.history.reserve(1)?;
-        self.parts.configuration.close(network, source);
-        self.parts.history.push(Event::Close(number(source)));
+        self.parts.history.reserve(2)?;
+        self.parts.close(source);
+        let _grown = self.parts.grow_at_stop();
         Ok(())
     }
 
@@ -92,11 +92,10 @@ impl<'n, A: Allocator> Book<'n, A> {
         if !self.parts.configuration.has_item(sink) {
             return Ok(None);
         }
-        self.parts.history.reserve(1)?;
-        let got = self.parts.configuration.take(network, sink);
-        self.parts.history.push(Event::Take(number(sink), got.item));
-        wake(&mut self.parts.schedule, got.woken);
-        Ok(Some(got.item))
+        self.parts.history.reserve(2)?;
+        let item = self.parts.take(sink);
+        let _grown = self.parts.grow_at_stop();
+        Ok(Some(item))
     }
 
     /// Leaves a sink: nothing is taken from it any more, and it is never full. A second time it changes nothing and
@@ -114,10 +113,9 @@ impl<'n, A: Allocator> Book<'n, A> {
         if self.parts.configuration.channel(sink).is_retired() {
             return Ok(());
         }
-        self.parts.history.reserve(1)?;
-        let woken = self.parts.configuration.leave(network, sink);
-        self.parts.history.push(Event::Leave(number(sink)));
-        wake(&mut self.parts.schedule, woken);
+        self.parts.history.reserve(2)?;
+        self.parts.leave(sink);
+        let _grown = self.parts.grow_at_stop();
         Ok(())
     }
 }

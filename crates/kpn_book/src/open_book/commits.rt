@@ -1,5 +1,5 @@
 //! Answers a held process at its stop: one function for each kind of stop makes the event that is due there, and after a
-//! wait the growth that is owed.
+//! wait or an end the growth that is owed.
 ghost use Rattle.std.specs.Prelude.{◌≡◌, ◌≢◌, ◌<◌, ◌≤◌, ◌+◌, ℕ, ℤ, [], true, length, IsTrue};
 ghost use Rattle.kpn_net.specs.Tables.{instance_at, program_of};
 ghost use Rattle.kpn_step.specs.declared.stop.Stop.{Stop as Place};
@@ -14,7 +14,10 @@ ghost use Rattle.kpn_configuration.specs.Due.{Stands, ReadsFrom, WritesTo, stop_
 ghost use Rattle.kpn_book.specs.Book.{IsHeld};
 ghost use Rattle.kpn_book.specs.Commits.{IsReadFrom, IsWriteTo};
 ghost use Rattle.kpn_book.specs.Kept.{IsInStep};
-ghost use Rattle.kpn_book.specs.Open.{book_of, reserves_by, IsSound, Follows, EndsWithWait, GrowsIfOwed, Answered, MayBeReady};
+ghost use Rattle.kpn_book.specs.Open.{book_of, reserves_by, IsSound, Follows, EndsWithWait, GrowsIfOwed, GrowsAtStop, Answered, MayBeReady};
+ghost use Rattle.kpn_trace.specs.Legal.{OwesGrowth};
+ghost use Rattle.kpn_trace.specs.Stops.{OwesNoCycleGrowth};
+ghost use Rattle.kpn_configuration.specs.Owed.{IsAwaitedBelowLimit};
 ghost use Rattle.kpn_book.specs.Appending.{all_made_ready};
 
 use super::{OpenBook, number, wake};
@@ -74,8 +77,8 @@ impl<'n, A: Allocator> OpenBook<'n, A> {
                 let c = out_channel(network, p, port);
                 self.write(p, c, item)
             }
-            Stop::Done => self.end(p, How::Done),
-            Stop::Faulted(fault) => self.end(p, how_of(fault)),
+            Stop::Done => self.finish(p, How::Done),
+            Stop::Faulted(fault) => self.finish(p, how_of(fault)),
             Stop::Paused => {
                 self.schedule.put_back(p);
                 Done::Paused
@@ -168,7 +171,8 @@ impl<'n, A: Allocator> OpenBook<'n, A> {
         self.schedule.set(p, State::WaitsFull(c));
     }
 
-    /// Process `p`, which has come to wait, has the channel grown whose growth is owed for this, if one is.
+    /// After a wait of process `p` the growth that is owed is made, if one is: for a cycle through `p`, or else for a
+    /// stop.
     fn grow_if_owed(&mut self, p: usize) -> Done
         requires room { 0 < self.old.history.room }
         requires step { IsInStep (book_of self.old) }
@@ -179,21 +183,71 @@ impl<'n, A: Allocator> OpenBook<'n, A> {
         let network = self.network;
         network.known();
         let Some(d) = self.configuration.owed(network, p) else {
-            return Done::Blocked;
+            return match self.grow_at_stop() {
+                Some(d) => Done::Grew(d),
+                None => Done::Blocked,
+            };
         };
-        let woken = self.configuration.grow(network, p, d);
-        self.history.push(Event::Grow(number(p), number(d)));
-        wake(&mut self.schedule, woken);
+        self.grow(p, d);
         Done::Grew(d)
     }
 
-    /// Process `p`, which stands at this end, has ended, and those that this wakes become ready.
-    fn end(&mut self, p: usize, how: How) -> Done
+    /// The growth that is owed for a stop is made, if one is, where none is owed for a cycle. Returns its channel.
+    pub(crate) fn grow_at_stop(&mut self) -> Option<usize>
         requires room { 0 < self.old.history.room }
+        requires step { IsInStep (book_of self.old) }
+        requires no_cycle { OwesNoCycleGrowth self.old.network.now self.old.history.events }
+        ensures { GrowsAtStop result (book_of self.old) (book_of self.new) }
+    {
+        let network = self.network;
+        network.known();
+        if !self.schedule.is_idle() {
+            return None;
+        }
+        let Some(owed) = self.configuration.owed_at_stop(network) else {
+            return None;
+        };
+        self.grow(owed.process, owed.channel);
+        Some(owed.channel)
+    }
+
+    /// The growth of channel `d`, which is owed for process `p`, is made.
+    fn grow(&mut self, p: usize, d: usize)
+        requires room { 0 < self.old.history.room }
+        requires step { IsInStep (book_of self.old) }
+        requires process { p < length self.old.network.now.instances }
+        requires awaited { IsAwaitedBelowLimit self.old.network.now self.old.configuration d }
+        requires owed { OwesGrowth self.old.network.now self.old.history.events p d }
+        ensures { Follows (event.Grow p d) (book_of self.old) (book_of self.new) }
+    {
+        let network = self.network;
+        network.known();
+        let woken = self.configuration.grow(network, p, d);
+        self.history.push(Event::Grow(number(p), number(d)));
+        wake(&mut self.schedule, woken);
+    }
+
+    /// Process `p`, which stands at this end, has ended, and the growth that is owed then is made.
+    fn finish(&mut self, p: usize, how: How) -> Done
+        requires room { 2 ≤ self.old.history.room }
         requires sound { IsSound (book_of self.old) }
         requires held { IsHeld (book_of self.old) p }
         requires stands { Stands self.old.network.now self.old.configuration p (stop_of how) }
         ensures { Answered p (λ (s : Place). s ≡ stop_of how) result (book_of self.old) (book_of self.new) }
+    {
+        self.end(p, how);
+        let _grown = self.grow_at_stop();
+        Done::Ended
+    }
+
+    /// Process `p`, which stands at this end, ends, and those that this wakes become ready.
+    fn end(&mut self, p: usize, how: How)
+        requires room { 0 < self.old.history.room }
+        requires sound { IsSound (book_of self.old) }
+        requires held { IsHeld (book_of self.old) p }
+        requires stands { Stands self.old.network.now self.old.configuration p (stop_of how) }
+        ensures follows { Follows (event.Ended p how) (book_of self.old) (book_of self.new) }
+        ensures room { self.old.history.room ≤ self.new.history.room + 1 }
     {
         let network = self.network;
         network.known();
@@ -201,7 +255,6 @@ impl<'n, A: Allocator> OpenBook<'n, A> {
         self.history.push(Event::Ended(number(p), how));
         self.schedule.set(p, State::Ended(how));
         wake_all(&mut self.schedule, woken.as_slice());
-        Done::Ended
     }
 }
 

@@ -1,27 +1,35 @@
 //! Growth: which channel has to grow once a process has come to wait, and the channel made larger.
-ghost use Rattle.std.specs.Prelude.{◌≡◌, ◌↔◌, ◌<◌, ℕ, List, [], ◌∷◌, ◌++◌, length, IsTrue, Some, None};
+ghost use Rattle.std.specs.Prelude.{◌≡◌, ◌↔◌, ◌<◌, ℕ, List, [], ◌∷◌, ◌++◌, length, IsTrue, IfSome, Some, None};
 ghost use Rattle.kpn_trace.specs.declared.event.Event.{Event};
 ghost use Rattle.kpn_trace.specs.declared.event.Event.TheVariants as event;
-ghost use Rattle.kpn_trace.specs.Legal.{OwesGrowth, waiter};
-ghost use Rattle.kpn_trace.specs.Stops.{OwesNothing};
+ghost use Rattle.kpn_trace.specs.Legal.{OwesCycleGrowth, OwesStopGrowth, OwesGrowth, waiter};
+ghost use Rattle.kpn_trace.specs.Stops.{OwesNoCycleGrowth, OwesNoStopGrowth};
 ghost use Rattle.kpn_configuration.specs.Configuration.{IsConfiguration, capacities, channel_in, with_channel};
 ghost use Rattle.kpn_chan.specs.Channel.{MayGrowTo, grown_to};
 ghost use Rattle.kpn_configuration.specs.Run.{IsRun};
 ghost use Rattle.kpn_configuration.specs.Changes.{Changes};
-ghost use Rattle.kpn_configuration.specs.Owed.{IsOwed, channel_to_grow};
+ghost use Rattle.kpn_configuration.specs.Owed.{IsOwed, IsOwedAtStop, IsAwaitedBelowLimit, channel_to_grow};
 ghost use Rattle.kpn_cycle.specs.Scan.{cap_in};
 ghost use Rattle.kpn_net.specs.Finding.{Finds};
+ghost use Rattle.kpn_net.specs.Waits.{FindsSmallest, awaited_as_full};
 ghost use Rattle.kpn_net.specs.Tables.{larger_capacity};
 ghost use Rattle.kpn_configuration.specs.Woken.{waiting_writer};
 
 use super::Configuration;
 use super::wakes::wake;
-use kpn_cycle::{Found, cycle_through};
-use kpn_net::{Network, Wait};
+use kpn_cycle::{Found, cycle_through, smallest_waited};
+use kpn_net::{End, Network, Policy, Wait};
 use std::alloc::Allocator;
 
+/// A growth that is owed: of this channel, for a process that waits.
+#[derive(Clone, Copy, Debug, PartialEq, Eq)]
+pub struct OwedGrowth {
+    pub process: usize,
+    pub channel: usize,
+}
+
 impl<A: Allocator> Configuration<A> {
-    /// The channel whose growth is owed once process `p` has come to wait: the smallest full channel of the
+    /// The channel whose growth is owed for a cycle once process `p` has come to wait: the smallest full channel of the
     /// cycle of waiting processes through `p`, if its capacity is below the limit.
     pub fn owed(&self, network: &Network, p: usize) -> Option<usize>
         requires shape { IsConfiguration network.now self.now }
@@ -29,14 +37,58 @@ impl<A: Allocator> Configuration<A> {
         ensures channel { (d : ℕ) → ((result ≡ Some d) ↔ IsOwed network.now self.now p d) }
         ensures growth { (B : List Event) (event : Event) → waiter event ≡ Some p
             → IsRun network.now (B ++ event ∷ []) self.now
-            → (d : ℕ) → ((result ≡ Some d) ↔ OwesGrowth network.now (B ++ event ∷ []) p d) }
+            → (d : ℕ) → ((result ≡ Some d) ↔ OwesCycleGrowth network.now (B ++ event ∷ []) p d) }
         ensures nothing { (B : List Event) (event : Event) → waiter event ≡ Some p
             → IsRun network.now (B ++ event ∷ []) self.now
-            → result ≡ None → OwesNothing network.now (B ++ event ∷ []) }
+            → result ≡ None → OwesNoCycleGrowth network.now (B ++ event ∷ []) }
+        ensures awaited { IfSome result (IsAwaitedBelowLimit network.now self.now) }
     {
         network.known();
         let found = self.walk(network, p);
         self.channel_to_grow(network.limit(), found)
+    }
+
+    /// The growth that is owed for a stop: under the policy `all`, once the run is settled, that of the smallest channel
+    /// on which a process waits as full, if its capacity is below the limit.
+    pub fn owed_at_stop(&self, network: &Network) -> Option<OwedGrowth>
+        requires shape { IsConfiguration network.now self.now }
+        ensures now { IfSome result (λ owed.
+            IsOwedAtStop network.now self.now owed.process owed.channel) }
+        ensures growth { (H : List Event) → IsRun network.now H self.now
+            → OwesNoCycleGrowth network.now H
+            → IfSome result (λ owed. OwesStopGrowth network.now H owed.process owed.channel) }
+        ensures nothing { (H : List Event) → IsRun network.now H self.now
+            → result ≡ None → OwesNoStopGrowth network.now H }
+        ensures awaited { IfSome result (λ owed.
+            IsAwaitedBelowLimit network.now self.now owed.channel) }
+    {
+        network.known();
+        let Policy::All = network.policy() else {
+            return None;
+        };
+        if !self.is_settled(network) {
+            return None;
+        }
+        let Some(smallest) = self.smallest_waited(network) else {
+            return None;
+        };
+        let Some(channel) = self.channel_to_grow(network.limit(), Found::Full(smallest)) else {
+            return None;
+        };
+        let End::Process(process) = network.writer_of(channel) else {
+            return None;
+        };
+        Some(OwedGrowth { process, channel })
+    }
+
+    /// The smallest channel on which a process waits as full, if there is one.
+    fn smallest_waited(&self, network: &Network) -> Option<usize>
+        requires shape { IsConfiguration network.now self.now }
+        ensures exact { let waited = awaited_as_full network.now self.now.waits in
+            FindsSmallest (cap_in (capacities self.now)) waited result }
+        ensures channel { IfSome result (λ c. c < length self.now.channels) }
+    {
+        smallest_waited(network, &self.waits, self.capacities.as_slice())
     }
 
     /// What a walk along the waits from process `p` finds.
@@ -60,15 +112,15 @@ impl<A: Allocator> Configuration<A> {
         }
     }
 
-    /// The capacity of channel `d`, whose growth is owed for the wait of process `p`, becomes larger, as the
-    /// growth of the network says. Returns the process that this wakes: the writer of the channel, if it
+    /// The capacity of channel `d`, whose growth is owed for process `p`, becomes larger, as the growth of the
+    /// network says. Returns the process that this wakes: the writer of the channel, if it
     /// waited on it as full.
     ///
     /// It takes no memory: the writer of `d` waits on it as full, and reserved an item there before it came to wait.
     pub fn grow(&mut self, network: &Network, p: usize, d: usize) -> Option<usize>
         requires shape { IsConfiguration network.now self.old }
         requires process { p < length network.now.instances }
-        requires owed { IsOwed network.now self.old p d }
+        requires awaited { IsAwaitedBelowLimit network.now self.old d }
         ensures woken { result ≡ waiting_writer network.now self.old.waits d }
         ensures changes { Changes network.now (event.Grow p d) self.old self.new }
         ensures shape { IsConfiguration network.now self.new }

@@ -65,7 +65,7 @@ impl<A: Allocator> Configuration<A> {
     }
 
     /// Whether each process has ended or waits, each source is closed, and each sink is empty or left.
-    fn is_settled(&self, network: &Network) -> bool
+    pub(super) fn is_settled(&self, network: &Network) -> bool
         requires shape { IsConfiguration network.now self.now }
         ensures { IsTrue result ↔ IsSettledNow network.now self.now }
     {

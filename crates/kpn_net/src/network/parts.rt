@@ -10,7 +10,7 @@ ghost use Rattle.kpn_net.specs.View.{tables_of};
 
 use crate::fault::NetFault;
 use crate::network::sides::{self, Side};
-use crate::tables::{ChannelSpec, End, Growth, Instance};
+use crate::tables::{ChannelSpec, End, Growth, Instance, Policy};
 use kpn_lang::Program;
 use kpn_limits::{MAX_CAPACITY, MAX_CHANNELS, MAX_PROCESSES};
 
@@ -21,6 +21,7 @@ pub struct Parts {
     pub instances: Vec<Instance>,
     pub channels: Vec<ChannelSpec>,
     pub limit: u32,
+    pub policy: Policy,
     pub growth: Growth,
 }
 

@@ -1,9 +1,10 @@
-use Rattle.std.proofs.Common.{arith, lit<, refl, ◌<◌, ◌≤◌, take}
+use Rattle.std.proofs.Common.{arith, lit<, refl, ◌≤◌, take}
 use Rattle.kpn_trace.specs.declared.event.Event.TheVariants.{Grow}
 use Rattle.kpn_trace.proofs.Legality.{Legal-consistent, Legal-last}
 use Rattle.check_histories.specs.Networks.{one_more_network, doubling_to_limit_network}
 use Rattle.check_histories.specs.Runs.{doubling_run, doubled_to_limit_run}
 use Rattle.check_histories.specs.WrongLists.{puts_as_if_doubled, puts_past_the_limit, grows_past_the_limit}
+use Rattle.check_histories.proofs.GrowthTests.{owes_none-true}
 use Rattle.check_histories.proofs.Claiming.{breaks_at}
 use Rattle.check_histories.proofs.wrong.growths_are_as_large_as_they_may_be.Goals as goal
 
@@ -23,6 +24,5 @@ returns-clause-past_the_limit c = breaks_at doubling_to_limit_network 1 puts_pas
 pub returns-clause-at_the_limit : goal.returns-clause-at_the_limit
 unfolding doubling_to_limit_network grows_past_the_limit doubled_to_limit_run
 returns-clause-at_the_limit c = breaks_at doubling_to_limit_network 1 grows_past_the_limit 6 refl (λ legal.
-    let below : 3 < 3 =
-    (Legal-last doubling_to_limit_network (take 6 grows_past_the_limit) (Grow 0 0) legal).due.below_limit in
-    omega arith)
+    owes_none-true doubling_to_limit_network (take 6 grows_past_the_limit) 0 0 refl
+    (Legal-last doubling_to_limit_network (take 6 grows_past_the_limit) (Grow 0 0) legal).due)

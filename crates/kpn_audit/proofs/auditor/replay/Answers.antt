@@ -1,6 +1,7 @@
 -- What is found of an event is said of the events before it, and of the place where it stands.
 use Rattle.std.proofs.Common.{suc, pos, take, get_or, refl, subst, add-one, arith}
 use Rattle.kpn_trace.specs.declared.event.Event.TheVariants.{Get}
+use Rattle.kpn_trace.proofs.Growth.{none_owed_at_first}
 use Rattle.kpn_audit.specs.Judged.{IsJudged}
 use Rattle.kpn_audit.specs.Audit.{AreWithinSteps}
 use Rattle.kpn_audit.proofs.Replaying.{followed_by, illegal_at, budget_at, none_within, within_more, follows_in_time, illegal_in_time}
@@ -65,7 +66,7 @@ pub events-init : goal.events-init
 events-init g c =
     record {
       run = c.in_ok-configuration.ensures.run;
-      owes = λ p d owes. let none = owes.wait in absurd cc;
+      owes = none_owed_at_first c.args.network.now;
       places = c.in_ok-configuration.ensures.frames;
       within = none_within c.args.network.now c.args.events.now c.args.quota;
     }

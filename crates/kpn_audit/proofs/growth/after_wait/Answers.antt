@@ -1,3 +1,5 @@
+use Rattle.std.proofs.Common.{[], ◌∷◌, ◌++◌, inl}
+use Rattle.kpn_audit.proofs.Stopping.{owes_at_stop}
 use Rattle.kpn_audit.proofs.growth.after_wait.Goals as goal
 
 pub returns-in-Some : goal.returns-in-Some
@@ -7,11 +9,18 @@ returns-in-Some g c H event before waits run goes =
       goes = goes;
       owes = record {
         there = c.requires.process;
-        now = (c.owed.ensures.channel c.in-Some.channel).0 c.in-Some.is;
-        owed = (c.owed.ensures.growth H event waits run c.in-Some.channel).0 c.in-Some.is;
+        now = c.in-Some.ensures.awaited;
+        owed = inl ((c.owed.ensures.growth H event waits run c.in-Some.channel).0 c.in-Some.is);
       };
     }
 
 pub returns-in-None : goal.returns-in-None
 returns-in-None g c H event before waits run goes =
-    record { run = run; goes = goes; owes = c.owed.ensures.nothing H event waits run c.in-None.is }
+    record {
+      run = run;
+      goes = goes;
+      owes =
+          owes_at_stop c.args.network.now (H ++ event ∷ []) c.args.configuration.now c.owed_at_stop.result run
+          (c.owed.ensures.nothing H event waits run c.in-None.is) c.owed_at_stop.ensures.now
+          c.owed_at_stop.ensures.growth c.owed_at_stop.ensures.nothing c.owed_at_stop.ensures.awaited;
+    }

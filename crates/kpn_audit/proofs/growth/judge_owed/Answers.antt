@@ -33,5 +33,5 @@ returns-clause-judged g c H run owing =
     let s = c.args.configuration.now in
     let growth = Grow c.args.owed.process c.args.owed.channel in
     subst (λ e. IsFollowed t H e s c.grow.new.self None) same
-    (followed t H growth s c.grow.new.self refl (c.grow.ensures.run H run owing.owed)
+    (followed t c.known.ensures H growth s c.grow.new.self refl refl (c.grow.ensures.run H run owing.owed)
     (goes_outside t s c.grow.new.self growth refl c.grow.ensures.changes.frames))

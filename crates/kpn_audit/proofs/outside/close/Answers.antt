@@ -3,7 +3,7 @@ use Rattle.std.proofs.Common.{refl}
 use Rattle.kpn_trace.specs.declared.event.Event.TheVariants.{Close}
 use Rattle.std.proofs.lemmas.Bool.{both_ways}
 use Rattle.kpn_configuration.proofs.Exact.{due_outside}
-use Rattle.kpn_audit.proofs.Followed.{followed, goes_outside}
+use Rattle.kpn_audit.proofs.Followed.{goes_outside}
 use Rattle.kpn_audit.proofs.outside.close.Goals as goal
 
 pub returns-then-not-is_open_source-clause-judged : goal.returns-then-not-is_open_source-clause-judged
@@ -15,5 +15,5 @@ returns-then-not-is_open_source-clause-judged g c H run owes legal =
 pub returns-clause-judged : goal.returns-clause-judged
 returns-clause-judged g c H run owes =
     let t = c.args.network.now in
-    followed t H (Close c.args.c) c.args.configuration.now c.close.new.self refl (c.close.ensures.run H run owes)
+    c.after_event.ensures H (Close c.args.c) c.args.configuration.now refl (c.close.ensures.run H run owes)
     (goes_outside t c.args.configuration.now c.close.new.self (Close c.args.c) refl c.close.ensures.changes.frames)

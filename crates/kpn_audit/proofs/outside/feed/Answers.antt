@@ -23,7 +23,7 @@ returns-clause-judged g c H run owes =
     let kept =
     frames_kept (is_ok c.reserve_one.result) c.args.configuration.now c.reserve_one.new.self c.args.c
     (with_room (channel_in c.args.configuration.now c.args.c)) c.reserve_one.ensures.after in
-    followed t H (Feed c.args.c c.args.item) c.args.configuration.now c.feed.new.self refl
+    followed t c.known.ensures H (Feed c.args.c c.args.item) c.args.configuration.now c.feed.new.self refl refl
     (subst (λ v. IsRun t (H ++ Feed c.args.c v ∷ []) c.feed.new.self)
     (to_z-of_z w64 c.args.item c.ranges.item) (c.feed.ensures.run H (c.reserve_one.ensures.run t H run) owes))
     (goes_outside t c.args.configuration.now c.feed.new.self (Feed c.args.c c.args.item) refl

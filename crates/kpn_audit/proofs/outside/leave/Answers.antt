@@ -2,7 +2,7 @@
 use Rattle.std.proofs.Common.{refl, sym, ◌∙◌, ap}
 use Rattle.kpn_trace.specs.declared.event.Event.TheVariants.{Leave}
 use Rattle.kpn_audit.proofs.Refused.{leave_of_no_sink, leave_of_left}
-use Rattle.kpn_audit.proofs.Followed.{followed, goes_outside}
+use Rattle.kpn_audit.proofs.Followed.{goes_outside}
 use Rattle.kpn_audit.proofs.outside.leave.Goals as goal
 use Rattle.kpn_audit.proofs.outside.leave.Goals.{then-not-is_sink-via-then-not-is_sink, then-not-is_sink-via-else-not-is_sink+then-is_retired}
 
@@ -19,5 +19,5 @@ returns-then-not-is_sink-clause-judged g c H run owes legal =
 pub returns-clause-judged : goal.returns-clause-judged
 returns-clause-judged g c H run owes =
     let t = c.args.network.now in
-    followed t H (Leave c.args.c) c.args.configuration.now c.leave.new.self refl (c.leave.ensures.run H run owes)
+    c.after_event.ensures H (Leave c.args.c) c.args.configuration.now refl (c.leave.ensures.run H run owes)
     (goes_outside t c.args.configuration.now c.leave.new.self (Leave c.args.c) refl c.leave.ensures.changes.frames)

@@ -1,9 +1,9 @@
 -- Where the sink is there and has the item the take is made; else it may not follow.
-use Rattle.std.proofs.Common.{None, SFits, w64, of_z, rules, refl, sym, ap, ◌∙◌, subst}
+use Rattle.std.proofs.Common.{SFits, w64, of_z, rules, refl, sym, ap, ◌∙◌, subst}
 use Rattle.kpn_trace.specs.declared.event.Event.TheVariants.{Take}
 use Rattle.kpn_audit.proofs.Refused.{take_of_no_sink, take_of_nothing, take_of_another}
-use Rattle.kpn_audit.specs.Judged.{IsFollowed}
-use Rattle.kpn_audit.proofs.Followed.{followed, same_word, goes_outside}
+use Rattle.kpn_audit.specs.Judged.{IsMade}
+use Rattle.kpn_audit.proofs.Followed.{same_word, goes_outside}
 use Rattle.kpn_audit.proofs.outside.take.Goals as goal
 use Rattle.kpn_audit.proofs.outside.take.Goals.{then-not-is_sink-via-then-not-is_sink, then-not-is_sink-via-else-not-is_sink+then-not-has_item}
 
@@ -23,9 +23,9 @@ returns-then-got-item-clause-judged g c H run owes =
     let fits : SFits w64 c.take-got.result.item = search rules in
     let s = c.args.configuration.now in
     let e = Take c.args.c c.take-got.result.item in
-    subst (λ v. IsFollowed t H (Take c.args.c v) s c.take-got.new.self None)
+    subst (λ v. IsMade t H (Take c.args.c v) s c.take-got.new.self c.after_event.result)
     (same_word c.take-got.result.item c.args.item fits c.ranges.item c.if-got-item.true)
-    (followed t H e s c.take-got.new.self refl (c.take-got.ensures.run H run owes)
+    (c.after_event.ensures H e s refl (c.take-got.ensures.run H run owes)
     (goes_outside t s c.take-got.new.self e refl c.take-got.ensures.changes.frames))
 
 pub returns-else-got-item-clause-judged : goal.returns-else-got-item-clause-judged

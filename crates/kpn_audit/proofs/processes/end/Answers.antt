@@ -3,7 +3,7 @@ use Rattle.std.proofs.Common.{refl}
 use Rattle.std.proofs.lemmas.Bool.{both_ways, eq-eqb}
 use Rattle.kpn_trace.specs.declared.event.Event.TheVariants.{Ended}
 use Rattle.kpn_audit.proofs.Refused.{no_such_end}
-use Rattle.kpn_audit.proofs.Followed.{followed, goes_made}
+use Rattle.kpn_audit.proofs.Followed.{goes_made}
 use Rattle.kpn_audit.proofs.processes.end.Goals as goal
 
 pub returns-then-not-is_end-clause-judged : goal.returns-then-not-is_end-clause-judged
@@ -16,6 +16,6 @@ returns-clause-judged g c H run owes =
     let t = c.args.network.now in
     let e = Ended c.args.p c.args.how in
     let s = c.args.configuration.now in
-    followed t H e s c.end.new.self refl (c.end.ensures.run H run owes)
+    c.after_event.ensures H e s refl (c.end.ensures.run H run owes)
     (goes_made t s c.end.new.self c.args.p c.args.stop c.requires.stopped e (eq-eqb c.args.p c.args.p refl)
     c.end.ensures.changes.frames)

@@ -27,7 +27,7 @@ returns-then-got-item-clause-judged g c H run owes =
     let e = Get c.args.p c.args.c c.get-got.result.item in
     subst (λ v. IsFollowed t H (Get c.args.p c.args.c v) s c.get-got.new.self None)
     (same_word c.get-got.result.item c.args.item fits c.ranges.item c.if-got-item.true)
-    (followed t H e s c.get-got.new.self refl (c.get-got.ensures.run H run owes)
+    (followed t c.known.ensures H e s c.get-got.new.self refl refl (c.get-got.ensures.run H run owes)
     (goes_made t s c.get-got.new.self c.args.p c.args.stop c.requires.stopped e (eq-eqb c.args.p c.args.p refl)
     c.get-got.ensures.changes.frames))
 

@@ -35,7 +35,7 @@ returns-clause-judged g c H run owes =
     (with_room (channel_in c.args.configuration.now c.args.c)) c.reserve_one.ensures.after in
     let s = c.args.configuration.now in
     let e = Put c.args.p c.args.c c.args.item in
-    followed t H e s c.put.new.self refl
+    followed t c.known.ensures H e s c.put.new.self refl refl
     (subst (λ v. IsRun t (H ++ Put c.args.p c.args.c v ∷ []) c.put.new.self)
     (to_z-of_z w64 c.args.item c.ranges.item) (c.put.ensures.run H (c.reserve_one.ensures.run t H run) owes))
     (goes_made t s c.put.new.self c.args.p c.args.stop c.requires.stopped e (eq-eqb c.args.p c.args.p refl)

@@ -1,4 +1,5 @@
 use Rattle.kpn_trace.proofs.Growth.{nothing_can_grow}
+use Rattle.kpn_trace.proofs.OwedGrowth.{no_wait_left}
 use Rattle.kpn_book.proofs.Standing.{owed_then}
 use Rattle.kpn_book.proofs.laws.growths.Goals as goal
 
@@ -9,3 +10,7 @@ returns-clause-owed c b book =
 pub returns-clause-none_is_left : goal.returns-clause-none_is_left
 returns-clause-none_is_left c b book =
     nothing_can_grow b.tables book.network b.history book.kept.in_step.run.legal book.kept.nothing_owed
+
+pub returns-clause-at_stop : goal.returns-clause-at_stop
+returns-clause-at_stop c b book policy settled p channel there waits =
+    no_wait_left b.tables book.network b.history book.kept.in_step.run.legal book.kept.nothing_owed policy settled p channel there waits

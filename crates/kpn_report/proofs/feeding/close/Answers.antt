@@ -3,7 +3,8 @@ use Rattle.kpn_report.proofs.feeding.close.Goals as goal
 
 pub returns-in-Ok-clause-supplied : goal.returns-in-Ok-clause-supplied
 returns-in-Ok-clause-supplied c before items so_far =
-    IsSupplied-closed c.args.c items before c.args.book.now c.close_source.new.self so_far c.in-Ok.ensures.done
+    IsSupplied-closed c.args.c items before c.args.book.now c.close_source.new.self c.known.ensures so_far
+    c.in-Ok.ensures.done
 
 pub returns-in-Ok-clause-closed : goal.returns-in-Ok-clause-closed
 returns-in-Ok-clause-closed c =

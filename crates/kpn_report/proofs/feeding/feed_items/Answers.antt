@@ -2,10 +2,10 @@ use Rattle.std.proofs.Common.{ℤ, pos, [], ◌∷◌, ◌++◌, map, take, get_
 use Rattle.std.proofs.lemmas.Int.{to_z-of_z}
 use Rattle.std.proofs.lemmas.List.{map-append, take_more}
 use Rattle.kpn_trace.specs.declared.event.Event.TheVariants.{Feed}
-use Rattle.kpn_book.specs.Appending.{AppendsAll}
+use Rattle.kpn_book.specs.Appending.{AllHappen}
 use Rattle.kpn_report.specs.Running.{IsSupplied}
 use Rattle.kpn_report.proofs.Supplying.{IsSupplied-fed}
-use Rattle.kpn_report.proofs.Turning.{join, one}
+use Rattle.kpn_report.proofs.Happening.{happens_alone, join, one}
 use Rattle.kpn_report.proofs.feeding.feed_items.Goals as goal
 
 pub items-preserved : goal.items-preserved
@@ -20,10 +20,12 @@ items-preserved c =
       supplied = subst (λ xs. IsSupplied c.args.c xs c.args.book.now c.feed.new.self) more
           (IsSupplied-fed c.args.c first _ _ c.args.book.now c.items.book c.feed.new.self c.known.ensures
           c.items.invariant.supplied c.in-Ok.ensures.done);
-      feeds = subst (λ xs. AppendsAll (map (Feed c.args.c) xs) c.args.book.now c.feed.new.self) more
-          (subst (λ es. AppendsAll es c.args.book.now c.feed.new.self)
+      feeds = subst (λ xs. AllHappen (map (Feed c.args.c) xs) c.args.book.now c.feed.new.self) more
+          (subst (λ es. AllHappen es c.args.book.now c.feed.new.self)
           (sym (map-append (Feed c.args.c) first (_ ∷ [])))
           (join (map (Feed c.args.c) first) (Feed c.args.c _ ∷ []) c.args.book.now c.items.book c.feed.new.self
           c.items.invariant.feeds
-          (one (Feed c.args.c _) c.items.book c.feed.new.self c.in-Ok.ensures.done.appends)));
+          (one (Feed c.args.c _) c.items.book c.feed.new.self
+          (happens_alone (Feed c.args.c _) c.items.book c.feed.new.self c.known-in-items.ensures
+          c.in-Ok.ensures.done.appends))));
     }

@@ -4,10 +4,11 @@ use Rattle.kpn_net.specs.Tables.{channel_at, is_source}
 use Rattle.kpn_net.specs.Iteration.{given_by}
 use Rattle.kpn_net.proofs.RoundLemmas.{source_below}
 use Rattle.kpn_trace.specs.declared.event.Event.TheVariants.{Feed, Close}
-use Rattle.kpn_book.specs.Appending.{AppendsAll}
+use Rattle.kpn_book.specs.Appending.{AllHappen}
 use Rattle.kpn_report.specs.Running.{IsSupplied}
 use Rattle.kpn_report.proofs.Supplying.{IsFedBelow-skip, IsFedBelow-more}
-use Rattle.kpn_report.proofs.Turning.{join, one, open_after_feeds, supplies_none, supplies_one}
+use Rattle.kpn_report.proofs.Happening.{join, one}
+use Rattle.kpn_report.proofs.Turning.{open_after_feeds, supplies_none, supplies_one}
 use Rattle.kpn_report.proofs.feeding.supply_next.Goals as goal
 
 pub returns-then-not-is_source-clause-more : goal.returns-then-not-is_source-clause-more
@@ -59,7 +60,7 @@ returns-clause-more c =
     (subst (λ items. IsSupplied c.args.c items c.args.book.now c.close.new.book) given
     (c.in_ok-close.ensures.supplied c.args.book.now c.as_slice.result.now c.in_ok-feed_items.ensures.supplied))
     c.in_ok-close.ensures.closed
-    (subst (λ items. AppendsAll (map (Feed c.args.c) items ++ Close c.args.c ∷ []) c.args.book.now c.close.new.book) given
+    (subst (λ items. AllHappen (map (Feed c.args.c) items ++ Close c.args.c ∷ []) c.args.book.now c.close.new.book) given
     (join (map (Feed c.args.c) c.as_slice.result.now) (Close c.args.c ∷ []) c.args.book.now c.feed_items.new.book
     c.close.new.book c.in_ok-feed_items.ensures.feeds
     (one (Close c.args.c) c.feed_items.new.book c.close.new.book (c.in_ok-close.ensures.closes unclosed))))

@@ -1,5 +1,4 @@
--- Without a full channel in a blocked cycle no growth is owed.
-use Rattle.kpn_trace.proofs.Stops.{waits_for_blocked, without_full_cycle, only_a_leave}
+use Rattle.kpn_trace.proofs.Stops.{waits_for_blocked, only_a_leave}
 use Rattle.kpn_trace.proofs.growth_laws.clogged_waits_for_the_blocked.Goals as goal
 
 pub returns-clause-waits : goal.returns-clause-waits
@@ -9,4 +8,4 @@ pub returns-clause-no_cycle : goal.returns-clause-no_cycle
 returns-clause-no_cycle c t H v = v.1
 
 pub returns-clause-last : goal.returns-clause-last
-returns-clause-last c t H v = only_a_leave t H v.0 (without_full_cycle t H v.1)
+returns-clause-last c t H nothing v = only_a_leave t H v.0 nothing

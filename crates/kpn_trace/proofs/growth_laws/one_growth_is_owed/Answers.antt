@@ -1,4 +1,5 @@
-use Rattle.kpn_trace.proofs.Growth.{one_owed, none_owed_at_first, none_owed_after}
+use Rattle.kpn_trace.proofs.Growth.{none_owed_at_first, no_cycle_owed_after}
+use Rattle.kpn_trace.proofs.OwedGrowth.{one_owed, no_stop_owed_after, no_stop_under_cycles}
 use Rattle.kpn_trace.proofs.growth_laws.one_growth_is_owed.Goals as goal
 
 pub returns-clause-one : goal.returns-clause-one
@@ -7,5 +8,11 @@ returns-clause-one c = one_owed
 pub returns-clause-none_at_first : goal.returns-clause-none_at_first
 returns-clause-none_at_first c = none_owed_at_first
 
-pub returns-clause-none_but_after_waits : goal.returns-clause-none_but_after_waits
-returns-clause-none_but_after_waits c = none_owed_after
+pub returns-clause-waits : goal.returns-clause-waits
+returns-clause-waits c = no_cycle_owed_after
+
+pub returns-clause-stops : goal.returns-clause-stops
+returns-clause-stops c = no_stop_owed_after
+
+pub returns-clause-cycles : goal.returns-clause-cycles
+returns-clause-cycles c = no_stop_under_cycles

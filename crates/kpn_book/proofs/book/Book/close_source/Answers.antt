@@ -1,26 +1,41 @@
-use Rattle.std.proofs.Common.{◌≡◌, true, false, refl, ap, ◌∙◌, ◌∷◌, ◌++◌, [], rules}
+use Rattle.std.proofs.Common.{◌≡◌, true, false, refl, subst, rules}
 use Rattle.kpn_net.specs.Tables.{channel_at, is_source}
 use Rattle.kpn_trace.specs.declared.event.Event.TheVariants as event
 use Rattle.kpn_configuration.specs.Configuration.{closed_in}
-use Rattle.kpn_configuration.proofs.Due.{Legal-due}
+use Rattle.kpn_book.specs.Refusals.{Closes}
 use Rattle.kpn_book.specs.Open.{book_of}
-use Rattle.kpn_book.proofs.Following.{own_none, followed}
-use Rattle.kpn_book.proofs.Committing.{kept_outside, source_there}
+use Rattle.kpn_book.proofs.Following.{recorded}
+use Rattle.kpn_book.proofs.Answering.{no_cycle_then, happens}
+use Rattle.kpn_book.proofs.Committing.{kept_grown}
+use Rattle.kpn_book.proofs.Outside.{sound_reserved, follows_reserved, closed}
 use Rattle.kpn_book.proofs.book.Book.close_source.Goals as goal
+
+pub close-requires-clause-sound : goal.close-requires-clause-sound
+close-requires-clause-sound g c =
+    sound_reserved (book_of c.self.inside.parts) c.reserve.new.self.events c.in_ok-reserve.ensures.events
+    c.self.invariant
+
+pub grow_at_stop-grown-requires-clause-no_cycle : goal.grow_at_stop-grown-requires-clause-no_cycle
+grow_at_stop-grown-requires-clause-no_cycle g c =
+    let b = book_of c.self.inside.parts in
+    no_cycle_then (event.Close c.args.source) (recorded b c.reserve.new.self.events b.configuration b.schedule)
+    (book_of c.close.new.self) c.close.ensures.follows refl
 
 pub invariant_of-self-2 : goal.invariant_of-self-2
 invariant_of-self-2 g c =
     let b = book_of c.self.inside.parts in
-    let e = event.Close c.args.source in
-    let step = c.self.invariant.in_step in
+    kept_grown b (book_of c.close.new.self) _ (event.Close c.args.source) c.grow_at_stop-grown.result c.self.invariant
+    (follows_reserved b c.reserve.new.self.events c.in_ok-reserve.ensures.events (event.Close c.args.source) (book_of c.close.new.self)
+    c.close.ensures.follows) refl c.grow_at_stop-grown.ensures
+
+pub returns-clause-done : goal.returns-clause-done
+returns-clause-done g c =
+    let b = book_of c.self.inside.parts in
+    let a = book_of c.grow_at_stop-grown.new.self in
     let source : is_source (channel_at b.tables c.args.source) ≡ true = search rules in
-    let open_one : closed_in b.configuration c.args.source ≡ false = search rules in
-    kept_outside b _ e c.self.invariant
-    (followed b c.known.ensures step e (own_none b) tt c.close.new.self c.close.ensures.changes c.close.ensures.shape
-    (Legal-due b.tables c.known.ensures b.history b.configuration step.run c.self.invariant.nothing_owed e
-    (source_there b.tables c.args.source source) (source, open_one))
-    (event.Close c.number.result) c.push.new.self.events b.schedule b.schedule []
-    (ap (λ x. event.Close x) c.number.ensures)
-    (c.push.ensures.events ∙ ap (λ H. H ++ event.Close c.number.result ∷ []) c.reserve.ensures.events)
-    refl refl refl)
-    refl refl
+    let not_closed : closed_in b.configuration c.args.source ≡ false = search rules in
+    subst (λ x. Closes c.args.source x a) c.self.view_is
+    (closed b a c.args.source source not_closed
+    (happens (event.Close c.args.source) b (book_of c.close.new.self) a c.grow_at_stop-grown.result
+    (follows_reserved b c.reserve.new.self.events c.in_ok-reserve.ensures.events (event.Close c.args.source) (book_of c.close.new.self)
+    c.close.ensures.follows) c.grow_at_stop-grown.ensures))

@@ -38,7 +38,7 @@ invariant_of-self-2 g c =
     let below : c.args.source < length b.configuration.channels = omega (arith, there, long) in
     let fits : SFits w64 c.args.item = search rules in
     let o = recorded b b.history c.reserve_one.new.self b.schedule in
-    kept_outside o _ (event.Feed c.args.source c.args.item)
+    kept_outside o _ (event.Feed c.args.source c.args.item) c.known.ensures
     (kept_with_item b o c.args.source below
     (ap (λ s. recorded b b.history s b.schedule) c.in_ok-reserve_one.ensures.after) c.self.invariant)
     (fed_follows b c.known.ensures c.self.invariant c.args.source c.args.item may.0.source may.0.not_closed
@@ -52,7 +52,7 @@ invariant_of-self-2 g c =
     (c.push.ensures.events
     ∙ ap (λ H. H ++ event.Feed c.number.result (to_z w64 (of_z w64 c.args.item)) ∷ []) c.reserve.ensures.events)
     c.wake.ensures (ap option_to_list c.feed-woken.ensures.woken))
-    refl refl
+    refl refl refl
 
 pub returns-clause-done : goal.returns-clause-done
 returns-clause-done g c =

@@ -10,7 +10,7 @@ pub returns-then-not-is_idle : goal.returns-then-not-is_idle
 returns-then-not-is_idle g c =
     let busy : c.is_idle.result ≡ false = search rules in
     subst (λ b. IsSettled b.tables b.history → ⊥) c.self.view_is
-    (not_settled (book_of c.self.inside.parts) c.self.invariant
+    (not_settled (book_of c.self.inside.parts) c.self.invariant.in_step
     (λ stopped. both_ways c.is_idle.result busy (c.is_idle.ensures.1 stopped)))
 
 pub returns : goal.returns

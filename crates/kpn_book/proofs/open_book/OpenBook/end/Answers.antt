@@ -2,8 +2,7 @@ use Rattle.std.proofs.Common.{ap, ◌∙◌}
 use Rattle.kpn_trace.specs.declared.event.Event.TheVariants as event
 use Rattle.kpn_configuration.proofs.Due.{Legal-due}
 use Rattle.kpn_book.specs.Open.{book_of}
-use Rattle.kpn_book.proofs.Following.{own_held, held_is_there, held_is_free, may_be_woken, followed, recorded, process_fits}
-use Rattle.kpn_book.proofs.Answering.{answered_ended}
+use Rattle.kpn_book.proofs.Following.{own_held, held_is_there, held_is_free, may_be_woken, followed, process_fits}
 use Rattle.kpn_book.proofs.open_book.OpenBook.end.Goals as goal
 
 pub number-requires : goal.number-requires
@@ -18,18 +17,16 @@ wake_all-requires g c =
     (own_held b c.args.p c.requires.held) (held_is_there b c.requires.sound.in_step c.args.p c.requires.held)
     c.set.new.self c.as_slice.result.now c.set.ensures (c.as_slice.ensures.value ∙ c.end-woken.ensures.woken)
 
-pub returns : goal.returns
-returns g c =
+pub returns-clause-follows : goal.returns-clause-follows
+returns-clause-follows g c =
     let b = book_of c.args.self.now in
     let e = event.Ended c.args.p c.args.how in
     let step = c.requires.sound.in_step in
     let there = held_is_there b step c.args.p c.requires.held in
-    answered_ended b (recorded b c.push.new.self.events c.end-woken.new.self c.wake_all.new.schedule) c.args.p
-    c.args.how
-    (followed b c.known.ensures step e (own_held b c.args.p c.requires.held) there c.end-woken.new.self
+    followed b c.known.ensures step e (own_held b c.args.p c.requires.held) there c.end-woken.new.self
     c.end-woken.ensures.changes c.end-woken.ensures.shape
     (Legal-due b.tables c.known.ensures b.history b.configuration step.run c.requires.sound.nothing_owed e there
     (held_is_free b step c.args.p c.requires.held, c.requires.stands))
     (event.Ended c.number.result c.args.how) c.push.new.self.events c.set.new.self c.wake_all.new.schedule
     c.as_slice.result.now (ap (λ x. event.Ended x c.args.how) c.number.ensures) c.push.ensures.events c.set.ensures
-    c.wake_all.ensures (c.as_slice.ensures.value ∙ c.end-woken.ensures.woken))
+    c.wake_all.ensures (c.as_slice.ensures.value ∙ c.end-woken.ensures.woken)

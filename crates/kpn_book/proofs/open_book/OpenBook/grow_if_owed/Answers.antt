@@ -1,52 +1,15 @@
-use Rattle.std.proofs.Common.{refl, ap, ◌∙◌}
-use Rattle.std.specs.Option.{option_to_list}
-use Rattle.kpn_trace.specs.declared.event.Event.TheVariants as event
-use Rattle.kpn_configuration.proofs.Growing.{owed_below, Legal-grown}
 use Rattle.kpn_book.specs.Open.{book_of}
-use Rattle.kpn_book.proofs.Following.{own_none, may_be_woken, followed, recorded, process_fits, channel_fits}
-use Rattle.kpn_book.proofs.Answering.{owes_found, stays_blocked, has_grown}
+use Rattle.kpn_book.proofs.Answering.{owes_found, owes_none, has_grown}
 use Rattle.kpn_book.proofs.open_book.OpenBook.grow_if_owed.Goals as goal
 
-pub returns-in_default : goal.returns-in_default
-returns-in_default g c =
-    stays_blocked (book_of c.args.self.now) c.known.ensures c.requires.step c.args.p c.requires.waits c.owed.result
+pub grow_at_stop-requires-clause-no_cycle : goal.grow_at_stop-requires-clause-no_cycle
+grow_at_stop-requires-clause-no_cycle g c =
+    owes_none (book_of c.args.self.now) c.known.ensures c.requires.step c.args.p c.requires.waits c.owed.result
     c.owed.ensures.channel c.in_default.is
-
-pub grow-woken-requires-clause-owed : goal.grow-woken-requires-clause-owed
-grow-woken-requires-clause-owed g c = (c.owed.ensures.channel c.in-Some.d).0 c.in-Some.is
-
-pub number-requires : goal.number-requires
-number-requires g c =
-    process_fits c.args.self.now.network.now c.known.ensures c.args.p c.requires.process
-
-pub number-requires-2 : goal.number-requires-2
-number-requires-2 g c =
-    let b = book_of c.args.self.now in
-    channel_fits b.tables c.known.ensures c.in-Some.d
-    (owed_below b.tables c.known.ensures b.configuration c.requires.step.run.shape c.args.p c.in-Some.d
-    ((c.owed.ensures.channel c.in-Some.d).0 c.in-Some.is))
-
-pub wake-requires : goal.wake-requires
-wake-requires g c =
-    let b = book_of c.args.self.now in
-    may_be_woken b c.known.ensures c.requires.step (event.Grow c.args.p c.in-Some.d) (own_none b) tt b.schedule
-    (option_to_list c.grow-woken.result) refl (ap option_to_list c.grow-woken.ensures.woken)
 
 pub returns : goal.returns
 returns g c =
     let b = book_of c.args.self.now in
-    let d = c.in-Some.d in
-    let owed = (c.owed.ensures.channel d).0 c.in-Some.is in
-    let owes =
-    owes_found b c.known.ensures c.requires.step c.args.p c.requires.waits c.owed.result c.owed.ensures.channel d
-    c.in-Some.is in
-    has_grown b c.known.ensures c.requires.step c.args.p c.requires.waits c.owed.result c.owed.ensures.channel d
-    c.in-Some.is (recorded b c.push.new.self.events c.grow-woken.new.self c.wake.new.schedule)
-    (followed b c.known.ensures c.requires.step (event.Grow c.args.p d) (own_none b) tt c.grow-woken.new.self
-    c.grow-woken.ensures.changes c.grow-woken.ensures.shape
-    (Legal-grown b.tables c.known.ensures b.configuration c.requires.step.run.shape c.args.p d owed b.history
-    c.requires.process c.requires.step.run owes)
-    (event.Grow c.number.result c.number-2.result) c.push.new.self.events b.schedule c.wake.new.schedule
-    (option_to_list c.grow-woken.result)
-    (ap (λ x. event.Grow x c.number-2.result) c.number.ensures ∙ ap (λ x. event.Grow c.args.p x) c.number-2.ensures)
-    c.push.ensures.events refl c.wake.ensures (ap option_to_list c.grow-woken.ensures.woken))
+    has_grown b (book_of c.grow.new.self) c.known.ensures c.args.p c.args.p c.in-Some.d
+    (owes_found b c.known.ensures c.requires.step c.args.p c.requires.waits c.owed.result c.owed.ensures.channel
+    c.in-Some.d c.in-Some.is) c.grow.ensures

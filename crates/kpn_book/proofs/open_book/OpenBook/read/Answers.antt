@@ -97,7 +97,7 @@ returns g c =
     let a = recorded b c.push.new.self.events c.get-got.new.self c.wake.new.schedule in
     subst (λ v. Answered c.args.p (λ s. IsReadFrom b.tables c.args.p s c.args.c) (done.Got v) b a)
     (sym (to_z-of_z w64 c.get-got.result.item fits))
-    (answered_got b a c.args.p c.args.c c.get-got.result.item c.get-got.ensures.item
+    (answered_got b a c.known.ensures c.args.p c.args.c c.get-got.result.item c.get-got.ensures.item
     (followed b c.known.ensures step e (own_held b c.args.p c.requires.held) tt c.get-got.new.self
     c.get-got.ensures.changes c.get-got.ensures.shape
     (Legal-due b.tables c.known.ensures b.history b.configuration step.run c.requires.sound.nothing_owed e

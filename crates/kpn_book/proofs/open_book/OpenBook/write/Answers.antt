@@ -85,7 +85,7 @@ returns g c =
     let fits : SFits w64 c.args.item = search rules in
     let item = to_z w64 (of_z w64 c.args.item) in
     let a = recorded b c.push.new.self.events c.put-woken.new.self c.wake.new.schedule in
-    answered_put b a c.args.p c.args.c c.args.item ready
+    answered_put b a c.known.ensures c.args.p c.args.c c.args.item ready
     (followed b c.known.ensures step e (own_held b c.args.p c.requires.held) tt c.put-woken.new.self
     (subst (λ x. Changes b.tables (event.Put c.args.p c.args.c x) b.configuration c.put-woken.new.self)
     (to_z-of_z w64 c.args.item fits) c.put-woken.ensures.changes) c.put-woken.ensures.shape

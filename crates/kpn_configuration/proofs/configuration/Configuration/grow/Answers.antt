@@ -11,7 +11,7 @@ use Rattle.kpn_configuration.proofs.configuration.Configuration.grow.Goals as go
 
 pub writer_of-requires : goal.writer_of-requires
 writer_of-requires g c =
-    owed_below c.args.network.now c.known.ensures c.args.self.now c.requires.shape c.args.p c.args.d c.requires.owed
+    owed_below c.args.network.now c.known.ensures c.args.self.now c.requires.shape c.args.p c.args.d c.requires.awaited
 
 pub wake-woken-requires : goal.wake-woken-requires
 wake-woken-requires g c =
@@ -23,14 +23,14 @@ pub larger_capacity-cap-requires-clause-channel : goal.larger_capacity-cap-requi
 larger_capacity-cap-requires-clause-channel g c =
     let below =
     owed_below c.args.network.now c.known.ensures c.args.self.now c.requires.shape c.args.p c.args.d
-    c.requires.owed in
+    c.requires.awaited in
     omega (arith, c.requires.shape.channels)
 
 pub enlarge-requires-clause-channel : goal.enlarge-requires-clause-channel
 enlarge-requires-clause-channel g c =
     let below =
     owed_below c.args.network.now c.known.ensures c.args.self.now c.requires.shape c.args.p c.args.d
-    c.requires.owed in
+    c.requires.awaited in
     let there : c.args.d < length c.args.self.now.channels = omega (arith, c.requires.shape.channels) in
     subst (λ x. c.args.d < length x.channels) (sym c.self.view_is) there
 
@@ -39,13 +39,13 @@ enlarge-requires-clause-capacity g c =
     subst (λ x. MayGrowTo c.larger_capacity-cap.result (channel_in x c.args.d)) (sym c.self.view_is)
     (subst (λ cap. MayGrowTo cap (channel_in c.args.self.now c.args.d)) (sym c.larger_capacity-cap.ensures)
     (owed_may_grow c.args.network.now c.known.ensures c.args.self.now c.requires.shape c.args.p c.args.d
-    c.requires.owed))
+    c.requires.awaited))
 
 pub enlarge-requires-clause-reserved : goal.enlarge-requires-clause-reserved
 enlarge-requires-clause-reserved g c =
     subst (λ x. IsTrue (channel_in x c.args.d).is_reserved) (sym c.self.view_is)
     (owed_is_reserved c.args.network.now c.known.ensures c.args.self.now c.requires.shape c.args.p c.args.d
-    c.requires.owed)
+    c.requires.awaited)
 
 pub returns : goal.returns
 returns g c =
@@ -59,7 +59,7 @@ returns g c =
     c.wake-woken.ensures.after
     c.writer_of.ensures same in
     let made =
-    Made-grown t c.known.ensures s c.requires.shape c.args.p c.args.d c.requires.owed reserved
+    Made-grown t c.known.ensures s c.requires.shape c.args.p c.args.d c.requires.awaited reserved
     c.enlarge.ensures.reserved c.wake-woken.new.waits woke after
     (c.enlarge.ensures.after
     ∙ ap
@@ -82,7 +82,7 @@ returns g c =
       changes = made.changes;
       shape = made.shape;
       run = λ H run owes. IsRun-next t c.known.ensures H _ s after run
-          (Legal-grown t c.known.ensures s c.requires.shape c.args.p c.args.d c.requires.owed H c.requires.process run
+          (Legal-grown t c.known.ensures s c.requires.shape c.args.p c.args.d c.requires.awaited H c.requires.process run
           owes)
           made.changes made.shape;
     }

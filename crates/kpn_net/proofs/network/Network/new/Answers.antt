@@ -10,21 +10,27 @@ use Rattle.kpn_net.proofs.network.Network.new.Goals as goal
 
 pub count_ends-requires-clause-no_writers : goal.count_ends-requires-clause-no_writers
 count_ends-requires-clause-no_writers c =
-    let t = tables_with c.args.programs.items c.args.instances.items c.args.channels.items c.args.limit c.args.growth in
+    let t =
+    tables_with c.args.programs.items c.args.instances.items c.args.channels.items c.args.limit c.args.policy
+    c.args.growth in
     let sound : instances_fault t ≡ None = sym c.instances_fault.ensures ∙ c.in_default.is in
     let few = Sizes-from t (InstancesSound-from t sound).few in
     Keeps-nobody _ MAX_CHANNELS (omega (arith, c.len-count.ensures, c.args.channels.ok.0, few.channels))
 
 pub count_ends-requires-clause-no_readers : goal.count_ends-requires-clause-no_readers
 count_ends-requires-clause-no_readers c =
-    let t = tables_with c.args.programs.items c.args.instances.items c.args.channels.items c.args.limit c.args.growth in
+    let t =
+    tables_with c.args.programs.items c.args.instances.items c.args.channels.items c.args.limit c.args.policy
+    c.args.growth in
     let sound : instances_fault t ≡ None = sym c.instances_fault.ensures ∙ c.in_default.is in
     let few = Sizes-from t (InstancesSound-from t sound).few in
     Keeps-nobody _ MAX_CHANNELS (omega (arith, c.len-count.ensures, c.args.channels.ok.0, few.channels))
 
 pub invariant_of-result : goal.invariant_of-result
 invariant_of-result c =
-    let t = tables_with c.args.programs.items c.args.instances.items c.args.channels.items c.args.limit c.args.growth in
+    let t =
+    tables_with c.args.programs.items c.args.instances.items c.args.channels.items c.args.limit c.args.policy
+    c.args.growth in
     let instances : instances_fault t ≡ None = sym c.instances_fault.ensures ∙ c.in_default.is in
     let channels : channels_fault t ≡ None = sym c.channels_fault.ensures ∙ c.in_default-channels_fault.is in
     let few = Sizes-from t (InstancesSound-from t instances).few in

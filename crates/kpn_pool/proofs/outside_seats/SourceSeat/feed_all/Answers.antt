@@ -3,6 +3,7 @@ use Rattle.std.proofs.lemmas.Int.{to_z-of_z}
 use Rattle.std.proofs.lemmas.Result.{err_from_is_err_and}
 use Rattle.kpn_net.specs.Tables.{channel_at, is_source}
 use Rattle.kpn_trace.specs.declared.event.Event.TheVariants as event
+use Rattle.kpn_book.specs.Appending.{AppendsAll}
 use Rattle.kpn_book.specs.Refusals.{RefusesFeed}
 use Rattle.kpn_pool.specs.OutsideSeats.{AreRecorded, MayRefuseFeed}
 use Rattle.kpn_pool.proofs.Recording.{as_before, fed_then, fed_until}
@@ -37,7 +38,7 @@ returns-clause-source g c some = c.items.invariant.source (omega (arith, c.items
 pub returns-in_err-feed-clause-recorded : goal.returns-in_err-feed-clause-recorded
 returns-in_err-feed-clause-recorded g c =
     let kept = c.in_err-feed.ensures.as_before in
-    as_before (λ s b. AreRecorded event.Feed c.args.self.now s c.args.desk.now.book b) c.items.self c.feed.new.self
+    as_before (λ s b. AreRecorded AppendsAll event.Feed c.args.self.now s c.args.desk.now.book b) c.items.self c.feed.new.self
     c.items.desk c.feed.new.desk kept.0 kept.1 c.items.invariant.recorded
 
 pub returns-in_err-feed-clause-refused : goal.returns-in_err-feed-clause-refused

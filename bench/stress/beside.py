@@ -1,0 +1,94 @@
+#!/usr/bin/env python3
+"""Random networks under each policy and each growth, run and audited by the program beside tools/histories.py.
+
+Of the run on one thread report, trace and audit have to be the same, and so have the audits of its history with one
+change, and of a run by workers, which has to be legal. It is no part of the gate. Words: for how many seconds, at first
+60; the number where the random ones begin, else by chance; and the program, if another one than that of `kpn`.
+"""
+import collections
+import pathlib
+import random
+import subprocess
+import sys
+import tempfile
+import time
+
+HERE = pathlib.Path(__file__).resolve().parent
+sys.path += [str(HERE.parent), str(HERE.parent.parent / 'tools')]
+
+import histories  # noqa: E402
+import measure  # noqa: E402
+import random_networks  # noqa: E402
+
+# seconds that a run may take, commits of a run, and steps of an audit between two events
+MOST, COMMITS, STEPS = 60, 500, 10_000
+WORKERS = (1, 2, 4, 16)
+
+
+def changed(chance, network, history):
+    """The history where one event is left out or comes twice, or has a growth before it or in its place."""
+    if not history:
+        return history
+    place = chance.randrange(len(history))
+    event = history[place]
+    grow = 'grow', chance.randrange(len(network.instances)), chance.randrange(len(network.channels))
+    return history[:place] + chance.choice([[], [event, event], [grow, event], [grow]]) + history[place + 1:]
+
+
+class Beside:
+    """The program and a folder, with what came of the networks so far."""
+
+    def __init__(self, program, folder, chance):
+        self.program, self.folder, self.chance = program, pathlib.Path(folder), chance
+        self.counts = collections.Counter()
+
+    def call(self, *words):
+        done = subprocess.run([self.program, *words], cwd=self.folder, capture_output=True, text=True, timeout=MOST)
+        return done.stdout + done.stderr
+
+    def same(self, what, wanted, found):
+        if wanted != found:
+            sys.exit(f'{(self.folder / "net").read_text()}{what}\n{wanted}---\n{found}')
+
+    def audited(self, what, network, history):
+        """Both audit a history, and say the same of it."""
+        (self.folder / 'audited').write_bytes(histories.trace_text(history))
+        wanted = histories.audit_text(network, history, STEPS)
+        self.same(what, wanted, self.call('audit', 'net', 'audited', '--steps', str(STEPS)))
+        self.counts[what, wanted.split()[0]] += 1
+        return wanted
+
+    def network(self):
+        text, items = random_networks.network(self.chance)
+        (self.folder / 'net').write_text(text)
+        words = ['run', 'net', '--max-commits', str(COMMITS), '--trace', 'trace']
+        for name, numbers in items.items():
+            (self.folder / name).write_text(''.join(f'{number}\n' for number in numbers))
+            words += ['--source', f'{name}={name}']
+        network = histories.Network(text)
+        run = histories.Run(network, items).go(None, COMMITS)
+        self.same('run', histories.report_text(run), self.call(*words))
+        self.same('trace', histories.trace_text(run.history).decode(), (self.folder / 'trace').read_text())
+        self.audited('audit', network, run.history)
+        self.audited('audit of a changed history', network, changed(self.chance, network, run.history))
+        report = self.call(*words, '--workers', str(self.chance.choice(WORKERS)))
+        history = histories.read_trace((self.folder / 'trace').read_bytes())
+        self.same('by workers', 'legal', self.audited('audit by workers', network, history).split()[0])
+        self.counts[f'policy {network.growing.policy}, grow {network.growing.growth}', report.split()[-1]] += 1
+
+
+def main():
+    seconds = float(sys.argv[1]) if len(sys.argv) > 1 else 60
+    chance = random.Random(int(sys.argv[2]) if len(sys.argv) > 2 else None)
+    program = pathlib.Path(sys.argv[3]).resolve() if len(sys.argv) > 3 else measure.kpn()
+    with tempfile.TemporaryDirectory() as folder:
+        beside = Beside(program, folder, chance)
+        end = time.monotonic() + seconds
+        while time.monotonic() < end:
+            beside.network()
+    for (what, came), count in sorted(beside.counts.items()):
+        print(f'{what}: {came} {count}')
+
+
+if __name__ == '__main__':
+    main()

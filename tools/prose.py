@@ -1,0 +1,73 @@
+#!/usr/bin/env python3
+"""Counts the words of each document, and says how long its sentences are: the longest, the mean, and the share of those
+over 25 words.
+
+usage: tools/prose.py [--long N] [FILE ..]
+
+Without a file it looks at README.md, docs/ and bench/RESULTS.md. Code blocks and tables are not counted. In a sentence,
+a piece of code in backquotes counts as one word. A heading is no sentence, and a point of a list ends one. With
+`--long N` it also writes each sentence of more than N words. It is run by hand.
+"""
+import argparse
+import pathlib
+import re
+
+TOP = pathlib.Path(__file__).resolve().parent.parent
+DOCUMENTS = [TOP / 'README.md', *sorted((TOP / 'docs').glob('*.md')), TOP / 'bench/RESULTS.md']
+LONG = 25
+POINT = re.compile(r'\s*(?:[-*+]|\d+\.)\s+')
+END = re.compile(r'(?<=[.!?])["\')*]*\s+(?=["\'(*]*[A-Z0-9`])')
+WORD = re.compile(r"[^\s]*\w[^\s]*")
+
+
+def prose_of(text):
+    """The paragraphs of a text, each on one line, with headings apart; code blocks and tables are left out."""
+    paragraphs, headings, in_list = [''], [], False
+    for line in re.sub(r'^ *```.*?^ *```$', '', text, flags=re.S | re.M).splitlines():
+        is_code = line.startswith('    ') and not in_list
+        if line.startswith('#'):
+            headings.append(line)
+        if not line.strip() or line.startswith(('#', '|')) or is_code:
+            paragraphs.append('')
+            in_list = in_list and not line.startswith('#')
+        elif POINT.match(line):
+            paragraphs.append(line[POINT.match(line).end():])
+            in_list = True
+        else:
+            in_list = in_list and line.startswith(' ')
+            paragraphs[-1] += ' ' + line.strip()
+    return [it.strip() for it in paragraphs if it.strip()], headings
+
+
+def sentences_of(paragraphs):
+    """The sentences, each with its number of words, in which a piece of code is one word."""
+    for paragraph in paragraphs:
+        codes = re.findall(r'``.+?``|`[^`]*`', paragraph)
+        plain = re.sub(r'``.+?``|`[^`]*`', '`code`', paragraph)
+        for sentence in END.split(plain):
+            shown = re.sub('`code`', lambda _: codes.pop(0), sentence)
+            yield len(WORD.findall(sentence)), shown
+
+
+def main():
+    reads = argparse.ArgumentParser(usage=__doc__.split('usage: ')[1].split('\n')[0])
+    reads.add_argument('--long', type=int)
+    reads.add_argument('files', nargs='*', type=pathlib.Path)
+    asked = reads.parse_args()
+    print(f'{"document":<24}{"words":>8}{"sentences":>11}{"longest":>9}{"mean":>7}{f"over {LONG}":>9}')
+    for document in asked.files or [it for it in DOCUMENTS if it.exists()]:
+        paragraphs, headings = prose_of(document.read_text())
+        sentences = list(sentences_of(paragraphs))
+        lengths = [length for length, _ in sentences if length] or [0]
+        words = sum(len(WORD.findall(it)) for it in [*paragraphs, *headings])
+        share = sum(it > LONG for it in lengths) / len(lengths)
+        print(f'{document.name:<24}{words:>8,}{len(lengths):>11,}{max(lengths):>9}'
+              f'{sum(lengths) / len(lengths):>7.1f}{share:>9.1%}')
+        if asked.long is not None:
+            for length, sentence in sorted(sentences, reverse=True):
+                if length > asked.long:
+                    print(f'    {length}: {sentence}')
+
+
+if __name__ == '__main__':
+    main()
