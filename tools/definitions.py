@@ -1,20 +1,22 @@
 #!/usr/bin/env python3
-"""Writes docs/WORDS.md: a table of the definitions in the folders specs/ of the program's crates, each with its file and
-the first line of the comment above it. It is run by hand, after each change of a definition. tools/documents.py
-reports a table that is out of date.
+"""Writes docs/WORDS.md: a list of the definitions in the folders specs/ of the program's crates, by file, each with the
+first line of the comment above it. It is run by hand, after each change of a definition. tools/documents.py reports a
+list that is out of date.
 
 It leaves out two kinds of definitions: those that are not public, and those that only contracts of private functions
 cite, which their file or a heading in it calls scaffolding.
 """
 import pathlib
 import re
+import textwrap
 
 TOP = pathlib.Path(__file__).resolve().parent.parent
-TABLE = TOP / 'docs/WORDS.md'
+LIST = TOP / 'docs/WORDS.md'
+COLUMNS = 120
 HEAD = '''# Words of the contracts
 
-`tools/definitions.py` writes this table from the files in `crates/CRATE/specs/`. Each row has a public definition, its
-file, and the first line of the comment above it there. DEFINITIONS.md explains the words of the field.
+`tools/definitions.py` writes this list from the files in `crates/CRATE/specs/`. Each file has its public definitions,
+with the first line of the comment above each. DEFINITIONS.md explains the words of the field.
 '''
 DEFINED = re.compile(r"^(?:pub (?:record|data)|abbrev pub|  pub)\s+([^\s:]+)(?=\s)")
 HEADING = '-- ---- '
@@ -45,19 +47,19 @@ def words_of(file):
                 yield found[1], f'{first} ..' if len(comment) > 1 else first
 
 
-def table():
+def listed():
     """The whole document."""
-    rows = []
+    lines = []
     for crate in sorted(it for it in (TOP / 'crates').iterdir() if it.name.startswith('kpn')):
-        files = sorted((crate / 'specs').rglob('*.antt'))
-        words = [(word, file, said) for file in files for word, said in words_of(file)]
-        if words:
-            rows += [f'\n## {crate.name}\n', '| Word | File | What its comment says |', '|---|---|---|']
-        for word, file, said in words:
-            said = said.replace('|', '\\|')
-            rows.append(f'| `{word}` | `{file.relative_to(crate)}` | {said} |')
-    return HEAD + ''.join(f'{row}\n' for row in rows)
+        for file in sorted((crate / 'specs').rglob('*.antt')):
+            words = list(words_of(file))
+            if words:
+                lines += [f'\n## {crate.name}: `{file.relative_to(crate)}`\n']
+            for word, said in words:
+                line = f'- `{word}`: {said}' if said else f'- `{word}`'
+                lines += textwrap.wrap(line, COLUMNS, subsequent_indent='  ', break_long_words=False)
+    return HEAD + ''.join(f'{line}\n' for line in lines)
 
 
 if __name__ == '__main__':
-    TABLE.write_text(table())
+    LIST.write_text(listed())

@@ -142,7 +142,7 @@ def main():
         wrong += [f'{document.name}: {file} has no such code:\n{code}' for file, code in CODE.findall(text)
                   if code not in (TOP / file).read_text()]
     wrong += [f'GUARANTEES.md: {it}' for it in wrong_claims(TOP / 'docs/GUARANTEES.md')]
-    if definitions.TABLE.read_text() != definitions.table():
+    if definitions.LIST.read_text() != definitions.listed():
         wrong.append('WORDS.md is out of date: run tools/definitions.py')
     wrong += [f'PROVING.md: {it}' for it in wrong_counts(TOP / 'docs/PROVING.md')]
     print('\n'.join(wrong) or 'all that the documents name is there')
