@@ -53,8 +53,8 @@ capacity_after-same t B e c none =
 
 pub capacity_after-next : (t : Tables) (B : List Event) (e : Event) (c : ℕ)
     → capacity_after t (B ++ e ∷ []) c ≡ capacity_then t c e (capacity_after t B c)
-capacity_after-next t B (Grow p d) c =
-    capacity_after-push t B (Grow p d) c ∙ if_here (eqb d c) (capacity_after t B c)
+capacity_after-next t B (Grow p d n) c =
+    capacity_after-push t B (Grow p d n) c ∙ if_here (eqb d c) (capacity_after t B c)
   where
     if_here : (b : Bool) (o : Option ℕ)
         → option_map (larger_if t b) o ≡ cond b (option_map (larger_capacity t) o) o
@@ -72,7 +72,7 @@ below_limit t H p d (inr owed) = owed.below_limit
 -- a channel that may grow is below the limit
 below_at_growth : (t : Tables) (B : List Event) (e : Event) (c n : ℕ) → MayFollow t B e
     → capacity_after t B c ≡ Some n → is_growth_of c e ≡ true → n < t.limit
-below_at_growth t B (Grow p d) c n follows was same =
+below_at_growth t B (Grow p d m) c n follows was same =
     let below = below_limit t B p d follows.due in
     let room : capacity_or_zero t B d ≡ n =
     ap (λ x. capacity_or_zero t B x) (eqb-true d c same) ∙ ap (λ o. unwrap_or o 0) was in
@@ -115,10 +115,10 @@ capacity_grows t B e legal c = rw (capacity_after-push t B e c) (by_capacity (ca
     by_capacity (Some n) was = no_less t B e (Legal-last t B e legal) c n was
 
 -- after a growth of a channel
-pub capacity_of_growth : (t : Tables) (B : List Event) (p d cap : ℕ) → capacity_after t B d ≡ Some cap
-    → capacity_after t (B ++ Grow p d ∷ []) d ≡ Some (larger_capacity t cap)
-capacity_of_growth t B p d cap is =
-    capacity_after-push t B (Grow p d) d
+pub capacity_of_growth : (t : Tables) (B : List Event) (p d n cap : ℕ) → capacity_after t B d ≡ Some cap
+    → capacity_after t (B ++ Grow p d n ∷ []) d ≡ Some (larger_capacity t cap)
+capacity_of_growth t B p d n cap is =
+    capacity_after-push t B (Grow p d n) d
     ∙ ap (option_map (larger_if t (eqb d d))) is
     ∙ ap (λ b. Some (larger_if t b cap)) (eq-eqb d d refl)
 
@@ -170,10 +170,10 @@ in_limit t network =
         (stays n (is_growth_of c e) (below_at_growth t B e c n follows was) (h.each c n there was))
 
 -- a growth makes the capacity larger
-pub larger_by_growth : (t : Tables) → IsNetwork t → (B : List Event) (p d cap : ℕ) → Legal t (B ++ Grow p d ∷ [])
+pub larger_by_growth : (t : Tables) → IsNetwork t → (B : List Event) (p d n cap : ℕ) → Legal t (B ++ Grow p d n ∷ [])
     → d < length t.channels → capacity_after t B d ≡ Some cap → cap < larger_capacity t cap
-larger_by_growth t network B p d cap legal there is =
-    let some = ((in_limit t network B (Legal-before t B (Grow p d) legal)).each d cap there is).0 in
+larger_by_growth t network B p d n cap legal there is =
+    let some = ((in_limit t network B (Legal-before t B (Grow p d n) legal)).each d cap there is).0 in
     let below =
-    below_at_growth t B (Grow p d) d cap (Legal-last t B (Grow p d) legal) is (eq-eqb d d refl) in
+    below_at_growth t B (Grow p d n) d cap (Legal-last t B (Grow p d n) legal) is (eq-eqb d d refl) in
     (larger_capacity_in_range t cap some below).0

@@ -142,21 +142,21 @@ could_grow t B e legal g before =
     }
 
 -- after a growth of d nobody waits on d as full, so a cycle that waited there has gone
-pub not_full_then : (t : Tables) → IsNetwork t → (B : List Event) (p d : ℕ) → Legal t (B ++ Grow p d ∷ [])
-    → d < length t.channels → is_full t B d ≡ true → is_full t (B ++ Grow p d ∷ []) d ≡ true → ⊥
-not_full_then t network B p d legal there was now =
-    let H : List Event = B ++ Grow p d ∷ [] in
+pub not_full_then : (t : Tables) → IsNetwork t → (B : List Event) (p d n : ℕ) → Legal t (B ++ Grow p d n ∷ [])
+    → d < length t.channels → is_full t B d ≡ true → is_full t (B ++ Grow p d n ∷ []) d ≡ true → ⊥
+not_full_then t network B p d n legal there was now =
+    let H : List Event = B ++ Grow p d n ∷ [] in
     let before = and_parts (reader_lives t B d) (reaches (capacity_after t B d) (length (unread_on B d))) was in
     let after = and_parts (reader_lives t H d) (reaches (capacity_after t H d) (length (unread_on H d))) now in
     let cap = reached (capacity_after t B d) (length (unread_on B d)) before.1 in
     let larger = reached (capacity_after t H d) (length (unread_on H d)) after.1 in
-    let more = larger_by_growth t network B p d cap.cap legal there cap.is in
+    let more = larger_by_growth t network B p d n cap.cap legal there cap.is in
     let same : larger_capacity t cap.cap ≡ larger.cap =
-    Some-number _ _ (sym (capacity_of_growth t B p d cap.cap cap.is) ∙ larger.is) in
+    Some-number _ _ (sym (capacity_of_growth t B p d n cap.cap cap.is) ∙ larger.is) in
     let within =
-    (Legal-consistent t B (Legal-before t B (Grow p d) legal)).within d there before.0 cap.cap cap.is in
+    (Legal-consistent t B (Legal-before t B (Grow p d n) legal)).within d there before.0 cap.cap cap.is in
     let unread_before = unread_length B d in
-    let unread_after = unread_length-push B (Grow p d) d in
+    let unread_after = unread_length-push B (Grow p d n) d in
     let reach = larger.at_most in
     omega arith
 
@@ -193,14 +193,14 @@ full_in_table t H p c below is = full_where_waited t H (last_event H p) c (block
 -- ---- a cycle that can grow has the last waiter
 
 -- a growth that was owed for a cycle takes this cycle away
-no_cycle_then : (t : Tables) → IsNetwork t → (B : List Event) (p d : ℕ) → Legal t (B ++ Grow p d ∷ [])
-    → OwesCycleGrowth t B p d → AreWaiters t B → (g : CanGrow t (B ++ Grow p d ∷ [])) → ⊥
+no_cycle_then : (t : Tables) → IsNetwork t → (B : List Event) (p d n : ℕ) → Legal t (B ++ Grow p d n ∷ [])
+    → OwesCycleGrowth t B p d → AreWaiters t B → (g : CanGrow t (B ++ Grow p d n ∷ [])) → ⊥
 unfolding could_grow
-no_cycle_then t network B p d legal owed waiters g =
-    let H : List Event = B ++ Grow p d ∷ [] in
-    let before = had_cycle t network B (Grow p d) legal g.process g.others (λ q h e. absurd cc) g.cycle in
-    let w = waiters (could_grow t B (Grow p d) legal g before) in
-    let next = Legal-last t B (Grow p d) legal in
+no_cycle_then t network B p d n legal owed waiters g =
+    let H : List Event = B ++ Grow p d n ∷ [] in
+    let before = had_cycle t network B (Grow p d n) legal g.process g.others (λ q h e. absurd cc) g.cycle in
+    let w = waiters (could_grow t B (Grow p d n) legal g before) in
+    let next = Legal-last t B (Grow p d n) legal in
     let process : w.waiting ≡ p = Some-number _ _ (sym w.last ∙ owed.wait) in
     let round =
     rotated t (waits_of t B) g.process g.others before.cycle p
@@ -217,19 +217,19 @@ no_cycle_then t network B p d legal owed waiters g =
     let waits = member_waits t (waits_of t H) g.process g.others g.process g.cycle.in_turn at_d.member member in
     let still : full_channel (wait_at (waits_of t H) at_d.member) ≡ Some d =
     subst (λ x. full_channel x ≡ Some d) (before.waits at_d.member waits.0 member waits.1) at_d.full in
-    not_full_then t network B p d legal next.numbers.1
+    not_full_then t network B p d n legal next.numbers.1
     (full_in_table t B at_d.member d below at_d.full) (full_in_table t H at_d.member d below still)
 
 -- an event that is no wait of a member leaves no cycle that can grow
 no_cycle : (t : Tables) → IsNetwork t → (B : List Event) (e : Event) → Legal t (B ++ e ∷ []) → AreWaiters t B
     → (g : CanGrow t (B ++ e ∷ [])) → ((q : ℕ) → Contains (g.process ∷ g.others) q → waiter e ≡ Some q → ⊥) → ⊥
-no_cycle t network B (Grow p d) legal waiters g none = by_reason (Legal-last t B (Grow p d) legal).due
+no_cycle t network B (Grow p d n) legal waiters g none = by_reason (Legal-last t B (Grow p d n) legal).due
   where
     by_reason : OwesGrowth t B p d → ⊥
-    by_reason (inl owed) = no_cycle_then t network B p d legal owed waiters g
+    by_reason (inl owed) = no_cycle_then t network B p d n legal owed waiters g
     by_reason (inr owed) =
-        let before = had_cycle t network B (Grow p d) legal g.process g.others none g.cycle in
-        let old = could_grow t B (Grow p d) legal g before in
+        let before = had_cycle t network B (Grow p d n) legal g.process g.others none g.cycle in
+        let old = could_grow t B (Grow p d n) legal g before in
         let cycle = grows_of t B old (waiters old) in
         owed.no_cycle cycle.process cycle.channel cycle.owed
 no_cycle t network B e legal waiters g none =

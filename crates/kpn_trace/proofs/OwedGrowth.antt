@@ -187,16 +187,16 @@ unsettled_after t network B (Feed c v) legal goes = λ settled.
     let next = Legal-last t B (Feed c v) legal in
     both_ways _ (is_closed-next B (Feed c v) c ∙ rw next.due.not_closed refl)
     (settled.sources c next.numbers next.due.source)
-unsettled_after t network B (Grow p d) legal goes =
-    let before = Legal-before t B (Grow p d) legal in
-    let w = writer_awaits t network B before p d (Legal-last t B (Grow p d) legal).due in
-    let free : wait_of t (B ++ Grow p d ∷ []) w.writer ≡ wait.Nobody =
-    wait_of-then t network B (Grow p d) legal w.writer ∙ ap (wait_then t (Grow p d) w.writer) w.waits
+unsettled_after t network B (Grow p d n) legal goes =
+    let before = Legal-before t B (Grow p d n) legal in
+    let w = writer_awaits t network B before p d (Legal-last t B (Grow p d n) legal).due in
+    let free : wait_of t (B ++ Grow p d n ∷ []) w.writer ≡ wait.Nobody =
+    wait_of-then t network B (Grow p d n) legal w.writer ∙ ap (wait_then t (Grow p d n) w.writer) w.waits
     ∙ rw (eq-eqb d d refl) refl in
     let lives : has_ended B w.writer ≡ false =
     alive w.writer (has_ended B w.writer) refl (λ is. let none =
     ended_is_not_blocked t network w.writer B before is in let waits = w.waits in cc) in
-    free_goes_on t (B ++ Grow p d ∷ []) w.writer w.there (has_ended-next B (Grow p d) w.writer ∙ rw lives refl) free
+    free_goes_on t (B ++ Grow p d n ∷ []) w.writer w.there (has_ended-next B (Grow p d n) w.writer ∙ rw lives refl) free
   where
     alive : (w : ℕ) (b : Bool) → has_ended B w ≡ b → (has_ended B w ≡ true → ⊥) → has_ended B w ≡ false
     alive w true is not_ended = absurd (not_ended is)

@@ -28,7 +28,7 @@ Owns t (Feed c v) = is_source (channel_at t c) ≡ true
 Owns t (Close c) = is_source (channel_at t c) ≡ true
 Owns t (Take c v) = is_sink (channel_at t c) ≡ true
 Owns t (Leave c) = is_sink (channel_at t c) ≡ true
-Owns t (Grow p d) = p < length t.instances
+Owns t (Grow p d n) = p < length t.instances
 
 -- an event of a process says this for it
 pub said_by : (b p : ℕ) (talk : Said) → b ≡ p → cond (eqb b p) (talk ∷ []) [] ≡ talk ∷ []
@@ -61,7 +61,7 @@ Owns-last t network B (Feed c v) legal = (Legal-last t B (Feed c v) legal).due.s
 Owns-last t network B (Close c) legal = (Legal-last t B (Close c) legal).due.source
 Owns-last t network B (Take c v) legal = (Legal-last t B (Take c v) legal).due.sink
 Owns-last t network B (Leave c) legal = (Legal-last t B (Leave c) legal).due.sink
-Owns-last t network B (Grow p d) legal = (Legal-last t B (Grow p d) legal).numbers.0
+Owns-last t network B (Grow p d n) legal = (Legal-last t B (Grow p d n) legal).numbers.0
 
 IsOwn-from : (t : Tables) → IsNetwork t → (e : Event) → Owns t e → IsOwn t e
 IsOwn-from t network (Get p c v) o = reader_of-Reads t network p c o

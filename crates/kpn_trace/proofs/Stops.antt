@@ -196,7 +196,7 @@ only_a_leave t H settled nothing (Take c v) legal =
     let next = Legal-last t H (Take c v) legal in
     absurd (cannot_take t H settled c v next.numbers next.due (KeepsConsistent-last t H (Take c v) legal))
 only_a_leave t H settled nothing (Leave c) legal = (c, refl)
-only_a_leave t H settled nothing (Grow p d) legal = absurd (nothing p d (Legal-last t H (Grow p d) legal).due)
+only_a_leave t H settled nothing (Grow p d n) legal = absurd (nothing p d (Legal-last t H (Grow p d n) legal).due)
 
 -- ---- one verdict
 

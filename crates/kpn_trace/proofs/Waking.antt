@@ -172,16 +172,16 @@ module _ (t : Tables) (network : IsNetwork t) (B : List Event) (p c : ℕ) (writ
             (keeps_reader t c (Leave d) (λ r. refl) (ne_eqb d c differ))
             ∙ sym (is_elsewhere d c differ)
       ]
-  full_after (Grow q d) legal other =
+  full_after (Grow q d n) legal other =
       elim (cases_eq d c) [
         | inl same ↦
             false_from_ne_true _
-            (λ now. not_full_then t network B q c (subst (λ x. Legal t (B ++ Grow q x ∷ [])) same legal) there full
-            (subst (λ x. is_full t (B ++ Grow q x ∷ []) c ≡ true) same now))
+            (λ now. not_full_then t network B q c n (subst (λ x. Legal t (B ++ Grow q x n ∷ [])) same legal) there full
+            (subst (λ x. is_full t (B ++ Grow q x n ∷ []) c ≡ true) same now))
             ∙ sym (is_here d c same)
         | inr differ ↦
-            stays_full t B (Grow q d) c full refl refl (ne_eqb d c differ)
-            (keeps_reader t c (Grow q d) (λ r. refl) refl)
+            stays_full t B (Grow q d n) c full refl refl (ne_eqb d c differ)
+            (keeps_reader t c (Grow q d n) (λ r. refl) refl)
             ∙ sym (is_elsewhere d c differ)
       ]
   full_after (WaitEmpty q d) legal other =
@@ -287,9 +287,9 @@ woken t (Take d v) p (Full c) own = on_full t p d c own
 woken t (Leave d) p Nobody own = no_full t p d Nobody (λ e. absurd cc)
 woken t (Leave d) p (Empty c) own = no_full t p d (Empty c) (λ e. absurd cc)
 woken t (Leave d) p (Full c) own = on_full t p d c own
-woken t (Grow q d) p Nobody own = no_full t p d Nobody (λ e. absurd cc)
-woken t (Grow q d) p (Empty c) own = no_full t p d (Empty c) (λ e. absurd cc)
-woken t (Grow q d) p (Full c) own = on_full t p d c own
+woken t (Grow q d n) p Nobody own = no_full t p d Nobody (λ e. absurd cc)
+woken t (Grow q d n) p (Empty c) own = no_full t p d (Empty c) (λ e. absurd cc)
+woken t (Grow q d n) p (Full c) own = on_full t p d c own
 woken t event p Nobody own = (λ is. absurd (false≢true is), λ h. absurd h)
 woken t event p (Empty c) own = (λ is. absurd (false≢true is), λ h. absurd h)
 woken t event p (Full c) own = (λ is. absurd (false≢true is), λ h. absurd h)
@@ -310,5 +310,5 @@ one_is_woken t e nobody p q v w own other is too =
     same t (Feed d x) nobody p q v w a b = same_process (reader_of t d) p q a.1 b.1
     same t (Take d x) nobody p q v w a b = same_process (writer_of t d) p q a.1 b.1
     same t (Leave d) nobody p q v w a b = same_process (writer_of t d) p q a.1 b.1
-    same t (Grow r d) nobody p q v w a b = same_process (writer_of t d) p q a.1 b.1
+    same t (Grow r d n) nobody p q v w a b = same_process (writer_of t d) p q a.1 b.1
     same t event nobody p q v w a b = absurd a

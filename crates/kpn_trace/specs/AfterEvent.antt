@@ -12,7 +12,7 @@ use Rattle.kpn_trace.specs.Channels.{is_leave_of}
 
 -- a capacity after the event: a growth of the channel makes it larger
 abbrev pub capacity_then : Tables → (c : ℕ) → Event → Option ℕ → Option ℕ
-capacity_then t c (Grow p d) capacity = if nat_eq d c then option_map (larger_capacity t) capacity else capacity
+capacity_then t c (Grow p d n) capacity = if nat_eq d c then option_map (larger_capacity t) capacity else capacity
 capacity_then t c event capacity = capacity
 
 -- the event takes this end of the channel away: the process ends, or the outside leaves the sink

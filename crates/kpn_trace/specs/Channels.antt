@@ -73,7 +73,7 @@ reader_lives t H c = lives H c (reader_of t c)
 
 -- the channel grows
 abbrev pub is_growth_of : (c : ℕ) → Event → Bool
-is_growth_of c (Grow p d) = nat_eq d c
+is_growth_of c (Grow p d n) = nat_eq d c
 is_growth_of c event = false
 
 -- a capacity after so many growths

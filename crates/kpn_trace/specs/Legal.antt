@@ -9,7 +9,7 @@ use Rattle.kpn_lang.specs.declared.talk.Ending.TheVariants as ending
 use Rattle.kpn_lang.specs.Prefix.{IsPrefix}
 use Rattle.kpn_net.specs.declared.tables.Policy.TheVariants.{All}
 use Rattle.kpn_net.specs.declared.wait.Wait.TheVariants.{Nobody, Full}
-use Rattle.kpn_net.specs.Tables.{Tables, channel_at, is_source, is_sink}
+use Rattle.kpn_net.specs.Tables.{Tables, channel_at, is_source, is_sink, larger_capacity}
 use Rattle.kpn_net.specs.Process.{CanSay, ComesTo}
 use Rattle.kpn_net.specs.Waits.{IsSmallest, awaited_as_full}
 use Rattle.kpn_trace.specs.declared.event.How.{How}
@@ -67,6 +67,10 @@ pub record OwesStopGrowth (t : Tables) (B : List Event) (p d : ℕ) : Type 0 whe
 abbrev pub OwesGrowth : Tables → List Event → (p d : ℕ) → Type 0
 OwesGrowth t B p d = OwesCycleGrowth t B p d ⊎ OwesStopGrowth t B p d
 
+-- the growth of d for p after a history, with the capacity that d has then
+abbrev pub growth_after : Tables → List Event → (p d : ℕ) → Event
+growth_after t B p d = Grow p d (larger_capacity t (capacity_or_zero t B d))
+
 -- ---- one more event
 
 -- its numbers are numbers of the network
@@ -80,7 +84,7 @@ HasNumbers t (Feed c v) = c < length t.channels
 HasNumbers t (Close c) = c < length t.channels
 HasNumbers t (Take c v) = c < length t.channels
 HasNumbers t (Leave c) = c < length t.channels
-HasNumbers t (Grow p c) = (p < length t.instances) × (c < length t.channels)
+HasNumbers t (Grow p c n) = (p < length t.instances) × (c < length t.channels)
 
 -- the process has not ended and is not blocked
 pub record CanGo (t : Tables) (B : List Event) (p : ℕ) : Type 0 where
@@ -127,13 +131,14 @@ IsDue t B (Feed c v) = MayFeed t B c
 IsDue t B (Close c) = MayFeed t B c
 IsDue t B (Take c v) = MayTake t B c
 IsDue t B (Leave c) = MayTake t B c
-IsDue t B (Grow p d) = OwesGrowth t B p d
+IsDue t B (Grow p d n) = OwesGrowth t B p d
 
--- an event may follow: its numbers are there, it is due, and where a growth is owed it is that growth
+-- an event may follow: its numbers are there, it is due, and where a growth is owed it is that growth, which tells the
+-- capacity that its channel has then
 pub record MayFollow (t : Tables) (B : List Event) (event : Event) : Type 0 where
   pub numbers : HasNumbers t event
   pub due : IsDue t B event
-  pub growth : (p d : ℕ) → OwesGrowth t B p d → event ≡ Grow p d
+  pub growth : (p d : ℕ) → OwesGrowth t B p d → event ≡ growth_after t B p d
 
 -- ---- legal histories
 

@@ -35,4 +35,4 @@ IsOwn t (Feed c v) = is_source (channel_at t c) ≡ true
 IsOwn t (Close c) = is_source (channel_at t c) ≡ true
 IsOwn t (Take c v) = is_sink (channel_at t c) ≡ true
 IsOwn t (Leave c) = is_sink (channel_at t c) ≡ true
-IsOwn t (Grow p d) = p < length t.instances
+IsOwn t (Grow p d n) = p < length t.instances

@@ -28,7 +28,7 @@ abbrev pub goes_on : Event → Bool
 goes_on (Get p c v) = true
 goes_on (Put p c v) = true
 goes_on (Feed c v) = true
-goes_on (Grow p d) = true
+goes_on (Grow p d n) = true
 goes_on event = false
 
 -- the writer of a channel is a process that waits on it as full

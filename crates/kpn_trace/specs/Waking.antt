@@ -32,7 +32,7 @@ wakes_writer t c (Get p d v) = nat_eq d c
 wakes_writer t c (Ended p how) = is_process p (reader_of t c)
 wakes_writer t c (Take d v) = nat_eq d c
 wakes_writer t c (Leave d) = nat_eq d c
-wakes_writer t c (Grow p d) = nat_eq d c
+wakes_writer t c (Grow p d n) = nat_eq d c
 wakes_writer t c event = false
 
 -- the event wakes who has this wait
@@ -67,7 +67,7 @@ IsWoken t (Ended q how) p wait = WaitsAsFullFor t q p wait
 IsWoken t (Feed c v) p wait = (wait ≡ Empty c) × (reader_of t c ≡ Process p)
 IsWoken t (Take c v) p wait = (wait ≡ Full c) × (writer_of t c ≡ Process p)
 IsWoken t (Leave c) p wait = (wait ≡ Full c) × (writer_of t c ≡ Process p)
-IsWoken t (Grow q c) p wait = (wait ≡ Full c) × (writer_of t c ≡ Process p)
+IsWoken t (Grow q c n) p wait = (wait ≡ Full c) × (writer_of t c ≡ Process p)
 IsWoken t event p wait = ⊥
 
 -- the event ends no process

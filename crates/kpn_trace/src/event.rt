@@ -22,9 +22,9 @@ pub enum Event {
     Take(u16, i64),
     /// `Leave(channel)`: the outside left a sink.
     Leave(u16),
-    /// `Grow(process, channel)`: the capacity of the channel became larger, since the process waits in a
-    /// cycle.
-    Grow(u16, u16),
+    /// `Grow(process, channel, capacity)`: the capacity of the channel became larger, since the process waits. This is
+    /// the new one.
+    Grow(u16, u16, u32),
 }
 
 /// How a process ended.
