@@ -216,4 +216,4 @@ module _ (t : Tables) (network : IsNetwork t) (H : List Event) (s : Configuratio
   Legal-due (Close c) numbers due = Legal-closed c numbers due.0 due.1
   Legal-due (Take c v) numbers due = Legal-taken c numbers v due.0 due.1
   Legal-due (Leave c) numbers due = Legal-left c numbers due.0 due.1
-  Legal-due (Grow p d) numbers due = absurd due
+  Legal-due (Grow p d n) numbers due = absurd due

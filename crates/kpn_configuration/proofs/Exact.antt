@@ -380,6 +380,6 @@ module _ (t : Tables) (network : IsNetwork t) (H : List Event) (s : Configuratio
   due_outside owes (Leave c) own legal =
       let parts = (Legal-exactly t H (Leave c)).0 legal in
       (parts.1.due.sink, not_retired c parts.1.numbers parts.1.due.sink parts.1.due.not_left)
-  due_outside owes (Grow q d) own legal = let parts =
-      (Legal-exactly t H (Grow q d)).0 legal in absurd (owes q d parts.1.due)
+  due_outside owes (Grow q d n) own legal = let parts =
+      (Legal-exactly t H (Grow q d n)).0 legal in absurd (owes q d parts.1.due)
   due_outside owes event own legal = absurd (false≢true (sym own))

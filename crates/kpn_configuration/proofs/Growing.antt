@@ -24,7 +24,7 @@ use Rattle.kpn_trace.specs.declared.event.Event.TheVariants.{Grow}
 use Rattle.kpn_trace.specs.Channels.{after_growths, capacity_after, capacity_or_zero}
 use Rattle.kpn_trace.specs.AfterEvent.{capacity_then}
 use Rattle.kpn_trace.specs.Waiting.{wait_of, waits_of}
-use Rattle.kpn_trace.specs.Legal.{Legal, HasNumbers, OwesCycleGrowth, OwesGrowth, waiter}
+use Rattle.kpn_trace.specs.Legal.{Legal, HasNumbers, OwesCycleGrowth, OwesGrowth, growth_after, waiter}
 use Rattle.kpn_trace.proofs.Legality.{by_events, Legal-last}
 use Rattle.kpn_trace.proofs.Capacities.{capacity_after-next}
 use Rattle.kpn_trace.proofs.EarlierWaits.{wait_at-waits_of}
@@ -94,7 +94,7 @@ module _ (t : Tables) (network : IsNetwork t) (H : List Event) (s : Configuratio
       first (Some n) = refl
 
       none : (e : Event) → HasNumbers t e → (o : Option ℕ) → capacity_then t c e o ≡ o
-      none (Grow q d) n o = let below =
+      none (Grow q d m) n o = let below =
           n.1 in ap (λ b. cond b (option_map (larger_capacity t) o) o) (ne_eqb d c (λ e. absurd (omega arith)))
       none event n o = refl
 
@@ -202,20 +202,20 @@ module _ (t : Tables) (network : IsNetwork t) (s : Configuration) (shape : IsCon
   pub Made-grown : (r : Bool) → IsTrue r → (waits : List Wait)
       → waits ≡ woken_at (is_wait (wait.Full d)) s.waits (writer_of t d) → (after : Configuration)
       → after ≡ record s { channels = slice_set s.channels d (grown_to (larger_capacity t (cap_in (capacities s) d)) r (channel_in s d)); waits = waits }
-      → Made t (Grow p d) s after
-  Made-grown r room =
-      made_on t s shape (Grow p d) d (grown_to (larger_capacity t (cap_in (capacities s) d)) r (channel_in s d)) (wait.Full d) s.frames owed_below
+      → (n : ℕ) → Made t (Grow p d n) s after
+  Made-grown r room waits woke after is n =
+      made_on t s shape (Grow p d n) d (grown_to (larger_capacity t (cap_in (capacities s) d)) r (channel_in s d)) (wait.Full d) s.frames owed_below
       (limit_in_range t network).0
       (record {
         journal = sym (append-nil (channel_in s d).journal);
         read = sym (add-zero (channel_in s d).read);
         capacity =
             sym
-            (ap (λ o. capacity_then t d (Grow p d) o) owed_capacity
+            (ap (λ o. capacity_then t d (Grow p d n) o) owed_capacity
             ∙ ap (λ b. cond b (Some (larger_capacity t (cap_in (capacities s) d))) (Some (cap_in (capacities s) d))) (eq-eqb d d refl));
         retired =
             sym
-            (ap (λ b. (channel_in s d).is_retired || b) (keeps_reader t (Grow p d) d (λ r. refl) refl)
+            (ap (λ b. (channel_in s d).is_retired || b) (keeps_reader t (Grow p d n) d (λ r. refl) refl)
             ∙ or-false (channel_in s d).is_retired);
         reserved = λ none was. room;
       })
@@ -224,20 +224,26 @@ module _ (t : Tables) (network : IsNetwork t) (s : Configuration) (shape : IsCon
         written = refl;
         read = refl;
         capacity = λ cap. ap (λ b. cond b (option_map (larger_capacity t) cap) cap) (ne_eqb d c (λ e. differ (sym e)));
-        reader = keeps_reader t (Grow p d) c (λ r. refl) refl;
+        reader = keeps_reader t (Grow p d n) c (λ r. refl) refl;
       })
-      (λ c. refl) (λ q end. refl) (λ e. absurd cc) (wakes-grow t p d) refl (λ q is. absurd cc) refl (λ q. refl)
+      (λ c. refl) (λ q end. refl) (λ e. absurd cc) (wakes-grow t p d n) refl (λ q is. absurd cc) refl (λ q. refl) waits woke after is
 
-  pub Legal-grown : (H : List Event) → p < length t.instances → IsRun t H s → OwesGrowth t H p d
-      → Legal t (H ++ Grow p d ∷ [])
-  Legal-grown H there run owes =
-      (Legal-exactly t H (Grow p d)).1 (
+  -- the capacity that it gets is the larger one by the history too
+  pub larger_by_history : (H : List Event) → IsRun t H s
+      → larger_capacity t (cap_in (capacities s) d) ≡ larger_capacity t (capacity_or_zero t H d)
+  larger_by_history H run = ap (larger_capacity t) (same_capacity t network H s run d)
+
+  pub Legal-grown : (H : List Event) → p < length t.instances → IsRun t H s → OwesGrowth t H p d → (n : ℕ)
+      → n ≡ larger_capacity t (cap_in (capacities s) d) → Legal t (H ++ Grow p d n ∷ [])
+  Legal-grown H there run owes n is =
+      (Legal-exactly t H (Grow p d n)).1 (
         run.legal,
         record {
           numbers = (there, owed_below);
           due = owes;
-          growth = λ q e other. let same =
-              one_owed t network H run.legal p d q e owes other in ap (λ x. Grow x d) same.0 ∙ ap (λ x. Grow q x) same.1;
+          growth = λ q e other. let same = one_owed t network H run.legal p d q e owes other in
+              ap (λ m. Grow p d m) (is ∙ larger_by_history H run) ∙ ap (λ x. growth_after t H x d) same.0
+              ∙ ap (λ x. growth_after t H q x) same.1;
         },
         tt,
       )

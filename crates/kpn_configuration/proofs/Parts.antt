@@ -113,10 +113,10 @@ wakes-leave t c Nobody = refl
 wakes-leave t c (Empty d) = refl
 wakes-leave t c (Full d) = refl
 
-pub wakes-grow : (t : Tables) (p c : ℕ) (w : Wait) → wakes t (Grow p c) w ≡ is_wait_on_full c w
-wakes-grow t p c Nobody = refl
-wakes-grow t p c (Empty d) = refl
-wakes-grow t p c (Full d) = refl
+pub wakes-grow : (t : Tables) (p c n : ℕ) (w : Wait) → wakes t (Grow p c n) w ≡ is_wait_on_full c w
+wakes-grow t p c n Nobody = refl
+wakes-grow t p c n (Empty d) = refl
+wakes-grow t p c n (Full d) = refl
 
 pub wakes-put : (t : Tables) (p c : ℕ) (v : ℤ) (w : Wait) → wakes t (Put p c v) w ≡ is_wait_on_empty c w
 wakes-put t p c v Nobody = refl
@@ -170,7 +170,7 @@ abbrev pub KeepsRoom : Tables → Configuration → Event → Type 0
 KeepsRoom t s (Put p c v) = writer_of t c ≡ end.Process p
 KeepsRoom t s (Feed c v) = is_source (channel_at t c) ≡ true
 KeepsRoom t s (WaitFull p c) = IsTrue (channel_in s c).is_reserved
-KeepsRoom t s (Grow p c) = 0 < t.limit
+KeepsRoom t s (Grow p c n) = 0 < t.limit
 KeepsRoom t s event = Unit {0}
 
 -- the event of another writes nothing on a channel that a process writes
@@ -221,7 +221,7 @@ pub record SameLengths (before after : Configuration) : Type 0 where
   pub frames : length after.frames ≡ length before.frames
 
 some_or_none : (t : Tables) (c : ℕ) (e : Event) (cap : Option ℕ) → is_some (capacity_then t c e cap) ≡ is_some cap
-some_or_none t c (Grow p d) cap = by_test (eqb d c) cap
+some_or_none t c (Grow p d n) cap = by_test (eqb d c) cap
   where
     by_test : (b : Bool) (cap : Option ℕ)
         → is_some (cond b (option_map (larger_capacity t) cap) cap) ≡ is_some cap
@@ -233,7 +233,7 @@ some_or_none t c event cap = refl
 -- a capacity that is not 0 stays so
 positive_then : (t : Tables) (s : Configuration) (e : Event) → KeepsRoom t s e → (c : ℕ) (before : Option ℕ)
     → ((n : ℕ) → before ≡ Some n → 0 < n) → (cap : ℕ) → capacity_then t c e before ≡ Some cap → 0 < cap
-positive_then t s (Grow p d) keeps c before some cap is = by_test (eqb d c) before some is
+positive_then t s (Grow p d m) keeps c before some cap is = by_test (eqb d c) before some is
   where
     by_test : (b : Bool) (o : Option ℕ) → ((n : ℕ) → o ≡ Some n → 0 < n)
         → cond b (option_map (larger_capacity t) o) o ≡ Some cap → 0 < cap

@@ -52,4 +52,4 @@ IsDueNow t s (Feed c v) = (is_source (channel_at t c) ≡ true) × (closed_in s 
 IsDueNow t s (Close c) = (is_source (channel_at t c) ≡ true) × (closed_in s c ≡ false)
 IsDueNow t s (Take c v) = (is_sink (channel_at t c) ≡ true) × (next_item (channel_in s c) ≡ Some v)
 IsDueNow t s (Leave c) = (is_sink (channel_at t c) ≡ true) × ((channel_in s c).is_retired ≡ false)
-IsDueNow t s (Grow p d) = ⊥
+IsDueNow t s (Grow p d n) = ⊥

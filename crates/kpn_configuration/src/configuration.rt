@@ -23,7 +23,7 @@ mod steps;
 mod verdicts;
 mod wakes;
 
-pub use growth::OwedGrowth;
+pub use growth::{Grown, OwedGrowth};
 pub use processes::Got;
 
 /// The states of the processes of a network and the contents of its channels at one moment of a run.

@@ -19,11 +19,10 @@ ghost use Rattle.kpn_trace.specs.Waking.{IsWoken, WaitsAsFullFor};
 ghost use Rattle.kpn_net.specs.Tables.{Tables, instance_at, program_of};
 ghost use Rattle.kpn_net.specs.Faults.{IsNetwork};
 ghost use Rattle.kpn_trace.specs.declared.event.Event.{Event};
-ghost use Rattle.kpn_trace.specs.declared.event.Event.TheVariants.{Grow};
 ghost use Rattle.kpn_step.specs.declared.stop.Stop.{Stop};
 ghost use Rattle.kpn_step.specs.declared.stop.Stop.TheVariants.{Paused};
 ghost use Rattle.kpn_trace.specs.Talks.{is_of, is_of_process, talk_of};
-ghost use Rattle.kpn_trace.specs.Legal.{HasNumbers, Legal, OwesGrowth};
+ghost use Rattle.kpn_trace.specs.Legal.{HasNumbers, Legal, OwesGrowth, growth_after};
 ghost use Rattle.kpn_trace.specs.Stops.{OwesNothing};
 ghost use Rattle.kpn_chan.specs.Channel.{unread, next_item};
 ghost use Rattle.kpn_configuration.specs.Configuration.{Configuration, IsConfiguration, channel_in, wait_in, end_in, frame_in, capacities, IsFree};
@@ -68,7 +67,7 @@ pub fn exactly_what_is_due()
         → (p : ℕ) → p < length t.instances → (event : Event) → is_of p event ≡ true
         → Legal t (H ++ event ∷ []) → IsFree s p }
     ensures growth { (t : Tables) (H : List Event) (p d : ℕ) → OwesGrowth t H p d
-        → (event : Event) → Legal t (H ++ event ∷ []) → event ≡ Grow p d }
+        → (event : Event) → Legal t (H ++ event ∷ []) → event ≡ growth_after t H p d }
 {}
 
 /// A process stands at one stop, but for pauses: so what is due there is all that is due of it.

@@ -5,4 +5,4 @@
 mod configuration;
 pub mod laws;
 
-pub use configuration::{Configuration, Got, OwedGrowth};
+pub use configuration::{Configuration, Got, Grown, OwedGrowth};

@@ -2,6 +2,7 @@
 ghost use Rattle.std.specs.Prelude.{◌≡◌, ◌↔◌, ◌<◌, ℕ, List, [], ◌∷◌, ◌++◌, length, IsTrue, IfSome, Some, None};
 ghost use Rattle.kpn_trace.specs.declared.event.Event.{Event};
 ghost use Rattle.kpn_trace.specs.declared.event.Event.TheVariants as event;
+ghost use Rattle.kpn_trace.specs.Channels.{capacity_or_zero};
 ghost use Rattle.kpn_trace.specs.Legal.{OwesCycleGrowth, OwesStopGrowth, OwesGrowth, waiter};
 ghost use Rattle.kpn_trace.specs.Stops.{OwesNoCycleGrowth, OwesNoStopGrowth};
 ghost use Rattle.kpn_configuration.specs.Configuration.{IsConfiguration, capacities, channel_in, with_channel};
@@ -26,6 +27,14 @@ use std::alloc::Allocator;
 pub struct OwedGrowth {
     pub process: usize,
     pub channel: usize,
+}
+
+/// The new capacity of a channel, and the process that its growth wakes: the writer, if it waited on the channel as
+/// full.
+#[derive(Clone, Copy, Debug, PartialEq, Eq)]
+pub struct Grown {
+    pub capacity: u32,
+    pub woken: Option<usize>,
 }
 
 impl<A: Allocator> Configuration<A> {
@@ -113,25 +122,32 @@ impl<A: Allocator> Configuration<A> {
     }
 
     /// The capacity of channel `d`, whose growth is owed for process `p`, becomes larger, as the growth of the
-    /// network says. Returns the process that this wakes: the writer of the channel, if it
-    /// waited on it as full.
+    /// network says. Tells the new one, and whom this wakes.
     ///
     /// It takes no memory: the writer of `d` waits on it as full, and reserved an item there before it came to wait.
-    pub fn grow(&mut self, network: &Network, p: usize, d: usize) -> Option<usize>
+    pub fn grow(&mut self, network: &Network, p: usize, d: usize) -> Grown
         requires shape { IsConfiguration network.now self.old }
         requires process { p < length network.now.instances }
         requires awaited { IsAwaitedBelowLimit network.now self.old d }
-        ensures woken { result ≡ waiting_writer network.now self.old.waits d }
-        ensures changes { Changes network.now (event.Grow p d) self.old self.new }
+        ensures capacity { result.capacity
+            ≡ larger_capacity network.now (cap_in (capacities self.old) d) }
+        ensures told { (H : List Event) → IsRun network.now H self.old
+            → result.capacity ≡ larger_capacity network.now (capacity_or_zero network.now H d) }
+        ensures woken { result.woken ≡ waiting_writer network.now self.old.waits d }
+        ensures changes { Changes network.now (event.Grow p d result.capacity)
+            self.old self.new }
         ensures shape { IsConfiguration network.now self.new }
         ensures run { (H : List Event) → IsRun network.now H self.old → OwesGrowth network.now H p d
-            → IsRun network.now (H ++ event.Grow p d ∷ []) self.new }
+            → IsRun network.now (H ++ event.Grow p d result.capacity ∷ []) self.new }
     {
         network.known();
         let cap = self.larger_capacity(network, d);
         let woken = wake(&mut self.waits, network.writer_of(d), Wait::Full(d));
         self.enlarge(d, cap);
-        woken
+        Grown {
+            capacity: cap,
+            woken,
+        }
     }
 
     /// The capacity that a channel below the limit has after one growth.

@@ -4,7 +4,7 @@ use Rattle.kpn_net.specs.Waits.{AreWaits}
 use Rattle.kpn_chan.specs.Channel.{MayGrowTo, grown_to}
 use Rattle.kpn_configuration.specs.Configuration.{Configuration, channel_in}
 use Rattle.kpn_configuration.specs.Woken.{is_wait}
-use Rattle.kpn_configuration.proofs.Growing.{owed_below, owed_may_grow, owed_is_reserved, Made-grown, Legal-grown}
+use Rattle.kpn_configuration.proofs.Growing.{owed_below, owed_may_grow, owed_is_reserved, Made-grown, larger_by_history, Legal-grown}
 use Rattle.kpn_configuration.proofs.Running.{IsRun-next}
 use Rattle.kpn_configuration.proofs.Woken.{below, woken_same, told_same}
 use Rattle.kpn_configuration.proofs.configuration.Configuration.grow.Goals as goal
@@ -74,8 +74,12 @@ returns g c =
     record s {
       channels = slice_set s.channels c.args.d (grown_to cap reserved (channel_in s c.args.d));
       waits = c.wake-woken.new.waits;
-    }) c.larger_capacity-cap.ensures) in
+    }) c.larger_capacity-cap.ensures)
+    c.larger_capacity-cap.result in
     record {
+      capacity = c.larger_capacity-cap.ensures;
+      told = λ H run. c.larger_capacity-cap.ensures
+          ∙ larger_by_history t c.known.ensures s c.requires.shape c.args.p c.args.d c.requires.awaited H run;
       woken =
           told_same (is_wait (Full c.args.d)) c.writer_of.result _ c.self.inside.waits s.waits c.wake-woken.result
           c.wake-woken.ensures.who c.writer_of.ensures same;
@@ -83,6 +87,6 @@ returns g c =
       shape = made.shape;
       run = λ H run owes. IsRun-next t c.known.ensures H _ s after run
           (Legal-grown t c.known.ensures s c.requires.shape c.args.p c.args.d c.requires.awaited H c.requires.process run
-          owes)
+          owes c.larger_capacity-cap.result c.larger_capacity-cap.ensures)
           made.changes made.shape;
     }
