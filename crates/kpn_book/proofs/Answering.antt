@@ -3,7 +3,7 @@ use Rattle.std.proofs.Common.{◌≡◌, ◌↔◌, ℕ, ◌+◌, ◌<◌, ◌�
 use Rattle.std.proofs.lemmas.Bool.{cases_eq}
 use Rattle.std.proofs.lemmas.List.Sums.{sum_by-append}
 use Rattle.std.proofs.lemmas.List.{length-set, get_or-set_same, get_or-set_other}
-use Rattle.kpn_net.specs.Tables.{Tables}
+use Rattle.kpn_net.specs.Tables.{Tables, larger_capacity}
 use Rattle.kpn_net.specs.Faults.{IsNetwork}
 use Rattle.kpn_step.specs.declared.stop.Stop.{Stop}
 use Rattle.kpn_step.specs.declared.stop.Stop.TheVariants as stop
@@ -13,7 +13,8 @@ use Rattle.kpn_trace.specs.declared.event.Event.TheVariants as event
 use Rattle.kpn_trace.specs.declared.event.How.{How}
 use Rattle.kpn_trace.specs.declared.state.State.TheVariants.{Ready}
 use Rattle.kpn_trace.specs.Talks.{is_of_process, process_events}
-use Rattle.kpn_trace.specs.Legal.{OwesCycleGrowth, OwesGrowth, Legal, waiter, waiter_of_last}
+use Rattle.kpn_trace.specs.Channels.{capacity_or_zero}
+use Rattle.kpn_trace.specs.Legal.{OwesCycleGrowth, OwesGrowth, growth_after, Legal, waiter, waiter_of_last}
 use Rattle.kpn_trace.specs.Stops.{OwesNothing, OwesNoCycleGrowth, OwesNoStopGrowth, goes_on}
 use Rattle.kpn_trace.proofs.Events.{last_or-push}
 use Rattle.kpn_trace.proofs.AfterEvent.{process_events-next}
@@ -94,18 +95,18 @@ module _ (b : Book) (network : IsNetwork b.tables) (step : IsInStep b) (p : ℕ)
 
 -- the growth that is owed is made
 pub has_grown : (b a : Book) → IsNetwork b.tables → (p q d : ℕ) → OwesGrowth b.tables b.history q d
-    → Follows (event.Grow q d) b a → GrowsIfOwed p (done.Grew d) b a
+    → Follows (growth_after b.tables b.history q d) b a → GrowsIfOwed p (done.Grew d) b a
 has_grown b a network p q d owes follows = record {
   grows = record { grower = q; owed = owes; appends = follows.appends };
-  sound = sound_after (event.Grow q d) b a network follows refl refl;
+  sound = sound_after (growth_after b.tables b.history q d) b a network follows refl refl;
   held = let now = follows.held in omega (arith, now);
 }
 
 pub has_grown_at_stop : (b a : Book) → IsNetwork b.tables → (q d : ℕ) → OwesGrowth b.tables b.history q d
-    → Follows (event.Grow q d) b a → GrowsAtStop (Some d) b a
+    → Follows (growth_after b.tables b.history q d) b a → GrowsAtStop (Some d) b a
 has_grown_at_stop b a network q d owes follows = record {
   grows = record { grower = q; owed = owes; appends = follows.appends };
-  sound = sound_after (event.Grow q d) b a network follows refl refl;
+  sound = sound_after (growth_after b.tables b.history q d) b a network follows refl refl;
   held = let now = follows.held in omega (arith, now);
 }
 
@@ -136,10 +137,12 @@ happens e b m a None follows grows = record {
   appends = (m, follows.appends, grows.grows.1);
 }
 happens e b m a (Some d) follows grows = record {
-  growth = event.Grow grows.grows.grower d ∷ [];
+  growth = growth_after m.tables m.history grows.grows.grower d ∷ [];
   owed =
-      subst (λ t. OwesGrowth t (b.history ++ e ∷ []) grows.grows.grower d) follows.appends.tables
-      (subst (λ H. OwesGrowth m.tables H grows.grows.grower d) follows.appends.history grows.grows.owed);
+      subst (λ t. IsGrowthOwed t (b.history ++ e ∷ []) (growth_after m.tables m.history grows.grows.grower d ∷ []))
+      follows.appends.tables
+      (subst (λ H. IsGrowthOwed m.tables H (growth_after m.tables m.history grows.grows.grower d ∷ []))
+      follows.appends.history (grows.grows.owed, refl));
   appends = (m, follows.appends, (a, grows.grows.appends, refl));
 }
 
@@ -149,7 +152,7 @@ pub events_at_stop : (b a : Book) (channel : Option ℕ) → GrowsAtStop channel
 events_at_stop b a None grows = ap (λ x. process_events x.history) grows.grows.1
 events_at_stop b a (Some d) grows =
     ap process_events grows.grows.appends.history
-    ∙ process_events-next b.history (event.Grow grows.grows.grower d)
+    ∙ process_events-next b.history (growth_after b.tables b.history grows.grows.grower d)
     ∙ (let same : process_events b.history + 0 ≡ process_events b.history = omega arith in same)
 
 pub commits_at_stop : (b a : Book) (channel : Option ℕ) → GrowsAtStop channel b a → a.commits ≡ b.commits
@@ -216,7 +219,7 @@ module _ (b m : Book) (p : ℕ) (wait : Event) (one : of_process wait ≡ 1) (as
     appends = (m, follows.appends, grows.1);
   }
   answers_wait (done.Grew d) a grows s is = record {
-    events = wait ∷ event.Grow grows.grower d ∷ [];
+    events = wait ∷ growth_after m.tables m.history grows.grower d ∷ [];
     answers = record {
       wait = wait;
       waits = has s is;
@@ -224,7 +227,9 @@ module _ (b m : Book) (p : ℕ) (wait : Event) (one : of_process wait ≡ 1) (as
       owed =
           before_it (λ H. OwesGrowth b.tables H grows.grower d)
           (subst (λ t. OwesGrowth t m.history grows.grower d) follows.appends.tables grows.owed);
-      appends = refl;
+      appends =
+          ap (λ H. wait ∷ growth_after m.tables H grows.grower d ∷ []) follows.appends.history
+          ∙ ap (λ t. wait ∷ growth_after t (b.history ++ wait ∷ []) grows.grower d ∷ []) follows.appends.tables;
     };
     appends = (m, follows.appends, (a, grows.appends, refl));
   }
@@ -286,8 +291,8 @@ one_event e = by_test (is_of_process e)
     by_test true = omega arith
     by_test false = omega arith
 
-growth_is_none : (wait : Event) (p d : ℕ) → count_by is_of_process (wait ∷ event.Grow p d ∷ []) ≤ 1
-growth_is_none wait p d = by_test (is_of_process wait)
+growth_is_none : (wait : Event) (p d n : ℕ) → count_by is_of_process (wait ∷ event.Grow p d n ∷ []) ≤ 1
+growth_is_none wait p d n = by_test (is_of_process wait)
   where
     by_test : (b : Bool) → 0 + cond {A = ℕ} b 1 0 + 0 ≤ 1
     by_test true = omega arith
@@ -296,7 +301,7 @@ growth_is_none wait p d = by_test (is_of_process wait)
 with_growth : (t : Tables) (H : List Event) (e : Event) (growth : List Event) → IsGrowthOwed t H growth
     → count_by is_of_process (e ∷ growth) ≤ 1
 with_growth t H e [] owed = one_event e
-with_growth t H e (event.Grow p d ∷ []) owed = growth_is_none e p d
+with_growth t H e (event.Grow p d n ∷ []) owed = growth_is_none e p d n
 with_growth t H e growth owed = absurd owed
 
 at_most_one : (answer : Done) (b : Book) (p : ℕ) (s : Stop) (events : List Event) → IsAnswer b p s answer events
@@ -308,7 +313,8 @@ at_most_one done.Put b p s events is =
 at_most_one done.Blocked b p s events is =
     subst (λ es. count_by is_of_process es ≤ 1) (sym is.appends) (one_event is.wait)
 at_most_one (done.Grew d) b p s events is =
-    subst (λ es. count_by is_of_process es ≤ 1) (sym is.appends) (growth_is_none is.wait is.grower d)
+    subst (λ es. count_by is_of_process es ≤ 1) (sym is.appends) (growth_is_none is.wait is.grower d
+    (larger_capacity b.tables (capacity_or_zero b.tables (b.history ++ is.wait ∷ []) d)))
 at_most_one done.Ended b p s events is =
     subst (λ es. count_by is_of_process es ≤ 1) (sym is.appends)
     (with_growth b.tables (b.history ++ event.Ended p is.how ∷ []) (event.Ended p is.how) is.growth is.owed)

@@ -4,13 +4,15 @@ use Rattle.std.proofs.lemmas.List.Sums.{sum_by-cons}
 use Rattle.kpn_lang.specs.Prefix.{IsPrefix}
 use Rattle.kpn_net.specs.declared.wait.Wait.{Wait}
 use Rattle.kpn_net.specs.declared.wait.Wait.TheVariants.{Nobody}
+use Rattle.kpn_net.specs.Tables.{larger_capacity}
 use Rattle.kpn_trace.specs.declared.event.How.{How}
 use Rattle.kpn_trace.specs.declared.event.Event.{Event}
 use Rattle.kpn_trace.specs.declared.event.Event.TheVariants as event
 use Rattle.kpn_trace.specs.declared.state.Counts.{Counts}
 use Rattle.kpn_trace.specs.declared.state.State.{State}
 use Rattle.kpn_trace.specs.declared.state.State.TheVariants.{Ready, Held, WaitsEmpty, WaitsFull, Ended}
-use Rattle.kpn_trace.specs.Legal.{Legal, OwesGrowth}
+use Rattle.kpn_trace.specs.Channels.{capacity_or_zero}
+use Rattle.kpn_trace.specs.Legal.{Legal, MayFollow, OwesGrowth}
 use Rattle.kpn_trace.specs.Waiting.{wait_of, waits_of}
 use Rattle.kpn_trace.specs.Views.{IsStateOf, AreCounts, waits_empty, waits_full}
 use Rattle.kpn_trace.proofs.Legality.{Legal-prefix}
@@ -114,9 +116,21 @@ begins : (B rest : List Event) (e : Event) → IsPrefix (B ++ e ∷ []) (B ++ e 
 begins [] rest e = (refl, tt)
 begins (x ∷ B) rest e = (refl, begins B rest e)
 
-pub owed_then : (b : Book) → IsBook b → (B rest : List Event) (p d : ℕ) → b.history ≡ B ++ event.Grow p d ∷ rest
-    → OwesGrowth b.tables B p d
-owed_then b book B rest p d is =
-    ((Legal-exactly b.tables B (event.Grow p d)).0
-    (Legal-prefix b.tables (B ++ event.Grow p d ∷ []) (B ++ event.Grow p d ∷ rest) (begins B rest (event.Grow p d))
-    (subst (λ H. Legal b.tables H) is book.kept.in_step.run.legal))).1.due
+growth_follows : (b : Book) → IsBook b → (B rest : List Event) (e : Event) → b.history ≡ B ++ e ∷ rest
+    → MayFollow b.tables B e
+growth_follows b book B rest e is =
+    ((Legal-exactly b.tables B e).0
+    (Legal-prefix b.tables (B ++ e ∷ []) (B ++ e ∷ rest) (begins B rest e)
+    (subst (λ H. Legal b.tables H) is book.kept.in_step.run.legal))).1
+
+pub owed_then : (b : Book) → IsBook b → (B rest : List Event) (p d n : ℕ)
+    → b.history ≡ B ++ event.Grow p d n ∷ rest → OwesGrowth b.tables B p d
+owed_then b book B rest p d n is = (growth_follows b book B rest (event.Grow p d n) is).due
+
+-- the capacity that it tells
+pub told_then : (b : Book) → IsBook b → (B rest : List Event) (p d n : ℕ)
+    → b.history ≡ B ++ event.Grow p d n ∷ rest → n ≡ larger_capacity b.tables (capacity_or_zero b.tables B d)
+told_then b book B rest p d n is =
+    let follows = growth_follows b book B rest (event.Grow p d n) is in
+    let same = follows.growth p d follows.due in
+    cc

@@ -63,7 +63,7 @@ module _ (t : Tables) (network : IsNetwork t) (waits : List Wait) (are : AreWait
   among_is_woken (Feed c v) ends q among = a_reader c q among
   among_is_woken (Take c v) ends q among = a_writer c q among
   among_is_woken (Leave c) ends q among = a_writer c q among
-  among_is_woken (Grow p c) ends q among = a_writer c q among
+  among_is_woken (Grow p c n) ends q among = a_writer c q among
   among_is_woken e ends q among = absurd (Contains-none q among)
 
   woken_is_among : (e : Event) → EndsThere t e → (q : ℕ) → q < length t.instances → IsWoken t e q (wait_at waits q)
@@ -74,7 +74,7 @@ module _ (t : Tables) (network : IsNetwork t) (waits : List Wait) (are : AreWait
   woken_is_among (Feed c v) ends q there is = reader_among c q there is.0
   woken_is_among (Take c v) ends q there is = writer_among c q there is.0
   woken_is_among (Leave c) ends q there is = writer_among c q there is.0
-  woken_is_among (Grow p c) ends q there is = writer_among c q there is.0
+  woken_is_among (Grow p c n) ends q there is = writer_among c q there is.0
   woken_is_among e ends q there is = absurd is
 
   -- whom it makes ready it wakes
@@ -102,5 +102,5 @@ module _ (t : Tables) (network : IsNetwork t) (waits : List Wait) (are : AreWait
   woken_distinct (Feed c v) ends = distinct_one (waiting_reader t waits c)
   woken_distinct (Take c v) ends = distinct_one (waiting_writer t waits c)
   woken_distinct (Leave c) ends = distinct_one (waiting_writer t waits c)
-  woken_distinct (Grow p c) ends = distinct_one (waiting_writer t waits c)
+  woken_distinct (Grow p c n) ends = distinct_one (waiting_writer t waits c)
   woken_distinct e ends = tt

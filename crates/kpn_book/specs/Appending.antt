@@ -4,10 +4,11 @@ use Rattle.std.specs.Prelude.{◌≡◌, ℕ, List, [], ◌∷◌, ◌++◌}
 use Rattle.std.specs.List.{filter_map}
 use Rattle.std.specs.Option.{option_to_list}
 use Rattle.kpn_net.specs.declared.wait.Wait.{Wait}
-use Rattle.kpn_net.specs.Tables.{Tables, instance_at}
+use Rattle.kpn_net.specs.Tables.{Tables, instance_at, larger_capacity}
 use Rattle.kpn_trace.specs.declared.event.Event.{Event}
 use Rattle.kpn_trace.specs.declared.event.Event.TheVariants as event
 use Rattle.kpn_trace.specs.declared.state.State.TheVariants as state
+use Rattle.kpn_trace.specs.Channels.{capacity_or_zero}
 use Rattle.kpn_trace.specs.Legal.{OwesGrowth}
 use Rattle.kpn_trace.specs.Stops.{OwesNothing}
 use Rattle.kpn_configuration.specs.Changes.{Changes}
@@ -37,7 +38,7 @@ woken_by t waits (event.Ended p how) = filter_map (waiting_writer t waits) (inst
 woken_by t waits (event.Feed c v) = option_to_list (waiting_reader t waits c)
 woken_by t waits (event.Take c v) = option_to_list (waiting_writer t waits c)
 woken_by t waits (event.Leave c) = option_to_list (waiting_writer t waits c)
-woken_by t waits (event.Grow p c) = option_to_list (waiting_writer t waits c)
+woken_by t waits (event.Grow p c n) = option_to_list (waiting_writer t waits c)
 woken_by t waits e = []
 
 -- these processes are ready, in this order at the tail of the queue
@@ -66,10 +67,11 @@ AppendsAll (e ∷ events) before after = (between : Book) × Appends e before be
 
 -- ---- events, and the growths that are owed
 
--- the growth that is owed after a history: none, or this one
+-- the growth that is owed after a history: none, or this one, which tells the capacity that the channel has then
 abbrev pub IsGrowthOwed : Tables → List Event → (growth : List Event) → Type 0
 IsGrowthOwed t H [] = OwesNothing t H
-IsGrowthOwed t H (event.Grow p d ∷ []) = OwesGrowth t H p d
+IsGrowthOwed t H (event.Grow p d n ∷ []) =
+    OwesGrowth t H p d × (n ≡ larger_capacity t (capacity_or_zero t H d))
 IsGrowthOwed t H growth = ⊥
 
 -- the event happens: it is appended, and so is the growth that is owed then

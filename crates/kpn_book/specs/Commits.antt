@@ -8,7 +8,7 @@ use Rattle.kpn_chan.specs.Channel.{unread, is_full, next_item}
 use Rattle.kpn_trace.specs.declared.event.Event.{Event}
 use Rattle.kpn_trace.specs.declared.event.Event.TheVariants as event
 use Rattle.kpn_trace.specs.declared.event.How.{How}
-use Rattle.kpn_trace.specs.Legal.{OwesGrowth}
+use Rattle.kpn_trace.specs.Legal.{OwesGrowth, growth_after}
 use Rattle.kpn_trace.specs.Stops.{OwesNothing}
 use Rattle.kpn_configuration.specs.Configuration.{channel_in, frame_in}
 use Rattle.kpn_configuration.specs.Changes.{IsChannelAt}
@@ -81,7 +81,7 @@ pub record WaitsAndGrows (b : Book) (p : ℕ) (s : Stop) (d : ℕ) (events : Lis
   pub waits : HasToWait b p s wait
   pub grower : ℕ
   pub owed : OwesGrowth b.tables (b.history ++ wait ∷ []) grower d
-  pub appends : events ≡ wait ∷ event.Grow grower d ∷ []
+  pub appends : events ≡ wait ∷ growth_after b.tables (b.history ++ wait ∷ []) grower d ∷ []
 
 -- it has ended, and the growth that is owed then follows at once
 pub record Ends (b : Book) (p : ℕ) (s : Stop) (events : List Event) : Type 0 where

@@ -8,7 +8,7 @@ use Rattle.kpn_trace.specs.declared.event.Event.{Event}
 use Rattle.kpn_trace.specs.declared.event.Event.TheVariants as event
 use Rattle.kpn_trace.specs.Talks.{is_of_process}
 use Rattle.kpn_trace.specs.Views.{is_ready}
-use Rattle.kpn_trace.specs.Legal.{OwesGrowth, waiter}
+use Rattle.kpn_trace.specs.Legal.{OwesGrowth, growth_after, waiter}
 use Rattle.kpn_trace.specs.Stops.{OwesNothing}
 use Rattle.kpn_configuration.specs.Configuration.{channel_in, with_channel}
 use Rattle.kpn_schedule.specs.Schedule.{Schedule, state_at}
@@ -66,7 +66,7 @@ pub record EndsWithWait (H : List Event) (p : ℕ) : Type 0 where
 pub record MakesGrowth (d : ℕ) (before after : Book) : Type 0 where
   pub grower : ℕ
   pub owed : OwesGrowth before.tables before.history grower d
-  pub appends : Appends (event.Grow grower d) before after
+  pub appends : Appends (growth_after before.tables before.history grower d) before after
 
 -- the growth that is owed at a stop, if one is, is made: that of this channel
 abbrev pub grows_at_stop : Option ℕ → (before after : Book) → Type 0

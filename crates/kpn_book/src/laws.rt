@@ -4,7 +4,7 @@ ghost use Rattle.kpn_lang.specs.declared.talk.Said.{Said};
 ghost use Rattle.kpn_lang.specs.Alone.{alone};
 ghost use Rattle.kpn_net.specs.declared.tables.Policy.TheVariants.{All};
 ghost use Rattle.kpn_net.specs.declared.wait.Wait.TheVariants.{Full as FullOn};
-ghost use Rattle.kpn_net.specs.Tables.{instance_at, program_of};
+ghost use Rattle.kpn_net.specs.Tables.{instance_at, program_of, larger_capacity};
 ghost use Rattle.kpn_net.specs.Process.{Family, at_channel};
 ghost use Rattle.kpn_net.specs.Iteration.{IsBelowLeast, IsLeast};
 ghost use Rattle.kpn_step.specs.Residual.{residual};
@@ -15,7 +15,7 @@ ghost use Rattle.kpn_trace.specs.declared.event.Event.{Event};
 ghost use Rattle.kpn_trace.specs.declared.event.Event.TheVariants as event;
 ghost use Rattle.kpn_trace.specs.declared.state.Counts.{Counts};
 ghost use Rattle.kpn_trace.specs.declared.state.Verdict.TheVariants.{Ended, Clogged, Jammed};
-ghost use Rattle.kpn_trace.specs.Channels.{written_on, read_on, fed, capacity_after};
+ghost use Rattle.kpn_trace.specs.Channels.{written_on, read_on, fed, capacity_after, capacity_or_zero};
 ghost use Rattle.kpn_trace.specs.Talks.{talk_of};
 ghost use Rattle.kpn_trace.specs.Waiting.{wait_of, waits_of, HasFullCycle};
 ghost use Rattle.kpn_trace.specs.Legal.{Legal, OwesGrowth};
@@ -62,11 +62,14 @@ pub fn the_history()
 {}
 
 /// Each growth took the smallest awaited full channel of a blocked cycle or of a settled network, below the limit, at
-/// the moment when it was owed. No blocked cycle with a full channel below the limit is left, and under the policy `all`
-/// no settled book has a process that waits on a full channel below the limit.
+/// the moment when it was owed. It names the new capacity. No blocked cycle with a full channel below the limit is
+/// left, and under the policy `all` no settled book has a process that waits on a full channel below the limit.
 pub fn growths()
-    ensures owed { (b : Book) → IsBook b → (B rest : List Event) (p d : ℕ)
-        → b.history ≡ B ++ event.Grow p d ∷ rest → OwesGrowth b.tables B p d }
+    ensures owed { (b : Book) → IsBook b → (B rest : List Event) (p d n : ℕ)
+        → b.history ≡ B ++ event.Grow p d n ∷ rest → OwesGrowth b.tables B p d }
+    ensures told { (b : Book) → IsBook b → (B rest : List Event) (p d n : ℕ)
+        → b.history ≡ B ++ event.Grow p d n ∷ rest
+        → n ≡ larger_capacity b.tables (capacity_or_zero b.tables B d) }
     ensures none_is_left { (b : Book) → IsBook b → ¬ CanGrow b.tables b.history }
     ensures at_stop { (b : Book) → IsBook b → b.tables.policy ≡ All
         → IsSettled b.tables b.history → (p c : ℕ) → p < length b.tables.instances

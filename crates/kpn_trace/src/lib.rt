@@ -9,8 +9,10 @@ mod history;
 pub mod laws;
 mod state;
 pub mod state_laws;
+mod stored;
 pub mod waking_laws;
 
 pub use event::{Event, How};
 pub use history::History;
 pub use state::{Counts, State, Verdict, View};
+pub use stored::{Trace, Version};

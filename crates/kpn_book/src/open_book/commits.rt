@@ -15,7 +15,7 @@ ghost use Rattle.kpn_book.specs.Book.{IsHeld};
 ghost use Rattle.kpn_book.specs.Commits.{IsReadFrom, IsWriteTo};
 ghost use Rattle.kpn_book.specs.Kept.{IsInStep};
 ghost use Rattle.kpn_book.specs.Open.{book_of, reserves_by, IsSound, Follows, EndsWithWait, GrowsIfOwed, GrowsAtStop, Answered, MayBeReady};
-ghost use Rattle.kpn_trace.specs.Legal.{OwesGrowth};
+ghost use Rattle.kpn_trace.specs.Legal.{OwesGrowth, growth_after};
 ghost use Rattle.kpn_trace.specs.Stops.{OwesNoCycleGrowth};
 ghost use Rattle.kpn_configuration.specs.Owed.{IsAwaitedBelowLimit};
 ghost use Rattle.kpn_book.specs.Appending.{all_made_ready};
@@ -218,13 +218,15 @@ impl<'n, A: Allocator> OpenBook<'n, A> {
         requires process { p < length self.old.network.now.instances }
         requires awaited { IsAwaitedBelowLimit self.old.network.now self.old.configuration d }
         requires owed { OwesGrowth self.old.network.now self.old.history.events p d }
-        ensures { Follows (event.Grow p d) (book_of self.old) (book_of self.new) }
+        ensures { let t = self.old.network.now in let H = self.old.history.events in
+            Follows (growth_after t H p d) (book_of self.old) (book_of self.new) }
     {
         let network = self.network;
         network.known();
-        let woken = self.configuration.grow(network, p, d);
-        self.history.push(Event::Grow(number(p), number(d)));
-        wake(&mut self.schedule, woken);
+        let grown = self.configuration.grow(network, p, d);
+        self.history
+            .push(Event::Grow(number(p), number(d), grown.capacity));
+        wake(&mut self.schedule, grown.woken);
     }
 
     /// Process `p`, which stands at this end, has ended, and the growth that is owed then is made.

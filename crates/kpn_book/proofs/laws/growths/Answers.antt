@@ -1,11 +1,15 @@
 use Rattle.kpn_trace.proofs.Growth.{nothing_can_grow}
 use Rattle.kpn_trace.proofs.OwedGrowth.{no_wait_left}
-use Rattle.kpn_book.proofs.Standing.{owed_then}
+use Rattle.kpn_book.proofs.Standing.{owed_then, told_then}
 use Rattle.kpn_book.proofs.laws.growths.Goals as goal
 
 pub returns-clause-owed : goal.returns-clause-owed
 returns-clause-owed c b book =
     owed_then b book
+
+pub returns-clause-told : goal.returns-clause-told
+returns-clause-told c b book =
+    told_then b book
 
 pub returns-clause-none_is_left : goal.returns-clause-none_is_left
 returns-clause-none_is_left c b book =
