@@ -11,7 +11,7 @@ use Rattle.kpn_trace.specs.declared.event.Event.TheVariants.{Get, Put, WaitEmpty
 use Rattle.kpn_trace.specs.declared.event.How.{How}
 use Rattle.kpn_trace.specs.declared.event.How.TheVariants as how
 use Rattle.kpn_trace.specs.Talks.{is_of, is_of_process}
-use Rattle.kpn_trace.specs.Legal.{HasNumbers, OwesGrowth, Legal}
+use Rattle.kpn_trace.specs.Legal.{HasNumbers, OwesGrowth, growth_after, Legal}
 use Rattle.kpn_trace.specs.Stops.{OwesNothing}
 use Rattle.kpn_trace.proofs.OneMore.{Legal-exactly}
 use Rattle.kpn_configuration.specs.Configuration.{Configuration, channel_in, frame_in}
@@ -125,7 +125,7 @@ module _ (t : Tables) (network : IsNetwork t) (H : List Event) (s : Configuratio
 
 -- where a growth is owed nothing else may follow
 pub only_growth : (t : Tables) (H : List Event) (e : Event) (p d : ℕ) → OwesGrowth t H p d → Legal t (H ++ e ∷ [])
-    → e ≡ Grow p d
+    → e ≡ growth_after t H p d
 only_growth t H e p d owes legal = ((Legal-exactly t H e).0 legal).1.growth p d owes
 
 pub has_its_numbers : (t : Tables) (H : List Event) (e : Event) → Legal t (H ++ e ∷ []) → HasNumbers t e
@@ -138,7 +138,7 @@ not_due t s (Feed c v) own feed close take leave due = feed c v refl
 not_due t s (Close c) own feed close take leave due = close c refl
 not_due t s (Take c v) own feed close take leave due = take c v refl
 not_due t s (Leave c) own feed close take leave due = leave c refl
-not_due t s (Grow p d) own feed close take leave due = due
+not_due t s (Grow p d n) own feed close take leave due = due
 not_due t s e own feed close take leave due = absurd cc
 
 pub growth_of_nothing : (t : Tables) (network : IsNetwork t) (H : List Event) (s : Configuration) → IsRun t H s

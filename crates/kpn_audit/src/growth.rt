@@ -51,7 +51,7 @@ pub(crate) fn after_event<A: Allocator>(
     Judged::Follows(configuration.owed_at_stop(network))
 }
 
-/// Judges an event where this growth is owed: it has to be that growth.
+/// Judges an event where this growth is owed: it has to be that growth, with the capacity that the channel has then.
 pub(crate) fn judge_owed<A: Allocator>(
     configuration: &mut Configuration<A>,
     network: &Network,
@@ -67,12 +67,16 @@ pub(crate) fn judge_owed<A: Allocator>(
         → IsMade network.now H event configuration.old configuration.new result }
 {
     network.known();
-    let Event::Grow(p, c) = event else {
+    let Event::Grow(p, c, capacity) = event else {
         return Judged::Illegal;
     };
     if usize::from(p) != owed.process || usize::from(c) != owed.channel {
         return Judged::Illegal;
     }
-    configuration.grow(network, owed.process, owed.channel);
-    Judged::Follows(None)
+    let grown = configuration.grow(network, owed.process, owed.channel);
+    if grown.capacity == capacity {
+        Judged::Follows(None)
+    } else {
+        Judged::Illegal
+    }
 }

@@ -36,7 +36,7 @@ fn has_numbers(network: &Network, event: Event) -> bool
     match event {
         Event::Get(p, c, _) | Event::Put(p, c, _) => are_numbers(network, p, c),
         Event::WaitEmpty(p, c) | Event::WaitFull(p, c) => are_numbers(network, p, c),
-        Event::Grow(p, c) => are_numbers(network, p, c),
+        Event::Grow(p, c, _) => are_numbers(network, p, c),
         Event::Ended(p, _) => usize::from(p) < network.instances(),
         Event::Feed(c, _) | Event::Take(c, _) => usize::from(c) < network.channels(),
         Event::Close(c) | Event::Leave(c) => usize::from(c) < network.channels(),

@@ -28,26 +28,26 @@ module _ (e : Event) (before after : Book) (is : Happens e before after) where
   happens_prefix = subst (IsPrefix before.history) (sym happens_history) (IsPrefix-append before.history (e ∷ is.growth))
 
   -- what does not see growths sees the event alone
-  happens_seen : {X : Type 0} (f : List Event → X) → ((B : List Event) (p d : ℕ) → f (B ++ Grow p d ∷ []) ≡ f B)
+  happens_seen : {X : Type 0} (f : List Event → X) → ((B : List Event) (p d n : ℕ) → f (B ++ Grow p d n ∷ []) ≡ f B)
       → f after.history ≡ f (before.history ++ e ∷ [])
   happens_seen f skips = ap f happens_history ∙ by is.growth is.owed
     where
       by : (growth : List Event) → IsGrowthOwed before.tables (before.history ++ e ∷ []) growth
           → f (before.history ++ e ∷ growth) ≡ f (before.history ++ e ∷ [])
       by [] owed = refl
-      by (Grow p d ∷ []) owed =
-          ap f (sym (append_assoc before.history (e ∷ []) (Grow p d ∷ []))) ∙ skips (before.history ++ e ∷ []) p d
+      by (Grow p d n ∷ []) owed =
+          ap f (sym (append_assoc before.history (e ∷ []) (Grow p d n ∷ []))) ∙ skips (before.history ++ e ∷ []) p d n
       by growth owed = absurd owed
 
   pub happens_written : (c : ℕ) → written_on after.history c ≡ written_on (before.history ++ e ∷ []) c
-  happens_written c = happens_seen (λ H. written_on H c) (λ B p d. written_on-same B (Grow p d) c refl)
+  happens_written c = happens_seen (λ H. written_on H c) (λ B p d n. written_on-same B (Grow p d n) c refl)
 
   pub happens_read : (c : ℕ) → read_on after.history c ≡ read_on (before.history ++ e ∷ []) c
-  happens_read c = happens_seen (λ H. read_on H c) (λ B p d. read_on-same B (Grow p d) c refl)
+  happens_read c = happens_seen (λ H. read_on H c) (λ B p d n. read_on-same B (Grow p d n) c refl)
 
   pub happens_closed : (c : ℕ) → is_closed after.history c ≡ is_closed (before.history ++ e ∷ []) c
   happens_closed c =
-      happens_seen (λ H. is_closed H c) (λ B p d. is_closed-next B (Grow p d) c ∙ or_nothing (is_closed B c))
+      happens_seen (λ H. is_closed H c) (λ B p d n. is_closed-next B (Grow p d n) c ∙ or_nothing (is_closed B c))
     where
       or_nothing : (b : Bool) → (b || false) ≡ b
       or_nothing true = refl

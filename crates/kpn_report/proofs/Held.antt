@@ -9,7 +9,7 @@ use Rattle.kpn_net.specs.declared.wait.Wait.{Wait}
 use Rattle.kpn_net.specs.declared.wait.Wait.TheVariants.{Nobody, Empty, Full}
 use Rattle.kpn_net.specs.declared.tables.End.{End}
 use Rattle.kpn_net.specs.declared.tables.End.TheVariants.{Process, Source, Sink}
-use Rattle.kpn_net.specs.Tables.{Tables, writer_of, reader_of}
+use Rattle.kpn_net.specs.Tables.{Tables, larger_capacity, writer_of, reader_of}
 use Rattle.kpn_net.specs.Faults.{IsNetwork}
 use Rattle.kpn_net.specs.Waits.{wait_at, AreWaits}
 use Rattle.kpn_net.proofs.Networks.{Writes-writer_of, Reads-reader_of}
@@ -22,6 +22,7 @@ use Rattle.kpn_trace.specs.declared.event.Event.{Event}
 use Rattle.kpn_trace.specs.declared.event.Event.TheVariants as event
 use Rattle.kpn_trace.specs.declared.state.State.{State}
 use Rattle.kpn_trace.specs.declared.state.State.TheVariants.{Ready, Held, WaitsEmpty, WaitsFull, Ended}
+use Rattle.kpn_trace.specs.Channels.{capacity_or_zero}
 use Rattle.kpn_trace.specs.Views.{is_held}
 use Rattle.kpn_trace.specs.Waking.{wait_then}
 use Rattle.kpn_configuration.specs.Configuration.{Configuration, wait_in, end_in}
@@ -141,7 +142,7 @@ module _ (before : Book) (book : IsBook before) where
           ap held_count h.2 ∙ ap (λ s. held_in s.states) h.1.schedule
           ∙ ap (λ s. held_in (all_made_ready woken s).states) own
           ∙ held_as_before woken before.schedule (λ q among. idle q (each q among))
-      by (event.Grow r d ∷ []) owed h =
+      by (event.Grow r d n ∷ []) owed h =
           let woken = woken_by before.tables before.configuration.waits e in
           let middle = h.0 in
           let writer = option_to_list (waiting_writer middle.tables middle.configuration.waits d) in
@@ -283,13 +284,13 @@ module _ (before : Book) (book : IsBook before) (p : ℕ) (between : Book) (clai
         ∙ released y new (woken_by between.tables between.configuration.waits e) each (own_part e between.schedule) own
 
     -- an event of p and a growth
-    by_two : (e : Event) (r d : ℕ) (y : State) → is_held y ≡ false
+    by_two : (e : Event) (r d n : ℕ) (y : State) → is_held y ≡ false
         → ((q : ℕ) → Contains (woken_by between.tables between.configuration.waits e) q
         → (q ≡ p) ⊎ Waits between.tables between.configuration.waits q)
         → ((q : ℕ) → (q ≡ p → ⊥) → wait_then between.tables e q Nobody ≡ Nobody)
         → (own_part e between.schedule).states ≡ set between.schedule.states p y → (es : List Event)
-        → es ≡ e ∷ event.Grow r d ∷ [] → AppendsAll es (counted stood) after → held_count after ≡ held_count before
-    by_two e r d y new each none own es same appends =
+        → es ≡ e ∷ event.Grow r d n ∷ [] → AppendsAll es (counted stood) after → held_count after ≡ held_count before
+    by_two e r d n y new each none own es same appends =
         let h = subst (λ es. AppendsAll es (counted stood) after) same appends in
         let middle = h.0 in
         let woken = woken_by between.tables between.configuration.waits e in
@@ -359,13 +360,13 @@ module _ (before : Book) (book : IsBook before) (p : ℕ) (between : Book) (clai
     held_by_answer s (done.Grew d) es grew appends =
         elim grew.waits [
           | inl empty ↦
-              by_two (event.WaitEmpty p empty.channel) grew.grower d (WaitsEmpty empty.channel) refl nobody
+              by_two (event.WaitEmpty p empty.channel) grew.grower d (larger_capacity between.tables (capacity_or_zero between.tables (between.history ++ grew.wait ∷ []) d)) (WaitsEmpty empty.channel) refl nobody
               (empty_keeps empty.channel) refl es
-              (grew.appends ∙ ap (λ e. e ∷ event.Grow grew.grower d ∷ []) empty.is) appends
+              (grew.appends ∙ ap (λ e. e ∷ event.Grow grew.grower d (larger_capacity between.tables (capacity_or_zero between.tables (between.history ++ grew.wait ∷ []) d)) ∷ []) empty.is) appends
           | inr full ↦
-              by_two (event.WaitFull p full.channel) grew.grower d (WaitsFull full.channel) refl nobody
+              by_two (event.WaitFull p full.channel) grew.grower d (larger_capacity between.tables (capacity_or_zero between.tables (between.history ++ grew.wait ∷ []) d)) (WaitsFull full.channel) refl nobody
               (full_keeps full.channel) refl es
-              (grew.appends ∙ ap (λ e. e ∷ event.Grow grew.grower d ∷ []) full.is) appends
+              (grew.appends ∙ ap (λ e. e ∷ event.Grow grew.grower d (larger_capacity between.tables (capacity_or_zero between.tables (between.history ++ grew.wait ∷ []) d)) ∷ []) full.is) appends
         ]
     held_by_answer s done.Ended es ended appends =
         by_growth ended.growth ended.owed ended.appends
@@ -375,8 +376,8 @@ module _ (before : Book) (book : IsBook before) (p : ℕ) (between : Book) (clai
             → es ≡ event.Ended p ended.how ∷ growth → held_count after ≡ held_count before
         by_growth [] owed same =
             by_one (event.Ended p ended.how) (Ended ended.how) refl at_end refl es same appends
-        by_growth (event.Grow r d ∷ []) owed same =
-            by_two (event.Ended p ended.how) r d (Ended ended.how) refl at_end (end_keeps ended.how) refl es same
+        by_growth (event.Grow r d n ∷ []) owed same =
+            by_two (event.Ended p ended.how) r d n (Ended ended.how) refl at_end (end_keeps ended.how) refl es same
             appends
         by_growth growth owed same = absurd owed
     held_by_answer s done.Paused es paused appends =

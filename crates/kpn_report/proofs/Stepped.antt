@@ -8,7 +8,7 @@ use Rattle.kpn_net.specs.Faults.{IsNetwork}
 use Rattle.kpn_trace.specs.declared.event.Event.{Event}
 use Rattle.kpn_trace.specs.declared.event.Event.TheVariants as event
 use Rattle.kpn_trace.specs.Channels.{written_in, read_in, written_on, read_on, unread_on}
-use Rattle.kpn_trace.specs.Legal.{Legal}
+use Rattle.kpn_trace.specs.Legal.{Legal, growth_after}
 use Rattle.kpn_trace.proofs.Ownership.{IsOwn-last}
 use Rattle.kpn_trace.proofs.Journals.{no_sink, none_elsewhere}
 use Rattle.kpn_trace.proofs.Events.{written_on-push, written_on-same, read_on-push, read_on-same}
@@ -98,13 +98,13 @@ wait_writes b p s wait waits c =
 growth_writes : (t : Tables) (H growth : List Event) → IsGrowthOwed t H growth → (c : ℕ)
     → AddNothing (written_in c) growth
 growth_writes t H [] owed c = tt
-growth_writes t H (event.Grow p d ∷ []) owed c = (refl, tt)
+growth_writes t H (event.Grow p d n ∷ []) owed c = (refl, tt)
 growth_writes t H growth owed c = absurd owed
 
 growth_reads : (t : Tables) (H growth : List Event) → IsGrowthOwed t H growth → (c : ℕ)
     → AddNothing (read_in c) growth
 growth_reads t H [] owed c = tt
-growth_reads t H (event.Grow p d ∷ []) owed c = (refl, tt)
+growth_reads t H (event.Grow p d n ∷ []) owed c = (refl, tt)
 growth_reads t H growth owed c = absurd owed
 
 -- a process reads no sink
@@ -154,8 +154,8 @@ module _ (before after : Book) where
         let none = wait_writes b p s blocked.wait blocked.waits c in
         ((none.0, tt), (none.1, tt)))
     sinks_by (done.Grew d) grew =
-        keeps_sinks (grew.wait ∷ event.Grow grew.grower d ∷ [])
-        (with_events (grew.wait ∷ event.Grow grew.grower d ∷ []) grew.appends)
+        keeps_sinks (grew.wait ∷ growth_after b.tables (b.history ++ grew.wait ∷ []) grew.grower d ∷ [])
+        (with_events (grew.wait ∷ growth_after b.tables (b.history ++ grew.wait ∷ []) grew.grower d ∷ []) grew.appends)
         (λ c sink.
         let none = wait_writes b p s grew.wait grew.waits c in
         ((none.0, (refl, tt)), (none.1, (refl, tt))))

@@ -1,5 +1,7 @@
 -- The growth that is owed is made, and nothing else may follow.
 use Rattle.std.proofs.Common.{◌≡◌, None, refl, subst}
+use Rattle.kpn_net.specs.Tables.{larger_capacity}
+use Rattle.kpn_trace.specs.Channels.{capacity_or_zero}
 use Rattle.kpn_trace.specs.declared.event.Event.TheVariants.{Grow}
 use Rattle.kpn_audit.specs.Judged.{IsFollowed}
 use Rattle.kpn_audit.proofs.Refused.{only_growth}
@@ -12,6 +14,7 @@ returns-in_default g c =
     record {
       shape = c.requires.shape;
       judged = λ H run owing legal. c.in_default.not-Grow c.args.owed.process c.args.owed.channel
+          (larger_capacity c.args.network.now (capacity_or_zero c.args.network.now H c.args.owed.channel))
           (only_growth c.args.network.now H c.args.event c.args.owed.process c.args.owed.channel owing.owed legal);
     }
 
@@ -26,12 +29,21 @@ returns-then-from-owed-clause-judged g c H run owing legal =
           let is : w.from-else-from-owed.result ≡ c.args.owed.channel = cc in w.if-from-owed-2.true is
     ]
 
-pub returns-clause-judged : goal.returns-clause-judged
-returns-clause-judged g c H run owing =
+pub returns-then-grown-capacity-clause-judged : goal.returns-then-grown-capacity-clause-judged
+returns-then-grown-capacity-clause-judged g c H run owing =
     let t = c.args.network.now in
-    let same : Grow c.args.owed.process c.args.owed.channel ≡ c.args.event = cc in
+    let growth = Grow c.args.owed.process c.args.owed.channel c.grow-grown.result.capacity in
+    let same : growth ≡ c.args.event = cc in
     let s = c.args.configuration.now in
-    let growth = Grow c.args.owed.process c.args.owed.channel in
-    subst (λ e. IsFollowed t H e s c.grow.new.self None) same
-    (followed t c.known.ensures H growth s c.grow.new.self refl refl (c.grow.ensures.run H run owing.owed)
-    (goes_outside t s c.grow.new.self growth refl c.grow.ensures.changes.frames))
+    subst (λ e. IsFollowed t H e s c.grow-grown.new.self None) same
+    (followed t c.known.ensures H growth s c.grow-grown.new.self refl refl
+    (c.grow-grown.ensures.run H run owing.owed)
+    (goes_outside t s c.grow-grown.new.self growth refl c.grow-grown.ensures.changes.frames))
+
+pub returns-else-grown-capacity-clause-judged : goal.returns-else-grown-capacity-clause-judged
+returns-else-grown-capacity-clause-judged g c H run owing legal =
+    let same =
+    only_growth c.args.network.now H c.args.event c.args.owed.process c.args.owed.channel owing.owed legal in
+    let told = c.grow-grown.ensures.told H run in
+    let is : c.grow-grown.result.capacity ≡ c.in-Grow.capacity = cc in
+    c.if-grown-capacity.false is
