@@ -96,7 +96,7 @@ still_unread : (t : Tables) (H : List Event) (c : ℕ) (growth : List Event) (a 
     → c < length a.tables.channels → AppendsAll growth a b
     → unread (channel_in b.configuration c) ≡ unread (channel_in a.configuration c)
 still_unread t H c [] a b owed there none = ap (λ (x : Book). unread (channel_in x.configuration c)) none
-still_unread t H c (event.Grow p d ∷ []) a b owed there grows =
+still_unread t H c (event.Grow p d n ∷ []) a b owed there grows =
     let was : ChannelState = channel_in a.configuration c in
     let is : ChannelState = channel_in grows.0.configuration c in
     let after = grows.1.configuration.channels c there in

@@ -42,7 +42,7 @@ pub record AreBlockedCounts (b : Book) (counts : Counts) : Type 0 where
 -- each growth took the smallest awaited full channel of a blocked cycle or of a settled network, at the moment when this
 -- was owed
 abbrev pub AreOwedGrowths : Book → Type 0
-AreOwedGrowths b = (B rest : List Event) (p d : ℕ) → b.history ≡ B ++ Grow p d ∷ rest → OwesGrowth b.tables B p d
+AreOwedGrowths b = (B rest : List Event) (p d n : ℕ) → b.history ≡ B ++ Grow p d n ∷ rest → OwesGrowth b.tables B p d
 
 -- when every process has ended or waits on an empty channel, the journals are the least solution
 abbrev pub AreLeastWhenQuiet : Book → Type 0

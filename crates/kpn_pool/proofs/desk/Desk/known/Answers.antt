@@ -12,9 +12,9 @@ returns-clause-counts g c = λ counts are.
     }
 
 pub returns-clause-growths : goal.returns-clause-growths
-returns-clause-growths g c = λ B rest p d is.
+returns-clause-growths g c = λ B rest p d n is.
     c.growths.ensures.owed c.args.self.now.book
-    (subst (λ (x : Desk). IsBook x.book) c.self.view_is c.self.invariant.book) B rest p d is
+    (subst (λ (x : Desk). IsBook x.book) c.self.view_is c.self.invariant.book) B rest p d n is
 
 pub returns-clause-at_stop : goal.returns-clause-at_stop
 returns-clause-at_stop g c = λ all settled p d there waits.
