@@ -7,10 +7,14 @@ use Rattle.std.specs.Str.{bytes_eq}
 use Rattle.std.proofs.lemmas.Bool.{cond_both}
 use Rattle.std.proofs.lemmas.Slice.Eq.{bytes_eq-Decides}
 use Rattle.std.specs.Fmt.{decimal, signed_decimal}
+use Rattle.std.proofs.lemmas.Fmt.{decimal_injective}
 use Rattle.kpn_trace.specs.declared.event.Event.{Event}
 use Rattle.kpn_trace.specs.declared.event.Event.TheVariants.{Get, Put, WaitEmpty, WaitFull, Ended, Feed, Close, Take, Leave, Grow}
 use Rattle.kpn_trace.specs.declared.event.How.{How}
 use Rattle.kpn_trace.specs.declared.event.How.TheVariants as how
+use Rattle.kpn_limits.specs.declared.TheConstants.{MAX_CAPACITY}
+use Rattle.kpn_trace.specs.declared.stored.Version.{Version}
+use Rattle.kpn_trace.specs.declared.stored.Version.TheVariants.{One, Two}
 use Rattle.kpn_trace_text.specs.declared.kind.Kind.{Kind}
 use Rattle.kpn_trace_text.specs.declared.kind.Kind.TheVariants as kind
 use Rattle.kpn_trace_text.specs.EventLine.{kind_word, kinds, kind_named, how_word, kind_of, arguments_of, spaced, line_of, LacksByte, IsInRange, SpellsEvent}
@@ -76,60 +80,62 @@ same_how a b e = absurd (cc)
 
 -- ---- a line is its kind, a space, and its parts
 
-line_is : (event : Event) → line_of event ≡ kind_word (kind_of event) ++ 32 ∷ spaced (arguments_of event)
-line_is (Get p c v) = refl
-line_is (Put p c v) = refl
-line_is (WaitEmpty p c) = refl
-line_is (WaitFull p c) = refl
-line_is (Ended p how) = refl
-line_is (Feed c v) = refl
-line_is (Close c) = refl
-line_is (Take c v) = refl
-line_is (Leave c) = refl
-line_is (Grow p c) = refl
+line_is : (n : Version) (event : Event)
+    → line_of n event ≡ kind_word (kind_of event) ++ 32 ∷ spaced (arguments_of n event)
+line_is n (Get p c v) = refl
+line_is n (Put p c v) = refl
+line_is n (WaitEmpty p c) = refl
+line_is n (WaitFull p c) = refl
+line_is n (Ended p how) = refl
+line_is n (Feed c v) = refl
+line_is n (Close c) = refl
+line_is n (Take c v) = refl
+line_is n (Leave c) = refl
+line_is One (Grow p c m) = refl
+line_is Two (Grow p c m) = refl
 
 -- the kind and the parts of the event that a line spells, where the line has this first word
-pub kind_and_parts : (line word parts : List ℕ) (event : Event) → line ≡ word ++ 32 ∷ parts → LacksByte 32 word
-    → SpellsEvent line event → (kind_word (kind_of event) ≡ word) × (parts ≡ spaced (arguments_of event))
-kind_and_parts line word parts event split lacks spells =
+pub kind_and_parts : (n : Version) (line word parts : List ℕ) (event : Event) → line ≡ word ++ 32 ∷ parts → LacksByte 32 word
+    → SpellsEvent n line event → (kind_word (kind_of event) ≡ word) × (parts ≡ spaced (arguments_of n event))
+kind_and_parts n line word parts event split lacks spells =
     let both =
-    cut 32 (kind_word (kind_of event)) word (spaced (arguments_of event)) parts (kind_lacks (kind_of event)).0 lacks
-    (sym (line_is event) ∙ sym spells.whole ∙ split) in
+    cut 32 (kind_word (kind_of event)) word (spaced (arguments_of n event)) parts (kind_lacks (kind_of event)).0 lacks
+    (sym (line_is n event) ∙ sym spells.whole ∙ split) in
     (both.0, sym both.1)
 
 -- a line whose first word is no kind spells nothing
-pub no_kind : (line word parts : List ℕ) (event : Event) → line ≡ word ++ 32 ∷ parts → LacksByte 32 word
-    → kind_named word ≡ None → SpellsEvent line event → ⊥
-no_kind line word parts event split lacks unknown spells =
-    let found = kind_and_parts line word parts event split lacks spells in
+pub no_kind : (n : Version) (line word parts : List ℕ) (event : Event) → line ≡ word ++ 32 ∷ parts → LacksByte 32 word
+    → kind_named word ≡ None → SpellsEvent n line event → ⊥
+no_kind n line word parts event split lacks unknown spells =
+    let found = kind_and_parts n line word parts event split lacks spells in
     let clash : Some (kind_of event) ≡ None =
     sym (kind_is_named (kind_of event)) ∙ ap kind_named found.0 ∙ unknown in
     cc
 
 -- a line spells an event of the kind that its first word names
-pub of_kind : (line word parts : List ℕ) (k : Kind) (event : Event) → line ≡ word ++ 32 ∷ parts → LacksByte 32 word
-    → kind_named word ≡ Some k → SpellsEvent line event → (kind_of event ≡ k) × (parts ≡ spaced (arguments_of event))
-of_kind line word parts k event split lacks known spells =
-    let found = kind_and_parts line word parts event split lacks spells in
+pub of_kind : (n : Version) (line word parts : List ℕ) (k : Kind) (event : Event) → line ≡ word ++ 32 ∷ parts → LacksByte 32 word
+    → kind_named word ≡ Some k → SpellsEvent n line event → (kind_of event ≡ k) × (parts ≡ spaced (arguments_of n event))
+of_kind n line word parts k event split lacks known spells =
+    let found = kind_and_parts n line word parts event split lacks spells in
     let same : Some (kind_of event) ≡ Some k =
     sym (kind_is_named (kind_of event)) ∙ ap kind_named found.0 ∙ known in
     (cc, found.1)
 
 -- what the parts spell as an event of the kind, the line spells
-pub read_of_kind : (line word parts : List ℕ) (k : Kind) (read : Option Event) → line ≡ word ++ 32 ∷ parts
+pub read_of_kind : (n : Version) (line word parts : List ℕ) (k : Kind) (read : Option Event) → line ≡ word ++ 32 ∷ parts
     → LacksByte 32 word → kind_named word ≡ Some k
     → MatchOption read
-    ((event : Event) → IsInRange event → kind_of event ≡ k → parts ≡ spaced (arguments_of event) → ⊥)
-    (λ event. IsInRange event × (kind_of event ≡ k) × (parts ≡ spaced (arguments_of event)))
-    → MatchOption read ((event : Event) → SpellsEvent line event → ⊥) (SpellsEvent line)
-read_of_kind line word parts k None split lacks known none =
+    ((event : Event) → IsInRange n event → kind_of event ≡ k → parts ≡ spaced (arguments_of n event) → ⊥)
+    (λ event. IsInRange n event × (kind_of event ≡ k) × (parts ≡ spaced (arguments_of n event)))
+    → MatchOption read ((event : Event) → SpellsEvent n line event → ⊥) (SpellsEvent n line)
+read_of_kind n line word parts k None split lacks known none =
     λ event spells.
-    let found = of_kind line word parts k event split lacks known spells in
+    let found = of_kind n line word parts k event split lacks known spells in
     none event spells.in_range found.0 found.1
-read_of_kind line word parts k (Some event) split lacks known is = record {
+read_of_kind n line word parts k (Some event) split lacks known is = record {
   whole = split ∙ ap (λ w. w ++ 32 ∷ parts) (sym (word_of_kind word k known))
       ∙ ap (λ j. kind_word j ++ 32 ∷ parts) (sym is.1)
-      ∙ ap (λ p. kind_word (kind_of event) ++ 32 ∷ p) is.2 ∙ sym (line_is event);
+      ∙ ap (λ p. kind_word (kind_of event) ++ 32 ∷ p) is.2 ∙ sym (line_is n event);
   in_range = is.0;
 }
 
@@ -153,35 +159,44 @@ two_numbers_and_item p c q d v w fits also e =
     let first = front p q _ _ fits.0 also.0 e in
     let rest = number_and_item c d v w (fits.1, fits.2) (also.1, also.2) first.1 in (first.0, rest.0, rest.1)
 
-same_parts : (a b : Event) → kind_of a ≡ kind_of b → IsInRange a → IsInRange b
-    → spaced (arguments_of a) ≡ spaced (arguments_of b) → a ≡ b
-same_parts (Get p c v) (Get q d w) k fits also e =
+same_parts : (n : Version) (a b : Event) → kind_of a ≡ kind_of b → IsInRange n a → IsInRange n b
+    → spaced (arguments_of n a) ≡ spaced (arguments_of n b) → a ≡ b
+same_parts n (Get p c v) (Get q d w) k fits also e =
     let same = two_numbers_and_item p c q d v w fits also e in cc (same.0, same.1, same.2)
-same_parts (Put p c v) (Put q d w) k fits also e =
+same_parts n (Put p c v) (Put q d w) k fits also e =
     let same = two_numbers_and_item p c q d v w fits also e in cc (same.0, same.1, same.2)
-same_parts (WaitEmpty p c) (WaitEmpty q d) k fits also e =
+same_parts n (WaitEmpty p c) (WaitEmpty q d) k fits also e =
     let same = two_numbers p c q d fits also e in cc (same.0, same.1)
-same_parts (WaitFull p c) (WaitFull q d) k fits also e =
+same_parts n (WaitFull p c) (WaitFull q d) k fits also e =
     let same = two_numbers p c q d fits also e in cc (same.0, same.1)
-same_parts (Ended p how) (Ended q other) k fits also e =
+same_parts n (Ended p how) (Ended q other) k fits also e =
     let first = front p q _ _ fits also e in
     cc (first.0, same_how how other first.1)
-same_parts (Feed c v) (Feed d w) k fits also e =
+same_parts n (Feed c v) (Feed d w) k fits also e =
     let same = number_and_item c d v w fits also e in cc (same.0, same.1)
-same_parts (Close c) (Close d) k fits also e = cc (same_number c d fits also e)
-same_parts (Take c v) (Take d w) k fits also e =
+same_parts n (Close c) (Close d) k fits also e = cc (same_number c d fits also e)
+same_parts n (Take c v) (Take d w) k fits also e =
     let same = number_and_item c d v w fits also e in cc (same.0, same.1)
-same_parts (Leave c) (Leave d) k fits also e = cc (same_number c d fits also e)
-same_parts (Grow p c) (Grow q d) k fits also e =
-    let same = two_numbers p c q d fits also e in cc (same.0, same.1)
-same_parts a b k fits also e = absurd (cc)
+same_parts n (Leave c) (Leave d) k fits also e = cc (same_number c d fits also e)
+same_parts One (Grow p c m) (Grow q d o) k fits also e =
+    let same = two_numbers p c q d (fits.0, fits.1) (also.0, also.1) e in
+    let told : m ≡ o = fits.2 ∙ sym also.2 in
+    cc (same.0, same.1, told)
+same_parts Two (Grow p c m) (Grow q d o) k fits also e =
+    let first = front p q _ _ fits.0 also.0 e in
+    let second = front c d _ _ fits.1 also.1 first.1 in
+    let least = fits.2.1 in
+    let most = also.2.1 in
+    let told = decimal_injective m o (omega arith) (omega arith) second.1 in
+    cc (first.0, second.0, told)
+same_parts n a b k fits also e = absurd (cc)
 
-pub line_spells_one : (line : List ℕ) (a b : Event) → SpellsEvent line a → SpellsEvent line b → a ≡ b
-line_spells_one line a b spells also =
+pub line_spells_one : (n : Version) (line : List ℕ) (a b : Event) → SpellsEvent n line a → SpellsEvent n line b → a ≡ b
+line_spells_one n line a b spells also =
     let found =
-    kind_and_parts line (kind_word (kind_of b)) (spaced (arguments_of b)) a (also.whole ∙ line_is b)
+    kind_and_parts n line (kind_word (kind_of b)) (spaced (arguments_of n b)) a (also.whole ∙ line_is n b)
     (kind_lacks (kind_of b)).0 spells in
-    same_parts a b (same_kind (kind_of a) (kind_of b) found.0) spells.in_range also.in_range (sym found.1)
+    same_parts n a b (same_kind (kind_of a) (kind_of b) found.0) spells.in_range also.in_range (sym found.1)
 
 -- ---- no line feed stands in a line
 
@@ -194,23 +209,27 @@ number_lacks n small = decimal_lacks 10 n (omega arith) (omega arith)
 value_lacks : (item : ℤ) → FitsSigned w64 item → LacksByte 10 (signed_decimal item)
 value_lacks item fits = item_lacks 10 item (omega arith) fits
 
-parts_lack : (event : Event) → IsInRange event → LacksByte 10 (spaced (arguments_of event))
-parts_lack (Get p c v) fits =
+parts_lack : (n : Version) (event : Event) → IsInRange n event → LacksByte 10 (spaced (arguments_of n event))
+parts_lack n (Get p c v) fits =
     with_space (decimal p) _ (number_lacks p fits.0)
     (with_space (decimal c) _ (number_lacks c fits.1) (value_lacks v fits.2))
-parts_lack (Put p c v) fits =
+parts_lack n (Put p c v) fits =
     with_space (decimal p) _ (number_lacks p fits.0)
     (with_space (decimal c) _ (number_lacks c fits.1) (value_lacks v fits.2))
-parts_lack (WaitEmpty p c) fits = with_space (decimal p) _ (number_lacks p fits.0) (number_lacks c fits.1)
-parts_lack (WaitFull p c) fits = with_space (decimal p) _ (number_lacks p fits.0) (number_lacks c fits.1)
-parts_lack (Ended p how) fits = with_space (decimal p) _ (number_lacks p fits) (how_lacks_feed how)
-parts_lack (Feed c v) fits = with_space (decimal c) _ (number_lacks c fits.0) (value_lacks v fits.1)
-parts_lack (Close c) fits = number_lacks c fits
-parts_lack (Take c v) fits = with_space (decimal c) _ (number_lacks c fits.0) (value_lacks v fits.1)
-parts_lack (Leave c) fits = number_lacks c fits
-parts_lack (Grow p c) fits = with_space (decimal p) _ (number_lacks p fits.0) (number_lacks c fits.1)
+parts_lack n (WaitEmpty p c) fits = with_space (decimal p) _ (number_lacks p fits.0) (number_lacks c fits.1)
+parts_lack n (WaitFull p c) fits = with_space (decimal p) _ (number_lacks p fits.0) (number_lacks c fits.1)
+parts_lack n (Ended p how) fits = with_space (decimal p) _ (number_lacks p fits) (how_lacks_feed how)
+parts_lack n (Feed c v) fits = with_space (decimal c) _ (number_lacks c fits.0) (value_lacks v fits.1)
+parts_lack n (Close c) fits = number_lacks c fits
+parts_lack n (Take c v) fits = with_space (decimal c) _ (number_lacks c fits.0) (value_lacks v fits.1)
+parts_lack n (Leave c) fits = number_lacks c fits
+parts_lack One (Grow p c m) fits = with_space (decimal p) _ (number_lacks p fits.0) (number_lacks c fits.1)
+parts_lack Two (Grow p c m) fits =
+    let most = fits.2.1 in
+    with_space (decimal p) _ (number_lacks p fits.0)
+    (with_space (decimal c) _ (number_lacks c fits.1) (decimal_lacks 10 m (omega arith) (omega arith)))
 
-pub line_lacks_feed : (event : Event) → IsInRange event → LacksByte 10 (line_of event)
-line_lacks_feed event fits =
-    subst (λ l. LacksByte 10 l) (sym (line_is event))
-    (with_space (kind_word (kind_of event)) _ (kind_lacks (kind_of event)).1 (parts_lack event fits))
+pub line_lacks_feed : (n : Version) (event : Event) → IsInRange n event → LacksByte 10 (line_of n event)
+line_lacks_feed n event fits =
+    subst (λ l. LacksByte 10 l) (sym (line_is n event))
+    (with_space (kind_word (kind_of event)) _ (kind_lacks (kind_of event)).1 (parts_lack n event fits))

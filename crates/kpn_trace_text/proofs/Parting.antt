@@ -48,6 +48,11 @@ LacksByte-append s (x ∷ xs) ys lacks also =
     let parts = either (eqb x s) (list_any (λ b. eqb b s) xs) lacks in
     both (eqb x s) (list_any (λ b. eqb b s) (xs ++ ys)) parts.0 (LacksByte-append s xs ys parts.1 also)
 
+-- bytes where one stands do not lack it
+pub is_there : (s : ℕ) (xs ys : List ℕ) → LacksByte s (xs ++ s ∷ ys) → ⊥
+is_there s [] ys lacks = lacks_first s s ys lacks refl
+is_there s (x ∷ xs) ys lacks = is_there s xs ys (lacks_rest s x (xs ++ s ∷ ys) lacks)
+
 -- what stands before the first such byte, and what behind it
 pub cut : (s : ℕ) (w v a b : List ℕ) → LacksByte s w → LacksByte s v → w ++ s ∷ a ≡ v ++ s ∷ b → (w ≡ v) × (a ≡ b)
 cut s [] [] a b lacks also e = (refl, cc)
@@ -164,3 +169,14 @@ number_read word item (Err x) e fits iff =
     λ n small f.
     let same : item ≡ pos n = same_item item (pos n) fits (omega (arith, ints)) (sym e ∙ f) in
     iff (subst (FitsUnsignedBits 16) (sym same) small)
+
+-- the same of a number of 32 bits
+pub large_number_read : {E : Type 0} (word : List ℕ) (item : ℤ) (r : Result ℕ E) → word ≡ signed_decimal item
+    → FitsSigned w64 item → OkIff r (FitsUnsignedBits 32 item) (unsigned_abs item)
+    → MatchOption (result_ok r) ((n : ℕ) → n < 2 ^ 32 → word ≡ decimal n → ⊥) (λ n. word ≡ decimal n)
+large_number_read word (pos m) (Ok x) e fits iff = e ∙ ap decimal (sym iff.1)
+large_number_read word (negsuc m) (Ok x) e fits iff = absurd iff.0
+large_number_read word item (Err x) e fits iff =
+    λ n small f.
+    let same : item ≡ pos n = same_item item (pos n) fits (omega (arith, ints)) (sym e ∙ f) in
+    iff (subst (FitsUnsignedBits 32) (sym same) small)

@@ -1,6 +1,6 @@
--- The line of an event in a trace, without its line feed: words with one space between them. The first word tells the
+-- The line of an event in a trace of each version, without its line feed: words with one space between them. The first word tells the
 -- kind of the event, the others its process, channel, item or ending.
-use Rattle.std.specs.Prelude.{◌≡◌, ◌==◌, ℕ, ◌^◌, ◌<◌, false, List, [], ◌∷◌, ◌++◌, codes, FitsSigned, Option}
+use Rattle.std.specs.Prelude.{◌≡◌, ◌==◌, ℕ, ◌^◌, ◌<◌, ◌≤◌, false, List, [], ◌∷◌, ◌++◌, codes, FitsSigned, Option}
 use Rattle.std.specs.List.{find, list_any}
 use Rattle.std.specs.Int.{w64}
 use Rattle.std.specs.Str.{bytes_eq}
@@ -9,6 +9,9 @@ use Rattle.kpn_trace.specs.declared.event.Event.{Event}
 use Rattle.kpn_trace.specs.declared.event.Event.TheVariants.{Get, Put, WaitEmpty, WaitFull, Ended, Feed, Close, Take, Leave, Grow}
 use Rattle.kpn_trace.specs.declared.event.How.{How}
 use Rattle.kpn_trace.specs.declared.event.How.TheVariants as how
+use Rattle.kpn_limits.specs.declared.TheConstants.{MAX_CAPACITY}
+use Rattle.kpn_trace.specs.declared.stored.Version.{Version}
+use Rattle.kpn_trace.specs.declared.stored.Version.TheVariants.{One, Two}
 use Rattle.kpn_trace_text.specs.declared.kind.Kind.{Kind}
 use Rattle.kpn_trace_text.specs.declared.kind.Kind.TheVariants as kind
 
@@ -56,20 +59,25 @@ kind_of (Feed c v) = kind.Feed
 kind_of (Close c) = kind.Close
 kind_of (Take c v) = kind.Take
 kind_of (Leave c) = kind.Leave
-kind_of (Grow p c) = kind.Grow
+kind_of (Grow p c n) = kind.Grow
+
+-- the words of a growth: from version 2 on it tells the new capacity
+abbrev pub growth_words : Version → (p c n : ℕ) → List (List ℕ)
+growth_words One p c n = decimal p ∷ decimal c ∷ []
+growth_words Two p c n = decimal p ∷ decimal c ∷ decimal n ∷ []
 
 -- the words behind the kind: numbers and items in decimal, without leading zeros
-abbrev pub arguments_of : Event → List (List ℕ)
-arguments_of (Get p c v) = decimal p ∷ decimal c ∷ signed_decimal v ∷ []
-arguments_of (Put p c v) = decimal p ∷ decimal c ∷ signed_decimal v ∷ []
-arguments_of (WaitEmpty p c) = decimal p ∷ decimal c ∷ []
-arguments_of (WaitFull p c) = decimal p ∷ decimal c ∷ []
-arguments_of (Ended p how) = decimal p ∷ how_word how ∷ []
-arguments_of (Feed c v) = decimal c ∷ signed_decimal v ∷ []
-arguments_of (Close c) = decimal c ∷ []
-arguments_of (Take c v) = decimal c ∷ signed_decimal v ∷ []
-arguments_of (Leave c) = decimal c ∷ []
-arguments_of (Grow p c) = decimal p ∷ decimal c ∷ []
+abbrev pub arguments_of : Version → Event → List (List ℕ)
+arguments_of version (Get p c v) = decimal p ∷ decimal c ∷ signed_decimal v ∷ []
+arguments_of version (Put p c v) = decimal p ∷ decimal c ∷ signed_decimal v ∷ []
+arguments_of version (WaitEmpty p c) = decimal p ∷ decimal c ∷ []
+arguments_of version (WaitFull p c) = decimal p ∷ decimal c ∷ []
+arguments_of version (Ended p how) = decimal p ∷ how_word how ∷ []
+arguments_of version (Feed c v) = decimal c ∷ signed_decimal v ∷ []
+arguments_of version (Close c) = decimal c ∷ []
+arguments_of version (Take c v) = decimal c ∷ signed_decimal v ∷ []
+arguments_of version (Leave c) = decimal c ∷ []
+arguments_of version (Grow p c n) = growth_words version p c n
 
 -- words with one space (byte 32) between them
 abbrev pub spaced : (words : List (List ℕ)) → List ℕ
@@ -78,8 +86,8 @@ spaced (word ∷ []) = word
 spaced (word ∷ more ∷ words) = word ++ 32 ∷ spaced (more ∷ words)
 
 -- the line of an event
-abbrev pub line_of : Event → List ℕ
-line_of event = spaced (kind_word (kind_of event) ∷ arguments_of event)
+abbrev pub line_of : Version → Event → List ℕ
+line_of version event = spaced (kind_word (kind_of event) ∷ arguments_of version event)
 
 -- ---- what a line spells
 
@@ -87,20 +95,25 @@ line_of event = spaced (kind_word (kind_of event) ∷ arguments_of event)
 abbrev pub LacksByte : (byte : ℕ) → (bytes : List ℕ) → Type 0
 LacksByte byte bytes = list_any (λ b. b == byte) bytes ≡ false
 
+-- the new capacity: from 1 to the largest one where it is told, else 0
+abbrev pub IsTold : Version → ℕ → Type 0
+IsTold One n = n ≡ 0
+IsTold Two n = (0 < n) × (n ≤ MAX_CAPACITY)
+
 -- numbers are from 0 to 65535, and items from -2^63 to 2^63-1
-abbrev pub IsInRange : Event → Type 0
-IsInRange (Get p c v) = (p < 2 ^ 16) × (c < 2 ^ 16) × FitsSigned w64 v
-IsInRange (Put p c v) = (p < 2 ^ 16) × (c < 2 ^ 16) × FitsSigned w64 v
-IsInRange (WaitEmpty p c) = (p < 2 ^ 16) × (c < 2 ^ 16)
-IsInRange (WaitFull p c) = (p < 2 ^ 16) × (c < 2 ^ 16)
-IsInRange (Ended p how) = p < 2 ^ 16
-IsInRange (Feed c v) = (c < 2 ^ 16) × FitsSigned w64 v
-IsInRange (Close c) = c < 2 ^ 16
-IsInRange (Take c v) = (c < 2 ^ 16) × FitsSigned w64 v
-IsInRange (Leave c) = c < 2 ^ 16
-IsInRange (Grow p c) = (p < 2 ^ 16) × (c < 2 ^ 16)
+abbrev pub IsInRange : Version → Event → Type 0
+IsInRange version (Get p c v) = (p < 2 ^ 16) × (c < 2 ^ 16) × FitsSigned w64 v
+IsInRange version (Put p c v) = (p < 2 ^ 16) × (c < 2 ^ 16) × FitsSigned w64 v
+IsInRange version (WaitEmpty p c) = (p < 2 ^ 16) × (c < 2 ^ 16)
+IsInRange version (WaitFull p c) = (p < 2 ^ 16) × (c < 2 ^ 16)
+IsInRange version (Ended p how) = p < 2 ^ 16
+IsInRange version (Feed c v) = (c < 2 ^ 16) × FitsSigned w64 v
+IsInRange version (Close c) = c < 2 ^ 16
+IsInRange version (Take c v) = (c < 2 ^ 16) × FitsSigned w64 v
+IsInRange version (Leave c) = c < 2 ^ 16
+IsInRange version (Grow p c n) = (p < 2 ^ 16) × (c < 2 ^ 16) × IsTold version n
 
 -- a line without its line feed spells an event in range whose line it is
-pub record SpellsEvent (line : List ℕ) (event : Event) : Type 0 where
-  pub whole : line ≡ line_of event
-  pub in_range : IsInRange event
+pub record SpellsEvent (version : Version) (line : List ℕ) (event : Event) : Type 0 where
+  pub whole : line ≡ line_of version event
+  pub in_range : IsInRange version event

@@ -1,22 +1,32 @@
 -- The laws of traces as texts.
 use Rattle.std.specs.Prelude.{◌≡◌, ℕ, List}
 use Rattle.kpn_trace.specs.declared.event.Event.{Event}
+use Rattle.kpn_trace.specs.declared.stored.Version.{Version}
+use Rattle.kpn_trace.specs.declared.stored.Trace.{Trace}
 use Rattle.kpn_trace_text.specs.declared.fault.TraceFault.{TraceFault}
 use Rattle.kpn_trace_text.specs.declared.fault.TraceFault.TheVariants.{NoMemory}
 use Rattle.kpn_trace_text.specs.EventLine.{SpellsEvent}
 use Rattle.kpn_trace_text.specs.TraceText.{Spells, HasBadLine, Refuses}
 
--- a line spells at most one event
+-- a line spells at most one event in each version
 abbrev pub LineSpellsOne : Type 0
-LineSpellsOne = (line : List ℕ) (a b : Event) → SpellsEvent line a → SpellsEvent line b → a ≡ b
+LineSpellsOne = (version : Version) (line : List ℕ) (a b : Event) → SpellsEvent version line a
+    → SpellsEvent version line b → a ≡ b
 
--- bytes spell at most one list of events
-abbrev pub TraceSpellsOne : Type 0
-TraceSpellsOne = (bytes : List ℕ) (xs ys : List Event) → Spells bytes xs → Spells bytes ys → xs ≡ ys
+-- two traces are one: of one version, of one policy and growth, and with the same events
+pub record AreSameTrace {A : Type 0} (x y : Trace A) : Type 0 where
+  pub version : x.version ≡ y.version
+  pub policy : x.policy ≡ y.policy
+  pub growth : x.growth ≡ y.growth
+  pub events : x.events ≡ y.events
 
--- bytes that spell events are refused only for want of memory
-abbrev pub SpelledIsRead : Type 0
-SpelledIsRead = (bytes : List ℕ) (events : List Event) → Spells bytes events → (fault : TraceFault)
+-- bytes spell at most one trace
+abbrev pub TraceSpellsOne : (A : Type 0) → Type 0
+TraceSpellsOne A = (bytes : List ℕ) (x y : Trace A) → Spells bytes x → Spells bytes y → AreSameTrace x y
+
+-- bytes that spell a trace are refused only for want of memory
+abbrev pub SpelledIsRead : (A : Type 0) → Type 0
+SpelledIsRead A = (bytes : List ℕ) (trace : Trace A) → Spells bytes trace → (fault : TraceFault)
     → Refuses bytes fault → fault ≡ NoMemory
 
 -- bytes have at most one first bad line

@@ -1,16 +1,18 @@
 //! Laws of traces as texts: facts on the definitions alone, each the contract of a function that does nothing.
 ghost use Rattle.kpn_trace_text.specs.Laws.{LineSpellsOne, TraceSpellsOne, SpelledIsRead, OneBadLine};
 
-/// Each event has one spelling by definition, and a line spells at most one event.
+use std::alloc::Allocator;
+
+/// Each event has one spelling by definition, and a line spells at most one event in each version.
 pub fn a_line_spells_one_event()
     ensures { LineSpellsOne }
 {}
 
-/// Reading what was written gives the events back: the text of events spells them by definition, it
-/// spells no others, and it is refused only for want of memory.
-pub fn written_traces_read_back()
-    ensures unique { TraceSpellsOne }
-    ensures read { SpelledIsRead }
+/// Reading what was written gives the trace back: the text of a trace spells it by definition, it
+/// spells no other, and it is refused only for want of memory.
+pub fn written_traces_read_back<A: Allocator>()
+    ensures unique { TraceSpellsOne A }
+    ensures read { SpelledIsRead A }
 {}
 
 /// There is at most one first bad line.

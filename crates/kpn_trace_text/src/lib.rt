@@ -4,6 +4,7 @@
 #![tactic(auto)]
 
 mod fault;
+mod head;
 mod kind;
 pub mod laws;
 mod parts;
@@ -13,5 +14,6 @@ mod writing;
 
 pub use fault::{BadEvent, TraceFault};
 pub use kind::how_word;
+pub use kpn_trace::{Trace, Version};
 pub use reading::{read_event, read_trace};
 pub use writing::{event_line, write_trace};

@@ -1,12 +1,13 @@
 //! The words behind the kind of an event, by what they write.
-ghost use Rattle.std.specs.Prelude.{◌≡◌, ◌≢◌, ℕ, ℤ, ◌<◌, ◌^◌, [], ◌∷◌, MatchOption, FitsSigned};
+ghost use Rattle.std.specs.Prelude.{◌≡◌, ◌≢◌, ℕ, ℤ, ◌<◌, ◌≤◌, ◌^◌, [], ◌∷◌, MatchOption, FitsSigned};
 ghost use Rattle.std.specs.Int.{w64};
 ghost use Rattle.std.specs.Fmt.{decimal, signed_decimal};
 ghost use Rattle.kpn_trace.specs.declared.event.How.{How};
 ghost use Rattle.kpn_trace_text.specs.EventLine.{spaced, how_word};
 
 use crate::kind::how_named;
-use crate::words::{canonical_item, number, number_before};
+use crate::words::{canonical_item, capacity, number, number_before};
+use kpn_limits::MAX_CAPACITY;
 use kpn_trace::How;
 
 /// Two numbers.
@@ -18,6 +19,33 @@ pub fn two_numbers(parts: &[u8]) -> Option<(u16, u16)>
     let (first, rest) = number_before(parts)?;
     let second = number(rest)?;
     Some((first, second))
+}
+
+/// A number and a capacity.
+fn number_and_capacity(parts: &[u8]) -> Option<(u16, u32)>
+    ensures { MatchOption result
+        ((m n : ℕ) → m < 2 ^ 16 → 0 < n → n ≤ MAX_CAPACITY
+        → parts.now ≢ spaced (decimal m ∷ decimal n ∷ []))
+        (λ read. (parts.now ≡ spaced (decimal read.0 ∷ decimal read.1 ∷ []))
+        × (0 < read.1) × (read.1 ≤ MAX_CAPACITY)) }
+{
+    let (first, rest) = number_before(parts)?;
+    let second = capacity(rest)?;
+    Some((first, second))
+}
+
+/// Two numbers and a capacity.
+pub fn two_numbers_and_capacity(parts: &[u8]) -> Option<(u16, u16, u32)>
+    ensures { MatchOption result
+        ((l m n : ℕ) → l < 2 ^ 16 → m < 2 ^ 16 → 0 < n → n ≤ MAX_CAPACITY
+        → parts.now ≢ spaced (decimal l ∷ decimal m ∷ decimal n ∷ []))
+        (λ read.
+        (parts.now ≡ spaced (decimal read.0 ∷ decimal read.1 ∷ decimal read.2 ∷ []))
+        × (0 < read.2) × (read.2 ≤ MAX_CAPACITY)) }
+{
+    let (first, rest) = number_before(parts)?;
+    let (second, capacity) = number_and_capacity(rest)?;
+    Some((first, second, capacity))
 }
 
 /// A number and an item.

@@ -1,11 +1,12 @@
 //! Words of a line, and the numbers that they write.
-ghost use Rattle.std.specs.Prelude.{◌≡◌, ◌≢◌, ◌==◌, ℕ, ℤ, ◌<◌, ◌^◌, List, ◌∷◌, ◌++◌, position, MatchOption, FitsSigned, IsTrue, ◌↔◌};
+ghost use Rattle.std.specs.Prelude.{◌≡◌, ◌≢◌, ◌==◌, ℕ, ℤ, ◌<◌, ◌≤◌, ◌^◌, List, ◌∷◌, ◌++◌, position, MatchOption, FitsSigned, IsTrue, ◌↔◌};
 ghost use Rattle.std.specs.Int.{w64};
 ghost use Rattle.std.specs.Fmt.{decimal, signed_decimal};
 ghost use Rattle.kpn_trace_text.specs.EventLine.{LacksByte};
 
 use itoa::Buffer;
 use kpn_items::item_of_line;
+use kpn_limits::MAX_CAPACITY;
 
 /// What stands before the first such byte, and what stands behind it.
 pub fn parted(bytes: &[u8], byte: u8) -> Option<(&[u8], &[u8])>
@@ -51,6 +52,31 @@ pub fn number(word: &[u8]) -> Option<u16>
 {
     let item = canonical_item(word)?;
     u16::try_from(item).ok()
+}
+
+/// The number of 32 bits whose canonical form this is.
+fn large_number(word: &[u8]) -> Option<u32>
+    ensures { MatchOption result ((n : ℕ) → n < 2 ^ 32 → word.now ≢ decimal n)
+        (λ n. word.now ≡ decimal n) }
+{
+    let item = canonical_item(word)?;
+    u32::try_from(item).ok()
+}
+
+/// The capacity whose canonical form this is: from 1 to the largest one.
+pub fn capacity(word: &[u8]) -> Option<u32>
+    ensures { MatchOption result
+        ((n : ℕ) → 0 < n → n ≤ MAX_CAPACITY → word.now ≢ decimal n)
+        (λ n. (word.now ≡ decimal n) × (0 < n) × (n ≤ MAX_CAPACITY)) }
+{
+    let n = large_number(word)?;
+    if n == 0 {
+        return None;
+    }
+    if n > MAX_CAPACITY {
+        return None;
+    }
+    Some(n)
 }
 
 /// A number with a space behind it, and what follows.

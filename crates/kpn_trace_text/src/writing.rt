@@ -1,29 +1,28 @@
 //! Events written as the lines of a trace.
 ghost use Rattle.std.specs.Prelude.{OnOk};
 ghost use Rattle.std.specs.Io.KnownBytes.{Appends};
-ghost use Rattle.kpn_trace_text.specs.TraceText.{event_text, trace_text};
+ghost use Rattle.kpn_trace_text.specs.TraceText.{head_text, event_text, trace_text};
 
+use crate::head::head;
 use crate::kind::how_word;
 use kpn_items::WriteFault;
-use kpn_trace::{Event, History};
+use kpn_net::{Growth, Policy};
+use kpn_trace::{Event, History, Version};
 use std::alloc::Allocator;
 use std::io::{self, Write};
 
-/// The first line of a trace, with its line feed.
-pub const HEAD: &[u8] = b"kpn-trace 1\n";
-
-/// Writes the line of an event, with its line feed. It takes no memory. After `WriteFault::Write` it
+/// Writes the line of an event in version 2, with its line feed. It takes no memory. After `WriteFault::Write` it
 /// is not said how much went out.
 pub fn event_line<W: Write>(writer: &mut W, event: &Event) -> Result<(), WriteFault>
     ensures { OnOk result
-        (Appends (W.contents writer.old) (W.contents writer.new) (event_text event.now)) }
+        (Appends (W.contents writer.old) (W.contents writer.new) (event_text Version.Two event.now)) }
 {
     print(writer, *event).map_err(|_| WriteFault::Write)
 }
 
 fn print<W: Write>(writer: &mut W, event: Event) -> io::Result<()>
     ensures { OnOk result
-        (Appends (W.contents writer.old) (W.contents writer.new) (event_text event)) }
+        (Appends (W.contents writer.old) (W.contents writer.new) (event_text Version.Two event)) }
 {
     match event {
         Event::Get(process, channel, item) => writeln!(writer, "get {process} {channel} {item}"),
@@ -35,21 +34,37 @@ fn print<W: Write>(writer: &mut W, event: Event) -> io::Result<()>
         Event::Close(channel) => writeln!(writer, "close {channel}"),
         Event::Take(channel, item) => writeln!(writer, "take {channel} {item}"),
         Event::Leave(channel) => writeln!(writer, "leave {channel}"),
-        Event::Grow(process, channel) => writeln!(writer, "grow {process} {channel}"),
+        Event::Grow(process, channel, capacity) => {
+            writeln!(writer, "grow {process} {channel} {capacity}")
+        }
     }
 }
 
-/// Writes the trace of a history: its first line and the line of each event. It takes no memory, and
+/// Writes the first lines of a trace.
+fn write_head<W: Write>(writer: &mut W, policy: Policy, growth: Growth) -> Result<(), WriteFault>
+    ensures { OnOk result
+        (Appends (W.contents writer.old) (W.contents writer.new)
+        (head_text Version.Two policy growth)) }
+{
+    writer
+        .write_all(head(policy, growth))
+        .map_err(|_| WriteFault::Write)
+}
+
+/// Writes the trace of a history in version 2: its first lines, which name the policy and the growth, and the line of each event. It takes no memory, and
 /// makes some small writes for each event: to a device it goes through a buffer, or through a text
 /// that is made in memory. After `WriteFault::Write` it is not said how much went out.
 pub fn write_trace<W: Write, A: Allocator>(
     writer: &mut W,
+    policy: Policy,
+    growth: Growth,
     history: &History<A>,
 ) -> Result<(), WriteFault>
     ensures { OnOk result
-        (Appends (W.contents writer.old) (W.contents writer.new) (trace_text history.now.events)) }
+        (Appends (W.contents writer.old) (W.contents writer.new)
+        (trace_text Version.Two policy growth history.now.events)) }
 {
-    writer.write_all(HEAD).map_err(|_| WriteFault::Write)?;
+    write_head(writer, policy, growth)?;
     for place in 0..history.len() {
         if let Some(event) = history.at(place) {
             event_line(writer, &event)?;

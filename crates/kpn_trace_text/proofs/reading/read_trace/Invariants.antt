@@ -6,8 +6,8 @@ use Rattle.kpn_trace_text.proofs.reading.read_trace.Given as goal
 
 abbrev pub invariant-loop-rest : goal.invariant-loop-rest
 invariant-loop-rest g l = record {
-  whole : l.bytes ≡ trace_text l.events.items ++ l.rest;
-  in_range : All IsInRange l.events.items;
+  whole : l.bytes ≡ trace_text l.version l.policy l.growth l.events.items ++ l.rest;
+  in_range : All (IsInRange l.version) l.events.items;
 }
 
 abbrev pub decreases-loop-rest : goal.decreases-loop-rest
