@@ -57,13 +57,14 @@ def state_text(audit):
 
 
 def replayed(section):
-    description, head, lines = section.partition(histories.HEAD.decode())
+    description, head, lines = section.partition('kpn-trace ')
     audit = histories.Audit(histories.Network(description))
     text = description + state_text(audit)
-    for event in histories.read_trace((head + lines).encode()):
+    trace = histories.read_trace((head + lines).encode())
+    for line, event in zip(lines.splitlines()[trace.version:], trace.history):
         before = audit.waits()
-        audit.accept(event)
-        text += f'{histories.event_text(event)}\n  wakes {woken(audit, before, event)}\n{state_text(audit)}'
+        audit.accept(audit.told(event) if trace.version == 1 else event)
+        text += f'{line}\n  wakes {woken(audit, before, event)}\n{state_text(audit)}'
     return text
 
 

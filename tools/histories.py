@@ -10,13 +10,15 @@ import collections
 import pathlib
 import re
 import sys
+import typing
 
 import rounds
 
 QUOTA = 1000
 MOST_COMMITS = MOST_STEPS = 10_000_000
 STATUSES = {'ended': 0, 'enough': 0, 'clogged': 3, 'jammed': 4, 'stopped': 5, 'legal': 0, 'illegal': 1, 'budget': 5}
-HEAD = b'kpn-trace 1\n'
+HEAD_ONE, HEAD_TWO = b'kpn-trace 1\n', b'kpn-trace 2\n'
+RULES = re.compile(rb'policy (cycles|all) grow (one|double)\n')
 
 # What a process stands at: ('step',), ('read', port), ('write', port, item), ('end', cause); and ('paused',), where it
 # made as many steps as it may.
@@ -179,8 +181,8 @@ class Run:
         self.grow_if_settled()
 
     def grow(self, p, d):
-        self.history.append(('grow', p, d))
         self.capacities[d] = self.network.growing.grown(self.capacities[d])
+        self.history.append(('grow', p, d, self.capacities[d]))
         self.wake(self.network.writers[d], 'full', d)
 
     def grow_if_settled(self):
@@ -279,7 +281,9 @@ CAUSES = 'done', 'overflow', 'zero-divisor'
 NUMBER, ITEM = '(0|[1-9][0-9]{0,4})', '(0|-?[1-9][0-9]{0,18})'
 LINES = [re.compile(line.replace('N', NUMBER).replace('V', ITEM).encode()) for line in (
     '(get) N N V', '(put) N N V', '(wait-empty) N N', '(wait-full) N N', '(end) N (done|overflow|zero-divisor)',
-    '(feed) N V', '(close) N', '(take) N V', '(leave) N', '(grow) N N')]
+    '(feed) N V', '(close) N', '(take) N V', '(leave) N')]
+GROW_ONE, GROW_TWO = (re.compile(line.replace('N', NUMBER).encode()) for line in (
+    'grow N N', 'grow N N ([1-9][0-9]{0,6})'))
 ITEM_WORDS = 'get', 'put', 'feed', 'take'
 
 
@@ -287,12 +291,34 @@ def event_text(event):
     return ' '.join(str(part) for part in event)
 
 
-def trace_text(history):
-    return HEAD + ''.join(event_text(event) + '\n' for event in history).encode()
+class Trace(typing.NamedTuple):
+    """A history and the rules of its growths. In version 1 a growth tells 0 as its new capacity."""
+    version: int
+    policy: str
+    growth: str
+    history: list
 
 
-def read_event(line):
-    """The event that a line spells, or None."""
+def trace_text(history, growing):
+    """The text of a history, in version 2."""
+    rules = f'policy {growing.policy} grow {growing.growth}\n'.encode()
+    return HEAD_TWO + rules + ''.join(event_text(event) + '\n' for event in history).encode()
+
+
+def read_growth(line, version):
+    """The growth that a line spells, or None."""
+    found = (GROW_ONE if version == 1 else GROW_TWO).fullmatch(line)
+    if not found:
+        return None
+    p, c, *told = (int(part) for part in found.groups())
+    right = max(p, c) <= 65535 and all(capacity <= rounds.LARGEST_CAPACITY for capacity in told)
+    return ('grow', p, c, *(told or [0])) if right else None
+
+
+def read_event(line, version):
+    """The event that a line spells in this version, or None."""
+    if line.startswith(b'grow '):
+        return read_growth(line, version)
     for form in LINES:
         found = form.fullmatch(line)
         if found:
@@ -305,22 +331,30 @@ def read_event(line):
 
 
 class BadText(Exception):
-    """A text is no history; as the program tells it."""
+    """A text is no trace, or one of other rules than those of the network; as the program tells it."""
+
+
+def read_head(text):
+    """What the first lines tell, as a trace without events, and the lines behind them."""
+    if text.startswith(HEAD_ONE):
+        return Trace(1, 'cycles', 'one', []), text[len(HEAD_ONE):]
+    rules = RULES.match(text, len(HEAD_TWO)) if text.startswith(HEAD_TWO) else None
+    if not rules:
+        raise BadText('kpn: 31 BadHead')
+    return Trace(2, *(word.decode() for word in rules.groups()), []), text[rules.end():]
 
 
 def read_trace(text):
-    if not text.startswith(HEAD):
-        raise BadText('kpn: 31 BadHead')
-    history = []
-    *lines, rest = text[len(HEAD):].split(b'\n')
-    for number, line in enumerate(lines, 2):
-        event = read_event(line)
+    trace, events = read_head(text)
+    *lines, rest = events.split(b'\n')
+    for number, line in enumerate(lines, trace.version + 1):
+        event = read_event(line, trace.version)
         if event is None:
             raise BadText(f'kpn: 30 BadEvent at {number}')
-        history.append(event)
+        trace.history.append(event)
     if rest:
-        raise BadText(f'kpn: 30 BadEvent at {len(lines) + 2}')
-    return history
+        raise BadText(f'kpn: 30 BadEvent at {len(lines) + trace.version + 1}')
+    return trace
 
 
 # ---- what a history must meet
@@ -333,8 +367,10 @@ class Audit:
     """What a history so far says of channels and processes: what was written and how much of it read, the capacities
     that the growths led to, what was closed and left, and the last event of each process."""
 
-    def __init__(self, network, quota=MOST_STEPS):
+    def __init__(self, network, quota=MOST_STEPS, policy=None, growth=None):
         self.network, self.quota, self.processes = network, quota, network.start()
+        own = network.growing
+        self.growing = own._replace(policy=policy or own.policy, growth=growth or own.growth)
         self.written = [[] for _ in network.channels]
         self.read_count, self.capacities = [0] * len(network.channels), list(network.capacities)
         self.closed, self.left = set(), set()
@@ -376,9 +412,18 @@ class Audit:
             p = self.last_event[1]
             d = self.owed_by_cycle(p)
             if d is not None:
-                return 'grow', p, d
+                return self.growth(p, d)
         d = self.owed_when_settled()
-        return None if d is None else ('grow', self.network.writers[d], d)
+        return None if d is None else self.growth(self.network.writers[d], d)
+
+    def growth(self, p, d):
+        return 'grow', p, d, self.growing.grown(self.capacities[d])
+
+    def told(self, event):
+        """A growth of version 1 with the new capacity that it stands for: the first one and the number of growths."""
+        if event[0] != 'grow' or event[2] >= len(self.capacities) or self.capacities[event[2]] is None:
+            return event
+        return *event[:3], self.capacities[event[2]] + 1
 
     def owed_by_cycle(self, p):
         """The channel that has to grow where p has just come to wait."""
@@ -387,7 +432,7 @@ class Audit:
 
     def owed_when_settled(self):
         """The channel that has to grow under `policy all`, unless one of a cycle has to."""
-        if self.network.growing.policy != 'all' or not self.is_settled():
+        if self.growing.policy != 'all' or not self.is_settled():
             return None
         d = smallest_waited(self.waits(), self.capacities)
         return d if self.network.may_grow(d, self.capacities) else None
@@ -408,7 +453,7 @@ class Audit:
         if (owed is not None or word == 'grow') and event != owed:
             raise Wrong('illegal')
         if word == 'grow':
-            self.capacities[event[2]] = self.network.growing.grown(self.capacities[event[2]])
+            self.capacities[event[2]] = event[3]
         elif word in ('feed', 'close', 'take', 'leave'):
             self.accept_of_outside(word, *event[1:])
         else:
@@ -472,12 +517,15 @@ class Audit:
         return ''.join(f'{line}\n' for line in lines)
 
 
-def audit_text(network, history, quota=MOST_STEPS):
-    """The answer, of which the first word decides the status."""
-    audit = Audit(network, quota)
-    for place, event in enumerate(history):
+def audit_text(network, trace, quota=MOST_STEPS):
+    """The answer, of which the first word decides the status. A trace of version 1 is judged by its own rules, whatever
+    the network says."""
+    if trace.version == 2 and (trace.policy, trace.growth) != network.growing[:2]:
+        raise BadText('kpn: 53 PolicyDiffers')
+    audit = Audit(network, quota, trace.policy, trace.growth)
+    for place, event in enumerate(trace.history):
         try:
-            audit.accept(event)
+            audit.accept(audit.told(event) if trace.version == 1 else event)
         except Wrong as wrong:
             return f'{wrong} at {place}\n'
     return audit.text()
@@ -499,7 +547,7 @@ def run_command(words):
     network = Network(pathlib.Path(words.file).read_text())
     run = Run(network, lists).go(words.take, words.max_commits)
     if words.trace:
-        pathlib.Path(words.trace).write_bytes(trace_text(run.history))
+        pathlib.Path(words.trace).write_bytes(trace_text(run.history, network.growing))
     return report_text(run, words.take)
 
 

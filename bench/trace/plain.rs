@@ -12,7 +12,8 @@ enum Event {
 }
 
 fn write_trace<W: Write>(writer: &mut W, events: &[Event]) -> io::Result<()> {
-    writeln!(writer, "kpn-trace 1")?;
+    writeln!(writer, "kpn-trace 2")?;
+    writeln!(writer, "policy cycles grow one")?;
     for event in events {
         match *event {
             Event::Get(process, channel, item) => writeln!(writer, "get {process} {channel} {item}")?,
