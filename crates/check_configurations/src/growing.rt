@@ -37,10 +37,10 @@ fn writing_four(alloc: Global, growth: Growth) -> Result<Network, Fail> {
 const DOUBLED: [Event; 8] = [
     Event::Put(0, 0, 1),
     Event::WaitFull(0, 0),
-    Event::Grow(0, 0),
+    Event::Grow(0, 0, 2),
     Event::Put(0, 0, 2),
     Event::WaitFull(0, 0),
-    Event::Grow(0, 0),
+    Event::Grow(0, 0, 4),
     Event::Put(0, 0, 3),
     Event::Put(0, 0, 4),
 ];
@@ -56,6 +56,6 @@ fn a_channel_grows_as_its_network_says(rt: HostRuntime) -> Result<(), Fail> {
     let doubling = writing_four(rt.alloc(), Growth::Double)?;
     assert_eq!(rt; audited(rt.alloc(), &doubling), Ok(Some(4)));
     let by_one = writing_four(rt.alloc(), Growth::One)?;
-    assert_eq!(rt; audited(rt.alloc(), &by_one), Err(AuditFault::Illegal(7)));
+    assert_eq!(rt; audited(rt.alloc(), &by_one), Err(AuditFault::Illegal(5)));
     Ok(())
 }

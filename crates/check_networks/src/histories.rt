@@ -19,7 +19,7 @@ fn keeps_events_in_order(rt: HostRuntime) -> Result<(), Fail> {
     let events = [
         Event::Put(0, 1, -5),
         Event::WaitEmpty(1, 0),
-        Event::Grow(65_535, 1_023),
+        Event::Grow(65_535, 1_023, 1_048_576),
         Event::Ended(1, How::Overflow),
     ];
     let mut history = History::new(rt.alloc());

@@ -216,7 +216,7 @@ fn grow(state: &mut Configuration, network: &Network, p: usize, c: usize) -> Wok
         owed(state, network, p) == Some(c),
         "this growth is not owed"
     );
-    woken(state.grow(network, p, c))
+    woken(state.grow(network, p, c).woken)
 }
 
 /// Makes the call for an event, and gives whom it woke.
@@ -231,7 +231,7 @@ pub(crate) fn happen(state: &mut Configuration, network: &Network, event: Event)
         Event::WaitFull(p, c) => wait_on_full(state, network, p.into(), c.into()),
         Event::Ended(p, how) => end(state, network, p.into(), how),
         Event::Take(c, item) => take(state, network, c.into(), item),
-        Event::Grow(p, c) => grow(state, network, p.into(), c.into()),
+        Event::Grow(p, c, _) => grow(state, network, p.into(), c.into()),
         Event::Feed(c, item) => feed(state, network, c.into(), item),
         Event::Close(c) => close(state, network, c.into()),
         Event::Leave(c) => leave(state, network, c.into()),

@@ -16,7 +16,7 @@ use anyhow::{Result, bail};
 use kpn_configuration::Configuration;
 use kpn_net::Network;
 use kpn_text::read_network;
-use kpn_trace_text::read_event;
+use kpn_trace_text::{Version, read_event};
 use std::alloc::Global;
 use std::io::Write;
 
@@ -31,7 +31,7 @@ fn replay_line<O: Write>(
     requires { IsConfiguration network.now state.old }
     ensures { IsConfiguration network.now state.new }
 {
-    let Ok(event) = read_event(line.as_bytes()) else {
+    let Ok(event) = read_event(line.as_bytes(), Version::One) else {
         bail!("a line is no event");
     };
     let woken = happen(state, network, event)?;

@@ -1,10 +1,10 @@
 //! An event of each kind with its line.
 use kpn_trace::{Event, How};
-use kpn_trace_text::{event_line, read_event};
+use kpn_trace_text::{Version, event_line, read_event};
 use std::alloc::Global;
 use std::test::Fail;
 
-const ROWS: [(Event, &str); 12] = [
+const ROWS: [(Event, &str); 13] = [
     (Event::Get(1, 0, -7), "get 1 0 -7"),
     (Event::Put(0, 65535, 312), "put 0 65535 312"),
     (Event::WaitEmpty(1, 10), "wait-empty 1 10"),
@@ -16,7 +16,8 @@ const ROWS: [(Event, &str); 12] = [
     (Event::Close(3), "close 3"),
     (Event::Take(2, i64::MAX), "take 2 9223372036854775807"),
     (Event::Leave(1023), "leave 1023"),
-    (Event::Grow(0, 0), "grow 0 0"),
+    (Event::Grow(0, 0, 2), "grow 0 0 2"),
+    (Event::Grow(65535, 1023, 1_048_576), "grow 65535 1023 1048576"),
 ];
 
 // Whether the event is written as this line, and the line read as the event.
@@ -25,7 +26,7 @@ fn is_line_of(alloc: Global, event: &Event, line: &str) -> bool {
     let written = event_line(&mut text, event).is_ok();
     written
         && text.strip_suffix(b"\n") == Some(line.as_bytes())
-        && read_event(line.as_bytes()) == Ok(*event)
+        && read_event(line.as_bytes(), Version::Two) == Ok(*event)
 }
 
 #[test]

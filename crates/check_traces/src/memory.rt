@@ -16,7 +16,7 @@ fn is_refused(heap: &LocalHeap) -> bool {
 // Whether the text is read as its events.
 fn is_read(heap: &LocalHeap) -> bool {
     match read_trace(heap, TEXT) {
-        Ok(events) => events.as_slice() == EVENTS.as_slice(),
+        Ok(trace) => trace.events.as_slice() == EVENTS.as_slice(),
         Err(_) => false,
     }
 }
