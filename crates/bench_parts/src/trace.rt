@@ -42,8 +42,9 @@ pub fn written(alloc: Global, events: u32, times: u32) -> Result<(usize, u64)> {
     let mut text = Vec::with_capacity(alloc, history.len().saturating_mul(LINE))?;
     for _time in 0..times {
         text.clear();
-        write_trace(&mut text, Policy::Cycles, Growth::One, &history)
-            .map_err(|_| anyhow!("out of memory"))?;
+        write_trace(&mut text, Policy::Cycles, Growth::One, &history).map_err(|_| anyhow!(
+            "out of memory"
+        ))?;
     }
     Ok((text.len(), sum_of(&text)))
 }

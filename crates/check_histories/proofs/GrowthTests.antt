@@ -92,7 +92,8 @@ at_limit t B (c ∷ channels) (Some d) e told small below =
     let lemma = ltb-false _ _ here in
     omega arith
 
-cycle_owes_none-true : (t : Tables) (B : List Event) (p e : ℕ) (w : Way) (others : List ℕ) → cycle_owes_none t B p w ≡ true
+cycle_owes_none-true : (t : Tables) (B : List Event) (p e : ℕ) (w : Way) (others : List ℕ)
+    → cycle_owes_none t B p w ≡ true
     → Allows w others → IsSmallest (capacity_or_zero t B) (full_in_cycle t B p others) e
     → capacity_or_zero t B e < t.limit → ⊥
 cycle_owes_none-true t B p e (Round found) others told same small below =
@@ -106,14 +107,16 @@ abbrev grows_for_cycle : Tables → List Event → (p d : ℕ) → Option ℕ �
 grows_for_cycle t B p d None = false
 grows_for_cycle t B p d (Some q) = nat_eq q p && owes t B q d (way_round t B q)
 
-grows_for_cycle-owed : (t : Tables) (B : List Event) (p d : ℕ) (w : Option ℕ) → last_waiter B ≡ w → grows_for_cycle t B p d w ≡ true
+grows_for_cycle-owed : (t : Tables) (B : List Event) (p d : ℕ) (w : Option ℕ) → last_waiter B ≡ w
+    → grows_for_cycle t B p d w ≡ true
     → OwesCycleGrowth t B p d
 grows_for_cycle-owed t B p d None is e = absurd cc
 grows_for_cycle-owed t B p d (Some q) is e =
     let parts = and_parts _ _ e in
     subst (λ r. OwesCycleGrowth t B r d) (eqb-true q p parts.0) (owes-growth t B q d parts.1 is)
 
-grows_for_cycle-one : (t : Tables) (B : List Event) (p d q e : ℕ) (w : Option ℕ) → last_waiter B ≡ w → grows_for_cycle t B p d w ≡ true
+grows_for_cycle-one : (t : Tables) (B : List Event) (p d q e : ℕ) (w : Option ℕ) → last_waiter B ≡ w
+    → grows_for_cycle t B p d w ≡ true
     → OwesCycleGrowth t B q e → Grow p d ≡ Grow q e
 grows_for_cycle-one t B p d q e None is told owed = absurd cc
 grows_for_cycle-one t B p d q e (Some r) is told owed =

@@ -220,16 +220,16 @@ small_full_network = tables_with (
     ∷ instance 3 [] (3 ∷ []) ∷ []) (
     Inner 2 ∷ Inner 1 ∷ Inner 1 ∷ Inner 1 ∷ []) MAX_CAPACITY All One
 
--- a writer on channel 0 to `write z 5; read b x;`, which reads from the source 1 and writes to the sink 2; and a process
--- with nothing to do
+-- a writer on channel 0 to `write z 5; read b x;`, which reads from the source 1 and writes to the sink 2; and a
+-- process with nothing to do
 unfoldable pub outside_network : Tables
 outside_network = tables_with (
     only_writes_three ∷ program 2 1 1 ((Write 0 (Num (pos 5)) ∷ Read 1 0 ∷ []) ∷ []) ∷ program 0 0 0 ([] ∷ []) ∷ []) (
     instance 0 [] (0 ∷ []) ∷ instance 1 (0 ∷ 1 ∷ []) (2 ∷ []) ∷ instance 2 [] [] ∷ []) (
     Inner 1 ∷ Source ∷ Sink 1 ∷ []) MAX_CAPACITY All One
 
--- `write o 1; write o 2; write o 3;` on a channel of capacity 2 to itself, which does not read channel 1, of capacity 1;
--- and `write o 1; write o 2;` on that
+-- `write o 1; write o 2; write o 3;` on a channel of capacity 2 to itself, which does not read channel 1, of capacity
+-- 1; and `write o 1; write o 2;` on that
 abbrev stuck_with : (limit : ℕ) → Tables
 stuck_with limit = tables_with (
     program 2 1 0 ((Write 0 (Num (pos 1)) ∷ Write 0 (Num (pos 2)) ∷ Write 0 (Num (pos 3)) ∷ []) ∷ [])

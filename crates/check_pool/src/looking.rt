@@ -50,7 +50,8 @@ fn looks<J: Job, R: Wait>(rt: &R, shared: &Shared<'_, J>) -> bool {
     false
 }
 
-/// Two workers at once while the calling thread looks. Tells why they end, and whether the looks find what they have to.
+/// Two workers at once while the calling thread looks. Tells why they end, and whether the looks find what they have
+/// to.
 fn work_and_look<J: Job + Send + Sync, R: Threads + Wait + Clock + Sync>(
     rt: &R,
     shared: &Shared<'_, J>,

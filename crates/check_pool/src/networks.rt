@@ -143,8 +143,8 @@ fn sum(alloc: Global, terms: u32) -> Result<Expr, AllocError> {
     Ok(Expr::Bin(Op::Add, left, right))
 }
 
-/// A process that writes 7 to itself, and then reads each item and writes the remainder by 97 of 2,000 times as much, by
-/// nearly half as many operators as there may be nodes.
+/// A process that writes 7 to itself, and then reads each item and writes the remainder by 97 of 2,000 times as much,
+/// by nearly half as many operators as there may be nodes.
 pub fn summing(alloc: Global) -> Result<Network, Fail> {
     let total = Box::new(alloc, sum(alloc, 2_000)?)?;
     let item = Expr::Bin(Op::Rem, total, Box::new(alloc, Expr::Num(97))?);

@@ -17,7 +17,10 @@ const ROWS: [(Event, &str); 13] = [
     (Event::Take(2, i64::MAX), "take 2 9223372036854775807"),
     (Event::Leave(1023), "leave 1023"),
     (Event::Grow(0, 0, 2), "grow 0 0 2"),
-    (Event::Grow(65535, 1023, 1_048_576), "grow 65535 1023 1048576"),
+    (
+        Event::Grow(65535, 1023, 1_048_576),
+        "grow 65535 1023 1048576",
+    ),
 ];
 
 // Whether the event is written as this line, and the line read as the event.

@@ -101,7 +101,8 @@ nothing_owed t H cycle stop p d (inl owed) = cycle p d owed
 nothing_owed t H cycle stop p d (inr owed) = stop p d owed
 
 -- after an event that moves an item, or a growth, nothing is owed
-pub followed : (t : Tables) → IsNetwork t → (H : List Event) (e : Event) (before after : Configuration) → waiter e ≡ None
+pub followed : (t : Tables) → IsNetwork t → (H : List Event) (e : Event) (before after : Configuration)
+    → waiter e ≡ None
     → goes_on e ≡ true → IsRun t (H ++ e ∷ []) after → AllGoBy t e before after → IsFollowed t H e before after None
 followed t network H e before after none on run goes =
     record {

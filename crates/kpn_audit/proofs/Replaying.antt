@@ -149,7 +149,8 @@ within_at t H quota k e d s owed run owes places below is in_time event p at own
 pub none_within : (t : Tables) (H : List Event) (quota : ℕ) → AreWithinSteps t H quota 0
 none_within t H quota k below = absurd (omega (arith, below))
 
-pub within_more : (t : Tables) (H : List Event) (quota k : ℕ) (e d : Event) (s : Configuration) (owed : Option OwedGrowth)
+pub within_more : (t : Tables) (H : List Event) (quota k : ℕ) (e d : Event) (s : Configuration)
+    (owed : Option OwedGrowth)
     → IsRun t (take k H) s → Owes t (take k H) s owed → ArePlaces t (take k H) s → k < length H → e ≡ get_or H k d
     → (owed ≡ None → IsInTime t s quota e) → AreWithinSteps t H quota k → AreWithinSteps t H quota (suc k)
 within_more t H quota k e d s owed run owes places below is in_time within j less =

@@ -33,7 +33,8 @@ shown t H s run audit journals caps exact =
     record {
       legal = run.legal;
       journals =
-          journals ∙ by_number (λ (channel : ChannelState). channel.journal) s (length t.channels) (sym run.shape.channels)
+          journals ∙ by_number (λ (channel : ChannelState). channel.journal) s (length t.channels)
+          (sym run.shape.channels)
           ∙ same_entries (λ c. (channel_in s c).journal) (written_on H) 0 (length t.channels)
           (length t.channels) (omega arith) (λ c below. (run.leads.channels c below).journal);
       caps =

@@ -161,7 +161,8 @@ commits_at_stop b a (Some d) grows = grows.grows.appends.commits
 
 -- ---- answers
 
-pub answered_got : (b a : Book) → IsNetwork b.tables → (p c : ℕ) (v : ℤ) → next_item (channel_in b.configuration c) ≡ Some v
+pub answered_got : (b a : Book) → IsNetwork b.tables → (p c : ℕ) (v : ℤ)
+    → next_item (channel_in b.configuration c) ≡ Some v
     → Follows (event.Get p c v) b a → Answered p (λ s. IsReadFrom b.tables p s c) (done.Got v) b a
 answered_got b a network p c v item follows = record {
   answers = λ s asks. record {
@@ -173,7 +174,8 @@ answered_got b a network p c v item follows = record {
   released = follows.held;
 }
 
-pub answered_put : (b a : Book) → IsNetwork b.tables → (p c : ℕ) (v : ℤ) → is_full (channel_in b.configuration c) ≡ false
+pub answered_put : (b a : Book) → IsNetwork b.tables → (p c : ℕ) (v : ℤ)
+    → is_full (channel_in b.configuration c) ≡ false
     → Follows (event.Put p c v) b a → Answered p (λ s. IsWriteTo b.tables p s c v) done.Put b a
 answered_put b a network p c v ready follows = record {
   answers = λ s asks. record {

@@ -60,7 +60,8 @@ pub kept_with_item : (b o : Book) (c : ℕ) → c < length b.configuration.chann
 kept_with_item b o c below is kept = subst IsKept (sym is) (kept_reserved_on b kept c below)
 
 -- an item was reserved, then fed
-pub fed_follows : (b : Book) → IsNetwork b.tables → IsKept b → (c : ℕ) (v : ℤ) → is_source (channel_at b.tables c) ≡ true
+pub fed_follows : (b : Book) → IsNetwork b.tables → IsKept b → (c : ℕ) (v : ℤ)
+    → is_source (channel_at b.tables c) ≡ true
     → closed_in b.configuration c ≡ false → (o s : Configuration)
     → o ≡ with_channel c (with_room (channel_in b.configuration c)) b.configuration
     → Changes b.tables (event.Feed c v) o s → IsConfiguration b.tables s → (pushed : Event) (H : List Event)

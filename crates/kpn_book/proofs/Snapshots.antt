@@ -86,7 +86,8 @@ shows_journals b written view agrees c there =
     shown-written b.tables b.history view agrees c there ∙ sym (written c there)
 
 pub begins_shown : {A : Type 0} (b : Book) (view : View A) → ShowsJournals b view → (c : ℕ)
-    → is_source (channel_at b.tables c) ≡ true → (items : List ℤ) → IsPrefix items (channel_in b.configuration c).journal
+    → is_source (channel_at b.tables c) ≡ true → (items : List ℤ)
+    → IsPrefix items (channel_in b.configuration c).journal
     → IsPrefix items (shown_on view c)
 begins_shown b view shows c source items begins =
     subst (IsPrefix items) (sym (shows c (source_there b.tables c source))) begins

@@ -78,7 +78,8 @@ pub fn growths()
 {}
 
 /// Where each process stands: its frame goes on as the process does after what it has said. On lists that begin with
-/// what was read, the process says that, and then what the frame says on the rest, and comes to what the frame comes to.
+/// what was read, the process says that, and then what the frame says on the rest, and comes to what the frame comes
+/// to.
 pub fn frames_go_on()
     ensures { (b : Book) → IsBook b → (p : ℕ) → p < length b.tables.instances → (X more : Family)
         → ((c : ℕ) → X c ≡ read_on b.history c ++ more c)

@@ -83,13 +83,15 @@ module _ {A : Type 0} where
       ap (λ n. drop n (all xs ++ ys)) is ∙ drop-append-add (all xs) ys (place - length xs * CHUNK)
 
   -- how many items there are, by the numbers that the code has
-  pub count_of : (xs : List (Vec ℤ A)) (ys : List ℤ) → AreFull xs → length (all xs ++ ys) ≡ length xs * CHUNK + length ys
+  pub count_of : (xs : List (Vec ℤ A)) (ys : List ℤ) → AreFull xs
+      → length (all xs ++ ys) ≡ length xs * CHUNK + length ys
   count_of xs ys full =
       let long = length-full xs full in
       length-append (all xs) ys ∙ (omega (arith, long))
 
   -- the item at a place among the full chunks
-  pub at_chunk : (xs : List (Vec ℤ A)) (ys : List ℤ) → AreFull xs → (place : ℕ) (d : Vec ℤ A) → place / CHUNK < length xs
+  pub at_chunk : (xs : List (Vec ℤ A)) (ys : List ℤ) → AreFull xs → (place : ℕ) (d : Vec ℤ A)
+      → place / CHUNK < length xs
       → slice_get (get_or xs (place / CHUNK) d).items (place % CHUNK) ≡ slice_get (all xs ++ ys) place
   at_chunk xs ys full place d below =
       let chunk = (get_or xs (place / CHUNK) d).items in
@@ -108,7 +110,8 @@ module _ {A : Type 0} where
       ∙ slice_get-drop place (all xs ++ ys) 0 place (omega arith)
 
   -- the items from a place among the full chunks to the end of its chunk
-  pub chunk_piece : (xs : List (Vec ℤ A)) (ys : List ℤ) → AreFull xs → (place : ℕ) (d : Vec ℤ A) → place / CHUNK < length xs
+  pub chunk_piece : (xs : List (Vec ℤ A)) (ys : List ℤ) → AreFull xs → (place : ℕ) (d : Vec ℤ A)
+      → place / CHUNK < length xs
       → let piece = drop (place % CHUNK) (get_or xs (place / CHUNK) d).items in
       piece ≡ take (length piece) (drop place (all xs ++ ys))
   chunk_piece xs ys full place d below =
@@ -125,7 +128,8 @@ module _ {A : Type 0} where
       begins_with (drop place (all xs ++ ys)) piece [] (drop-last xs full place ys past ∙ sym (append-nil piece))
 
 -- a list of the first items goes on with the first items of what lies from its end on
-pub copied_more : (l xs piece : List ℤ) (m : ℕ) → xs ≡ take (length xs) l → piece ≡ take (length piece) (drop (length xs) l)
+pub copied_more : (l xs piece : List ℤ) (m : ℕ) → xs ≡ take (length xs) l
+    → piece ≡ take (length piece) (drop (length xs) l)
     → xs ++ take m piece ≡ take (length (xs ++ take m piece)) l
 copied_more l xs piece m is next =
     let left = drop (length xs) l in

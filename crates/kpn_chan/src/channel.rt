@@ -1,5 +1,5 @@
-//! A channel: the journal of all items that were put, in chunks, and a ring of those that wait for the reader, so that a
-//! read looks into no chunk.
+//! A channel: the journal of all items that were put, in chunks, and a ring of those that wait for the reader, so that
+//! a read looks into no chunk.
 ghost use Rattle.std.specs.Prelude.{◌≡◌, ◌<◌, ◌≤◌, ◌^◌, length, [], ◌↔◌, IsTrue, true, IsOk, IfOk, is_ok, if◌then◌else◌, slice_get, take, nat_lt};
 ghost use Rattle.kpn_chan.specs.Channel.{unread, is_full, next_item, opened, with_room, after_put, after_get, retired, MayGrow, grown, MayGrowTo, grown_to};
 

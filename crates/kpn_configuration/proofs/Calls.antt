@@ -125,7 +125,8 @@ module _ (t : Tables) (s : Configuration) (shape : IsConfiguration t s) where
 
   -- an event on one channel that closes nothing, ends nobody and wakes who waits so
   pub made_on : (e : Event) (c : ℕ) (ch : ChannelState) (wait : Wait) (frames : List Frame)
-      → c < length t.channels → KeepsRoom t s e → IsChannelAfter t e c (channel_in s c) ch → ((d : ℕ) → d ≢ c → IsUntouched t e d)
+      → c < length t.channels → KeepsRoom t s e → IsChannelAfter t e c (channel_in s c) ch
+      → ((d : ℕ) → d ≢ c → IsUntouched t e d)
       → ((d : ℕ) → is_close_of d e ≡ false) → ((q : ℕ) (end : Option How) → end_then e q end ≡ end)
       → wait ≢ Nobody → ((w : Wait) → wakes t e w ≡ is_wait wait w) → wait_made e ≡ Nobody
       → ((q : ℕ) → is_of q e ≡ true → wait_at s.waits q ≡ Nobody)
@@ -134,7 +135,8 @@ module _ (t : Tables) (s : Configuration) (shape : IsConfiguration t s) where
       → (waits : List Wait) → waits ≡ woken_at (is_wait wait) s.waits (end_of t wait)
       → (after : Configuration)
       → after ≡ record s { channels = slice_set s.channels c ch; waits = waits; frames = frames } → Made t e s after
-  made_on e c ch wait frames below keeps here elsewhere closes ends some wakes_it makes_none free long moved waits woke after
+  made_on e c ch wait frames below keeps here elsewhere closes ends some wakes_it makes_none free long moved waits woke
+  after
       is =
       made e (record s { channels = slice_set s.channels c ch; waits = waits; frames = frames }) after is keeps
       (record {

@@ -201,10 +201,15 @@ module _ (t : Tables) (network : IsNetwork t) (s : Configuration) (shape : IsCon
 
   pub Made-grown : (r : Bool) → IsTrue r → (waits : List Wait)
       → waits ≡ woken_at (is_wait (wait.Full d)) s.waits (writer_of t d) → (after : Configuration)
-      → after ≡ record s { channels = slice_set s.channels d (grown_to (larger_capacity t (cap_in (capacities s) d)) r (channel_in s d)); waits = waits }
+      → after ≡ record s {
+        channels = slice_set s.channels d
+            (grown_to (larger_capacity t (cap_in (capacities s) d)) r (channel_in s d));
+        waits = waits;
+      }
       → (n : ℕ) → Made t (Grow p d n) s after
   Made-grown r room waits woke after is n =
-      made_on t s shape (Grow p d n) d (grown_to (larger_capacity t (cap_in (capacities s) d)) r (channel_in s d)) (wait.Full d) s.frames owed_below
+      made_on t s shape (Grow p d n) d (grown_to (larger_capacity t (cap_in (capacities s) d)) r (channel_in s d))
+      (wait.Full d) s.frames owed_below
       (limit_in_range t network).0
       (record {
         journal = sym (append-nil (channel_in s d).journal);
@@ -212,7 +217,8 @@ module _ (t : Tables) (network : IsNetwork t) (s : Configuration) (shape : IsCon
         capacity =
             sym
             (ap (λ o. capacity_then t d (Grow p d n) o) owed_capacity
-            ∙ ap (λ b. cond b (Some (larger_capacity t (cap_in (capacities s) d))) (Some (cap_in (capacities s) d))) (eq-eqb d d refl));
+            ∙ ap (λ b. cond b (Some (larger_capacity t (cap_in (capacities s) d))) (Some (cap_in (capacities s) d)))
+            (eq-eqb d d refl));
         retired =
             sym
             (ap (λ b. (channel_in s d).is_retired || b) (keeps_reader t (Grow p d n) d (λ r. refl) refl)
@@ -226,7 +232,8 @@ module _ (t : Tables) (network : IsNetwork t) (s : Configuration) (shape : IsCon
         capacity = λ cap. ap (λ b. cond b (option_map (larger_capacity t) cap) cap) (ne_eqb d c (λ e. differ (sym e)));
         reader = keeps_reader t (Grow p d n) c (λ r. refl) refl;
       })
-      (λ c. refl) (λ q end. refl) (λ e. absurd cc) (wakes-grow t p d n) refl (λ q is. absurd cc) refl (λ q. refl) waits woke after is
+      (λ c. refl) (λ q end. refl) (λ e. absurd cc) (wakes-grow t p d n) refl (λ q is. absurd cc) refl (λ q. refl) waits
+      woke after is
 
   -- the capacity that it gets is the larger one by the history too
   pub larger_by_history : (H : List Event) → IsRun t H s

@@ -57,7 +57,8 @@ fed_then r s t a b c v same is so_far feeds = record {
   more = so_far.more ++ v ∷ [];
   items = items_more r s t so_far.more (v ∷ []) so_far.items (ap (λ (e : EndSeat). e.items) is);
   events =
-      events_more AppendsAll appends_more event.Feed r.channel s.channel so_far.more (v ∷ []) a b c same so_far.events (c, feeds, refl);
+      events_more AppendsAll appends_more event.Feed r.channel s.channel so_far.more (v ∷ []) a b c same so_far.events
+      (c, feeds, refl);
 }
 
 -- the next item is refused, for a cause that depends on the channel, the item and the book
@@ -153,7 +154,8 @@ taken_then r s t a b c first rest =
         more = first.recorded.more ++ rest.recorded.more;
         items = items_more r s t xs ys first.recorded.items rest.recorded.items;
         events =
-            events_more AllHappen happen_more event.Take r.channel s.channel xs ys a b c first.channel first.recorded.events
+            events_more AllHappen happen_more event.Take r.channel s.channel xs ys a b c first.channel
+            first.recorded.events
             rest.recorded.events;
       };
       first =

@@ -59,7 +59,8 @@ instruction_sync : IsSync Instruction.the_field.row
 instruction_sync = let chains = chain_sync in search (crosses, sendable) depth 40
 
 program_sync : IsSync Program.the_field.row
-program_sync = let instructions = instruction_sync in let statements = statement_sync in search (crosses, sendable) depth 40
+program_sync =
+    let instructions = instruction_sync in let statements = statement_sync in search (crosses, sendable) depth 40
 
 pub network_sync : IsSync Network.the_field.row
 network_sync = let programs = program_sync in search (crosses, sendable) depth 40

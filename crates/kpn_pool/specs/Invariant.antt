@@ -39,8 +39,8 @@ pub record AreBlockedCounts (b : Book) (counts : Counts) : Type 0 where
   pub empty : counts.empty ≡ count_by is_empty_wait (waits_of b.tables b.history)
   pub full : counts.full ≡ count_by is_full_wait (waits_of b.tables b.history)
 
--- each growth took the smallest awaited full channel of a blocked cycle or of a settled network, at the moment when this
--- was owed
+-- each growth took the smallest awaited full channel of a blocked cycle or of a settled network, at the moment when
+-- this was owed
 abbrev pub AreOwedGrowths : Book → Type 0
 AreOwedGrowths b = (B rest : List Event) (p d n : ℕ) → b.history ≡ B ++ Grow p d n ∷ rest → OwesGrowth b.tables B p d
 

@@ -43,8 +43,8 @@ with_taken (Some item) s = with_item item s
 
 -- ---- many items in one call
 
--- The items that the seat has more than before are recorded in the book, each by its event, in order. `follow` says that
--- these events follow in the book: nothing else happens there, or nothing but the growths that are owed.
+-- The items that the seat has more than before are recorded in the book, each by its event, in order. `follow` says
+-- that these events follow in the book: nothing else happens there, or nothing but the growths that are owed.
 pub record AreRecorded (follow : List Event → Book → Book → Type 0) (event_of : ℕ → ℤ → Event) (before after : EndSeat)
     (b b_after : Book) : Type 0 where
   pub more : List ℤ

@@ -1,5 +1,5 @@
--- What an event makes of a book together with the growth that is owed then: a growth is not seen in what was written, what
--- was read and what is closed.
+-- What an event makes of a book together with the growth that is owed then: a growth is not seen in what was written,
+-- what was read and what is closed.
 use Rattle.std.proofs.Common.{◌≡◌, ℕ, Bool, true, false, ◌||◌, ℤ, List, [], ◌∷◌, ◌++◌, refl, sym, ap, ◌∙◌, subst, inl, inr, append_assoc}
 use Rattle.kpn_lang.specs.Prefix.{IsPrefix}
 use Rattle.kpn_lang.proofs.Prefixes.{IsPrefix-append}
@@ -25,7 +25,8 @@ module _ (e : Event) (before after : Book) (is : Happens e before after) where
   happens_history = history_then (e ∷ is.growth) before after is.appends
 
   pub happens_prefix : IsPrefix before.history after.history
-  happens_prefix = subst (IsPrefix before.history) (sym happens_history) (IsPrefix-append before.history (e ∷ is.growth))
+  happens_prefix =
+      subst (IsPrefix before.history) (sym happens_history) (IsPrefix-append before.history (e ∷ is.growth))
 
   -- what does not see growths sees the event alone
   happens_seen : {X : Type 0} (f : List Event → X) → ((B : List Event) (p d n : ℕ) → f (B ++ Grow p d n ∷ []) ≡ f B)

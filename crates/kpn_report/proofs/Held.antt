@@ -360,13 +360,17 @@ module _ (before : Book) (book : IsBook before) (p : ℕ) (between : Book) (clai
     held_by_answer s (done.Grew d) es grew appends =
         elim grew.waits [
           | inl empty ↦
-              by_two (event.WaitEmpty p empty.channel) grew.grower d (larger_capacity between.tables (capacity_or_zero between.tables (between.history ++ grew.wait ∷ []) d)) (WaitsEmpty empty.channel) refl nobody
+              by_two (event.WaitEmpty p empty.channel) grew.grower d (larger_capacity between.tables (capacity_or_zero
+              between.tables (between.history ++ grew.wait ∷ []) d)) (WaitsEmpty empty.channel) refl nobody
               (empty_keeps empty.channel) refl es
-              (grew.appends ∙ ap (λ e. e ∷ event.Grow grew.grower d (larger_capacity between.tables (capacity_or_zero between.tables (between.history ++ grew.wait ∷ []) d)) ∷ []) empty.is) appends
+              (grew.appends ∙ ap (λ e. e ∷ event.Grow grew.grower d (larger_capacity between.tables
+              (capacity_or_zero between.tables (between.history ++ grew.wait ∷ []) d)) ∷ []) empty.is) appends
           | inr full ↦
-              by_two (event.WaitFull p full.channel) grew.grower d (larger_capacity between.tables (capacity_or_zero between.tables (between.history ++ grew.wait ∷ []) d)) (WaitsFull full.channel) refl nobody
+              by_two (event.WaitFull p full.channel) grew.grower d (larger_capacity between.tables (capacity_or_zero
+              between.tables (between.history ++ grew.wait ∷ []) d)) (WaitsFull full.channel) refl nobody
               (full_keeps full.channel) refl es
-              (grew.appends ∙ ap (λ e. e ∷ event.Grow grew.grower d (larger_capacity between.tables (capacity_or_zero between.tables (between.history ++ grew.wait ∷ []) d)) ∷ []) full.is) appends
+              (grew.appends ∙ ap (λ e. e ∷ event.Grow grew.grower d (larger_capacity between.tables
+              (capacity_or_zero between.tables (between.history ++ grew.wait ∷ []) d)) ∷ []) full.is) appends
         ]
     held_by_answer s done.Ended es ended appends =
         by_growth ended.growth ended.owed ended.appends

@@ -186,7 +186,8 @@ stepped quota (Some answer) before after was is held some steps = (
 
 -- ---- nothing was put on a sink
 
-module _ (limits : Limits) (before after : Book) (to_itself : IsLeftToItself before) (committed : IsCommitted before after)
+module _ (limits : Limits) (before after : Book) (to_itself : IsLeftToItself before)
+    (committed : IsCommitted before after)
   where
     source_before : (c : ℕ) → is_source (channel_at after.tables c) ≡ true
         → is_source (channel_at before.tables c) ≡ true
@@ -304,7 +305,8 @@ taken c item before after book takes = by item takes.takes
         }
 
 -- what was put on a sink was taken: of this sink at most one item more was read, and the outside has nothing to do
-module _ (limits : Limits) (before now after : Book) (to_itself : IsLeftToItself before) (committed : IsCommitted before now)
+module _ (limits : Limits) (before now after : Book) (to_itself : IsLeftToItself before)
+    (committed : IsCommitted before now)
     (p c : ℕ) (v : ℤ) (put : now.history ≡ before.history ++ event.Put p c v ∷ []) (book : IsBook now)
     (item : Option ℤ) (takes : Takes c item now after) where
   abbrev took : IsTaken now after c
@@ -446,7 +448,8 @@ module _ (limits : Limits) (before now : Book) (to_itself : IsLeftToItself befor
       (put_taken_more limits before now after to_itself committed put.process sink put.item here book item takes)
       (λ has.
       few (subst (λ t. IsEnough t before.history limits.take)
-      (put_taken_tables limits before now after to_itself committed put.process sink put.item here book item takes) has)))
+      (put_taken_tables limits before now after to_itself committed put.process sink put.item here book item takes)
+      has)))
 
   -- it was put on a channel between processes
   pub put_inside_stepped : None ≡ sink_of now.tables last → IsStepped limits false before now

@@ -152,7 +152,8 @@ turns_below limits first none (one_turn_more before after so_far goes_on turn) =
     let same = commits_are_turns limits first so_far in
     omega arith
 
-module _ (t : Tables) (lists : List (List ℤ)) (limits : Limits) (report : Report) (is : IsReportHere t lists limits report)
+module _ (t : Tables) (lists : List (List ℤ)) (limits : Limits) (report : Report)
+    (is : IsReportHere t lists limits report)
   where
     none_when_fed : is.runs.fed.commits ≡ 0
     none_when_fed =

@@ -106,7 +106,8 @@ pub takes_nothing : (b : Book) → IsLeftToItself b → AllHappen (takes_from_si
 takes_nothing b to_itself =
     subst (λ es. AllHappen es b b)
     (sym (nowhere (takes_of b.tables b.history)
-    (λ c. nothing_lies b.tables b.history c (λ sink. to_itself.all_read c sink)) (range_with_len 0 (length b.tables.channels))))
+    (λ c. nothing_lies b.tables b.history c (λ sink. to_itself.all_read c sink))
+    (range_with_len 0 (length b.tables.channels))))
     refl
 
 -- where something lies in one sink alone, that is taken

@@ -116,7 +116,8 @@ blocked_on : (t : Tables) (H : List Event) (p : ℕ) (w : Wait) → wait_of t H 
     → wait_of t H p ≢ Nobody
 blocked_on t H p w is some none = some (sym is ∙ none)
 
-pub is_blocked : (t : Tables) (H : List Event) → IsSettled t H → (p : ℕ) → p < length t.instances → has_ended H p ≡ false
+pub is_blocked : (t : Tables) (H : List Event) → IsSettled t H → (p : ℕ) → p < length t.instances
+    → has_ended H p ≡ false
     → wait_of t H p ≢ Nobody
 is_blocked t H settled p below lives =
     elim (settled.processes p below) [

@@ -52,8 +52,8 @@ pub record OwesCycleGrowth (t : Tables) (B : List Event) (p d : ℕ) : Type 0 wh
   pub smallest : IsSmallest (capacity_or_zero t B) (full_in_cycle t B p others) d
   pub below_limit : capacity_or_zero t B d < t.limit
 
--- a growth of d is owed for a stop under the policy `all`: the history is settled, no growth is owed for a cycle, and d,
--- the smallest of the channels on which processes wait as full, is below the limit; p waits on it
+-- a growth of d is owed for a stop under the policy `all`: the history is settled, no growth is owed for a cycle, and
+-- d, the smallest of the channels on which processes wait as full, is below the limit; p waits on it
 pub record OwesStopGrowth (t : Tables) (B : List Event) (p d : ℕ) : Type 0 where
   pub policy : t.policy ≡ All
   pub settled : IsSettled t B

@@ -43,8 +43,8 @@ pub fn one_growth_is_owed()
     ensures cycles { (t : Tables) (H : List Event) → t.policy ≡ Cycles → OwesNoStopGrowth t H }
 {}
 
-/// After a wait of `p` a growth is owed for a cycle exactly where a search finds that the cycle through `p` has a full channel
-/// and its smallest one is below the limit; it is the growth of that channel. Else nothing is owed.
+/// After a wait of `p` a growth is owed for a cycle exactly where a search finds that the cycle through `p` has a full
+/// channel and its smallest one is below the limit; it is the growth of that channel. Else nothing is owed.
 pub fn growth_is_owed_by_the_cycle()
     ensures owed { (t : Tables) (B : List Event) (event : Event) (p : ℕ) → waiter event ≡ Some p
         → (found : Found)

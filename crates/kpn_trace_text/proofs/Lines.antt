@@ -95,7 +95,8 @@ line_is One (Grow p c m) = refl
 line_is Two (Grow p c m) = refl
 
 -- the kind and the parts of the event that a line spells, where the line has this first word
-pub kind_and_parts : (n : Version) (line word parts : List ℕ) (event : Event) → line ≡ word ++ 32 ∷ parts → LacksByte 32 word
+pub kind_and_parts : (n : Version) (line word parts : List ℕ) (event : Event) → line ≡ word ++ 32 ∷ parts
+    → LacksByte 32 word
     → SpellsEvent n line event → (kind_word (kind_of event) ≡ word) × (parts ≡ spaced (arguments_of n event))
 kind_and_parts n line word parts event split lacks spells =
     let both =
@@ -113,8 +114,10 @@ no_kind n line word parts event split lacks unknown spells =
     cc
 
 -- a line spells an event of the kind that its first word names
-pub of_kind : (n : Version) (line word parts : List ℕ) (k : Kind) (event : Event) → line ≡ word ++ 32 ∷ parts → LacksByte 32 word
-    → kind_named word ≡ Some k → SpellsEvent n line event → (kind_of event ≡ k) × (parts ≡ spaced (arguments_of n event))
+pub of_kind : (n : Version) (line word parts : List ℕ) (k : Kind) (event : Event) → line ≡ word ++ 32 ∷ parts
+    → LacksByte 32 word
+    → kind_named word ≡ Some k → SpellsEvent n line event
+    → (kind_of event ≡ k) × (parts ≡ spaced (arguments_of n event))
 of_kind n line word parts k event split lacks known spells =
     let found = kind_and_parts n line word parts event split lacks spells in
     let same : Some (kind_of event) ≡ Some k =

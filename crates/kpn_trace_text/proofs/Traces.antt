@@ -26,7 +26,8 @@ use Rattle.kpn_trace_text.proofs.Lines.{line_spells_one, line_lacks_feed}
 -- ---- the first line
 
 -- the text of an event and what follows, parted by the line feed
-pub text_and_more : (v : Version) (event : Event) (more : List ℕ) → event_text v event ++ more ≡ line_of v event ++ 10 ∷ more
+pub text_and_more : (v : Version) (event : Event) (more : List ℕ)
+    → event_text v event ++ more ≡ line_of v event ++ 10 ∷ more
 text_and_more v event more = append_assoc (line_of v event) (10 ∷ []) more
 
 -- texts that begin with lines of two events
@@ -70,11 +71,13 @@ pub one_more : (v : Version) (p : Policy) (g : Growth) (events : List Event) (ev
     → trace_text v p g (events ++ event ∷ []) ≡ trace_text v p g events ++ event_text v event
 one_more v p g events event =
     ap (λ t. head_text v p g ++ t)
-    (flat_map-append (event_text v) events (event ∷ []) ∙ ap (λ t. events_text v events ++ t) (append-nil (event_text v event)))
+    (flat_map-append (event_text v) events (event ∷ [])
+    ∙ ap (λ t. events_text v events ++ t) (append-nil (event_text v event)))
     ∙ sym (append_assoc (head_text v p g) (events_text v events) (event_text v event))
 
 -- one more line is taken off
-pub one_more_read : (v : Version) (p : Policy) (g : Growth) (bytes : List ℕ) (events : List Event) (rest after : List ℕ) (event : Event)
+pub one_more_read : (v : Version) (p : Policy) (g : Growth) (bytes : List ℕ) (events : List Event)
+    (rest after : List ℕ) (event : Event)
     → bytes ≡ trace_text v p g events ++ rest → rest ≡ event_text v event ++ after
     → bytes ≡ trace_text v p g (events ++ event ∷ []) ++ after
 one_more_read v p g bytes events rest after event whole first =
@@ -83,8 +86,10 @@ one_more_read v p g bytes events rest after event whole first =
     ∙ ap (λ t. t ++ after) (sym (one_more v p g events event))
 
 -- one more line is written
-pub one_more_written : (v : Version) (p : Policy) (g : Growth) (a b c : Option (List ℕ)) (events : List Event) (i : ℕ) (event : Event)
-    → slice_get events i ≡ Some event → Appends a b (trace_text v p g (take i events)) → Appends b c (event_text v event)
+pub one_more_written : (v : Version) (p : Policy) (g : Growth) (a b c : Option (List ℕ)) (events : List Event) (i : ℕ)
+    (event : Event)
+    → slice_get events i ≡ Some event → Appends a b (trace_text v p g (take i events))
+    → Appends b c (event_text v event)
     → Appends a c (trace_text v p g (take (i + 1) events))
 one_more_written v p g a b c events i event at so_far now =
     let below = slice_get_within events i event at in
@@ -196,18 +201,30 @@ same_rules policies.Cycles policies.Cycles growths.One growths.One e = (refl, re
 same_rules policies.Cycles policies.Cycles growths.Double growths.Double e = (refl, refl)
 same_rules policies.All policies.All growths.One growths.One e = (refl, refl)
 same_rules policies.All policies.All growths.Double growths.Double e = (refl, refl)
-same_rules policies.Cycles policies.Cycles growths.One growths.Double e = differ (rules_line policies.Cycles growths.One) (rules_line policies.Cycles growths.Double) refl refl e
-same_rules policies.Cycles policies.Cycles growths.Double growths.One e = differ (rules_line policies.Cycles growths.Double) (rules_line policies.Cycles growths.One) refl refl e
-same_rules policies.Cycles policies.All growths.One growths.One e = differ (rules_line policies.Cycles growths.One) (rules_line policies.All growths.One) refl refl e
-same_rules policies.Cycles policies.All growths.One growths.Double e = differ (rules_line policies.Cycles growths.One) (rules_line policies.All growths.Double) refl refl e
-same_rules policies.Cycles policies.All growths.Double growths.One e = differ (rules_line policies.Cycles growths.Double) (rules_line policies.All growths.One) refl refl e
-same_rules policies.Cycles policies.All growths.Double growths.Double e = differ (rules_line policies.Cycles growths.Double) (rules_line policies.All growths.Double) refl refl e
-same_rules policies.All policies.Cycles growths.One growths.One e = differ (rules_line policies.All growths.One) (rules_line policies.Cycles growths.One) refl refl e
-same_rules policies.All policies.Cycles growths.One growths.Double e = differ (rules_line policies.All growths.One) (rules_line policies.Cycles growths.Double) refl refl e
-same_rules policies.All policies.Cycles growths.Double growths.One e = differ (rules_line policies.All growths.Double) (rules_line policies.Cycles growths.One) refl refl e
-same_rules policies.All policies.Cycles growths.Double growths.Double e = differ (rules_line policies.All growths.Double) (rules_line policies.Cycles growths.Double) refl refl e
-same_rules policies.All policies.All growths.One growths.Double e = differ (rules_line policies.All growths.One) (rules_line policies.All growths.Double) refl refl e
-same_rules policies.All policies.All growths.Double growths.One e = differ (rules_line policies.All growths.Double) (rules_line policies.All growths.One) refl refl e
+same_rules policies.Cycles policies.Cycles growths.One growths.Double e =
+    differ (rules_line policies.Cycles growths.One) (rules_line policies.Cycles growths.Double) refl refl e
+same_rules policies.Cycles policies.Cycles growths.Double growths.One e =
+    differ (rules_line policies.Cycles growths.Double) (rules_line policies.Cycles growths.One) refl refl e
+same_rules policies.Cycles policies.All growths.One growths.One e =
+    differ (rules_line policies.Cycles growths.One) (rules_line policies.All growths.One) refl refl e
+same_rules policies.Cycles policies.All growths.One growths.Double e =
+    differ (rules_line policies.Cycles growths.One) (rules_line policies.All growths.Double) refl refl e
+same_rules policies.Cycles policies.All growths.Double growths.One e =
+    differ (rules_line policies.Cycles growths.Double) (rules_line policies.All growths.One) refl refl e
+same_rules policies.Cycles policies.All growths.Double growths.Double e =
+    differ (rules_line policies.Cycles growths.Double) (rules_line policies.All growths.Double) refl refl e
+same_rules policies.All policies.Cycles growths.One growths.One e =
+    differ (rules_line policies.All growths.One) (rules_line policies.Cycles growths.One) refl refl e
+same_rules policies.All policies.Cycles growths.One growths.Double e =
+    differ (rules_line policies.All growths.One) (rules_line policies.Cycles growths.Double) refl refl e
+same_rules policies.All policies.Cycles growths.Double growths.One e =
+    differ (rules_line policies.All growths.Double) (rules_line policies.Cycles growths.One) refl refl e
+same_rules policies.All policies.Cycles growths.Double growths.Double e =
+    differ (rules_line policies.All growths.Double) (rules_line policies.Cycles growths.Double) refl refl e
+same_rules policies.All policies.All growths.One growths.Double e =
+    differ (rules_line policies.All growths.One) (rules_line policies.All growths.Double) refl refl e
+same_rules policies.All policies.All growths.Double growths.One e =
+    differ (rules_line policies.All growths.Double) (rules_line policies.All growths.One) refl refl e
 
 pub record SameHead (v w : Version) (p q : Policy) (g h : Growth) (xs ys : List ℕ) : Type 0 where
   pub version : v ≡ w

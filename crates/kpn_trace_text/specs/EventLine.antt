@@ -1,5 +1,5 @@
--- The line of an event in a trace of each version, without its line feed: words with one space between them. The first word tells the
--- kind of the event, the others its process, channel, item or ending.
+-- The line of an event in a trace of each version, without its line feed: words with one space between them. The first
+-- word tells the kind of the event, the others its process, channel, item or ending.
 use Rattle.std.specs.Prelude.{◌≡◌, ◌==◌, ℕ, ◌^◌, ◌<◌, ◌≤◌, false, List, [], ◌∷◌, ◌++◌, codes, FitsSigned, Option}
 use Rattle.std.specs.List.{find, list_any}
 use Rattle.std.specs.Int.{w64}

@@ -51,9 +51,9 @@ fn write_head<W: Write>(writer: &mut W, policy: Policy, growth: Growth) -> Resul
         .map_err(|_| WriteFault::Write)
 }
 
-/// Writes the trace of a history in version 2: its first lines, which name the policy and the growth, and the line of each event. It takes no memory, and
-/// makes some small writes for each event: to a device it goes through a buffer, or through a text
-/// that is made in memory. After `WriteFault::Write` it is not said how much went out.
+/// Writes the trace of a history in version 2: its first lines, which name the policy and the growth, and the line of
+/// each event. It takes no memory, and makes some small writes for each event: to a device it goes through a buffer, or
+/// through a text that is made in memory. After `WriteFault::Write` it is not said how much went out.
 pub fn write_trace<W: Write, A: Allocator>(
     writer: &mut W,
     policy: Policy,

@@ -1,5 +1,5 @@
-//! Answers a held process at its stop: one function for each kind of stop makes the event that is due there, and after a
-//! wait or an end the growth that is owed.
+//! Answers a held process at its stop: one function for each kind of stop makes the event that is due there, and after
+//! a wait or an end the growth that is owed.
 ghost use Rattle.std.specs.Prelude.{◌≡◌, ◌≢◌, ◌<◌, ◌≤◌, ◌+◌, ℕ, ℤ, [], true, length, IsTrue};
 ghost use Rattle.kpn_net.specs.Tables.{instance_at, program_of};
 ghost use Rattle.kpn_step.specs.declared.stop.Stop.{Stop as Place};
@@ -193,7 +193,25 @@ impl<'n, A: Allocator> OpenBook<'n, A> {
     }
 
     /// The growth that is owed for a stop is made, if one is, where none is owed for a cycle. Returns its channel.
+    // Each wait and each end comes here, and hardly any finds that all processes have stopped.
+    #[inline(always)]
     pub(crate) fn grow_at_stop(&mut self) -> Option<usize>
+        requires room { 0 < self.old.history.room }
+        requires step { IsInStep (book_of self.old) }
+        requires no_cycle { OwesNoCycleGrowth self.old.network.now self.old.history.events }
+        ensures { GrowsAtStop result (book_of self.old) (book_of self.new) }
+    {
+        self.network.known();
+        if !self.schedule.is_idle() {
+            return None;
+        }
+        self.grow_when_stopped()
+    }
+
+    /// The same once each process has ended or waits.
+    #[cold]
+    #[inline(never)]
+    fn grow_when_stopped(&mut self) -> Option<usize>
         requires room { 0 < self.old.history.room }
         requires step { IsInStep (book_of self.old) }
         requires no_cycle { OwesNoCycleGrowth self.old.network.now self.old.history.events }
@@ -201,9 +219,6 @@ impl<'n, A: Allocator> OpenBook<'n, A> {
     {
         let network = self.network;
         network.known();
-        if !self.schedule.is_idle() {
-            return None;
-        }
         let Some(owed) = self.configuration.owed_at_stop(network) else {
             return None;
         };

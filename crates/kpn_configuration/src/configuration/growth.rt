@@ -57,8 +57,8 @@ impl<A: Allocator> Configuration<A> {
         self.channel_to_grow(network.limit(), found)
     }
 
-    /// The growth that is owed for a stop: under the policy `all`, once the run is settled, that of the smallest channel
-    /// on which a process waits as full, if its capacity is below the limit.
+    /// The growth that is owed for a stop: under the policy `all`, once the run is settled, that of the smallest
+    /// channel on which a process waits as full, if its capacity is below the limit.
     pub fn owed_at_stop(&self, network: &Network) -> Option<OwedGrowth>
         requires shape { IsConfiguration network.now self.now }
         ensures now { IfSome result (λ owed.

@@ -63,7 +63,8 @@ returns-clause-at_the_limit c = breaks_at two_at_limit 1 grows_at_the_limit 3 re
 pub returns-clause-the_larger : goal.returns-clause-the_larger
 unfolding larger_network grows_the_larger larger_run
 returns-clause-the_larger c = breaks_at larger_network 1 grows_the_larger 5 refl (λ legal.
-    let next = (Legal-last larger_network (take 5 grows_the_larger) (Grow 0 0) legal).growth 0 1 (inl larger_owes) in cc)
+    let next =
+    (Legal-last larger_network (take 5 grows_the_larger) (Grow 0 0) legal).growth 0 1 (inl larger_owes) in cc)
 
 pub returns-clause-for_its_writer : goal.returns-clause-for_its_writer
 unfolding larger_network grows_for_its_writer larger_run

@@ -59,7 +59,8 @@ steps-preserved g c =
     let blocks = (program_of c.args.network.now p).blocks in
     let before = frame_in c.args.configuration.now p in
     let after = frame_in c.step-steps.new.self p in
-    let more : c.args.quota - c.steps.remaining + c.step-steps.result.0 ≡ c.args.quota - (c.steps.remaining - c.from.result) =
+    let more : c.args.quota - c.steps.remaining + c.step-steps.result.0
+    ≡ c.args.quota - (c.steps.remaining - c.from.result) =
     omega arith in
     record {
       shape = c.step-steps.ensures.shape;

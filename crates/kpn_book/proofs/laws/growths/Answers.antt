@@ -17,4 +17,5 @@ returns-clause-none_is_left c b book =
 
 pub returns-clause-at_stop : goal.returns-clause-at_stop
 returns-clause-at_stop c b book policy settled p channel there waits =
-    no_wait_left b.tables book.network b.history book.kept.in_step.run.legal book.kept.nothing_owed policy settled p channel there waits
+    no_wait_left b.tables book.network b.history book.kept.in_step.run.legal book.kept.nothing_owed policy settled p
+    channel there waits

@@ -10,7 +10,8 @@ use Rattle.kpn_report.proofs.feeding.feed_sources.Given as goal
 abbrev pub invariant-channels : goal.invariant-channels
 invariant-channels l = record {
   source : l.source ≡ count_by is_source (take l.c l.network.channels);
-  supplies : AllHappen (flat_map (supply_of l.network (given_by l.network l.lists)) (range_with_len 0 l.c)) l.initial.book
+  supplies : AllHappen (flat_map (supply_of l.network (given_by l.network l.lists)) (range_with_len 0 l.c))
+      l.initial.book
       l.book;
   so_far : IsFedBelow l.network (given_by l.network l.lists) l.c l.book;
 }

@@ -60,7 +60,8 @@ returns-clause-more c =
     (subst (λ items. IsSupplied c.args.c items c.args.book.now c.close.new.book) given
     (c.in_ok-close.ensures.supplied c.args.book.now c.as_slice.result.now c.in_ok-feed_items.ensures.supplied))
     c.in_ok-close.ensures.closed
-    (subst (λ items. AllHappen (map (Feed c.args.c) items ++ Close c.args.c ∷ []) c.args.book.now c.close.new.book) given
+    (subst (λ items. AllHappen (map (Feed c.args.c) items ++ Close c.args.c ∷ []) c.args.book.now c.close.new.book)
+    given
     (join (map (Feed c.args.c) c.as_slice.result.now) (Close c.args.c ∷ []) c.args.book.now c.feed_items.new.book
     c.close.new.book c.in_ok-feed_items.ensures.feeds
     (one (Close c.args.c) c.feed_items.new.book c.close.new.book (c.in_ok-close.ensures.closes unclosed))))

@@ -15,5 +15,6 @@ returns-in_err-policy-in-Two c =
     rw c.from_residual-in_err-policy-in-Two.ensures
     (no_rules c.args.bytes.now c.in_ok-line.line.now c.in_ok-line.rest.now c.in_ok-second-in-Two.second.now
     c.in_ok-second-in-Two.lines.now c.in_ok-line.ensures.0 c.in_ok-line.ensures.1
-    (c.in_ok-version.ensures ∙ ap version_line c.in-Two.is) c.in_ok-second-in-Two.ensures.0 c.in_ok-second-in-Two.ensures.1
+    (c.in_ok-version.ensures ∙ ap version_line c.in-Two.is) c.in_ok-second-in-Two.ensures.0
+    c.in_ok-second-in-Two.ensures.1
     c.in_err-policy-in-Two.ensures)

@@ -12,5 +12,6 @@ returns-in_err-kind c =
 
 pub returns : goal.returns
 returns c =
-    read_of_kind c.args.version c.args.line.now c.in_ok-word.word.now c.in_ok-word.parts.now c.in_ok-kind.kind c.event_of_kind.result
+    read_of_kind c.args.version c.args.line.now c.in_ok-word.word.now c.in_ok-word.parts.now c.in_ok-kind.kind
+    c.event_of_kind.result
     c.in_ok-word.ensures.0 c.in_ok-word.ensures.1 (sym c.named.ensures ∙ c.in_ok-kind.was) c.event_of_kind.ensures

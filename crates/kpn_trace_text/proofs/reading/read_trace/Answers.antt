@@ -34,7 +34,8 @@ loop-rest-preserved g c =
     let first = c.in-Some-first_event.ensures in
     record {
       whole =
-          one_more_read version policy growth c.args.bytes.now before c.loop-rest.rest.now c.in-Some-first_event.after.now event
+          one_more_read version policy growth c.args.bytes.now before c.loop-rest.rest.now
+          c.in-Some-first_event.after.now event
           c.loop-rest.invariant.whole first.0
           ∙ ap (λ es. trace_text version policy growth es ++ c.in-Some-first_event.after.now) (sym pushed);
       in_range = subst (All (IsInRange version)) (sym pushed)

@@ -24,7 +24,8 @@ loop-place-preserved g c =
     elim c.match-at.branch [
       | in-Some+in_ok-event_line w ↦
           subst
-          (λ wr. Appends (contents c.args.writer.now) (contents wr) (trace_text Two c.args.policy c.args.growth (take (c.loop-place.place + 1) events)))
+          (λ wr. Appends (contents c.args.writer.now) (contents wr)
+          (trace_text Two c.args.policy c.args.growth (take (c.loop-place.place + 1) events)))
           (sym w.writer-is)
           (one_more_written Two c.args.policy c.args.growth (contents c.args.writer.now) (contents c.loop-place.writer)
           (contents w.event_line.new.writer) events c.loop-place.place w.in-Some.event
@@ -36,5 +37,6 @@ loop-place-preserved g c =
 
 pub returns : goal.returns
 returns g c =
-    subst (λ t. Appends (g.W.Write.contents c.args.writer.now) (g.W.Write.contents c.loop-place.writer) (trace_text Two c.args.policy c.args.growth t))
+    subst (λ t. Appends (g.W.Write.contents c.args.writer.now) (g.W.Write.contents c.loop-place.writer)
+    (trace_text Two c.args.policy c.args.growth t))
     (take_all c.loop-place.place c.args.history.now.events (omega arith)) c.loop-place.invariant

@@ -7,4 +7,5 @@ use Rattle.kpn_trace_text.proofs.writing.write_trace.Given as goal
 
 abbrev pub invariant-loop-place : goal.invariant-loop-place
 invariant-loop-place g l =
-    Appends (g.W.Write.contents l.fn.writer) (g.W.Write.contents l.writer) (trace_text Two l.fn.policy l.fn.growth (take l.place l.history.events))
+    Appends (g.W.Write.contents l.fn.writer) (g.W.Write.contents l.writer)
+    (trace_text Two l.fn.policy l.fn.growth (take l.place l.history.events))

@@ -25,7 +25,8 @@ pub invariant_of-self-2 : goal.invariant_of-self-2
 invariant_of-self-2 g c =
     let b = book_of c.self.inside.parts in
     kept_grown b (book_of c.close.new.self) _ (event.Close c.args.source) c.grow_at_stop-grown.result c.self.invariant
-    (follows_reserved b c.reserve.new.self.events c.in_ok-reserve.ensures.events (event.Close c.args.source) (book_of c.close.new.self)
+    (follows_reserved b c.reserve.new.self.events c.in_ok-reserve.ensures.events (event.Close c.args.source)
+    (book_of c.close.new.self)
     c.close.ensures.follows) refl c.grow_at_stop-grown.ensures
 
 pub returns-clause-done : goal.returns-clause-done
@@ -37,5 +38,6 @@ returns-clause-done g c =
     subst (λ x. Closes c.args.source x a) c.self.view_is
     (closed b a c.args.source source not_closed
     (happens (event.Close c.args.source) b (book_of c.close.new.self) a c.grow_at_stop-grown.result
-    (follows_reserved b c.reserve.new.self.events c.in_ok-reserve.ensures.events (event.Close c.args.source) (book_of c.close.new.self)
+    (follows_reserved b c.reserve.new.self.events c.in_ok-reserve.ensures.events (event.Close c.args.source)
+    (book_of c.close.new.self)
     c.close.ensures.follows) c.grow_at_stop-grown.ensures))

@@ -25,7 +25,8 @@ pub invariant_of-self-2 : goal.invariant_of-self-2
 invariant_of-self-2 g c =
     let b = book_of c.self.inside.parts in
     kept_grown b (book_of c.leave.new.self) _ (event.Leave c.args.sink) c.grow_at_stop-grown.result c.self.invariant
-    (follows_reserved b c.reserve.new.self.events c.in_ok-reserve.ensures.events (event.Leave c.args.sink) (book_of c.leave.new.self)
+    (follows_reserved b c.reserve.new.self.events c.in_ok-reserve.ensures.events (event.Leave c.args.sink)
+    (book_of c.leave.new.self)
     c.leave.ensures.follows) refl c.grow_at_stop-grown.ensures
 
 pub returns-clause-done : goal.returns-clause-done
@@ -37,5 +38,6 @@ returns-clause-done g c =
     subst (λ x. Leaves c.args.sink x a) c.self.view_is
     (left b a c.args.sink sink not_left
     (happens (event.Leave c.args.sink) b (book_of c.leave.new.self) a c.grow_at_stop-grown.result
-    (follows_reserved b c.reserve.new.self.events c.in_ok-reserve.ensures.events (event.Leave c.args.sink) (book_of c.leave.new.self)
+    (follows_reserved b c.reserve.new.self.events c.in_ok-reserve.ensures.events (event.Leave c.args.sink)
+    (book_of c.leave.new.self)
     c.leave.ensures.follows) c.grow_at_stop-grown.ensures))

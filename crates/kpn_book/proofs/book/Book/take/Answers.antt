@@ -34,14 +34,17 @@ take-item-requires-clause-sound g c =
 pub grow_at_stop-grown-requires-clause-no_cycle : goal.grow_at_stop-grown-requires-clause-no_cycle
 grow_at_stop-grown-requires-clause-no_cycle g c =
     let b = book_of c.self.inside.parts in
-    no_cycle_then (event.Take c.args.sink c.take-item.result) (recorded b c.reserve.new.self.events b.configuration b.schedule)
+    no_cycle_then (event.Take c.args.sink c.take-item.result)
+    (recorded b c.reserve.new.self.events b.configuration b.schedule)
     (book_of c.take-item.new.self) c.take-item.ensures.follows refl
 
 pub invariant_of-self-2 : goal.invariant_of-self-2
 invariant_of-self-2 g c =
     let b = book_of c.self.inside.parts in
-    kept_grown b (book_of c.take-item.new.self) _ (event.Take c.args.sink c.take-item.result) c.grow_at_stop-grown.result c.self.invariant
-    (follows_reserved b c.reserve.new.self.events c.in_ok-reserve.ensures.events (event.Take c.args.sink c.take-item.result) (book_of c.take-item.new.self)
+    kept_grown b (book_of c.take-item.new.self) _ (event.Take c.args.sink c.take-item.result)
+    c.grow_at_stop-grown.result c.self.invariant
+    (follows_reserved b c.reserve.new.self.events c.in_ok-reserve.ensures.events
+    (event.Take c.args.sink c.take-item.result) (book_of c.take-item.new.self)
     c.take-item.ensures.follows) refl c.grow_at_stop-grown.ensures
 
 pub returns-clause-done : goal.returns-clause-done

@@ -23,7 +23,8 @@ number-requires-2 g c =
 pub wake-requires : goal.wake-requires
 wake-requires g c =
     let b = book_of c.args.self.now in
-    may_be_woken b c.known.ensures c.requires.step (event.Grow c.args.p c.args.d c.grow-grown.result.capacity) (own_none b) tt b.schedule
+    may_be_woken b c.known.ensures c.requires.step (event.Grow c.args.p c.args.d c.grow-grown.result.capacity)
+    (own_none b) tt b.schedule
     (option_to_list c.grow-grown.result.woken) refl (ap option_to_list c.grow-grown.ensures.woken)
 
 pub returns : goal.returns
@@ -31,7 +32,8 @@ returns g c =
     let b = book_of c.args.self.now in
     let n = c.grow-grown.result.capacity in
     told b _ c.args.p c.args.d n _ (c.grow-grown.ensures.told b.history c.requires.step.run)
-    (followed b c.known.ensures c.requires.step (event.Grow c.args.p c.args.d c.grow-grown.result.capacity) (own_none b) tt c.grow-grown.new.self
+    (followed b c.known.ensures c.requires.step (event.Grow c.args.p c.args.d c.grow-grown.result.capacity)
+    (own_none b) tt c.grow-grown.new.self
     c.grow-grown.ensures.changes c.grow-grown.ensures.shape
     (Legal-grown b.tables c.known.ensures b.configuration c.requires.step.run.shape c.args.p c.args.d
     c.requires.awaited b.history c.requires.process c.requires.step.run c.requires.owed n c.grow-grown.ensures.capacity)

@@ -1,7 +1,7 @@
-use Rattle.std.proofs.Common.{◌≡◌, false, inr, rules}
+use Rattle.std.proofs.Common.{◌≡◌, false, rules}
 use Rattle.std.proofs.lemmas.Bool.{both_ways}
 use Rattle.kpn_book.specs.Open.{book_of}
-use Rattle.kpn_book.proofs.Answering.{none_at_stop, has_grown_at_stop}
+use Rattle.kpn_book.proofs.Answering.{none_at_stop}
 use Rattle.kpn_book.proofs.Seen.{not_settled}
 use Rattle.kpn_book.proofs.open_book.OpenBook.grow_at_stop.Goals as goal
 
@@ -12,15 +12,3 @@ returns-then-not-is_idle g c =
     none_at_stop b c.requires.step c.requires.no_cycle
     (λ p d owes. not_settled b c.requires.step
     (λ stopped. both_ways c.is_idle.result busy (c.is_idle.ensures.1 stopped)) owes.settled)
-
-pub returns-in_default : goal.returns-in_default
-returns-in_default g c =
-    let b = book_of c.args.self.now in
-    none_at_stop b c.requires.step c.requires.no_cycle
-    (c.owed_at_stop.ensures.nothing b.history c.requires.step.run c.in_default.is)
-
-pub returns : goal.returns
-returns g c =
-    let b = book_of c.args.self.now in
-    has_grown_at_stop b (book_of c.grow.new.self) c.known.ensures c.in-Some.owed.process c.in-Some.owed.channel
-    (inr (c.in-Some.ensures.growth b.history c.requires.step.run c.requires.no_cycle)) c.grow.ensures

@@ -25,10 +25,12 @@ returns-clause-follows g c =
     let step = c.requires.sound.in_step in
     let there = held_is_there b step c.args.p c.requires.held in
     let below = reads_below b.tables c.known.ensures b.configuration c.args.p there c.args.c c.requires.reads in
-    followed b c.known.ensures step e (own_held b c.args.p c.requires.held) tt c.wait_on_empty.new.self c.wait_on_empty.ensures.changes
+    followed b c.known.ensures step e (own_held b c.args.p c.requires.held) tt c.wait_on_empty.new.self
+    c.wait_on_empty.ensures.changes
     c.wait_on_empty.ensures.shape
     (Legal-due b.tables c.known.ensures b.history b.configuration step.run c.requires.sound.nothing_owed e
     (there, below) (held_is_free b step c.args.p c.requires.held, c.requires.reads, c.requires.ready))
     (event.WaitEmpty c.number.result c.number-2.result) c.push.new.self.events c.set.new.self c.set.new.self []
-    (ap (λ x. event.WaitEmpty x c.number-2.result) c.number.ensures ∙ ap (λ x. event.WaitEmpty c.args.p x) c.number-2.ensures)
+    (ap (λ x. event.WaitEmpty x c.number-2.result) c.number.ensures
+    ∙ ap (λ x. event.WaitEmpty c.args.p x) c.number-2.ensures)
     c.push.ensures.events c.set.ensures refl refl

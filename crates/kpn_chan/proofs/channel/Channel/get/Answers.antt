@@ -7,7 +7,8 @@ use Rattle.kpn_chan.proofs.channel.Channel.get.Goals as goal
 pub overflow_add-self : goal.overflow_add-self
 overflow_add-self g c =
     let inside = c.self.inside in
-    let fits : inside.read + 1 < 2 ^ 64 = (passed inside.journal inside.read c.in-Some.ring c.pop_front.new.self c.in_ok-item.item
+    let fits : inside.read + 1 < 2 ^ 64 =
+    (passed inside.journal inside.read c.in-Some.ring c.pop_front.new.self c.in_ok-item.item
     (subst (λ ring. IsLaidOut inside.journal inside.read ring) c.in-Some.is c.self.invariant)
     (sym c.pop_front.ensures.value ∙ c.in_ok-item.was) (ap (λ b. b.items) c.pop_front.ensures.items)).1 in
     search rules

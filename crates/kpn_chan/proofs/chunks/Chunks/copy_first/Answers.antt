@@ -30,7 +30,8 @@ piece g c =
     let xs = c.loop-items.items.items in
     let piece = c.piece_at-piece.result.now in
     let from : c.len-in-loop-items.result ≡ length xs = omega (arith, c.len-in-loop-items.ensures) in
-    let test : c.len-in-loop-items.result < c.args.count = omega (arith, c.loop-items-test.true, c.len.ensures, from) in (
+    let test : c.len-in-loop-items.result < c.args.count =
+    omega (arith, c.loop-items-test.true, c.len.ensures, from) in (
       c.piece_at-piece.ensures.items ∙ ap (λ n. take (length piece) (drop n (items_of c.args.self.now))) from,
       c.piece_at-piece.ensures.more (omega (arith, test, c.requires.count)),
     )
@@ -52,12 +53,14 @@ pub loop-items-preserved : goal.loop-items-preserved
 loop-items-preserved g c =
     let all = items_of c.args.self.now in
     let xs = c.loop-items.items.items in
-    let more = copied_more all xs c.piece_at-piece.result.now c.min-more.result c.loop-items.invariant.0 (piece g c).0 in (
+    let more =
+    copied_more all xs c.piece_at-piece.result.now c.min-more.result c.loop-items.invariant.0 (piece g c).0 in (
       subst (λ (l : List ℤ). l ≡ take (length l) all) (sym c.in_ok-extend_from_slice.ensures.items) more,
       omega (arith, longer g c, c.loop-items.invariant.1, c.min-more.ensures, c.len-in-loop-items-2.ensures),
     )
 
 pub returns : goal.returns
 returns g c =
-    let all : length c.loop-items.items.items ≡ c.args.count = omega (arith, c.loop-items-test.false, c.len.ensures, c.loop-items.invariant.1) in
+    let all : length c.loop-items.items.items ≡ c.args.count =
+    omega (arith, c.loop-items-test.false, c.len.ensures, c.loop-items.invariant.1) in
     c.loop-items.invariant.0 ∙ ap (λ n. take n (items_of c.args.self.now)) all

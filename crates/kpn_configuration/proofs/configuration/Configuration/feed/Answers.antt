@@ -42,7 +42,8 @@ returns g c =
     c.wake.ensures.after
     c.reader_of.ensures same in
     let made =
-    Made-fed t s c.requires.shape c.args.c c.args.item ch c.requires.channel c.wake.new.waits _ put woke c.requires.source
+    Made-fed t s c.requires.shape c.args.c c.args.item ch c.requires.channel c.wake.new.waits _ put woke
+    c.requires.source
     (ap (λ (x : Configuration). record x { channels = slice_set x.channels c.args.c ch; waits = c.wake.new.waits })
     c.self.view_is) in
     record {

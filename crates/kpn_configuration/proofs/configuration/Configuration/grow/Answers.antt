@@ -86,7 +86,8 @@ returns g c =
       changes = made.changes;
       shape = made.shape;
       run = λ H run owes. IsRun-next t c.known.ensures H _ s after run
-          (Legal-grown t c.known.ensures s c.requires.shape c.args.p c.args.d c.requires.awaited H c.requires.process run
+          (Legal-grown t c.known.ensures s c.requires.shape c.args.p c.args.d c.requires.awaited H c.requires.process
+          run
           owes c.larger_capacity-cap.result c.larger_capacity-cap.ensures)
           made.changes made.shape;
     }

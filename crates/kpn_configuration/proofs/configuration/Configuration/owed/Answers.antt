@@ -56,7 +56,8 @@ returns-clause-awaited g c =
     (λ d is. awaited_in_cycle t s c.args.p d
     ((owed_by_finding t s c.args.p c.walk-found.result c.walk-found.ensures.exact d).0 is)))
   where
-    awaited_if_found : (found : Option ℕ) → ((d : ℕ) → found ≡ Some d → IsAwaitedBelowLimit c.args.network.now c.args.self.now d)
+    awaited_if_found : (found : Option ℕ)
+        → ((d : ℕ) → found ≡ Some d → IsAwaitedBelowLimit c.args.network.now c.args.self.now d)
         → IfSome found (IsAwaitedBelowLimit c.args.network.now c.args.self.now)
     awaited_if_found None each = tt
     awaited_if_found (Some d) each = each d refl

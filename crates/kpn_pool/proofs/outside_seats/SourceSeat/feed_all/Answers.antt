@@ -38,7 +38,8 @@ returns-clause-source g c some = c.items.invariant.source (omega (arith, c.items
 pub returns-in_err-feed-clause-recorded : goal.returns-in_err-feed-clause-recorded
 returns-in_err-feed-clause-recorded g c =
     let kept = c.in_err-feed.ensures.as_before in
-    as_before (λ s b. AreRecorded AppendsAll event.Feed c.args.self.now s c.args.desk.now.book b) c.items.self c.feed.new.self
+    as_before (λ s b. AreRecorded AppendsAll event.Feed c.args.self.now s c.args.desk.now.book b) c.items.self
+    c.feed.new.self
     c.items.desk c.feed.new.desk kept.0 kept.1 c.items.invariant.recorded
 
 pub returns-in_err-feed-clause-refused : goal.returns-in_err-feed-clause-refused
