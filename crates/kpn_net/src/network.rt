@@ -244,7 +244,9 @@ impl Network {
     pub fn under(&self, policy: Policy, growth: Growth) -> Result<Network, AllocError>
         ensures { IfOk result (λ network. network ≡ under policy growth self.now) }
     {
-        let _ = (&self.parts, policy, growth);
+        let _ = &self.parts;
+        let _ = policy;
+        let _ = growth;
         Err(AllocError)
     }
 
