@@ -8,7 +8,7 @@ use Rattle.kpn_text.specs.declared.fault.TextFault.{TextFault}
 use Rattle.kpn_text.specs.declared.fault.TextFault.TheVariants as text
 use Rattle.kpn_trace_text.specs.declared.fault.TraceFault.TheVariants as trace
 use Rattle.kpn_answers.specs.declared.refusal.Refusal.{Refusal}
-use Rattle.kpn_answers.specs.declared.refusal.Refusal.TheVariants.{NotText, UnknownProcess, SourceWord, TraceWord, Input, Description, Sources, Output, Trace, NoMemoryToAudit, Threads, Abandoned, Foreign, NoMemory}
+use Rattle.kpn_answers.specs.declared.refusal.Refusal.TheVariants.{NotText, UnknownProcess, SourceWord, TraceWord, Input, Description, Sources, Output, Trace, NoMemoryToAudit, PolicyDiffers, Threads, Abandoned, Foreign, NoMemory}
 use Rattle.kpn_answers.specs.FaultLine.{fault_line, input_fault_line, output_fault_line, text_fault_line, source_fault_line, trace_fault_line}
 
 -- the line, without its line feed
@@ -23,6 +23,7 @@ refusal_line (Sources fault) = source_fault_line fault
 refusal_line (Output fault) = output_fault_line fault
 refusal_line (Trace fault) = trace_fault_line fault
 refusal_line NoMemoryToAudit = fault_line 51 (codes "NoMemory") None
+refusal_line PolicyDiffers = fault_line 53 (codes "PolicyDiffers") None
 refusal_line Threads = fault_line 48 (codes "Threads") None
 refusal_line Abandoned = fault_line 49 (codes "Abandoned") None
 refusal_line Foreign = fault_line 47 (codes "Foreign") None

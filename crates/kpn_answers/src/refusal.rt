@@ -39,6 +39,8 @@ pub enum Refusal {
     Trace(TraceFault),
     /// Memory was refused while a trace was audited.
     NoMemoryToAudit,
+    /// The policy or the growth of a trace is not that of the network.
+    PolicyDiffers,
     /// A worker could not be started on a thread of its own.
     Threads,
     /// All workers of a run went before there was an outcome.
@@ -94,6 +96,7 @@ impl fmt::Display for Refusal {
             Refusal::Output(fault) => write!(f, "{}", FaultLine::of_output(fault)),
             Refusal::Trace(fault) => write!(f, "{}", FaultLine::of_trace(fault)),
             Refusal::NoMemoryToAudit => write!(f, "{}", FaultLine::new(51, "NoMemory")),
+            Refusal::PolicyDiffers => write!(f, "{}", FaultLine::new(53, "PolicyDiffers")),
             Refusal::Threads => write!(f, "{}", FaultLine::new(48, "Threads")),
             Refusal::Abandoned => write!(f, "{}", FaultLine::new(49, "Abandoned")),
             Refusal::Foreign => write!(f, "{}", FaultLine::new(47, "Foreign")),
@@ -117,6 +120,7 @@ impl Refusal {
             Refusal::Description(fault) if !is_want_of_memory(*fault) => 1,
             Refusal::Trace(TraceFault::BadHead | TraceFault::BadEvent(_)) => 1,
             Refusal::Sources(_) | Refusal::Output(WriteFault::Write) => 1,
+            Refusal::PolicyDiffers => 1,
             Refusal::Input(ItemFault::NoMemory) | Refusal::Description(_) => 6,
             Refusal::Trace(TraceFault::NoMemory) | Refusal::Output(WriteFault::NoMemory) => 6,
             Refusal::NoMemoryToAudit | Refusal::NoMemory => 6,

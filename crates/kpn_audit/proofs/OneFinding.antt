@@ -9,7 +9,7 @@ use Rattle.kpn_trace.specs.declared.event.Event.{Event}
 use Rattle.kpn_trace.specs.Legal.{Legal}
 use Rattle.kpn_trace.proofs.Legality.{Legal-prefix}
 use Rattle.kpn_audit.specs.declared.findings.AuditFault.{AuditFault}
-use Rattle.kpn_audit.specs.declared.findings.AuditFault.TheVariants.{Illegal, NoMemory, Budget}
+use Rattle.kpn_audit.specs.declared.findings.AuditFault.TheVariants.{Illegal, NoMemory, Budget, PolicyDiffers}
 use Rattle.kpn_audit.specs.Place.{StopsWithin}
 use Rattle.kpn_audit.specs.Audit.{AreWithinSteps, IsIllegalAt, IsBudgetAt, IsFault}
 use Rattle.kpn_audit.proofs.InTime.{one_place, not_out_of_steps}
@@ -56,6 +56,8 @@ module _ (t : Tables) (H : List Event) (quota : ℕ) where
   pub one_fault : (a b : AuditFault) → IsFault t H quota a → IsFault t H quota b → a ≢ NoMemory → b ≢ NoMemory → a ≡ b
   one_fault NoMemory b x y first second = absurd (first refl)
   one_fault a NoMemory x y first second = absurd (second refl)
+  one_fault PolicyDiffers b x y first second = absurd x
+  one_fault a PolicyDiffers x y first second = absurd y
   one_fault (Illegal k) (Illegal j) x y first second =
       ap Illegal (at_one k j (λ less. no_further k j x.0 less y.0.before) (λ less. no_further j k y.0 less x.0.before))
   one_fault (Illegal k) (Budget j) x y first second = absurd (never k j x.0 x.1 y.0)
@@ -74,5 +76,6 @@ module _ (t : Tables) (H : List Event) (quota : ℕ) where
       whole [] (suc n) = tt
       whole (y ∷ H) (suc n) = (refl, whole H n)
   no_fault NoMemory legal within x = refl
+  no_fault PolicyDiffers legal within x = absurd x
   no_fault (Budget k) legal within x =
       absurd (enough (length H) k within (slice_get_within H k x.0.event x.0.there) x.0)

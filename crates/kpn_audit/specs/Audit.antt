@@ -17,7 +17,9 @@ use Rattle.kpn_configuration.specs.Run.{StandsAfter}
 use Rattle.kpn_audit.specs.Place.{IsPlaceAfter, StopsWithin}
 use Rattle.kpn_audit.specs.declared.findings.Audit.{Audit}
 use Rattle.kpn_audit.specs.declared.findings.AuditFault.{AuditFault}
-use Rattle.kpn_audit.specs.declared.findings.AuditFault.TheVariants.{Illegal, NoMemory, Budget}
+use Rattle.kpn_audit.specs.declared.findings.AuditFault.TheVariants.{Illegal, NoMemory, Budget, PolicyDiffers}
+use Rattle.kpn_trace.specs.declared.stored.Trace.{Trace}
+use Rattle.kpn_audit.specs.Stored.{Differs, tables_for, history_in}
 
 -- the events are a legal history, after which these are the journals and the capacities, and which is quiet or not
 pub record IsAudit {A : Type 0} (t : Tables) (H : List Event) (audit : Audit A) : Type 0 where
@@ -78,8 +80,14 @@ IsWithinSteps t H quota k =
 abbrev pub AreWithinSteps : Tables → List Event → (quota n : ℕ) → Type 0
 AreWithinSteps t H quota n = (k : ℕ) → k < n → IsWithinSteps t H quota k
 
--- what each fault says. No event before k is out of steps, and an illegal one is not either
+-- what each fault of a list of events says. No event before k is out of steps, and an illegal one is not either
 abbrev pub IsFault : Tables → List Event → (quota : ℕ) → AuditFault → Type 0
 IsFault t H quota (Illegal k) = IsIllegalAt t H k × AreWithinSteps t H quota (suc k)
 IsFault t H quota NoMemory = Unit {0}
 IsFault t H quota (Budget k) = IsBudgetAt t H quota k × AreWithinSteps t H quota k
+IsFault t H quota PolicyDiffers = ⊥
+
+-- why a trace is refused: for its rules of growth, or else for its events
+abbrev pub IsRefusal : {A : Type 0} → Tables → Trace A → (quota : ℕ) → AuditFault → Type 0
+IsRefusal t trace quota PolicyDiffers = Differs t trace
+IsRefusal t trace quota fault = (¬ Differs t trace) × IsFault (tables_for t trace) (history_in t trace) quota fault

@@ -1,3 +1,4 @@
 pub mod Place
+pub mod Stored
 pub mod Audit
 pub mod Judged

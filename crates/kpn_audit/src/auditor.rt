@@ -1,19 +1,24 @@
 //! The auditor.
-ghost use Rattle.std.specs.Prelude.{◌≡◌, ◌⊎◌, ℕ, true, length, IfOk, IfErr};
+ghost use Rattle.std.specs.Prelude.{◌≡◌, ◌⊎◌, ◌↔◌, ℕ, true, length, IsTrue, IfOk, IfErr};
 ghost use Rattle.kpn_trace.specs.Legal.{Legal};
 ghost use Rattle.kpn_configuration.specs.Run.{IsRun};
-ghost use Rattle.kpn_audit.specs.Audit.{IsAudit, AreLeast, AreWithinSteps, IsFault};
+ghost use Rattle.kpn_audit.specs.Audit.{IsAudit, AreLeast, AreWithinSteps, IsFault, IsRefusal};
+ghost use Rattle.kpn_audit.specs.Stored.{Differs, history_of, tables_for, history_in};
 
 use crate::findings::{Audit, AuditFault};
 use crate::judged::Judged;
 use crate::judging::judge;
+use crate::stored::told;
 use crate::summary::summary;
 use kpn_configuration::Configuration;
-use kpn_net::Network;
-use kpn_trace::Event;
+use kpn_net::{Growth, Network, Policy};
+use kpn_trace::{Event, Trace, Version};
 use std::alloc::Allocator;
 
-/// Audits a list of events: whether they are a legal history of the network, and what stands after them.
+/// Audits a trace: whether its events are a legal history of the network, and what stands after them.
+///
+/// A trace of version 2 has to name the policy and the growth of the network. One of version 1 is audited under the
+/// policy `cycles` and the growth `one`, whatever the network says.
 ///
 /// The events are replayed, one after another. Of each it is judged first whether a growth that is owed is this one,
 /// whether the network has its numbers, and whether its process has ended or is blocked. Then the process makes steps,
@@ -21,43 +26,92 @@ use std::alloc::Allocator;
 ///
 /// The configuration on which it replays takes its memory from `alloc`, and so does what it finds; the journals are
 /// moved there, not copied. Where memory is refused the answer is [`AuditFault::NoMemory`], and nothing is kept.
-pub fn audit<A: Allocator + Copy>(
+pub fn audit<A: Allocator + Copy, B: Allocator>(
     alloc: A,
     network: &Network,
+    trace: &Trace<B>,
+    quota: u64,
+) -> Result<Audit<A>, AuditFault>
+    ensures agrees { IfOk result (λ audit. ¬ Differs network.now trace.now) }
+    ensures legal { let t = tables_for network.now trace.now in
+        IfOk result (λ audit. IsAudit t (history_in network.now trace.now) audit) }
+    ensures least { let t = tables_for network.now trace.now in IfOk result (λ audit.
+        audit.exact ≡ true → AreLeast t (history_in network.now trace.now) audit) }
+    ensures within { let t = tables_for network.now trace.now in IfOk result (λ audit.
+        let H = history_in network.now trace.now in AreWithinSteps t H quota (length H)) }
+    ensures refused { IfErr result (IsRefusal network.now trace.now quota) }
+    ensures accepted { ¬ Differs network.now trace.now
+        → Legal (tables_for network.now trace.now) (history_in network.now trace.now)
+        → IfErr result (λ fault.
+        (fault ≡ AuditFault.NoMemory) ⊎ ((k : ℕ) × (fault ≡ AuditFault.Budget k))) }
+{
+    let events = trace.events.as_slice();
+    match trace.version {
+        Version::Two if !has_rules(network, trace.policy, trace.growth) => {
+            Err(AuditFault::PolicyDiffers)
+        }
+        Version::One if !has_rules(network, Policy::Cycles, Growth::One) => {
+            let network = network.under(Policy::Cycles, Growth::One)?;
+            audit_events(alloc, &network, Version::One, events, quota)
+        }
+        version => audit_events(alloc, network, version, events, quota),
+    }
+}
+
+/// Whether these are the policy and the growth of the network.
+fn has_rules(network: &Network, policy: Policy, growth: Growth) -> bool
+    ensures { IsTrue result
+        ↔ ((policy ≡ network.now.policy) × (growth ≡ network.now.growth)) }
+{
+    policy == network.policy() && growth == network.growth()
+}
+
+/// Audits events of this version under the policy and the growth of the network.
+fn audit_events<A: Allocator + Copy>(
+    alloc: A,
+    network: &Network,
+    version: Version,
     events: &[Event],
     quota: u64,
 ) -> Result<Audit<A>, AuditFault>
-    ensures legal { IfOk result (λ audit. IsAudit network.now events.now audit) }
-    ensures least { IfOk result (λ audit.
-        audit.exact ≡ true → AreLeast network.now events.now audit) }
+    ensures legal { IfOk result (λ audit.
+        IsAudit network.now (history_of version network.now events.now) audit) }
+    ensures least { IfOk result (λ audit. audit.exact ≡ true
+        → AreLeast network.now (history_of version network.now events.now) audit) }
     ensures within { IfOk result (λ audit.
-        AreWithinSteps network.now events.now quota (length events.now)) }
-    ensures refused { IfErr result (λ fault. IsFault network.now events.now quota fault) }
-    ensures accepted { Legal network.now events.now → IfErr result (λ fault.
+        let H = history_of version network.now events.now in
+        AreWithinSteps network.now H quota (length H)) }
+    ensures refused { let H = history_of version network.now events.now in
+        IfErr result (λ fault. IsFault network.now H quota fault) }
+    ensures accepted { Legal network.now (history_of version network.now events.now)
+        → IfErr result (λ fault.
         (fault ≡ AuditFault.NoMemory) ⊎ ((k : ℕ) × (fault ≡ AuditFault.Budget k))) }
 {
     network.known();
-    let configuration = replay(alloc, network, events, quota)?;
+    let configuration = replay(alloc, network, version, events, quota)?;
     Ok(summary(alloc, network, configuration)?)
 }
 
-/// Replays the events on a configuration of its own, from the start.
+/// Replays events of this version on a configuration of its own, from the start.
 fn replay<A: Allocator + Copy>(
     alloc: A,
     network: &Network,
+    version: Version,
     events: &[Event],
     quota: u64,
 ) -> Result<Configuration<A>, AuditFault>
-    ensures run { IfOk result (λ made. IsRun network.now events.now made) }
-    ensures within { IfOk result (λ made.
-        AreWithinSteps network.now events.now quota (length events.now)) }
-    ensures refused { IfErr result (λ fault. IsFault network.now events.now quota fault) }
+    ensures run { IfOk result (λ made.
+        IsRun network.now (history_of version network.now events.now) made) }
+    ensures within { let H = history_of version network.now events.now in
+        IfOk result (λ made. AreWithinSteps network.now H quota (length H)) }
+    ensures refused { let H = history_of version network.now events.now in
+        IfErr result (λ fault. IsFault network.now H quota fault) }
 {
     network.known();
     let mut configuration = Configuration::new(alloc, network)?;
     let mut owed = None;
     'events: for k in 0..events.len() {
-        let event = events[k];
+        let event = told(&configuration, network, version, events[k]);
         match judge(&mut configuration, network, owed, event, quota)? {
             Judged::Follows(growth) => owed = growth,
             Judged::Illegal => return Err(AuditFault::Illegal(k)),

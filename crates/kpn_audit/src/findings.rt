@@ -17,7 +17,7 @@ pub struct Audit<A: Allocator = Global> {
     pub exact: bool,
 }
 
-/// Why a list of events is not accepted, with its number.
+/// Why a trace is not accepted, with its number.
 #[derive(Clone, Copy, Debug, PartialEq, Eq)]
 pub enum AuditFault {
     /// 50: this event, counted from 0, is the first after which no legal history goes on.
@@ -26,6 +26,8 @@ pub enum AuditFault {
     NoMemory,
     /// 52: the process of this event used up its steps before it came to the event.
     Budget(usize),
+    /// 53: the policy or the growth of the trace is not that of the network. Looked for first.
+    PolicyDiffers,
 }
 
 impl From<AllocError> for AuditFault {

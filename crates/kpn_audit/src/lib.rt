@@ -12,6 +12,7 @@ mod outside;
 mod ports;
 mod processes;
 mod stepping;
+mod stored;
 mod summary;
 
 pub use auditor::audit;

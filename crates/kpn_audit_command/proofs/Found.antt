@@ -1,38 +1,46 @@
 -- What an audit of the network of a document finds, as a conclusion on the document.
-use Rattle.std.proofs.Common.{◌≡◌, ℕ, ◌≤◌, true, List, codes, length, refl, ap, ◌∙◌, subst, arith}
+use Rattle.std.proofs.Common.{◌≡◌, ℕ, ◌≤◌, List, codes, length, refl, ap, ◌∙◌, subst, arith}
 use Rattle.std.proofs.lemmas.List.FromFn.{length-map-range_with_len}
+use Rattle.kpn_net.specs.declared.tables.ChannelSpec.{ChannelSpec}
 use Rattle.kpn_net.specs.Tables.{Tables}
-use Rattle.kpn_trace.specs.declared.event.Event.{Event}
+use Rattle.kpn_trace.specs.declared.stored.Version.{Version}
+use Rattle.kpn_trace.specs.declared.stored.Version.TheVariants.{One, Two}
+use Rattle.kpn_trace.specs.declared.stored.Trace.{Trace}
 use Rattle.kpn_trace.specs.Channels.{written_on}
 use Rattle.std.specs.declared.alloc.Global.{Global}
 use Rattle.kpn_audit.specs.declared.findings.Audit.{Audit}
 use Rattle.kpn_audit.specs.declared.findings.AuditFault.TheVariants.{Illegal, Budget}
-use Rattle.kpn_audit.specs.Audit.{IsAudit, AreLeast, AreWithinSteps, IsFault}
+use Rattle.kpn_audit.specs.Stored.{audited_under, tables_for, history_in}
+use Rattle.kpn_audit.specs.Audit.{IsAudit, IsRefusal}
 use Rattle.kpn_audit_command.specs.AuditText.{audit_text, finding_line}
-use Rattle.kpn_audit_command.specs.Answers.{IsConclusion, legal, illegal, budget}
+use Rattle.kpn_audit_command.specs.Answers.{IsFoundLegal, IsConclusion, legal, illegal, budget}
+
+-- an audit is one of the same channels in each version
+same_channels : (v : Version) (t : Tables) → (audited_under v t).channels ≡ t.channels
+same_channels One t = refl
+same_channels Two t = refl
 
 -- the audit has a journal for each channel
-pub journals_within : {A : Type 0} (t own : Tables) (H : List Event) (audit : Audit A) → own ≡ t
-    → IsAudit own H audit → length audit.journals ≤ length t.channels
-journals_within t own H audit same is =
+pub journals_within : (t own : Tables) (trace : Trace Global) (audit : Audit Global) → own ≡ t
+    → IsAudit (tables_for own trace) (history_in own trace) audit → length audit.journals ≤ length t.channels
+journals_within t own trace audit same is =
     let all =
-    ap length is.journals ∙ length-map-range_with_len (written_on H) 0 (length own.channels)
+    ap length is.journals
+    ∙ length-map-range_with_len (written_on (history_in own trace)) 0 (length (tables_for own trace).channels)
+    ∙ ap (λ (channels : List ChannelSpec). length channels) (same_channels trace.version own)
     ∙ ap (λ (n : Tables). length n.channels) same in
     omega (arith, all)
 
-module _ (t own : Tables) (same : own ≡ t) (names : List (List ℕ)) (H : List Event) (steps : ℕ) (text : List ℕ) where
-  pub concludes_legal : (audit : Audit Global) → IsAudit own H audit → (audit.exact ≡ true → AreLeast own H audit)
-      → AreWithinSteps own H steps (length H)
-      → text ≡ audit_text names audit → IsConclusion t names H steps text 0
-  concludes_legal audit is least within made =
-      legal audit (subst (λ n. IsAudit n H audit) same is)
-      (λ exact. subst (λ n. AreLeast n H audit) same (least exact))
-      (subst (λ n. AreWithinSteps n H steps (length H)) same within) made refl
+module _ (t own : Tables) (same : own ≡ t) (names : List (List ℕ)) (trace : Trace Global) (steps : ℕ) (text : List ℕ)
+  where
+    pub concludes_legal : (audit : Audit Global) → IsFoundLegal own trace steps audit → text ≡ audit_text names audit
+        → IsConclusion t names trace steps text 0
+    concludes_legal audit is made = legal audit (subst (λ n. IsFoundLegal n trace steps audit) same is) made refl
 
-  pub concludes_illegal : (k : ℕ) → IsFault own H steps (Illegal k) → text ≡ finding_line (codes "illegal") k
-      → IsConclusion t names H steps text 1
-  concludes_illegal k at made = illegal k (subst (λ n. IsFault n H steps (Illegal k)) same at) made refl
+    pub concludes_illegal : (k : ℕ) → IsRefusal own trace steps (Illegal k) → text ≡ finding_line (codes "illegal") k
+        → IsConclusion t names trace steps text 1
+    concludes_illegal k at made = illegal k (subst (λ n. IsRefusal n trace steps (Illegal k)) same at) made refl
 
-  pub concludes_budget : (k : ℕ) → IsFault own H steps (Budget k) → text ≡ finding_line (codes "budget") k
-      → IsConclusion t names H steps text 5
-  concludes_budget k at made = budget k (subst (λ n. IsFault n H steps (Budget k)) same at) made refl
+    pub concludes_budget : (k : ℕ) → IsRefusal own trace steps (Budget k) → text ≡ finding_line (codes "budget") k
+        → IsConclusion t names trace steps text 5
+    concludes_budget k at made = budget k (subst (λ n. IsRefusal n trace steps (Budget k)) same at) made refl

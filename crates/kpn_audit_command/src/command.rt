@@ -1,7 +1,7 @@
 //! The command: a network and a trace are read, and what an audit finds is written.
 ghost use Rattle.std.specs.Prelude.{IfOk, IfErr};
 ghost use Rattle.kpn_answers.specs.Answer.{Concludes};
-ghost use Rattle.kpn_audit_command.specs.Answers.{IsTraced, IsRefusalOfTrace, IsAudited, IsRefusalOfAudit, IsConclusion, IsWantOfMemory};
+ghost use Rattle.kpn_audit_command.specs.Answers.{IsTraced, IsRefusalOfTrace, IsAudited, IsRefusalOfAudit, IsConclusion, IsRefusalToConclude};
 
 use crate::audit_text::{finding_text, text_of};
 use kpn_answers::answer::{Conclusion, conclude};
@@ -10,7 +10,7 @@ use kpn_answers::refusal::Refusal;
 use kpn_answers::shelf::Shelf;
 use kpn_audit::{AuditFault, audit};
 use kpn_text::Document;
-use kpn_trace::Event;
+use kpn_trace::Trace;
 use kpn_trace_text::read_trace;
 use std::alloc::Global;
 use std::io::Write;
@@ -48,34 +48,33 @@ fn answer<S: Shelf>(
     ensures refused { IfErr result (IsRefusalOfAudit (S.may_give shelf.now) file.now trace.now) }
 {
     let document = load_document(alloc, shelf, file)?;
-    let events = load_trace(alloc, shelf, trace)?;
-    conclusion(alloc, &document, &events, steps)
+    let trace = load_trace(alloc, shelf, trace)?;
+    conclusion(alloc, &document, &trace, steps)
 }
 
-// The events of a trace in a file.
-fn load_trace<S: Shelf>(alloc: Global, shelf: &S, trace: &str) -> Result<Vec<Event>, Refusal>
-    ensures ok { IfOk result (λ events.
-        IsTraced (S.may_give shelf.now) trace.now events.items) }
-    ensures refused { IfErr result (IsRefusalOfTrace (S.may_give shelf.now) trace.now) }
+// The trace in a file.
+fn load_trace<S: Shelf>(alloc: Global, shelf: &S, file: &str) -> Result<Trace, Refusal>
+    ensures ok { IfOk result (IsTraced (S.may_give shelf.now) file.now) }
+    ensures refused { IfErr result (IsRefusalOfTrace (S.may_give shelf.now) file.now) }
 {
-    let bytes = shelf.load(alloc, trace).map_err(Refusal::Input)?;
-    let events = read_trace(alloc, &bytes).map_err(Refusal::Trace)?;
-    Ok(events)
+    let bytes = shelf.load(alloc, file).map_err(Refusal::Input)?;
+    let trace = read_trace(alloc, &bytes).map_err(Refusal::Trace)?;
+    Ok(trace)
 }
 
-// What is found of the events of a network.
+// What is found of a trace of a network.
 fn conclusion(
     alloc: Global,
     document: &Document,
-    events: &[Event],
+    trace: &Trace,
     steps: u64,
 ) -> Result<Conclusion, Refusal>
     ensures ok { let d = document.now in IfOk result (λ conclusion.
-        IsConclusion d.tables d.names.channels events.now steps
+        IsConclusion d.tables d.names.channels trace.now steps
         conclusion.text.items conclusion.status) }
-    ensures refused { IfErr result (λ refusal. IsWantOfMemory refusal) }
+    ensures refused { IfErr result (IsRefusalToConclude document.now.tables trace.now) }
 {
-    match audit(alloc, document.network(), events, steps) {
+    match audit(alloc, document.network(), trace, steps) {
         Ok(audit) => Ok(Conclusion {
             text: text_of(alloc, document, &audit)?,
             status: 0,
@@ -88,6 +87,7 @@ fn conclusion(
             text: finding_text(alloc, "budget", k)?,
             status: 5,
         }),
+        Err(AuditFault::PolicyDiffers) => Err(Refusal::PolicyDiffers),
         Err(AuditFault::NoMemory) => Err(Refusal::NoMemoryToAudit),
     }
 }

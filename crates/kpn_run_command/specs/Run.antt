@@ -2,7 +2,9 @@
 use Rattle.std.specs.Prelude.{◌≡◌, ℕ, List, Option, Some, None, Ok}
 use Rattle.kpn_report.specs.declared.outcome.Limits.{Limits}
 use Rattle.kpn_report.specs.Reports.{events_of}
+use Rattle.kpn_net.specs.Tables.{Tables}
 use Rattle.kpn_trace.specs.declared.event.Event.{Event}
+use Rattle.kpn_trace.specs.declared.stored.Version.TheVariants.{Two}
 use Rattle.kpn_trace_text.specs.TraceText.{trace_text}
 use Rattle.kpn_answers.specs.declared.refusal.Refusal.{Refusal}
 use Rattle.kpn_answers.specs.declared.refusal.Refusal.TheVariants.{Output, NoMemory}
@@ -16,13 +18,15 @@ use Rattle.kpn_run_command.specs.Target.{IsNoInput}
 
 -- ---- the trace
 
--- The trace that was asked for is stored: under its name the shelf may give the text of these events, and its other
--- files are as they were. Where none was asked for the shelf is as it was.
-abbrev pub IsStored : {S : Type 0} → (may_give : S → Loads) (trace : Option (List ℕ)) → List Event
+-- The trace that was asked for is stored: under its name the shelf may give the text of these events in version 2, with
+-- the policy and the growth of the network, and its other files are as they were. Where none was asked for the shelf is
+-- as it was.
+abbrev pub IsStored : {S : Type 0} → (may_give : S → Loads) (trace : Option (List ℕ)) → Tables → List Event
     → (shelf kept : S) → Type 0
-IsStored may_give None events shelf kept = kept ≡ shelf
-IsStored may_give (Some name) events shelf kept =
-    may_give kept name (Ok (trace_text events)) × KeepsOthers (may_give shelf) (may_give kept) name
+IsStored may_give None t events shelf kept = kept ≡ shelf
+IsStored may_give (Some name) t events shelf kept =
+    may_give kept name (Ok (trace_text Two t.policy t.growth events))
+    × KeepsOthers (may_give shelf) (may_give kept) name
 
 -- Why a trace that was asked for is not stored: there is no memory for its text, and the shelf is as it was; or the
 -- shelf did not take it, and its other files are as they were.
@@ -45,7 +49,7 @@ pub data TellsReport {S O E : Type 0} (may_give : S → Loads) (contents : O →
     (limits : Limits) (trace : Option (List ℕ)) (reported : Reported)
     (shelf kept : S) (out written : O) (err told : E) (status : ℕ) : Type 0 where
   -- the trace is stored, where one was asked for; then the text goes out, or it can't be made or written
-  traced : IsStored may_give trace (events_of reported.report) shelf kept →
+  traced : IsStored may_give trace reported.inputs.document.tables (events_of reported.report) shelf kept →
       Concludes contents (IsReportText limits reported) (λ refusal. refusal ≡ NoMemory)
       out written err told status →
       TellsReport may_give contents limits trace reported shelf kept out written err told status

@@ -77,7 +77,14 @@ fn tell<S: Shelf, O: Write, E: Write>(
         (option_map (λ name. name.now) request.now.trace) reported.now
         shelf.old shelf.new out.old out.new err.old err.new result }
 {
-    match store_trace(alloc, shelf, request.trace, &reported.report.history) {
+    let network = reported.inputs.document.network();
+    match store_trace(
+        alloc,
+        shelf,
+        request.trace,
+        network,
+        &reported.report.history,
+    ) {
         Ok(()) => conclude(conclusion_of(alloc, &request.limits, reported), out, err),
         Err(refusal) => refusal.report(err),
     }

@@ -5,22 +5,29 @@ use Rattle.kpn_trace.proofs.Growth.{none_owed_at_first}
 use Rattle.kpn_audit.specs.Judged.{IsJudged}
 use Rattle.kpn_audit.specs.Audit.{AreWithinSteps}
 use Rattle.kpn_audit.proofs.Replaying.{followed_by, illegal_at, budget_at, none_within, within_more, follows_in_time, illegal_in_time}
+use Rattle.kpn_audit.specs.Stored.{history_of}
+use Rattle.kpn_audit.proofs.Stored.{told_there, is_there, history_of-length}
 use Rattle.kpn_audit.proofs.auditor.replay.Goals as goal
 
 pub returns-in-Illegal-clause-refused : goal.returns-in-Illegal-clause-refused
 returns-in-Illegal-clause-refused g c =
     let t = c.args.network.now in
-    let H = c.args.events.now in
+    let v = c.args.version in
+    let H = history_of v t c.args.events.now in
     let k = c.events.k in
-    let e = get_or H k (Get 0 0 (pos 0)) in
+    let e = c.told-event.result in
+    let below = is_there v t c.args.events.now k c.events-test.true in
+    let is =
+    told_there v t c.args.events.now k (Get 0 0 (pos 0)) e c.events-test.true
+    (c.told-event.ensures (take k H) c.events.invariant.run) in
     let found : IsJudged t (take k H) e c.args.quota c.events.configuration c.judge.new.configuration
     c.in_ok-growth.field-0 =
     c.in_ok-growth.ensures.judged (take k H) c.events.invariant.run c.events.invariant.owes in (
-      illegal_at t H k e (Get 0 0 (pos 0)) c.events.configuration c.events.invariant.run c.events-test.true refl
+      illegal_at t H k e (Get 0 0 (pos 0)) c.events.configuration c.events.invariant.run below is
           (subst (λ j. IsJudged t (take k H) e c.args.quota c.events.configuration c.judge.new.configuration j)
           c.in-Illegal.is found),
       within_more t H c.args.quota k e (Get 0 0 (pos 0)) c.events.configuration c.events.owed c.events.invariant.run
-          c.events.invariant.owes c.events.invariant.places c.events-test.true refl
+          c.events.invariant.owes c.events.invariant.places below is
           (λ none. c.in_ok-growth.ensures.in_time none (illegal_in_time c.in_ok-growth.field-0 c.in-Illegal.is))
           c.events.invariant.within,
     )
@@ -28,15 +35,20 @@ returns-in-Illegal-clause-refused g c =
 pub returns-in-Budget-clause-refused : goal.returns-in-Budget-clause-refused
 returns-in-Budget-clause-refused g c =
     let t = c.args.network.now in
-    let H = c.args.events.now in
+    let v = c.args.version in
+    let H = history_of v t c.args.events.now in
     let k = c.events.k in
-    let e = get_or H k (Get 0 0 (pos 0)) in
+    let e = c.told-event.result in
+    let below = is_there v t c.args.events.now k c.events-test.true in
+    let is =
+    told_there v t c.args.events.now k (Get 0 0 (pos 0)) e c.events-test.true
+    (c.told-event.ensures (take k H) c.events.invariant.run) in
     let found : IsJudged t (take k H) e c.args.quota c.events.configuration c.judge.new.configuration
     c.in_ok-growth.field-0 =
     c.in_ok-growth.ensures.judged (take k H) c.events.invariant.run c.events.invariant.owes in (
       budget_at t c.known.ensures H c.args.quota k e (Get 0 0 (pos 0)) c.events.configuration c.events.invariant.run
-          c.events.invariant.places c.events-test.true
-          refl (subst (λ j. IsJudged t (take k H) e c.args.quota c.events.configuration c.judge.new.configuration j)
+          c.events.invariant.places below
+          is (subst (λ j. IsJudged t (take k H) e c.args.quota c.events.configuration c.judge.new.configuration j)
           c.in-Budget.is found),
       c.events.invariant.within,
     )
@@ -44,20 +56,25 @@ returns-in-Budget-clause-refused g c =
 pub events-preserved : goal.events-preserved
 events-preserved g c =
     let t = c.args.network.now in
-    let H = c.args.events.now in
+    let v = c.args.version in
+    let H = history_of v t c.args.events.now in
     let k = c.events.k in
-    let e = get_or H k (Get 0 0 (pos 0)) in
+    let e = c.told-event.result in
+    let below = is_there v t c.args.events.now k c.events-test.true in
+    let is =
+    told_there v t c.args.events.now k (Get 0 0 (pos 0)) e c.events-test.true
+    (c.told-event.ensures (take k H) c.events.invariant.run) in
     let found : IsJudged t (take k H) e c.args.quota c.events.configuration c.judge.new.configuration
     c.in_ok-growth.field-0 =
     c.in_ok-growth.ensures.judged (take k H) c.events.invariant.run c.events.invariant.owes in
     let then =
     followed_by t H k e (Get 0 0 (pos 0)) c.events.configuration c.judge.new.configuration c.in-Follows.growth
-    c.events-test.true refl c.events.invariant.places
+    below is c.events.invariant.places
     (subst (λ j. IsJudged t (take k H) e c.args.quota c.events.configuration c.judge.new.configuration j)
     c.in-Follows.is found) in
     let more : AreWithinSteps t H c.args.quota (suc k) =
     within_more t H c.args.quota k e (Get 0 0 (pos 0)) c.events.configuration c.events.owed c.events.invariant.run
-    c.events.invariant.owes c.events.invariant.places c.events-test.true refl
+    c.events.invariant.owes c.events.invariant.places below is
     (λ none. c.in_ok-growth.ensures.in_time none
     (follows_in_time c.in_ok-growth.field-0 c.in-Follows.growth c.in-Follows.is)) c.events.invariant.within in
     record { run = then.run; owes = then.owes; places = then.places; within = rw (add-one k) more }
@@ -68,8 +85,15 @@ events-init g c =
       run = c.in_ok-configuration.ensures.run;
       owes = none_owed_at_first c.args.network.now;
       places = c.in_ok-configuration.ensures.frames;
-      within = none_within c.args.network.now c.args.events.now c.args.quota;
+      within = none_within c.args.network.now
+          (history_of c.args.version c.args.network.now c.args.events.now) c.args.quota;
     }
 
+pub told-event-requires : goal.told-event-requires
+told-event-requires g c =
+    (take c.events.k (history_of c.args.version c.args.network.now c.args.events.now), c.events.invariant.run)
+
 pub returns-clause-within : goal.returns-clause-within
-returns-clause-within g c k below = c.events.invariant.within k (omega arith)
+returns-clause-within g c k below =
+    let same = history_of-length c.args.version c.args.network.now c.args.events.now in
+    c.events.invariant.within k (omega (arith, below, same))

@@ -4,14 +4,15 @@ use Rattle.std.proofs.Common.{take}
 use Rattle.kpn_configuration.specs.Run.{IsRun}
 use Rattle.kpn_audit.specs.Judged.{Owes}
 use Rattle.kpn_audit.specs.Audit.{AreWithinSteps}
+use Rattle.kpn_audit.specs.Stored.{history_of}
 use Rattle.kpn_audit.proofs.Replaying.{ArePlaces}
 use Rattle.kpn_audit.proofs.auditor.replay.Given as goal
 
 abbrev pub invariant-events : goal.invariant-events
 invariant-events g l =
     record {
-      run : IsRun l.network (take l.k l.events) l.configuration;
-      owes : Owes l.network (take l.k l.events) l.configuration l.owed;
-      places : ArePlaces l.network (take l.k l.events) l.configuration;
-      within : AreWithinSteps l.network l.events l.quota l.k;
+      run : IsRun l.network (take l.k (history_of l.version l.network l.events)) l.configuration;
+      owes : Owes l.network (take l.k (history_of l.version l.network l.events)) l.configuration l.owed;
+      places : ArePlaces l.network (take l.k (history_of l.version l.network l.events)) l.configuration;
+      within : AreWithinSteps l.network (history_of l.version l.network l.events) l.quota l.k;
     }

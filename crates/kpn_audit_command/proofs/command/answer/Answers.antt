@@ -1,7 +1,5 @@
--- The files spell the document and the events, and the conclusion is theirs.
-use Rattle.std.proofs.Common.{subst}
+-- The files spell the document and the trace, and the conclusion is theirs.
 use Rattle.std.proofs.lemmas.Result.{IfOk-weaker}
-use Rattle.kpn_audit_command.specs.Answers.{IsConclusion}
 use Rattle.kpn_audit_command.proofs.command.answer.Goals as goal
 
 pub returns-clause-ok : goal.returns-clause-ok
@@ -11,10 +9,8 @@ returns-clause-ok g c =
     (λ made concluded. record {
       document = d;
       described = c.in_ok-document.ensures.ok;
-      events = c.in_ok-events.events.items;
-      traced = c.in_ok-events.ensures.ok;
-      concluded =
-          subst (λ H. IsConclusion d.tables d.names.channels H c.args.steps made.text.items made.status)
-          c.deref.ensures.value concluded;
+      stored = c.in_ok-trace.trace;
+      traced = c.in_ok-trace.ensures.ok;
+      concluded = concluded;
     })
     c.conclusion.ensures.ok

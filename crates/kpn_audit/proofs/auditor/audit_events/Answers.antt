@@ -5,26 +5,28 @@ use Rattle.kpn_trace.specs.Legal.{Legal}
 use Rattle.kpn_net.specs.Tables.{Tables}
 use Rattle.kpn_trace.specs.declared.event.Event.{Event}
 use Rattle.kpn_audit.specs.Audit.{IsFault}
+use Rattle.kpn_audit.specs.Stored.{history_of}
 use Rattle.kpn_audit.specs.declared.findings.AuditFault.{AuditFault}
-use Rattle.kpn_audit.specs.declared.findings.AuditFault.TheVariants.{Illegal, NoMemory, Budget}
+use Rattle.kpn_audit.specs.declared.findings.AuditFault.TheVariants.{Illegal, NoMemory, Budget, PolicyDiffers}
 use Rattle.kpn_audit.proofs.Replaying.{never_illegal}
 use Rattle.kpn_audit.proofs.Summed.{least_where_exact}
-use Rattle.kpn_audit.proofs.auditor.audit.Goals as goal
+use Rattle.kpn_audit.proofs.auditor.audit_events.Goals as goal
 
 by_fault : (t : Tables) (H : List Event) (quota : ℕ) → Legal t H → (fault : AuditFault) → IsFault t H quota fault
     → (fault ≡ NoMemory) ⊎ ((k : ℕ) × (fault ≡ Budget k))
 by_fault t H quota legal (Illegal k) at = absurd (never_illegal t H k legal at.0)
 by_fault t H quota legal NoMemory at = inl refl
 by_fault t H quota legal (Budget k) at = inr (k, refl)
+by_fault t H quota legal PolicyDiffers at = absurd at
 
 pub returns-in_err-configuration-clause-accepted : goal.returns-in_err-configuration-clause-accepted
 returns-in_err-configuration-clause-accepted g c legal =
     let told = err_from_is_err_and c.from_residual.result c.from_residual.ensures.1 in
     rw (told.1, told.2)
-    (by_fault c.args.network.now c.args.events.now c.args.quota legal c.in_err-configuration.field-0.0
+    (by_fault c.args.network.now (history_of c.args.version c.args.network.now c.args.events.now) c.args.quota legal c.in_err-configuration.field-0.0
     c.in_err-configuration.ensures.refused)
 
 pub returns-clause-least : goal.returns-clause-least
 returns-clause-least g c =
-    least_where_exact c.args.network.now c.known.ensures c.args.events.now c.in_ok-summary.field-0
-    (c.in_ok-summary.ensures c.args.events.now c.in_ok-configuration.ensures.run)
+    least_where_exact c.args.network.now c.known.ensures (history_of c.args.version c.args.network.now c.args.events.now) c.in_ok-summary.field-0
+    (c.in_ok-summary.ensures (history_of c.args.version c.args.network.now c.args.events.now) c.in_ok-configuration.ensures.run)

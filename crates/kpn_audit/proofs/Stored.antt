@@ -1,0 +1,73 @@
+-- The history that a stored trace tells, one event after another.
+use Rattle.std.proofs.Common.{◌≡◌, ℕ, zero, suc, ◌+◌, ◌^◌, ◌<◌, Bool, true, false, List, [], ◌∷◌, ◌++◌, length, take, get_or, Option, Some, refl, sym, ap, ◌∙◌, append-nil, append_assoc, arith}
+use Rattle.std.specs.Prelude.{nat_lt, if◌then◌else◌}
+use Rattle.std.proofs.lemmas.Bool.{ltb-true}
+use Rattle.kpn_net.specs.Tables.{Tables}
+use Rattle.kpn_net.specs.Faults.{IsNetwork}
+use Rattle.kpn_net.proofs.Networks.{limit_in_range}
+use Rattle.kpn_trace.specs.declared.event.Event.{Event}
+use Rattle.kpn_trace.specs.declared.stored.Version.{Version}
+use Rattle.kpn_trace.specs.declared.stored.Version.TheVariants.{One, Two}
+use Rattle.kpn_trace.specs.Channels.{capacity_after}
+use Rattle.kpn_trace.proofs.Capacities.{in_limit}
+use Rattle.kpn_configuration.specs.Configuration.{Configuration, channel_in}
+use Rattle.kpn_configuration.specs.Run.{IsRun}
+use Rattle.kpn_audit.specs.Stored.{told, told_behind, history_of, told_in, told_capacity, one_larger}
+
+-- ---- as many events as stand there
+
+told_behind-length : (t : Tables) (B events : List Event) → length (told_behind t B events) ≡ length events
+told_behind-length t B [] = refl
+told_behind-length t B (e ∷ events) = ap suc (told_behind-length t (B ++ told t B e ∷ []) events)
+
+pub history_of-length : (v : Version) (t : Tables) (events : List Event)
+    → length (history_of v t events) ≡ length events
+history_of-length One t events = told_behind-length t [] events
+history_of-length Two t events = refl
+
+-- ---- the event at a place
+
+told_behind-at : (t : Tables) (B events : List Event) (k : ℕ) (d : Event) → k < length events
+    → get_or (told_behind t B events) k d ≡ told t (B ++ take k (told_behind t B events)) (get_or events k d)
+told_behind-at t B [] k d below = absurd (omega arith)
+told_behind-at t B (e ∷ events) zero d below = ap (λ H. told t H e) (sym (append-nil B))
+told_behind-at t B (e ∷ events) (suc k) d below =
+    told_behind-at t (B ++ told t B e ∷ []) events k d (omega arith)
+    ∙ ap (λ H. told t H (get_or events k d))
+    (append_assoc B (told t B e ∷ []) (take k (told_behind t (B ++ told t B e ∷ []) events)))
+
+told_at : (v : Version) (t : Tables) (events : List Event) (k : ℕ) (d : Event) → k < length events
+    → get_or (history_of v t events) k d ≡ told_in v t (take k (history_of v t events)) (get_or events k d)
+told_at One t events k d below = told_behind-at t [] events k d below
+told_at Two t events k d below = refl
+
+-- what is told of the event that stands at a place is the event of the history there
+pub told_there : (v : Version) (t : Tables) (events : List Event) (k : ℕ) (d e : Event) → k < length events
+    → e ≡ told_in v t (take k (history_of v t events)) (get_or events k d) → e ≡ get_or (history_of v t events) k d
+told_there v t events k d e below is = is ∙ sym (told_at v t events k d below)
+
+pub is_there : (v : Version) (t : Tables) (events : List Event) (k : ℕ) → k < length events
+    → k < length (history_of v t events)
+is_there v t events k below = let same = history_of-length v t events in omega (arith, below, same)
+
+-- ---- the capacity that a growth tells
+
+-- one more than a capacity is a number of the machine
+pub has_room : (t : Tables) → IsNetwork t → (H : List Event) (s : Configuration) → IsRun t H s → (c cap : ℕ)
+    → c < length t.channels → (channel_in s c).capacity ≡ Some cap → cap + 1 < 2 ^ 32
+has_room t network H s run c cap there is =
+    let within = ((in_limit t network H run.legal).each c cap there
+    (sym (run.leads.channels c there).capacity ∙ is)).1 in
+    let most = (limit_in_range t network).1 in
+    omega (arith, within, most)
+
+-- the configuration shows the capacity of the history
+pub same_capacity : (t : Tables) (H : List Event) (s : Configuration) → IsRun t H s → (c n : ℕ)
+    → told_capacity t (channel_in s c).capacity c n ≡ told_capacity t (capacity_after t H c) c n
+same_capacity t H s run c n = by_test (nat_lt c (length t.channels)) refl
+  where
+    by_test : (b : Bool) → nat_lt c (length t.channels) ≡ b
+        → (if b then one_larger (channel_in s c).capacity n else n)
+        ≡ (if b then one_larger (capacity_after t H c) n else n)
+    by_test true is = ap (λ o. one_larger o n) (run.leads.channels c (ltb-true c (length t.channels) is)).capacity
+    by_test false is = refl

@@ -1,0 +1,58 @@
+//! Events of a stored trace: which event a line of each version tells.
+ghost use Rattle.std.specs.Prelude.{◌≡◌, ◌<◌, ◌^◌, ◌+◌, ℕ, List, length, Some};
+ghost use Rattle.kpn_trace.specs.declared.event.Event.{Event};
+ghost use Rattle.kpn_configuration.specs.Configuration.{channel_in, IsConfiguration};
+ghost use Rattle.kpn_configuration.specs.Run.{IsRun};
+ghost use Rattle.kpn_audit.specs.Stored.{told_in, told_capacity};
+
+use kpn_configuration::Configuration;
+use kpn_net::Network;
+use kpn_trace::{Event, Version};
+use std::alloc::Allocator;
+
+/// The event that stands next in a trace of this version. A growth of version 1 does not tell the new capacity: the
+/// configuration shows it.
+pub(crate) fn told<A: Allocator>(
+    configuration: &Configuration<A>,
+    network: &Network,
+    version: Version,
+    event: Event,
+) -> Event
+    requires run { (H : List Event) × IsRun network.now H configuration.now }
+    ensures { (H : List Event) → IsRun network.now H configuration.now
+        → result ≡ told_in version network.now H event }
+{
+    network.known();
+    match version {
+        Version::One => match event {
+            Event::Grow(p, c, n) => {
+                Event::Grow(p, c, told_capacity(configuration, network, c.into(), n))
+            }
+            _ => event,
+        },
+        Version::Two => event,
+    }
+}
+
+/// The capacity that a channel has after one more growth by one. The number stays for a source, and if there is no such
+/// channel.
+fn told_capacity<A: Allocator>(
+    configuration: &Configuration<A>,
+    network: &Network,
+    c: usize,
+    n: u32,
+) -> u32
+    requires shape { IsConfiguration network.now configuration.now }
+    requires room { (cap : ℕ) → c < length network.now.channels
+        → (channel_in configuration.now c).capacity ≡ Some cap → cap + 1 < 2 ^ 32 }
+    ensures { result
+        ≡ told_capacity network.now (channel_in configuration.now c).capacity c n }
+{
+    if c >= network.channels() {
+        return n;
+    }
+    match configuration.channel(c).cap() {
+        Some(cap) => cap + 1,
+        None => n,
+    }
+}
