@@ -4,7 +4,7 @@ use kpn_audit::audit;
 use kpn_lang::Sequence;
 use kpn_net::Network;
 use kpn_report::{Limits, Outcome, Report};
-use kpn_trace::{Event, History};
+use kpn_trace::{History, Trace, Version};
 use std::alloc::{AllocError, Global};
 
 /// The most steps that the auditor makes for an event.
@@ -19,8 +19,8 @@ pub fn is_as_wanted(
     report: &Report,
     wanted: &Report,
 ) -> Result<bool> {
-    let events = events_of(alloc, &report.history)?;
-    let Ok(audit) = audit(alloc, network, &events, STEPS) else {
+    let trace = trace_of(alloc, network, &report.history)?;
+    let Ok(audit) = audit(alloc, network, &trace, STEPS) else {
         return Ok(false);
     };
     let has_items = are_same(
@@ -57,13 +57,18 @@ fn wanted_of(items: &[i64], most: Option<u64>) -> &[i64] {
     }
 }
 
-/// The events of a history, in order.
-fn events_of(alloc: Global, history: &History) -> Result<Vec<Event>, AllocError> {
+/// The trace of a history of the network.
+fn trace_of(alloc: Global, network: &Network, history: &History) -> Result<Trace, AllocError> {
     let mut events = Vec::with_capacity(alloc, history.len())?;
     for k in 0..history.len() {
         if let Some(event) = history.at(k) {
             events.push(event)?;
         }
     }
-    Ok(events)
+    Ok(Trace {
+        version: Version::Two,
+        policy: network.policy(),
+        growth: network.growth(),
+        events: Sequence::from_vec(events),
+    })
 }

@@ -1,5 +1,5 @@
 //! A trace that is written into memory. `bench/trace` measures it beside a plain writer.
-use anyhow::{Result, anyhow};
+use anyhow::{Result, bail};
 use kpn_net::{Growth, Policy};
 use kpn_trace::{Event, History};
 use kpn_trace_text::write_trace;
@@ -42,9 +42,9 @@ pub fn written(alloc: Global, events: u32, times: u32) -> Result<(usize, u64)> {
     let mut text = Vec::with_capacity(alloc, history.len().saturating_mul(LINE))?;
     for _time in 0..times {
         text.clear();
-        write_trace(&mut text, Policy::Cycles, Growth::One, &history).map_err(|_| anyhow!(
-            "out of memory"
-        ))?;
+        if write_trace(&mut text, Policy::Cycles, Growth::One, &history).is_err() {
+            bail!("out of memory");
+        }
     }
     Ok((text.len(), sum_of(&text)))
 }

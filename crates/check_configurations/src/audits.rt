@@ -1,9 +1,10 @@
 //! Audits in a heap: one that is too small for the configuration on which an audit replays, or for the items that come,
 //! refuses, and so does each that is smaller than the first that suffices.
 use crate::feeding::copying;
+use crate::traces::trace_of;
 use kpn_audit::{AuditFault, audit};
-use kpn_net::Network;
-use kpn_trace::Event;
+use kpn_net::{Growth, Network};
+use kpn_trace::{Event, Version};
 use linked_list_allocator::LocalHeap;
 use std::alloc::{AllocError, Global};
 use std::test::Fail;
@@ -17,8 +18,9 @@ fn is_refused(
     events: &[Event],
     size: usize,
 ) -> Result<bool, AllocError> {
+    let trace = trace_of(alloc, Version::Two, Growth::One, events)?;
     let heap = LocalHeap::new(alloc, size)?;
-    let found = audit(&heap, network, events, 1_000);
+    let found = audit(&heap, network, &trace, 1_000);
     Ok(matches!(found, Err(AuditFault::NoMemory)))
 }
 
@@ -29,8 +31,9 @@ fn is_legal(
     events: &[Event],
     size: usize,
 ) -> Result<bool, AllocError> {
+    let trace = trace_of(alloc, Version::Two, Growth::One, events)?;
     let heap = LocalHeap::new(alloc, size)?;
-    Ok(audit(&heap, network, events, 1_000).is_ok())
+    Ok(audit(&heap, network, &trace, 1_000).is_ok())
 }
 
 /// The size of the first heap, of 64 bytes and then of 16 more each time, in which an audit of these events is not

@@ -1,9 +1,10 @@
-//! Audits of a channel that grows, as its network says.
+//! Audits of a channel that grows, as its network says, or as version 1 of traces has it.
+use crate::traces::trace_of;
 use kpn_audit::{AuditFault, audit};
 use kpn_lang::{Expr, Program, Sequence, Stmt};
 use kpn_net::ChannelSpec::Inner;
 use kpn_net::{Growth, Instance, Network, Policy};
-use kpn_trace::Event;
+use kpn_trace::{Event, Version};
 use std::alloc::Global;
 use std::test::Fail;
 
@@ -45,17 +46,37 @@ const DOUBLED: [Event; 8] = [
     Event::Put(0, 0, 4),
 ];
 
-/// The capacity that an audit finds at the end, or why it refuses the events.
-fn audited(alloc: Global, network: &Network) -> Result<Option<u32>, AuditFault> {
-    let found = audit(alloc, network, &DOUBLED, 1_000)?;
+/// The capacity that an audit finds at the end, or why it refuses the events as a trace of this version and growth.
+fn audited(
+    alloc: Global,
+    network: &Network,
+    version: Version,
+    growth: Growth,
+) -> Result<Option<u32>, AuditFault> {
+    let trace = trace_of(alloc, version, growth, &DOUBLED)?;
+    let found = audit(alloc, network, &trace, 1_000)?;
     Ok(found.caps.as_slice().get(0).copied().unwrap_or(None))
 }
 
 #[test]
-fn a_channel_grows_as_its_network_says(rt: HostRuntime) -> Result<(), Fail> {
-    let doubling = writing_four(rt.alloc(), Growth::Double)?;
-    assert_eq!(rt; audited(rt.alloc(), &doubling), Ok(Some(4)));
-    let by_one = writing_four(rt.alloc(), Growth::One)?;
-    assert_eq!(rt; audited(rt.alloc(), &by_one), Err(AuditFault::Illegal(5)));
+fn a_channel_grows_as_network_and_trace_say(rt: HostRuntime) -> Result<(), Fail> {
+    use Growth::{Double, One};
+    let doubling = writing_four(rt.alloc(), Double)?;
+    let by_one = writing_four(rt.alloc(), One)?;
+    let rows = [
+        (&doubling, Version::Two, Double, Ok(Some(4))),
+        (
+            &by_one,
+            Version::Two,
+            Double,
+            Err(AuditFault::PolicyDiffers),
+        ),
+        (&by_one, Version::Two, One, Err(AuditFault::Illegal(5))),
+        (&by_one, Version::One, One, Err(AuditFault::Illegal(7))),
+        (&doubling, Version::One, One, Err(AuditFault::Illegal(7))),
+    ];
+    for (network, version, growth, found) in rows {
+        assert_eq!(rt; audited(rt.alloc(), network, version, growth), found);
+    }
     Ok(())
 }

@@ -10,3 +10,5 @@ mod feeding;
 mod growing;
 #[cfg(test)]
 mod refusals;
+#[cfg(test)]
+mod traces;
