@@ -1,6 +1,6 @@
 -- What an audit says of a list of events: that it is a legal history, with what stands after it; or which event is the
 -- first after which no legal history goes on; or at which event a process used up the steps that it was allowed.
-use Rattle.std.specs.Prelude.{◌≡◌, ◌↔◌, ℕ, ◌<◌, suc, true, List, length, take, map, Some, slice_get, slice_index_or, []}
+use Rattle.std.specs.Prelude.{◌≡◌, ◌↔◌, ℕ, ◌<◌, suc, true, List, length, take, map, Some, slice_get, slice_index_or, [], None}
 use Rattle.kpn_net.specs.Tables.{Tables, program_of}
 use Rattle.kpn_net.specs.Faults.{channel_numbers}
 use Rattle.kpn_net.specs.Iteration.{IsLeast, lists_of}
@@ -9,11 +9,12 @@ use Rattle.kpn_step.specs.Step.{step_of, Steps}
 use Rattle.kpn_step.specs.Stops.{IsBetween}
 use Rattle.kpn_trace.specs.declared.event.Event.{Event}
 use Rattle.kpn_trace.specs.Talks.{is_of}
-use Rattle.kpn_trace.specs.Channels.{written_on, capacity_after, fed}
+use Rattle.kpn_trace.specs.Channels.{written_on, read_on, capacity_after, fed}
+use Rattle.kpn_trace.specs.Waiting.{waits_of}
 use Rattle.kpn_trace.specs.Ends.{IsQuiet}
 use Rattle.kpn_trace.specs.Legal.{HasNumbers, CanGo, Legal}
 use Rattle.kpn_trace.specs.Stops.{OwesNothing}
-use Rattle.kpn_configuration.specs.Run.{StandsAfter}
+use Rattle.kpn_configuration.specs.Run.{IsEndOf, StandsAfter}
 use Rattle.kpn_audit.specs.Place.{IsPlaceAfter, StopsWithin}
 use Rattle.kpn_audit.specs.declared.findings.Audit.{Audit}
 use Rattle.kpn_audit.specs.declared.findings.AuditFault.{AuditFault}
@@ -21,11 +22,16 @@ use Rattle.kpn_audit.specs.declared.findings.AuditFault.TheVariants.{Illegal, No
 use Rattle.kpn_trace.specs.declared.stored.Trace.{Trace}
 use Rattle.kpn_audit.specs.Stored.{Differs, tables_for, history_in}
 
--- the events are a legal history, after which these are the journals and the capacities, and which is quiet or not
+-- the events are a legal history, after which these are the journals, the numbers of items read, the capacities, the
+-- waits and the ends, and which is quiet or not
 pub record IsAudit {A : Type 0} (t : Tables) (H : List Event) (audit : Audit A) : Type 0 where
   pub legal : Legal t H
   pub journals : audit.journals ≡ lists_of t (written_on H)
+  pub reads : audit.reads ≡ map (λ c. length (read_on H c)) (channel_numbers t)
   pub caps : audit.caps ≡ map (capacity_after t H) (channel_numbers t)
+  pub waits : audit.waits ≡ waits_of t H
+  pub process_count : length audit.ends ≡ length t.instances
+  pub ends : (p : ℕ) → p < length t.instances → IsEndOf H p (slice_index_or audit.ends p None)
   pub exact : (audit.exact ≡ true) ↔ IsQuiet t H
 
 -- the journals are the least solution for what was fed

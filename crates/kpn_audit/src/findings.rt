@@ -4,15 +4,23 @@ ghost use Rattle.kpn_audit.specs.declared.findings.AuditFault.TheVariants.{NoMem
 
 use kpn_chan::Journal;
 use kpn_lang::Sequence;
+use kpn_net::Wait;
+use kpn_trace::How;
 use std::alloc::{AllocError, Allocator, Global};
 
-/// What stands after a legal history. The lists have an entry for each channel, in order of number.
+/// What stands after a legal history. Each list has an entry for each channel, or for each process, in order of number.
 #[derive(Debug, Drop)]
 pub struct Audit<A: Allocator = Global> {
     /// All items that were written on the channel, in order.
     pub journals: Sequence<Journal<A>, A>,
+    /// How many items were read from the channel.
+    pub reads: Sequence<usize, A>,
     /// How many may lie unread; None for a source.
     pub caps: Sequence<Option<u32>, A>,
+    /// What the process waits for.
+    pub waits: Sequence<Wait, A>,
+    /// How the process has ended; None if it has not.
+    pub ends: Sequence<Option<How>, A>,
     /// Whether each process has ended or is blocked on an empty channel.
     pub exact: bool,
 }

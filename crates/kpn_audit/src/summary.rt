@@ -1,15 +1,17 @@
 //! What stands after a history.
-ghost use Rattle.std.specs.Prelude.{◌≡◌, List, map, IfOk};
+ghost use Rattle.std.specs.Prelude.{◌≡◌, List, length, map, IfOk};
+ghost use Rattle.std.specs.List.{range_with_len};
 ghost use Rattle.kpn_net.specs.Faults.{channel_numbers};
 ghost use Rattle.kpn_trace.specs.declared.event.Event.{Event};
-ghost use Rattle.kpn_configuration.specs.Configuration.{channel_in, IsConfiguration};
+ghost use Rattle.kpn_configuration.specs.Configuration.{channel_in, wait_in, end_in, IsConfiguration};
 ghost use Rattle.kpn_configuration.specs.Run.{IsRun};
 ghost use Rattle.kpn_audit.specs.Audit.{IsAudit};
 
 use crate::findings::Audit;
 use kpn_configuration::Configuration;
 use kpn_lang::Sequence;
-use kpn_net::Network;
+use kpn_net::{Network, Wait};
+use kpn_trace::How;
 use std::alloc::{AllocError, Allocator};
 
 /// What a configuration shows of the history that led to it; its journals are moved. The error is that memory ran out.
@@ -23,14 +25,37 @@ pub(crate) fn summary<A: Allocator + Copy>(
         → IfOk result (λ audit. IsAudit network.now H audit) }
 {
     network.known();
+    let reads = read_counts(alloc, network, &configuration)?;
     let caps = capacities(alloc, network, &configuration)?;
+    let waits = waits(alloc, network, &configuration)?;
+    let ends = ends(alloc, network, &configuration)?;
     let exact = configuration.is_quiet(network);
     let journals = configuration.into_journals(alloc)?;
     Ok(Audit {
         journals,
+        reads,
         caps,
+        waits,
+        ends,
         exact,
     })
+}
+
+/// How many items were read from each channel.
+fn read_counts<A: Allocator>(
+    alloc: A,
+    network: &Network,
+    configuration: &Configuration<A>,
+) -> Result<Sequence<usize, A>, AllocError>
+    requires { IsConfiguration network.now configuration.now }
+    ensures { IfOk result (λ reads. reads
+        ≡ map (λ c. (channel_in configuration.now c).read) (channel_numbers network.now)) }
+{
+    let mut reads = Vec::with_capacity(alloc, network.channels())?;
+    for c in 0..network.channels() {
+        reads.push(configuration.channel(c).read_count())?;
+    }
+    Ok(Sequence::from_vec(reads))
 }
 
 /// The capacity of each channel.
@@ -48,4 +73,38 @@ fn capacities<A: Allocator>(
         caps.push(configuration.channel(c).cap())?;
     }
     Ok(Sequence::from_vec(caps))
+}
+
+/// What each process waits for.
+fn waits<A: Allocator>(
+    alloc: A,
+    network: &Network,
+    configuration: &Configuration<A>,
+) -> Result<Sequence<Wait, A>, AllocError>
+    requires { IsConfiguration network.now configuration.now }
+    ensures { IfOk result (λ waits. waits
+        ≡ map (wait_in configuration.now) (range_with_len 0 (length network.now.instances))) }
+{
+    let mut waits = Vec::with_capacity(alloc, network.instances())?;
+    for p in 0..network.instances() {
+        waits.push(configuration.wait(p))?;
+    }
+    Ok(Sequence::from_vec(waits))
+}
+
+/// How each process has ended.
+fn ends<A: Allocator>(
+    alloc: A,
+    network: &Network,
+    configuration: &Configuration<A>,
+) -> Result<Sequence<Option<How>, A>, AllocError>
+    requires { IsConfiguration network.now configuration.now }
+    ensures { IfOk result (λ ends. ends
+        ≡ map (end_in configuration.now) (range_with_len 0 (length network.now.instances))) }
+{
+    let mut ends = Vec::with_capacity(alloc, network.instances())?;
+    for p in 0..network.instances() {
+        ends.push(configuration.end_of(p))?;
+    }
+    Ok(Sequence::from_vec(ends))
 }
