@@ -1,5 +1,5 @@
 -- What an audit of the network of a document finds, as a conclusion on the document.
-use Rattle.std.proofs.Common.{◌≡◌, ℕ, ◌≤◌, List, codes, length, refl, ap, ◌∙◌, subst, arith}
+use Rattle.std.proofs.Common.{◌≡◌, ℕ, ◌≤◌, List, length, refl, ap, ◌∙◌, subst, arith}
 use Rattle.std.proofs.lemmas.List.FromFn.{length-map-range_with_len}
 use Rattle.kpn_net.specs.declared.tables.ChannelSpec.{ChannelSpec}
 use Rattle.kpn_net.specs.Tables.{Tables}
@@ -9,11 +9,10 @@ use Rattle.kpn_trace.specs.declared.stored.Trace.{Trace}
 use Rattle.kpn_trace.specs.Channels.{written_on}
 use Rattle.std.specs.declared.alloc.Global.{Global}
 use Rattle.kpn_audit.specs.declared.findings.Audit.{Audit}
-use Rattle.kpn_audit.specs.declared.findings.AuditFault.TheVariants.{Illegal, Budget}
 use Rattle.kpn_audit.specs.Stored.{audited_under, tables_for, history_in}
-use Rattle.kpn_audit.specs.Audit.{IsAudit, IsRefusal}
-use Rattle.kpn_audit_command.specs.AuditText.{audit_text, finding_line}
-use Rattle.kpn_audit_command.specs.Answers.{IsFoundLegal, IsConclusion, legal, illegal, budget}
+use Rattle.kpn_audit.specs.Audit.{IsAudit}
+use Rattle.kpn_audit_command.specs.AuditText.{audit_text}
+use Rattle.kpn_audit_command.specs.Answers.{IsFoundLegal, IsNotLegal, IsConclusion, legal, not_legal}
 
 -- an audit is one of the same channels in each version
 same_channels : (v : Version) (t : Tables) → (audited_under v t).channels ≡ t.channels
@@ -31,16 +30,14 @@ journals_within t own trace audit same is =
     ∙ ap (λ (n : Tables). length n.channels) same in
     omega (arith, all)
 
-module _ (t own : Tables) (same : own ≡ t) (names : List (List ℕ)) (trace : Trace Global) (steps : ℕ) (text : List ℕ)
-  where
-    pub concludes_legal : (audit : Audit Global) → IsFoundLegal own trace steps audit → text ≡ audit_text names audit
-        → IsConclusion t names trace steps text 0
-    concludes_legal audit is made = legal audit (subst (λ n. IsFoundLegal n trace steps audit) same is) made refl
+pub concludes_legal : (t own : Tables) → own ≡ t → (names : List (List ℕ)) (trace : Trace Global) (steps : ℕ)
+    (audit : Audit Global) (text : List ℕ) → IsFoundLegal own trace steps audit → text ≡ audit_text names audit
+    → IsConclusion t names trace steps text 0
+concludes_legal t own same names trace steps audit text is made =
+    legal audit (subst (λ n. IsFoundLegal n trace steps audit) same is) made refl
 
-    pub concludes_illegal : (k : ℕ) → IsRefusal own trace steps (Illegal k) → text ≡ finding_line (codes "illegal") k
-        → IsConclusion t names trace steps text 1
-    concludes_illegal k at made = illegal k (subst (λ n. IsRefusal n trace steps (Illegal k)) same at) made refl
-
-    pub concludes_budget : (k : ℕ) → IsRefusal own trace steps (Budget k) → text ≡ finding_line (codes "budget") k
-        → IsConclusion t names trace steps text 5
-    concludes_budget k at made = budget k (subst (λ n. IsRefusal n trace steps (Budget k)) same at) made refl
+pub concludes_other : (t own : Tables) → own ≡ t → (names : List (List ℕ)) (trace : Trace Global) (steps : ℕ)
+    (text : List ℕ) (status : ℕ) → IsNotLegal own trace steps text status
+    → IsConclusion t names trace steps text status
+concludes_other t own same names trace steps text status is =
+    not_legal (subst (λ n. IsNotLegal n trace steps text status) same is)

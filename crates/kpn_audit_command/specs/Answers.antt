@@ -14,6 +14,8 @@ use Rattle.kpn_answers.specs.declared.refusal.Refusal.{Refusal}
 use Rattle.kpn_answers.specs.declared.refusal.Refusal.TheVariants as refusal
 use Rattle.kpn_answers.specs.Shelf.{Loads, IsRefusalOfLoad, IsLoadedAs}
 use Rattle.kpn_answers.specs.Description.{IsDescribed, IsRefused}
+use Rattle.kpn_audit_command.specs.declared.auditing.Audited.{Audited}
+use Rattle.kpn_audit_command.specs.declared.auditing.Audited.TheVariants.{Legal, NotLegal}
 use Rattle.kpn_audit_command.specs.AuditText.{audit_text, finding_line}
 
 -- a file may give bytes that spell this trace
@@ -31,17 +33,25 @@ pub record IsFoundLegal (t : Tables) (trace : Trace Global) (steps : ℕ) (audit
   pub least : audit.exact ≡ true → AreLeast (tables_for t trace) (history_in t trace) audit
   pub within : AreWithinSteps (tables_for t trace) (history_in t trace) steps (length (history_in t trace))
 
--- the text and the status for a trace of the network's rules of growth: what stands after a legal history, 0; the first
--- event that is not legal, 1; or the event that its process did not come to in so many steps, 5. One of them alone
--- holds of a trace
+-- the text and the status for a trace whose history is not found legal: the first event that is not legal, 1; or the
+-- event that its process did not come to in so many steps, 5
+pub data IsNotLegal (t : Tables) (trace : Trace Global) (steps : ℕ) (text : List ℕ) (status : ℕ) : Type 0 where
+  illegal : (k : ℕ) → IsRefusal t trace steps (Illegal k) → text ≡ finding_line (codes "illegal") k → status ≡ 1
+      → IsNotLegal t trace steps text status
+  budget : (k : ℕ) → IsRefusal t trace steps (Budget k) → text ≡ finding_line (codes "budget") k → status ≡ 5
+      → IsNotLegal t trace steps text status
+
+-- what an audit of a trace of the network's rules of growth finds. One case alone holds of a trace
+abbrev pub IsFinding : Tables → Trace Global → (steps : ℕ) → Audited → Type 0
+IsFinding t trace steps (Legal audit) = IsFoundLegal t trace steps audit
+IsFinding t trace steps (NotLegal conclusion) = IsNotLegal t trace steps conclusion.text.items conclusion.status
+
+-- the text and the status for a trace: what stands after a legal history, 0, or what is wrong
 pub data IsConclusion (t : Tables) (names : List (List ℕ)) (trace : Trace Global) (steps : ℕ) (text : List ℕ)
     (status : ℕ) : Type 0 where
   legal : (audit : Audit Global) → IsFoundLegal t trace steps audit → text ≡ audit_text names audit → status ≡ 0
       → IsConclusion t names trace steps text status
-  illegal : (k : ℕ) → IsRefusal t trace steps (Illegal k) → text ≡ finding_line (codes "illegal") k → status ≡ 1
-      → IsConclusion t names trace steps text status
-  budget : (k : ℕ) → IsRefusal t trace steps (Budget k) → text ≡ finding_line (codes "budget") k → status ≡ 5
-      → IsConclusion t names trace steps text status
+  not_legal : IsNotLegal t trace steps text status → IsConclusion t names trace steps text status
 
 -- the one file spells a network, the other a trace, and this is the text and the status for it
 pub record IsAudited (may_give : Loads) (file trace : List ℕ) (steps : ℕ) (text : List ℕ)
@@ -74,7 +84,7 @@ IsRefusalOfAudit may_give file trace refusal.NoMemoryToAudit = ⊤
 IsRefusalOfAudit may_give file trace refusal.NoMemory = ⊤
 IsRefusalOfAudit may_give file trace other = ⊥
 
--- ---- scaffolding: what the code's parts answer
+-- ---- why there is no finding
 
 -- why a file gives no trace
 abbrev pub IsRefusalOfTrace : (may_give : Loads) (trace : List ℕ) → Refusal → Type 0
@@ -82,9 +92,9 @@ IsRefusalOfTrace may_give trace (refusal.Input fault) = IsRefusalOfLoad may_give
 IsRefusalOfTrace may_give trace (refusal.Trace fault) = IsRefusedTrace may_give trace fault
 IsRefusalOfTrace may_give trace other = ⊥
 
--- why nothing is concluded from a trace: its rules of growth are others, or memory ran out
-abbrev pub IsRefusalToConclude : Tables → Trace Global → Refusal → Type 0
-IsRefusalToConclude t trace refusal.PolicyDiffers = Differs t trace
-IsRefusalToConclude t trace refusal.NoMemoryToAudit = ⊤
-IsRefusalToConclude t trace refusal.NoMemory = ⊤
-IsRefusalToConclude t trace other = ⊥
+-- why an audit finds nothing: the rules of growth of the trace are others, or memory ran out
+abbrev pub IsNoFinding : Tables → Trace Global → Refusal → Type 0
+IsNoFinding t trace refusal.PolicyDiffers = Differs t trace
+IsNoFinding t trace refusal.NoMemoryToAudit = ⊤
+IsNoFinding t trace refusal.NoMemory = ⊤
+IsNoFinding t trace other = ⊥

@@ -1,17 +1,16 @@
 //! The command: a network and a trace are read, and what an audit finds is written.
 ghost use Rattle.std.specs.Prelude.{IfOk, IfErr};
 ghost use Rattle.kpn_answers.specs.Answer.{Concludes};
-ghost use Rattle.kpn_audit_command.specs.Answers.{IsTraced, IsRefusalOfTrace, IsAudited, IsRefusalOfAudit, IsConclusion, IsRefusalToConclude};
+ghost use Rattle.kpn_audit_command.specs.Answers.{IsAudited, IsRefusalOfAudit, IsConclusion, IsNoFinding};
 
-use crate::audit_text::{finding_text, text_of};
+use crate::audit_text::text_of;
+use crate::auditing::{Audited, audit_trace, load_trace};
 use kpn_answers::answer::{Conclusion, conclude};
 use kpn_answers::description::load_document;
 use kpn_answers::refusal::Refusal;
 use kpn_answers::shelf::Shelf;
-use kpn_audit::{AuditFault, audit};
 use kpn_text::Document;
 use kpn_trace::Trace;
-use kpn_trace_text::read_trace;
 use std::alloc::Global;
 use std::io::Write;
 
@@ -52,17 +51,7 @@ fn answer<S: Shelf>(
     conclusion(alloc, &document, &trace, steps)
 }
 
-// The trace in a file.
-fn load_trace<S: Shelf>(alloc: Global, shelf: &S, file: &str) -> Result<Trace, Refusal>
-    ensures ok { IfOk result (IsTraced (S.may_give shelf.now) file.now) }
-    ensures refused { IfErr result (IsRefusalOfTrace (S.may_give shelf.now) file.now) }
-{
-    let bytes = shelf.load(alloc, file).map_err(Refusal::Input)?;
-    let trace = read_trace(alloc, &bytes).map_err(Refusal::Trace)?;
-    Ok(trace)
-}
-
-// What is found of a trace of a network.
+// The text for what is found, and its status.
 fn conclusion(
     alloc: Global,
     document: &Document,
@@ -72,22 +61,13 @@ fn conclusion(
     ensures ok { let d = document.now in IfOk result (λ conclusion.
         IsConclusion d.tables d.names.channels trace.now steps
         conclusion.text.items conclusion.status) }
-    ensures refused { IfErr result (IsRefusalToConclude document.now.tables trace.now) }
+    ensures refused { IfErr result (IsNoFinding document.now.tables trace.now) }
 {
-    match audit(alloc, document.network(), trace, steps) {
-        Ok(audit) => Ok(Conclusion {
+    match audit_trace(alloc, document.network(), trace, steps)? {
+        Audited::Legal(audit) => Ok(Conclusion {
             text: text_of(alloc, document, &audit)?,
             status: 0,
         }),
-        Err(AuditFault::Illegal(k)) => Ok(Conclusion {
-            text: finding_text(alloc, "illegal", k)?,
-            status: 1,
-        }),
-        Err(AuditFault::Budget(k)) => Ok(Conclusion {
-            text: finding_text(alloc, "budget", k)?,
-            status: 5,
-        }),
-        Err(AuditFault::PolicyDiffers) => Err(Refusal::PolicyDiffers),
-        Err(AuditFault::NoMemory) => Err(Refusal::NoMemoryToAudit),
+        Audited::NotLegal(conclusion) => Ok(conclusion),
     }
 }

@@ -2,6 +2,7 @@
 #![tactic(auto)]
 
 mod audit_text;
+pub mod auditing;
 mod command;
 
 pub use command::audit_command;
