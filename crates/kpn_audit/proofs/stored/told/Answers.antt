@@ -1,7 +1,7 @@
 -- The capacity of the channel in the configuration is that of the history.
 use Rattle.std.proofs.Common.{ap, ◌∙◌}
 use Rattle.kpn_trace.specs.declared.event.Event.TheVariants.{Grow}
-use Rattle.kpn_audit.proofs.Stored.{has_room, same_capacity}
+use Rattle.kpn_audit.proofs.Telling.{has_room, same_capacity}
 use Rattle.kpn_audit.proofs.stored.told.Goals as goal
 
 pub told_capacity-requires-room : goal.told_capacity-requires-room
