@@ -7,14 +7,14 @@ use Rattle.kpn_audit_command.proofs.command.conclusion.Goals as goal
 pub text_of-requires-clause-channels : goal.text_of-requires-clause-channels
 text_of-requires-clause-channels c =
     let t = c.network.result.now in
-    let found = subst (IsFinding t c.args.trace.now c.args.steps) c.in-Legal.is c.in_ok-found.ensures in
+    let found = subst (IsFinding t c.args.trace.now c.args.steps) c.in-Legal.is c.in_ok-found.ensures.found in
     journals_within c.args.document.now.tables t c.args.trace.now c.in-Legal.audit c.network.ensures found.audited
 
 pub returns-in_ok-text_of-in-Legal-clause-ok : goal.returns-in_ok-text_of-in-Legal-clause-ok
 returns-in_ok-text_of-in-Legal-clause-ok c =
     let d = c.args.document.now in
     let t = c.network.result.now in
-    let found = subst (IsFinding t c.args.trace.now c.args.steps) c.in-Legal.is c.in_ok-found.ensures in
+    let found = subst (IsFinding t c.args.trace.now c.args.steps) c.in-Legal.is c.in_ok-found.ensures.found in
     concludes_legal d.tables t c.network.ensures d.names.channels c.args.trace.now c.args.steps c.in-Legal.audit
     c.in_ok-text_of-in-Legal.field-0.items found c.in_ok-text_of-in-Legal.ensures
 
@@ -22,6 +22,6 @@ pub returns-in-NotLegal-clause-ok : goal.returns-in-NotLegal-clause-ok
 returns-in-NotLegal-clause-ok c =
     let d = c.args.document.now in
     let t = c.network.result.now in
-    let found = subst (IsFinding t c.args.trace.now c.args.steps) c.in-NotLegal.is c.in_ok-found.ensures in
+    let found = subst (IsFinding t c.args.trace.now c.args.steps) c.in-NotLegal.is c.in_ok-found.ensures.found in
     concludes_other d.tables t c.network.ensures d.names.channels c.args.trace.now c.args.steps
     c.in-NotLegal.conclusion.text.items c.in-NotLegal.conclusion.status found
