@@ -183,12 +183,12 @@ impl<'n, J: Job, A: Allocator> Shared<'n, J, A> {
         desk
     }
 
-    /// Lets the desk go after a call of the outside, before which so many processes were ready. Notifies a worker if
-    /// the call has made another one ready, and all if the run is settled.
-    pub(crate) fn tell<'l>(&'l self, desk: MutexGuard<'l, Desk<'n, J, A>>, before: usize) {
+    /// Lets the desk go after a call of the outside. Notifies a worker if the call has made a process ready, and all if
+    /// the run is settled.
+    pub(crate) fn tell<'l>(&'l self, desk: MutexGuard<'l, Desk<'n, J, A>>) {
         let mut desk = desk;
         let ready = desk.ready();
-        let notifies = desk.crew.notify(ready, ready > before);
+        let notifies = desk.crew.notify(ready, true);
         let is_settled = desk.book.verdict().is_some();
         drop(desk);
         if is_settled {
