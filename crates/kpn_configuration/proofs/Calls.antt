@@ -136,8 +136,7 @@ module _ (t : Tables) (s : Configuration) (shape : IsConfiguration t s) where
       → (after : Configuration)
       → after ≡ record s { channels = slice_set s.channels c ch; waits = waits; frames = frames } → Made t e s after
   made_on e c ch wait frames below keeps here elsewhere closes ends some wakes_it makes_none free long moved waits woke
-  after
-      is =
+      after is =
       made e (record s { channels = slice_set s.channels c ch; waits = waits; frames = frames }) after is keeps
       (record {
         channels = λ d there. channels_set t e s.channels c ch (omega (arith, shape.channels)) here elsewhere d;
