@@ -102,7 +102,7 @@ impl Pace {
 }
 
 /// How many workers there are of each kind, what their turns take, and whether somebody outside waits.
-#[derive(Clone, Copy)]
+#[derive(Clone, Copy, Default)]
 pub(crate) struct Crew {
     // all, those that have ended too
     workers: usize,
@@ -127,19 +127,11 @@ pub(crate) struct Crew {
 
 impl Crew {
     /// So many workers, none of which has come yet.
-    pub(crate) const fn new(workers: usize) -> Crew {
+    pub(crate) fn new(workers: usize) -> Crew {
         Crew {
             workers,
             working: workers,
-            busy: 0,
-            looking: 0,
-            resting: 0,
-            notified: 0,
-            is_watched: false,
-            left: 0,
-            away: 0,
-            is_awaited: false,
-            owes_call: false,
+            ..Crew::default()
         }
     }
 
