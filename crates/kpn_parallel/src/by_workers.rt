@@ -1,12 +1,12 @@
 //! A run by several workers.
-ghost use Rattle.std.specs.Prelude.{◌≡◌, ◌<◌, ◌≤◌, length, vec_len, IfOk};
+ghost use Rattle.std.specs.Prelude.{◌≡◌, ◌<◌, ◌≤◌, length, IfOk};
 ghost use Rattle.kpn_net.specs.Iteration.{sources};
 ghost use Rattle.kpn_report.specs.Reports.{AreSupplied, IsReport, events_of};
 
 use crate::ending::conclude;
 use crate::fault::RunFault;
-use crate::serving::{Outside, Sinks};
-use crate::threads::{Ended, have_abandoned, lack_memory, work_side_by_side};
+use crate::serving::Outside;
+use crate::threads::{have_abandoned, lack_memory, work_side_by_side};
 use kpn_lang::Sequence;
 use kpn_limits::MAX_WORKERS;
 use kpn_net::Network;
@@ -78,30 +78,11 @@ fn run_job<J: Job + Send + Sync, R: Threads + Wait + Clock + Sync, G: Gate>(
     let outside = Outside {
         sources,
         lists,
-        sinks: Sinks {
-            seats: sinks,
-            wanted: limits.take,
-        },
+        sinks,
+        wanted: limits.take,
     };
     let quota = limits.quota.max(1);
     let ended = work_side_by_side(rt, alloc, &shared, seats, gate, quota, outside)?;
-    report_or_fault(alloc, shared, ended, lists, limits)
-}
-
-/// The report of a run whose workers have ended, or the first of its faults.
-fn report_or_fault<J: Job>(
-    alloc: Global,
-    shared: Shared<'_, J>,
-    ended: Ended<J>,
-    lists: &[Sequence<i64>],
-    limits: &Limits,
-) -> Result<Report, RunFault>
-    requires lists { length lists.now ≡ sources J.network }
-    requires seats { (vec_len ended.seats ≡ J.parts) × (0 < J.parts) }
-    ensures report { IfOk result (λ report. IsReport J.network lists.now limits.now report) }
-    ensures supplied { IfOk result (λ report.
-        AreSupplied J.network lists.now (events_of report)) }
-{
     if !ended.had_threads {
         return Err(RunFault::Threads);
     }

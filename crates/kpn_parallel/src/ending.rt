@@ -37,7 +37,11 @@ pub(crate) fn conclude(
         return Err(RunFault::NoMemory);
     }
     let Some(outcome) = outcome_of(&book, limits) else {
-        return Err(without_outcome(abandoned));
+        return Err(if abandoned {
+            RunFault::Abandoned
+        } else {
+            RunFault::Foreign
+        });
     };
     book.known();
     let network = book.network();
@@ -48,15 +52,6 @@ pub(crate) fn conclude(
         return Err(RunFault::Foreign);
     }
     Ok(report)
-}
-
-/// Why a run has no outcome: the gate ended all its workers, or the outside was refused something.
-fn without_outcome(abandoned: bool) -> RunFault {
-    if abandoned {
-        RunFault::Abandoned
-    } else {
-        RunFault::Foreign
-    }
 }
 
 /// Puts back each process that is held.

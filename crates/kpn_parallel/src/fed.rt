@@ -1,8 +1,6 @@
 //! Whether the sources of a run were fed their lists and closed, as the end of the run shows them.
-ghost use Rattle.std.specs.Prelude.{◌≡◌, ◌<◌, true, length, IsTrue};
-ghost use Rattle.kpn_net.specs.Tables.{channel_at, is_source};
+ghost use Rattle.std.specs.Prelude.{◌≡◌, length, IsTrue};
 ghost use Rattle.kpn_net.specs.Iteration.{sources};
-ghost use Rattle.kpn_trace.specs.Channels.{is_closed};
 ghost use Rattle.kpn_parallel.specs.Fed.{AreFedBelow, AreClosedBelow};
 
 use kpn_book::Book;
@@ -36,18 +34,9 @@ pub(crate) fn are_closed(book: &Book<'_>) -> bool
         IsTrue result → AreClosedBelow t book.now.history (length t.channels) }
 {
     'channels: for c in 0..book.network().channels() {
-        if !is_done(book, c) {
+        if book.network().is_source(c) && !book.is_closed(c) {
             return false;
         }
     }
     true
-}
-
-/// Whether a channel is no source, or one that is closed.
-fn is_done(book: &Book<'_>, c: usize) -> bool
-    requires { c < length book.now.tables.channels }
-    ensures { IsTrue result → is_source (channel_at book.now.tables c) ≡ true
-        → is_closed book.now.history c ≡ true }
-{
-    !book.network().is_source(c) || book.is_closed(c)
 }

@@ -9,31 +9,22 @@ use std::time::Clock;
 // how many items are fed under one hold of the lock
 const BATCH: usize = 512;
 
-/// The outside of a run: the seats of its sources, with the list of each, and its sinks.
+/// The outside of a run: the seats of its sources, with the list of each, and of its sinks, with how many items are
+/// wanted of each.
 #[derive(Drop)]
 pub(crate) struct Outside<'l> {
     pub sources: Vec<SourceSeat>,
     pub lists: &'l [Sequence<i64>],
-    pub sinks: Sinks,
-}
-
-/// The seats of the sinks, and how many items are wanted of each.
-#[derive(Drop)]
-pub(crate) struct Sinks {
-    pub seats: Vec<SinkSeat>,
+    pub sinks: Vec<SinkSeat>,
     pub wanted: Option<u64>,
 }
 
-impl Sinks {
-    /// Whether what is wanted, if anything, was taken of each.
-    fn have_enough(&self) -> bool {
-        let Some(items) = self.wanted else {
-            return false;
-        };
-        self.seats
-            .iter()
-            .all(|seat| seat.taken().len() as u64 >= items)
-    }
+/// Whether what is wanted, if anything, was taken of each sink.
+fn have_enough(sinks: &[SinkSeat], wanted: Option<u64>) -> bool {
+    let Some(items) = wanted else {
+        return false;
+    };
+    sinks.iter().all(|seat| seat.taken().len() as u64 >= items)
 }
 
 /// Feeds each source its whole list and closes it, as on one thread, and takes from the sinks until all workers have
@@ -55,13 +46,13 @@ fn feed_and_take<J: Job, R: Wait + Clock>(
     shared: &Shared<'_, J>,
     outside: &mut Outside<'_>,
 ) -> Result<(), Refused> {
+    let sinks = outside.sinks.as_mut_slice();
     for (seat, list) in outside.sources.iter_mut().zip(outside.lists) {
-        feed_list(rt, shared, seat, list.as_slice(), &mut outside.sinks)?;
+        feed_list(rt, shared, seat, list.as_slice(), sinks)?;
     }
-    let sinks = &mut outside.sinks;
-    take_each(rt, shared, sinks.seats.as_mut_slice())?;
+    take_each(rt, shared, sinks)?;
     for _ in rt.forever() {
-        if sinks.have_enough() || !take_when_due(rt, shared, sinks.seats.as_mut_slice())? {
+        if have_enough(sinks, outside.wanted) || !take_when_due(rt, shared, sinks)? {
             return Ok(());
         }
     }
@@ -74,11 +65,11 @@ fn feed_list<J: Job, R: Wait>(
     shared: &Shared<'_, J>,
     seat: &mut SourceSeat,
     list: &[i64],
-    sinks: &mut Sinks,
+    sinks: &mut [SinkSeat],
 ) -> Result<(), Refused> {
     for items in list.chunks(BATCH) {
         feed_all(rt, shared, seat, items, usize::MAX)?;
-        take_each(rt, shared, sinks.seats.as_mut_slice())?;
+        take_each(rt, shared, sinks)?;
     }
     close(rt, shared, seat)
 }

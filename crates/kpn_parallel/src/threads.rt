@@ -1,5 +1,5 @@
 //! The threads of a run: one for each worker, beside the calling thread, which serves the outside.
-ghost use Rattle.std.specs.Prelude.{◌≡◌, ◌+◌, ◌<◌, ◌≤◌, IfOk, vec_len, vec_capacity};
+ghost use Rattle.std.specs.Prelude.{◌≡◌, ◌<◌, IfOk, vec_len};
 
 use crate::serving::{Outside, serve};
 use kpn_pool::{Gate, Job, Refused, Shared, Why, WorkerSeat, work};
@@ -18,14 +18,6 @@ pub(crate) struct Ended<J: Job> {
     pub had_threads: bool,
     /// What became of the calls of the outside.
     pub served: Result<(), Refused>,
-}
-
-/// The workers of a run: those that are on threads of their own, and those that have ended for want of one. The list of
-/// those that have ended has room for all.
-#[derive(Drop)]
-struct Started<J: Job> {
-    threads: Vec<JoinHandle<WorkerSeat<J>>>,
-    ended: Vec<WorkerSeat<J>>,
 }
 
 /// Steps the processes by a worker for each seat, on a thread of its own, and serves the outside meanwhile, until all
@@ -50,28 +42,23 @@ pub(crate) fn work_side_by_side<J: Job + Send + Sync, R: Threads + Wait + Clock 
             requires quota { 0 < quota }
             requires seats { vec_len seats ≡ J.parts }
             ensures { IfOk result (λ ended. vec_len ended.seats ≡ J.parts) }
-        {
-            let started = start_all(rt, alloc, scope, shared, gate, seats, quota)?;
-            let served = serve(rt, shared, outside);
-            Ok(join_all(rt, started, served))
-        },
+        { work_in(rt, alloc, scope, shared, seats, gate, quota, outside) },
     )
 }
 
-/// Starts a worker for each seat. The error is that memory ran out before a thread was started.
-fn start_all<'s, E, J: Job + Send + Sync, R: Wait + Clock + Sync, G: Gate>(
+/// The same in a scope of threads. A worker that gets no thread has ended.
+fn work_in<'s, E, J: Job + Send + Sync, R: Threads + Wait + Clock + Sync, G: Gate>(
     rt: &'s R,
     alloc: Global,
     scope: &Scope<'s, E>,
     shared: &'s Shared<'_, J>,
-    gate: &'s G,
     seats: Vec<WorkerSeat<J>>,
+    gate: &'s G,
     quota: u32,
-) -> Result<Started<J>, AllocError>
+    outside: Outside<'_>,
+) -> Result<Ended<J>, AllocError>
     requires { 0 < quota }
-    ensures seats { IfOk result (λ started.
-        vec_len started.threads + vec_len started.ended ≡ vec_len seats) }
-    ensures room { IfOk result (λ started. vec_capacity started.ended ≡ vec_len seats) }
+    ensures { IfOk result (λ ended. vec_len ended.seats ≡ vec_len seats) }
 {
     let mut threads = Vec::with_capacity(alloc, seats.len())?;
     let mut ended = Vec::with_capacity(alloc, seats.len())?;
@@ -81,7 +68,16 @@ fn start_all<'s, E, J: Job + Send + Sync, R: Wait + Clock + Sync, G: Gate>(
             Err(seat) => ended.push_reserved(seat),
         }
     }
-    Ok(Started { threads, ended })
+    let had_threads = ended.is_empty();
+    let served = serve(rt, shared, outside);
+    'threads: for thread in threads {
+        ended.push_reserved(thread.join(rt));
+    }
+    Ok(Ended {
+        seats: ended,
+        had_threads,
+        served,
+    })
 }
 
 /// Starts a worker on a thread of its own. Where this cannot be started all workers are told to end, this one too.
@@ -104,28 +100,6 @@ fn start<'s, E, J: Job + Send + Sync, R: Wait + Clock + Sync, G: Gate>(
             shared.halt(rt);
             Err((refused.value)())
         }
-    }
-}
-
-/// Waits until all workers have ended.
-fn join_all<J: Job, R: Threads>(
-    rt: &R,
-    started: Started<J>,
-    served: Result<(), Refused>,
-) -> Ended<J>
-    requires { vec_len started.threads + vec_len started.ended ≤ vec_capacity started.ended }
-    ensures { vec_len result.seats ≡ vec_len started.threads + vec_len started.ended }
-{
-    let Started { threads, ended } = started;
-    let had_threads = ended.is_empty();
-    let mut seats = ended;
-    'threads: for thread in threads {
-        seats.push_reserved(thread.join(rt));
-    }
-    Ended {
-        seats,
-        had_threads,
-        served,
     }
 }
 
