@@ -5,4 +5,4 @@ pub mod Followed
 pub mod Stopping
 pub mod Summed
 pub mod Replaying
-pub mod Stored
+pub mod Telling

@@ -6,7 +6,7 @@ use Rattle.kpn_audit.specs.Judged.{IsJudged}
 use Rattle.kpn_audit.specs.Audit.{AreWithinSteps}
 use Rattle.kpn_audit.proofs.Replaying.{followed_by, illegal_at, budget_at, none_within, within_more, follows_in_time, illegal_in_time}
 use Rattle.kpn_audit.specs.Stored.{history_of}
-use Rattle.kpn_audit.proofs.Stored.{told_there, is_there, history_of-length}
+use Rattle.kpn_audit.proofs.Telling.{told_there, is_there, history_of-length}
 use Rattle.kpn_audit.proofs.auditor.replay.Goals as goal
 
 pub returns-in-Illegal-clause-refused : goal.returns-in-Illegal-clause-refused
