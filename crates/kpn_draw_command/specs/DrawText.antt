@@ -1,8 +1,7 @@
 -- The drawing of a network that `kpn draw` writes: a directed graph in the language of Graphviz. A box is a process, an
 -- ellipse the outside at a source or a sink, and an edge is a channel, from its writer to its reader. After a history
 -- boxes and edges tell what stands then.
-use Rattle.std.specs.Prelude.{ℕ, if◌then◌else◌, List, [], ◌++◌, length, codes, Option, Some, None}
-use Rattle.std.specs.List.{flat_map, range_with_len}
+use Rattle.std.specs.Prelude.{ℕ, zero, suc, if◌then◌else◌, List, [], ◌++◌, length, codes, Option, Some, None}
 use Rattle.std.specs.Fmt.{decimal}
 use Rattle.kpn_net.specs.declared.tables.ChannelSpec.{ChannelSpec}
 use Rattle.kpn_net.specs.declared.tables.End.{End}
@@ -102,7 +101,8 @@ channel_lines d c flow = outside_line (channel_at d.tables c) c ++ edge_line d c
 
 -- the text of each of the first n numbers, in order
 abbrev pub each_below : (n : ℕ) → (text : ℕ → List ℕ) → List ℕ
-each_below n text = flat_map text (range_with_len 0 n)
+each_below zero text = []
+each_below (suc n) text = each_below n text ++ text n
 
 abbrev pub head : List ℕ
 head =

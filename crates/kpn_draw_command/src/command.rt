@@ -96,7 +96,9 @@ fn conclusion(
         IsConclusion document.now trace.now steps made.text.items made.status) }
     ensures refused { IfErr result (IsNoFinding document.now.tables trace.now) }
 {
-    match audit_trace(alloc, document.network(), trace, steps)? {
+    let network = document.network();
+    network.known();
+    match audit_trace(alloc, network, trace, steps)? {
         Audited::Legal(audit) => Ok(Conclusion {
             text: text_of(alloc, document, Some(&audit))?,
             status: 0,
