@@ -4,7 +4,7 @@ use Rattle.kpn_net.specs.Tables.{Tables, instance_at}
 use Rattle.kpn_net.proofs.Networks.{IsInstance-of}
 use Rattle.kpn_draw_command.proofs.drawing.push_title.Goals as goal
 
-pub process_name-process-requires : goal.process_name-requires
+pub process_name-process-requires : goal.process_name-process-requires
 process_name-process-requires c =
     let t = c.network-network.result.now in
     let below = subst (λ (n : Tables). c.args.p < length n.instances) (sym c.network-network.ensures) c.requires in
