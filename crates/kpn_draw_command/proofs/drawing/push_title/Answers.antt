@@ -1,6 +1,6 @@
 -- An instance has its process.
-use Rattle.std.proofs.Common.{◌≡◌, ◌<◌, length, sym, subst}
-use Rattle.kpn_net.specs.Tables.{Tables, instance_at}
+use Rattle.std.proofs.Common.{◌<◌, length, sym, subst}
+use Rattle.kpn_net.specs.Tables.{Tables}
 use Rattle.kpn_net.proofs.Networks.{IsInstance-of}
 use Rattle.kpn_draw_command.proofs.drawing.push_title.Goals as goal
 
