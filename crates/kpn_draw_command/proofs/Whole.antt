@@ -1,4 +1,4 @@
--- What an audit finds is whole: it has an entry for each process and each channel, and its waits are within the network.
+-- What an audit finds is whole: it has an entry for each process and channel, and its waits are within the network.
 use Rattle.std.proofs.Common.{◌≡◌, ℕ, ◌<◌, List, length, Option, Some, None, IfSome, refl, sym, ap, ◌∙◌, subst}
 use Rattle.std.proofs.lemmas.List.FromFn.{length-map-range_with_len}
 use Rattle.std.specs.declared.alloc.Global.{Global}

@@ -56,7 +56,8 @@ process_line d p state =
 abbrev pub outside_line : ChannelSpec → (c : ℕ) → List ℕ
 outside_line channel c =
     if is_source channel then codes "  c" ++ decimal c ++ codes " [label=\"source\", shape=ellipse];\n" else
-    if is_sink channel then codes "  c" ++ decimal c ++ codes " [label=\"sink\", shape=ellipse, peripheries=2];\n" else []
+    if is_sink channel then codes "  c" ++ decimal c ++ codes " [label=\"sink\", shape=ellipse, peripheries=2];\n"
+    else []
 
 -- the box or the ellipse at an end of channel c
 abbrev pub end_node : (c : ℕ) → End → List ℕ
