@@ -1,6 +1,7 @@
 """Lines for crates/check_examples that audit changed histories: worked histories, each with 30 changes of one event,
-some changes that have a name, cuts, and texts that are no histories. Each is made as a file `changed` and audited.
-tools/examples.py puts them into the compared run and computes what must come.
+some changes that have a name, cuts, and texts that are no histories. They are texts of version 1, and some of version 2
+follow them. Each is made as a file `changed` and audited. tools/examples.py puts them into the compared run and
+computes what must come.
 """
 import pathlib
 
@@ -10,7 +11,8 @@ DATA = pathlib.Path(__file__).resolve().parent.parent / 'crates/check_examples/d
 HISTORIES = [('copy', 'copy'), ('kahn', 'kahn'), ('self_loop', 'worked/self_loop'), ('two', 'two'),
              ('two_readers', 'deadlock'), ('ended_reader', 'worked/ended_reader')]
 CHANGES = 30
-HEAD = histories.HEAD.decode()
+HEAD = histories.HEAD_ONE.decode()
+HEAD_TWO = histories.HEAD_TWO.decode()
 PARTS = {'get': 'pci', 'put': 'pci', 'wait-empty': 'pc', 'wait-full': 'pc', 'end': 'ph', 'feed': 'ci', 'close': 'c',
          'take': 'ci', 'leave': 'c', 'grow': 'pc'}
 
@@ -45,7 +47,7 @@ def causes_changed(history):
         else:
             others = [('close', rest[0]), ('leave', rest[0])]
         for other in others:
-            yield f'{k} to {histories.event_text(other)}', replaced(history, k, other)
+            yield f'{k} to {line_of(other)}', replaced(history, k, other)
 
 
 def changes_of(network, history):
@@ -90,8 +92,13 @@ def chosen(network, history):
 
 # ---- texts
 
+def line_of(event):
+    """The line of an event in version 1, in which a growth tells no capacity."""
+    return histories.event_text(event[:3] if event[0] == 'grow' else event)
+
+
 def text_of(history):
-    return histories.trace_text(history).decode()
+    return HEAD + ''.join(f'{line_of(event)}\n' for event in history)
 
 
 def named_changes_of_two(history):
@@ -140,15 +147,70 @@ def spellings_of_two(history):
     yield 'a bad line behind an illegal event', f'{HEAD}end 0 done\nput\n'
 
 
+BAD_GROWTHS = ['grow 0 0', 'grow 0 0 0', 'grow 0 0 02', 'grow 0 0 +2', 'grow 0 0 -2', 'grow 0 0 2 ', 'grow 0 0  2',
+               'grow 0 0 2 2', 'grow 0 0 1048577', 'grow 0 0 4294967298', 'grow 65536 0 2', 'grow 0 65536 2']
+GOOD_GROWTHS = ['grow 0 0 1', 'grow 65535 65535 1048576']
+BAD_RULES = ['', 'policy cycles grow one', 'policy cycles grow one\r\n', ' policy cycles grow one\n',
+             'policy cycles grow one \n', 'policy cycles  grow one\n', 'policy cycles\n', 'policy cycles grow\n',
+             'grow one policy cycles\n', 'policy Cycles grow one\n', 'policy none grow one\n', 'policy cycles grow two\n',
+             'put 0 0 1\n', '\n', 'kpn-trace 2\n']
+
+
+def version_two_of_two(text):
+    """Changes of the text of version 2 that a run of two.kpn stores."""
+    rules = 'policy cycles grow one\n'
+    head = HEAD_TWO + rules
+    for line in BAD_GROWTHS:
+        yield 'a bad growth of version 2', f'{head}put 0 0 1\n{line}\nwait-empty 1 1\n'
+    for line in GOOD_GROWTHS:
+        yield 'a growth of version 2 that is illegal', f'{head}{line}\n'
+    for line in BAD_RULES:
+        yield 'a bad second line', HEAD_TWO + line
+        yield 'a bad second line', HEAD_TWO + line + text.removeprefix(head)
+    yield 'the growth tells another capacity', text.replace('grow 0 0 2', 'grow 0 0 3')
+    for other in ('policy all grow one\n', 'policy cycles grow double\n', 'policy all grow double\n'):
+        yield 'other rules', text.replace(rules, other)
+    yield 'other rules, and the first event is illegal', f'{HEAD_TWO}policy all grow one\nend 0 done\n'
+    yield 'other rules, and a bad line', f'{HEAD_TWO}policy all grow one\nput\n'
+    yield 'version 1 with the rules of version 2', f'{HEAD}{text.removeprefix(HEAD_TWO)}'
+
+
+def stored(file):
+    """The text of the trace that a run of the network stores."""
+    network = histories.Network((DATA / file).read_text())
+    return histories.trace_text(histories.Run(network, {}).go().history, network.growing).decode()
+
+
+def tables_of_version_two():
+    """The same for texts of version 2."""
+    yield 'two.kpn', list(version_two_of_two(stored('two.kpn')))
+    text = stored('worked/unclogged_doubled.kpn')
+    as_version_one = HEAD + text.split('\n', 2)[2].replace('grow 0 0 2', 'grow 0 0').replace('grow 0 0 4', 'grow 0 0')
+    yield 'worked/unclogged_doubled.kpn', [
+        ('the growths of a stop', text),
+        ('its first growth tells too much', text.replace('grow 0 0 2', 'grow 0 0 3')),
+        ('its second growth tells too little', text.replace('grow 0 0 4', 'grow 0 0 3')),
+        ('its events in version 1', as_version_one),
+    ]
+    yield 'clogged.kpn', [('the trace of a run under other rules', text)]
+    doubled = stored('worked/three_ahead_doubled.kpn')
+    yield 'worked/three_ahead_doubled.kpn', [
+        ('its events in version 1, as if channels grew by one',
+         HEAD + '\n'.join(' '.join(line.split()[:3]) if line.startswith('grow') else line
+                          for line in doubled.split('\n')[2:])),
+    ]
+
+
 def tables():
     """For each network its file, and its histories with a title each."""
     for name, file in HISTORIES:
-        history = histories.read_trace((DATA / f'histories/{name}.trace').read_bytes())
+        history = histories.read_trace((DATA / f'histories/{name}.trace').read_bytes()).history
         rows = list(chosen(histories.Network((DATA / f'{file}.kpn').read_text()), history))
         if name == 'two':
             rows += [*named_changes_of_two(history), *cuts_of_two(history), *spellings_of_two(history)]
         yield f'{file}.kpn', rows
     yield 'worked/empty.kpn', [('an event of nobody', f'{HEAD}end 0 done\n')]
+    yield from tables_of_version_two()
 
 
 def lines():

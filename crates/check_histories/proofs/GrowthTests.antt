@@ -1,7 +1,7 @@
 -- Plain tests of which growth a history owes, and what a yes of each tells.
 use Rattle.std.specs.Prelude.{nat_eq, nat_lt}
 use Rattle.std.specs.List.{last_or}
-use Rattle.std.proofs.Common.{◌≡◌, ℕ, ◌<◌, ◌⊎◌, inl, inr, Bool, true, false, not, ◌&&◌, ◌||◌, List, [], ◌∷◌, length, Option, Some, None, refl, sym, ap, subst, eq-eqb, arith}
+use Rattle.std.proofs.Common.{◌≡◌, ℕ, ◌<◌, ◌⊎◌, inl, inr, Bool, true, false, not, ◌&&◌, ◌||◌, List, [], ◌∷◌, length, Option, Some, None, refl, sym, ap, subst, ◌∙◌, eq-eqb, arith}
 use Rattle.std.proofs.lemmas.Bool.{and_parts, and_from, or_cases, or_left, or_right, eqb-true, ltb-true, ltb-false, not-true, both_ways, cases_Bool}
 use Rattle.kpn_net.specs.declared.tables.Policy.{Policy}
 use Rattle.kpn_net.specs.declared.tables.Policy.TheVariants.{Cycles, All}
@@ -10,12 +10,11 @@ use Rattle.kpn_net.specs.declared.wait.Wait.TheVariants.{Nobody, Empty, Full}
 use Rattle.kpn_net.specs.Tables.{Tables}
 use Rattle.kpn_net.specs.Waits.{IsSmallest, awaited_as_full}
 use Rattle.kpn_trace.specs.declared.event.Event.{Event}
-use Rattle.kpn_trace.specs.declared.event.Event.TheVariants.{Grow}
 use Rattle.kpn_trace.specs.Talks.{has_ended}
 use Rattle.kpn_trace.specs.Channels.{capacity_or_zero}
 use Rattle.kpn_trace.specs.Waiting.{wait_of, waits_of, full_in_cycle}
 use Rattle.kpn_trace.specs.Ends.{HasStopped, IsSettled}
-use Rattle.kpn_trace.specs.Legal.{waiter_of_last, OwesCycleGrowth, OwesStopGrowth, OwesGrowth}
+use Rattle.kpn_trace.specs.Legal.{waiter_of_last, OwesCycleGrowth, OwesStopGrowth, OwesGrowth, growth_after}
 use Rattle.kpn_net.proofs.Cycles.{smallest_unique}
 use Rattle.kpn_trace.proofs.Searching.{each_below, each_below-at, each_below-fails, Way, Round, Off, Lost, Allows}
 use Rattle.kpn_trace.proofs.Growth.{last_waiter}
@@ -29,7 +28,7 @@ abbrev is_below_limit : Tables → List Event → (d : ℕ) → Bool
 is_below_limit t B d = nat_lt (capacity_or_zero t B d) t.limit
 
 -- the way comes round over a cycle whose smallest full channel is d, and that is below the limit
-abbrev pub owes : Tables → List Event → (p d : ℕ) → Way → Bool
+abbrev owes : Tables → List Event → (p d : ℕ) → Way → Bool
 owes t B p d (Round others) =
     is_smallest (capacity_or_zero t B) (full_in_cycle t B p others) d && is_below_limit t B d
 owes t B p d Off = false
@@ -62,7 +61,7 @@ owes-by t B p d (Round others) found e wait =
 owes-by t B p d Off found e wait = absurd cc
 owes-by t B p d Lost found e wait = absurd cc
 
-pub owes-growth : (t : Tables) (B : List Event) (p d : ℕ) → owes t B p d (way_round t B p) ≡ true
+owes-growth : (t : Tables) (B : List Event) (p d : ℕ) → owes t B p d (way_round t B p) ≡ true
     → waiter_of_last (last_or None B) ≡ Some p → OwesCycleGrowth t B p d
 owes-growth t B p d = owes-by t B p d (way_round t B p) refl
 
@@ -117,7 +116,7 @@ grows_for_cycle-owed t B p d (Some q) is e =
 
 grows_for_cycle-one : (t : Tables) (B : List Event) (p d q e : ℕ) (w : Option ℕ) → last_waiter B ≡ w
     → grows_for_cycle t B p d w ≡ true
-    → OwesCycleGrowth t B q e → Grow p d ≡ Grow q e
+    → OwesCycleGrowth t B q e → growth_after t B p d ≡ growth_after t B q e
 grows_for_cycle-one t B p d q e None is told owed = absurd cc
 grows_for_cycle-one t B p d q e (Some r) is told owed =
     let parts : (nat_eq r p ≡ true) × (owes t B r d (way_round t B r) ≡ true) = and_parts _ _ told in
@@ -128,7 +127,7 @@ grows_for_cycle-one t B p d q e (Some r) is told owed =
     subst (λ s. owes t B s d (way_round t B s) ≡ true) process parts.1 in
     let channel : d ≡ e =
     owes-one t B q d e _ owed.others here (way_round-allows t B q owed.others owed.cycle) owed.smallest in
-    cc
+    λ i. growth_after t B ((sym first ∙ process) i) (channel i)
 
 abbrev owes_nothing : Tables → List Event → Option ℕ → Bool
 owes_nothing t B None = true
@@ -221,7 +220,7 @@ is_next t B p d =
 abbrev stops_for : Tables → List Event → (p d : ℕ) → Bool
 stops_for t B p d = is_all t.policy && (is_settled t B && (owes_nothing t B (last_waiter B) && is_next t B p d))
 
-abbrev pub owes_at_stop : Tables → List Event → (p d : ℕ) → Bool
+abbrev owes_at_stop : Tables → List Event → (p d : ℕ) → Bool
 owes_at_stop t B p d = stops_for t B p d && no_other_waits t B p d
 
 stops_for-true : (t : Tables) (B : List Event) (p d : ℕ) → stops_for t B p d ≡ true → OwesStopGrowth t B p d
@@ -238,14 +237,14 @@ stops_for-true t B p d e =
       waits = waits_on-true d _ last.1;
     }
 
-pub owes_at_stop-true : (t : Tables) (B : List Event) (p d : ℕ) → owes_at_stop t B p d ≡ true
+owes_at_stop-true : (t : Tables) (B : List Event) (p d : ℕ) → owes_at_stop t B p d ≡ true
     → OwesStopGrowth t B p d
 owes_at_stop-true t B p d e =
     stops_for-true t B p d (and_parts (stops_for t B p d) (no_other_waits t B p d) e).0
 
 -- the channel is the smallest, and no other process waits on it
 stops-one : (t : Tables) (B : List Event) (p d q e : ℕ) → owes_at_stop t B p d ≡ true → OwesStopGrowth t B q e
-    → Grow p d ≡ Grow q e
+    → growth_after t B p d ≡ growth_after t B q e
 stops-one t B p d q e told owed =
     let alone : no_other_waits t B p d ≡ true =
     (and_parts (stops_for t B p d) (no_other_waits t B p d) told).1 in
@@ -255,7 +254,7 @@ stops-one t B p d q e told owed =
     let on_d : wait_of t B q ≡ Full d = subst (λ c. wait_of t B q ≡ Full c) (sym channel) owed.waits in
     let process : p ≡ q =
     only q (each_below-at (is_other_wait t B p d) (length t.instances) alone q owed.there) on_d in
-    λ i. Grow (process i) (channel i)
+    λ i. growth_after t B (process i) (channel i)
   where
     only : (q : ℕ) → is_other_wait t B p d q ≡ true → wait_of t B q ≡ Full d → p ≡ q
     only q other on_d = elim (or_cases _ _ other) [
@@ -297,7 +296,7 @@ grows-owed t B p d e =
     ]
 
 pub grows-one : (t : Tables) (B : List Event) (p d q e : ℕ) → grows t B p d ≡ true → OwesGrowth t B q e
-    → Grow p d ≡ Grow q e
+    → growth_after t B p d ≡ growth_after t B q e
 grows-one t B p d q e told (inl owed) =
     elim (or_cases _ _ told) [
       | inl cycle ↦ grows_for_cycle-one t B p d q e _ refl cycle owed

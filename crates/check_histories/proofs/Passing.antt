@@ -2,7 +2,7 @@
 -- says and where it ends, and follows the waits. Its yes tells that the history is legal.
 use Rattle.std.specs.Prelude.{nat_eq, nat_lt, nat_le, if◌then◌else◌, slice_get}
 use Rattle.std.specs.Ordering.{int_eq}
-use Rattle.std.proofs.Common.{◌≡◌, ◌≢◌, ℕ, ◌<◌, ◌≤◌, ℤ, Bool, true, false, not, ◌&&◌, List, [], ◌∷◌, ◌++◌, length, Option, Some, None, refl, ap, subst, append_assoc, arith}
+use Rattle.std.proofs.Common.{◌≡◌, ◌≢◌, ℕ, ◌<◌, ◌≤◌, ℤ, Bool, true, false, not, ◌&&◌, List, [], ◌∷◌, ◌++◌, length, Option, Some, None, refl, ap, subst, ◌∙◌, append_assoc, arith}
 use Rattle.std.proofs.lemmas.List.{append-nil}
 use Rattle.std.proofs.lemmas.Bool.{and_parts, eqb-true, ltb-true, leb-true, not-true}
 use Rattle.std.proofs.lemmas.Bool.Decides.{Decides-int_eq}
@@ -14,14 +14,14 @@ use Rattle.kpn_lang.specs.declared.talk.Ending.TheVariants as ending
 use Rattle.kpn_lang.specs.Prefix.{IsPrefix}
 use Rattle.kpn_net.specs.declared.wait.Wait.{Wait}
 use Rattle.kpn_net.specs.declared.wait.Wait.TheVariants.{Nobody, Empty, Full}
-use Rattle.kpn_net.specs.Tables.{Tables, channel_at, is_source, is_sink}
+use Rattle.kpn_net.specs.Tables.{Tables, channel_at, is_source, is_sink, larger_capacity}
 use Rattle.kpn_net.specs.Process.{CanSay, ComesTo, talk_on, ending_on}
 use Rattle.kpn_trace.specs.declared.event.Event.{Event}
 use Rattle.kpn_trace.specs.declared.event.Event.TheVariants.{Get, Put, WaitEmpty, WaitFull, Ended, Feed, Close, Take, Leave, Grow}
 use Rattle.kpn_trace.specs.Talks.{talk_of, has_ended}
-use Rattle.kpn_trace.specs.Channels.{written_on, read_on, unread_on, is_closed, is_left, reader_lives, capacity_after, is_empty, is_full}
+use Rattle.kpn_trace.specs.Channels.{written_on, read_on, unread_on, is_closed, is_left, reader_lives, capacity_after, capacity_or_zero, is_empty, is_full}
 use Rattle.kpn_trace.specs.Waiting.{wait_of}
-use Rattle.kpn_trace.specs.Legal.{IsConsistent, OwesGrowth, HasNumbers, CanGo, ending_of, ComesToWrite, MayFeed, MayTake, IsDue, MayFollow, Legal}
+use Rattle.kpn_trace.specs.Legal.{IsConsistent, OwesGrowth, HasNumbers, CanGo, ending_of, ComesToWrite, MayFeed, MayTake, IsDue, MayFollow, Legal, growth_after}
 use Rattle.kpn_trace.proofs.Searching.{each_below, each_below-at}
 use Rattle.kpn_trace.proofs.Checking.{is_nobody}
 use Rattle.check_histories.proofs.GrowthTests.{grows, grows-owed, grows-one, owes_none, owes_none-true}
@@ -176,7 +176,7 @@ has_numbers t (Feed c v) = nat_lt c (length t.channels)
 has_numbers t (Close c) = nat_lt c (length t.channels)
 has_numbers t (Take c v) = nat_lt c (length t.channels)
 has_numbers t (Leave c) = nat_lt c (length t.channels)
-has_numbers t (Grow p c) = both_there t p c
+has_numbers t (Grow p c cap) = both_there t p c
 
 has_numbers-true : (t : Tables) (event : Event) → has_numbers t event ≡ true → HasNumbers t event
 has_numbers-true t (Get p c v) e = both_there-true t p c e
@@ -188,7 +188,7 @@ has_numbers-true t (Feed c v) e = ltb-true _ _ e
 has_numbers-true t (Close c) e = ltb-true _ _ e
 has_numbers-true t (Take c v) e = ltb-true _ _ e
 has_numbers-true t (Leave c) e = ltb-true _ _ e
-has_numbers-true t (Grow p c) e = both_there-true t p c e
+has_numbers-true t (Grow p c cap) e = both_there-true t p c e
 
 abbrev may_feed : Tables → List Event → (c : ℕ) → Bool
 may_feed t B c = is_source (channel_at t c) && not (is_closed B c)
@@ -212,7 +212,7 @@ is_due t n B (Feed c v) = may_feed t B c
 is_due t n B (Close c) = may_feed t B c
 is_due t n B (Take c v) = may_take t B c
 is_due t n B (Leave c) = may_take t B c
-is_due t n B (Grow p d) = grows t B p d
+is_due t n B (Grow p d cap) = grows t B p d
 
 is_due-true : (t : Tables) (n : ℕ) (B : List Event) (event : Event) → is_due t n B event ≡ true → IsDue t B event
 is_due-true t n B (Get p c v) e = can_go-true t B p e
@@ -229,16 +229,17 @@ is_due-true t n B (Feed c v) e = may_feed-true t B c e
 is_due-true t n B (Close c) e = may_feed-true t B c e
 is_due-true t n B (Take c v) e = may_take-true t B c e
 is_due-true t n B (Leave c) e = may_take-true t B c e
-is_due-true t n B (Grow p d) e = grows-owed t B p d e
+is_due-true t n B (Grow p d cap) e = grows-owed t B p d e
 
--- a growth is found due only where it is owed
+-- a growth, which is found due only where it is owed, tells the capacity that its channel has then
 abbrev keeps_growth : Tables → List Event → Event → Bool
-keeps_growth t B (Grow p d) = true
+keeps_growth t B (Grow p d cap) = nat_eq cap (larger_capacity t (capacity_or_zero t B d))
 keeps_growth t B event = owes_none t B
 
 keeps_growth-true : (t : Tables) (n : ℕ) (B : List Event) (event : Event) → is_due t n B event ≡ true
-    → keeps_growth t B event ≡ true → (p d : ℕ) → OwesGrowth t B p d → event ≡ Grow p d
-keeps_growth-true t n B (Grow q e) due told p d owed = grows-one t B q e p d due owed
+    → keeps_growth t B event ≡ true → (p d : ℕ) → OwesGrowth t B p d → event ≡ growth_after t B p d
+keeps_growth-true t n B (Grow q e cap) due told p d owed =
+    ap (Grow q e) (eqb-true _ _ told) ∙ grows-one t B q e p d due owed
 keeps_growth-true t n B event due told p d owed = absurd (owes_none-true t B p d told owed)
 
 abbrev may_follow : Tables → (n : ℕ) → List Event → Event → Bool

@@ -24,7 +24,7 @@ left_sink_run =
 unfoldable pub two_run : List Event
 two_run =
     Put 0 0 (pos 1) ∷ WaitEmpty 1 1 ∷ WaitFull 0 0 ∷
-    Grow 0 0 ∷ Put 0 0 (pos 2) ∷ Put 0 1 (pos 3) ∷
+    Grow 0 0 2 ∷ Put 0 0 (pos 2) ∷ Put 0 1 (pos 3) ∷
     Ended 0 how.Done ∷ Get 1 1 (pos 3) ∷ Get 1 0 (pos 1) ∷
     Get 1 0 (pos 2) ∷ Put 1 2 (pos 312) ∷ Take 2 (pos 312) ∷
     Ended 1 how.Done ∷ []
@@ -33,7 +33,7 @@ two_run =
 unfoldable pub reader_closes_run : List Event
 reader_closes_run =
     Put 0 0 (pos 1) ∷ WaitFull 0 0 ∷ WaitEmpty 1 1 ∷
-    Grow 1 0 ∷ Put 0 0 (pos 2) ∷ Put 0 1 (pos 3) ∷
+    Grow 1 0 2 ∷ Put 0 0 (pos 2) ∷ Put 0 1 (pos 3) ∷
     Ended 0 how.Done ∷ Get 1 1 (pos 3) ∷ Get 1 0 (pos 1) ∷
     Get 1 0 (pos 2) ∷ Put 1 2 (pos 312) ∷ Take 2 (pos 312) ∷
     Ended 1 how.Done ∷ []
@@ -43,7 +43,7 @@ reader_closes_run =
 unfoldable pub larger_run : List Event
 larger_run =
     Put 0 0 (pos 1) ∷ Put 0 0 (pos 2) ∷ Put 1 1 (pos 1) ∷
-    WaitFull 1 1 ∷ WaitFull 0 0 ∷ Grow 0 1 ∷
+    WaitFull 1 1 ∷ WaitFull 0 0 ∷ Grow 0 1 2 ∷
     Put 1 1 (pos 2) ∷ Get 1 0 (pos 1) ∷ Put 0 0 (pos 3) ∷
     Get 0 1 (pos 1) ∷ Get 0 1 (pos 2) ∷ Ended 0 how.Done ∷
     Get 1 0 (pos 2) ∷ Get 1 0 (pos 3) ∷ Ended 1 how.Done ∷ []
@@ -52,22 +52,22 @@ larger_run =
 unfoldable pub tie_run : List Event
 tie_run =
     Put 0 0 (pos 1) ∷ Put 1 1 (pos 1) ∷ WaitFull 0 0 ∷
-    WaitFull 1 1 ∷ Grow 1 0 ∷ Put 0 0 (pos 2) ∷
+    WaitFull 1 1 ∷ Grow 1 0 2 ∷ Put 0 0 (pos 2) ∷
     Get 0 1 (pos 1) ∷ Put 1 1 (pos 2) ∷ Get 0 1 (pos 2) ∷
     Ended 0 how.Done ∷ Get 1 0 (pos 1) ∷ Get 1 0 (pos 2) ∷
     Ended 1 how.Done ∷ []
 
 unfoldable pub self_loop_run : List Event
 self_loop_run =
-    Put 0 0 (pos 1) ∷ WaitFull 0 0 ∷ Grow 0 0 ∷
+    Put 0 0 (pos 1) ∷ WaitFull 0 0 ∷ Grow 0 0 2 ∷
     Put 0 0 (pos 2) ∷ Get 0 0 (pos 1) ∷ Get 0 0 (pos 2) ∷
     Put 0 1 (pos 3) ∷ Take 1 (pos 3) ∷ Ended 0 how.Done ∷ []
 
 -- from 1 to 2 and to 4
 unfoldable pub doubling_run : List Event
 doubling_run =
-    Put 0 0 (pos 1) ∷ WaitFull 0 0 ∷ Grow 0 0 ∷
-    Put 0 0 (pos 2) ∷ WaitFull 0 0 ∷ Grow 0 0 ∷
+    Put 0 0 (pos 1) ∷ WaitFull 0 0 ∷ Grow 0 0 2 ∷
+    Put 0 0 (pos 2) ∷ WaitFull 0 0 ∷ Grow 0 0 4 ∷
     Put 0 0 (pos 3) ∷ Put 0 0 (pos 4) ∷ Get 0 0 (pos 1) ∷
     Get 0 0 (pos 2) ∷ Get 0 0 (pos 3) ∷ Get 0 0 (pos 4) ∷
     Ended 0 how.Done ∷ []
@@ -121,7 +121,7 @@ two_at_limit_run = Put 0 0 (pos 1) ∷ WaitEmpty 1 1 ∷ WaitFull 0 0 ∷ []
 unfoldable pub doubled_to_limit_run : List Event
 doubled_to_limit_run =
     Put 0 0 (pos 1) ∷ Put 0 0 (pos 2) ∷ WaitFull 0 0 ∷
-    Grow 0 0 ∷ Put 0 0 (pos 3) ∷ WaitFull 0 0 ∷ []
+    Grow 0 0 3 ∷ Put 0 0 (pos 3) ∷ WaitFull 0 0 ∷ []
 
 unfoldable pub clogged_run : List Event
 clogged_run = Put 0 0 (pos 1) ∷ WaitEmpty 1 1 ∷ WaitEmpty 2 2 ∷ WaitFull 0 0 ∷ []
@@ -132,22 +132,22 @@ clogged_run = Put 0 0 (pos 1) ∷ WaitEmpty 1 1 ∷ WaitEmpty 2 2 ∷ WaitFull 0
 unfoldable pub resolved_run : List Event
 resolved_run =
     Put 0 0 (pos 1) ∷ WaitEmpty 1 1 ∷ WaitEmpty 2 2 ∷
-    WaitFull 0 0 ∷ Grow 0 0 ∷ Put 0 0 (pos 2) ∷
-    WaitFull 0 0 ∷ Grow 0 0 ∷ Put 0 0 (pos 3) ∷
+    WaitFull 0 0 ∷ Grow 0 0 2 ∷ Put 0 0 (pos 2) ∷
+    WaitFull 0 0 ∷ Grow 0 0 3 ∷ Put 0 0 (pos 3) ∷
     Ended 0 how.Done ∷ []
 
 -- the last to wait is a reader that waits for the other one; the growth is the writer's
 unfoldable pub reader_waits_last_run : List Event
 reader_waits_last_run =
     Put 0 0 (pos 1) ∷ WaitFull 0 0 ∷ WaitEmpty 1 1 ∷
-    WaitEmpty 2 2 ∷ Grow 0 0 ∷ Put 0 0 (pos 2) ∷ []
+    WaitEmpty 2 2 ∷ Grow 0 0 2 ∷ Put 0 0 (pos 2) ∷ []
 
 -- from 1 to 2, and to the limit, which is 3
 unfoldable pub resolved_to_limit_run : List Event
 resolved_to_limit_run =
     Put 0 0 (pos 1) ∷ WaitEmpty 1 1 ∷ WaitEmpty 2 2 ∷
-    WaitFull 0 0 ∷ Grow 0 0 ∷ Put 0 0 (pos 2) ∷
-    WaitFull 0 0 ∷ Grow 0 0 ∷ Put 0 0 (pos 3) ∷
+    WaitFull 0 0 ∷ Grow 0 0 2 ∷ Put 0 0 (pos 2) ∷
+    WaitFull 0 0 ∷ Grow 0 0 3 ∷ Put 0 0 (pos 3) ∷
     WaitFull 0 0 ∷ []
 
 -- channel 3 is full and smaller than channel 0, and nobody waits on it
@@ -155,7 +155,7 @@ unfoldable pub small_full_run : List Event
 small_full_run =
     Put 3 3 (pos 1) ∷ Ended 3 how.Done ∷ Put 0 0 (pos 1) ∷
     Put 0 0 (pos 2) ∷ WaitEmpty 1 1 ∷ WaitEmpty 2 2 ∷
-    WaitFull 0 0 ∷ Grow 0 0 ∷ Put 0 0 (pos 3) ∷
+    WaitFull 0 0 ∷ Grow 0 0 3 ∷ Put 0 0 (pos 3) ∷
     Ended 0 how.Done ∷ []
 
 -- until all stand still but for what is said of each
@@ -163,31 +163,31 @@ unfoldable pub end_settles_run : List Event
 end_settles_run =
     Close 1 ∷ Put 1 2 (pos 5) ∷ Take 2 (pos 5) ∷
     WaitEmpty 1 1 ∷ Put 0 0 (pos 1) ∷ WaitFull 0 0 ∷
-    Ended 2 how.Done ∷ Grow 0 0 ∷ Put 0 0 (pos 2) ∷ []
+    Ended 2 how.Done ∷ Grow 0 0 2 ∷ Put 0 0 (pos 2) ∷ []
 
 unfoldable pub close_settles_run : List Event
 close_settles_run =
     Put 1 2 (pos 5) ∷ Take 2 (pos 5) ∷ WaitEmpty 1 1 ∷
     Put 0 0 (pos 1) ∷ WaitFull 0 0 ∷ Ended 2 how.Done ∷
-    Close 1 ∷ Grow 0 0 ∷ Put 0 0 (pos 2) ∷ []
+    Close 1 ∷ Grow 0 0 2 ∷ Put 0 0 (pos 2) ∷ []
 
 unfoldable pub take_settles_run : List Event
 take_settles_run =
     Close 1 ∷ Put 1 2 (pos 5) ∷ WaitEmpty 1 1 ∷
     Put 0 0 (pos 1) ∷ WaitFull 0 0 ∷ Ended 2 how.Done ∷
-    Take 2 (pos 5) ∷ Grow 0 0 ∷ Put 0 0 (pos 2) ∷ []
+    Take 2 (pos 5) ∷ Grow 0 0 2 ∷ Put 0 0 (pos 2) ∷ []
 
 unfoldable pub leave_settles_run : List Event
 leave_settles_run =
     Close 1 ∷ Put 1 2 (pos 5) ∷ WaitEmpty 1 1 ∷
     Put 0 0 (pos 1) ∷ WaitFull 0 0 ∷ Ended 2 how.Done ∷
-    Leave 2 ∷ Grow 0 0 ∷ Put 0 0 (pos 2) ∷ []
+    Leave 2 ∷ Grow 0 0 2 ∷ Put 0 0 (pos 2) ∷ []
 
 -- all stand still, and the last wait has closed a cycle: its channel grows, though channel 1 is smaller
 unfoldable pub cycle_goes_first_run : List Event
 cycle_goes_first_run =
     Put 1 1 (pos 1) ∷ WaitFull 1 1 ∷ Put 0 0 (pos 1) ∷
-    Put 0 0 (pos 2) ∷ WaitFull 0 0 ∷ Grow 0 0 ∷
+    Put 0 0 (pos 2) ∷ WaitFull 0 0 ∷ Grow 0 0 3 ∷
     Put 0 0 (pos 3) ∷ Ended 0 how.Done ∷ Put 1 1 (pos 2) ∷
     Ended 1 how.Done ∷ []
 
@@ -195,5 +195,5 @@ cycle_goes_first_run =
 unfoldable pub other_grows_run : List Event
 other_grows_run =
     Put 1 1 (pos 1) ∷ WaitFull 1 1 ∷ Put 0 0 (pos 1) ∷
-    Put 0 0 (pos 2) ∷ WaitFull 0 0 ∷ Grow 1 1 ∷
+    Put 0 0 (pos 2) ∷ WaitFull 0 0 ∷ Grow 1 1 2 ∷
     Put 1 1 (pos 2) ∷ Ended 1 how.Done ∷ []

@@ -89,69 +89,77 @@ growth_left_out = take 3 two_run ++ Leave 2 ∷ []
 
 -- the channel is empty
 unfoldable pub grows_another_channel : List Event
-grows_another_channel = take 3 two_run ++ Grow 0 1 ∷ []
+grows_another_channel = take 3 two_run ++ Grow 0 1 2 ∷ []
 
 -- the growth names the reader, which did not close the cycle
 unfoldable pub grows_for_the_reader : List Event
-grows_for_the_reader = take 3 two_run ++ Grow 1 0 ∷ []
+grows_for_the_reader = take 3 two_run ++ Grow 1 0 2 ∷ []
 
 -- nobody waits
 unfoldable pub grows_at_first : List Event
-grows_at_first = Grow 0 0 ∷ []
+grows_at_first = Grow 0 0 2 ∷ []
 
 unfoldable pub grows_twice : List Event
-grows_twice = take 4 two_run ++ Grow 0 0 ∷ []
+grows_twice = take 4 two_run ++ Grow 0 0 3 ∷ []
 
 -- the writer waits on the full channel for a process that waits in a cycle with others
 unfoldable pub grows_without_a_cycle : List Event
-grows_without_a_cycle = clogged_run ++ Grow 0 0 ∷ []
+grows_without_a_cycle = clogged_run ++ Grow 0 0 2 ∷ []
 
 unfoldable pub grows_at_the_limit : List Event
-grows_at_the_limit = two_at_limit_run ++ Grow 0 0 ∷ []
+grows_at_the_limit = two_at_limit_run ++ Grow 0 0 2 ∷ []
 
 -- of two full channels of the cycle the one with the larger capacity
 unfoldable pub grows_the_larger : List Event
-grows_the_larger = take 5 larger_run ++ Grow 0 0 ∷ []
+grows_the_larger = take 5 larger_run ++ Grow 0 0 3 ∷ []
 
 -- the growth names the writer of the channel, which did not close the cycle
 unfoldable pub grows_for_its_writer : List Event
-grows_for_its_writer = take 5 larger_run ++ Grow 1 1 ∷ []
+grows_for_its_writer = take 5 larger_run ++ Grow 1 1 2 ∷ []
 
 -- of two full channels with one capacity the one with the greater number
 unfoldable pub grows_the_greater_number : List Event
-grows_the_greater_number = take 4 tie_run ++ Grow 1 1 ∷ []
+grows_the_greater_number = take 4 tie_run ++ Grow 1 1 2 ∷ []
 
--- ---- a growth makes a channel as large as the network says
+-- ---- a growth makes a channel as large as the network says, and tells that
 
 -- after two growths by one the channel holds three
 unfoldable pub puts_as_if_doubled : List Event
-puts_as_if_doubled = take 8 doubling_run
+puts_as_if_doubled = take 5 doubling_run ++ Grow 0 0 3 ∷ Put 0 0 (pos 3) ∷ Put 0 0 (pos 4) ∷ []
 
 -- twice the capacity, and above the limit
 unfoldable pub puts_past_the_limit : List Event
 puts_past_the_limit = take 5 doubled_to_limit_run ++ Put 0 0 (pos 4) ∷ []
 
--- it was made as large as the limit
+-- it was made as large as the limit, and would stay so
 unfoldable pub grows_past_the_limit : List Event
-grows_past_the_limit = doubled_to_limit_run ++ Grow 0 0 ∷ []
+grows_past_the_limit = doubled_to_limit_run ++ Grow 0 0 3 ∷ []
+
+-- a channel of capacity 2 doubles, so 4 is right
+unfoldable pub tells_too_small_a_capacity : List Event
+tells_too_small_a_capacity = take 5 doubling_run ++ Grow 0 0 3 ∷ []
+
+-- a channel of capacity 2 grows by one, so 3 is right
+unfoldable pub tells_too_large_a_capacity : List Event
+tells_too_large_a_capacity = take 5 doubling_run ++ Grow 0 0 4 ∷ []
 
 -- ---- under the policy `all` a growth comes where all stand still
 
 -- process 2 is ready
 unfoldable pub grows_while_one_is_ready : List Event
-grows_while_one_is_ready = Put 0 0 (pos 1) ∷ WaitEmpty 1 1 ∷ WaitFull 0 0 ∷ Grow 0 0 ∷ []
+grows_while_one_is_ready = Put 0 0 (pos 1) ∷ WaitEmpty 1 1 ∷ WaitFull 0 0 ∷ Grow 0 0 2 ∷ []
 
 -- its source is open
 unfoldable pub grows_before_the_close : List Event
-grows_before_the_close = take 6 close_settles_run ++ Grow 0 0 ∷ []
+grows_before_the_close = take 6 close_settles_run ++ Grow 0 0 2 ∷ []
 
 -- channel 3, which is smaller and full
 unfoldable pub grows_where_nobody_waits : List Event
-grows_where_nobody_waits = take 7 small_full_run ++ Grow 3 3 ∷ []
+grows_where_nobody_waits = take 7 small_full_run ++ Grow 3 3 2 ∷ []
 
 -- the growth names the process that came to wait last, which does not wait for it
 unfoldable pub grows_for_the_last_to_wait : List Event
-grows_for_the_last_to_wait = take 4 reader_waits_last_run ++ Grow 2 0 ∷ []
+grows_for_the_last_to_wait = take 4 reader_waits_last_run ++ Grow 2 0 2 ∷ []
 
 -- the sink may be left, but the growth is owed
 unfoldable pub growth_at_stop_left_out : List Event
@@ -159,11 +167,11 @@ growth_at_stop_left_out = take 7 close_settles_run ++ Leave 2 ∷ []
 
 -- the channel of the cycle is below the limit
 unfoldable pub passes_over_the_cycle : List Event
-passes_over_the_cycle = take 5 cycle_goes_first_run ++ Grow 1 1 ∷ []
+passes_over_the_cycle = take 5 cycle_goes_first_run ++ Grow 1 1 2 ∷ []
 
 -- it was made as large as the limit, which is 3
 unfoldable pub doubles_past_the_limit : List Event
-doubles_past_the_limit = resolved_to_limit_run ++ Grow 0 0 ∷ []
+doubles_past_the_limit = resolved_to_limit_run ++ Grow 0 0 3 ∷ []
 
 -- and holds no more than that
 unfoldable pub puts_past_the_doubled : List Event

@@ -1,8 +1,8 @@
 //! Lists of events that no run brings, and the event of each that is the first such, as the contracts of functions with
 //! nothing to do.
 ghost use Rattle.check_histories.specs.Claims.{BreaksAt};
-ghost use Rattle.check_histories.specs.Networks.{copy_network, two_network, two_at_limit, larger_network, tie_network, two_readers_network, ended_reader_network, clogged_network, zero_divisor_network, overflow_network, one_more_network, doubling_to_limit_network, resolved_network, resolved_to_limit_network, small_full_network, outside_network, cycle_below_limit};
-ghost use Rattle.check_histories.specs.WrongLists.{puts_another_item, gets_out_of_turn, puts_for_a_fault, ends_too_early, ends_as_done, ends_as_overflow, ends_as_zero_divisor, waits_where_it_does_not_read, waits_where_it_does_not_write, ends_twice, waits_while_blocked, waits_for_an_unread_item, waits_with_room, waits_for_an_ended_reader, waits_for_a_left_sink, gets_the_newest, gets_once_more, takes_once_more, puts_into_a_full_channel, growth_left_out, grows_another_channel, grows_for_the_reader, grows_at_first, grows_twice, grows_without_a_cycle, grows_at_the_limit, grows_the_larger, grows_for_its_writer, grows_the_greater_number, puts_as_if_doubled, puts_past_the_limit, grows_past_the_limit, grows_while_one_is_ready, grows_before_the_close, grows_where_nobody_waits, grows_for_the_last_to_wait, growth_at_stop_left_out, passes_over_the_cycle, doubles_past_the_limit, puts_past_the_doubled, feeds_no_source, feeds_after_the_close, closes_no_source, closes_twice, takes_from_no_sink, takes_after_the_leave, leaves_no_sink, leaves_twice, nobody_puts, nobody_gets, nobody_ends, nobody_puts_nowhere};
+ghost use Rattle.check_histories.specs.Networks.{copy_network, two_network, two_at_limit, larger_network, tie_network, two_readers_network, ended_reader_network, clogged_network, zero_divisor_network, overflow_network, doubling_network, one_more_network, doubling_to_limit_network, resolved_network, resolved_to_limit_network, small_full_network, outside_network, cycle_below_limit};
+ghost use Rattle.check_histories.specs.WrongLists.{puts_another_item, gets_out_of_turn, puts_for_a_fault, ends_too_early, ends_as_done, ends_as_overflow, ends_as_zero_divisor, waits_where_it_does_not_read, waits_where_it_does_not_write, ends_twice, waits_while_blocked, waits_for_an_unread_item, waits_with_room, waits_for_an_ended_reader, waits_for_a_left_sink, gets_the_newest, gets_once_more, takes_once_more, puts_into_a_full_channel, growth_left_out, grows_another_channel, grows_for_the_reader, grows_at_first, grows_twice, grows_without_a_cycle, grows_at_the_limit, grows_the_larger, grows_for_its_writer, grows_the_greater_number, puts_as_if_doubled, puts_past_the_limit, grows_past_the_limit, tells_too_small_a_capacity, tells_too_large_a_capacity, grows_while_one_is_ready, grows_before_the_close, grows_where_nobody_waits, grows_for_the_last_to_wait, growth_at_stop_left_out, passes_over_the_cycle, doubles_past_the_limit, puts_past_the_doubled, feeds_no_source, feeds_after_the_close, closes_no_source, closes_twice, takes_from_no_sink, takes_after_the_leave, leaves_no_sink, leaves_twice, nobody_puts, nobody_gets, nobody_ends, nobody_puts_nowhere};
 
 /// A process says what its text says, ends as its text ends, and waits where its text reads or writes.
 pub fn processes_keep_to_their_texts()
@@ -55,11 +55,13 @@ pub fn growths_are_owed()
     ensures the_greater_number { BreaksAt tie_network grows_the_greater_number 4 }
 {}
 
-/// A growth makes a channel as large as the network says, and never larger than the limit.
+/// A growth makes a channel as large as the network says, never larger than the limit, and tells that capacity.
 pub fn growths_are_as_large_as_they_may_be()
     ensures by_one { BreaksAt one_more_network puts_as_if_doubled 7 }
     ensures past_the_limit { BreaksAt doubling_to_limit_network puts_past_the_limit 5 }
     ensures at_the_limit { BreaksAt doubling_to_limit_network grows_past_the_limit 6 }
+    ensures tells_too_small { BreaksAt doubling_network tells_too_small_a_capacity 5 }
+    ensures tells_too_large { BreaksAt one_more_network tells_too_large_a_capacity 5 }
 {}
 
 /// Under the policy `all` a growth comes at once where all stand still, and nowhere else: of the smallest channel on

@@ -1,6 +1,7 @@
 //! Networks: each refusal at its place and beside the one before it, sizes at their limits, who is at the
-//! ends of a channel, equality, and how channels grow.
+//! ends of a channel, equality, how channels grow, and copies.
 use crate::worked::{idle, idle_network, instance};
+use kpn_lang::{Expr, Op, Program, Stmt};
 use kpn_limits::MAX_CAPACITY;
 use kpn_net::ChannelSpec::{Inner, Sink, Source};
 use kpn_net::{ChannelSpec, End, Growth, Instance, NetFault, Network, Policy, same};
@@ -210,5 +211,35 @@ fn growths_of_a_network(rt: HostRuntime) -> Result<(), Fail> {
         assert!(rt; cap < doubling.limit());
         assert_eq!(rt; doubling.larger_capacity(cap), doubled);
     }
+    Ok(())
+}
+
+// A process between a source and a sink, with each kind of statement and of expression.
+fn busy_network(alloc: Global, policy: Policy, growth: Growth) -> Result<Network, Fail> {
+    let less = Box::new(alloc, Expr::Neg(Box::new(alloc, Expr::Num(3))?))?;
+    let flag = Box::new(alloc, Expr::Not(Box::new(alloc, Expr::Var(0))?))?;
+    let body = vec![in alloc;
+        Stmt::Read(0, 0),
+        Stmt::Assign(1, Expr::Bin(Op::Add, less, flag)),
+        Stmt::If(Expr::Var(0), 1, 2),
+        Stmt::While(Expr::Num(1), 3),
+    ]?;
+    let first = vec![in alloc; Stmt::Write(0, Expr::Var(1))]?;
+    let blocks = vec![in alloc; body, first, Vec::new(alloc), Vec::new(alloc)]?;
+    let program = Program::new(alloc, 1, 1, 1, 1, blocks)?;
+    let process = instance(alloc, 0, &[0], &[1], &[7])?;
+    let (programs, instances) = (vec![in alloc; program]?, vec![in alloc; process]?);
+    let channels = [Source, Sink(1)].to_vec(alloc)?;
+    Ok(Network::new(alloc, programs, instances, channels, 5, policy, growth)?)
+}
+
+#[test]
+fn copies_of_a_network(rt: HostRuntime) -> Result<(), Fail> {
+    let a = rt.alloc();
+    let network = busy_network(a, Policy::Cycles, Growth::One)?;
+    let made = busy_network(a, Policy::All, Growth::Double)?;
+    let copy = network.under(Policy::All, Growth::Double)?;
+    assert!(rt; same(&copy, &made));
+    assert!(rt; !same(&copy, &network));
     Ok(())
 }

@@ -12,10 +12,12 @@ use kpn_limits::MAX_CHANNELS;
 use std::alloc::{AllocError, Global};
 use std::marker::Model;
 
+mod copies;
 mod equality;
 mod parts;
 mod sides;
 
+use copies::{copy_instances, copy_programs};
 use equality::{same_channels, same_processes};
 use parts::Parts;
 use sides::Side;
@@ -244,10 +246,25 @@ impl Network {
     pub fn under(&self, policy: Policy, growth: Growth) -> Result<Network, AllocError>
         ensures { IfOk result (λ network. network ≡ under policy growth self.now) }
     {
-        let _ = &self.parts;
-        let _ = policy;
-        let _ = growth;
-        Err(AllocError)
+        let alloc = *self.parts.programs.allocator();
+        let programs = copy_programs(alloc, &self.parts.programs)?;
+        let instances = copy_instances(alloc, &self.parts.instances)?;
+        let channels = Vec::from_slice(alloc, &self.parts.channels)?;
+        let writers = Vec::from_slice(alloc, &self.writers)?;
+        let readers = Vec::from_slice(alloc, &self.readers)?;
+        let parts = Parts {
+            programs,
+            instances,
+            channels,
+            limit: self.parts.limit,
+            policy,
+            growth,
+        };
+        Ok(Network {
+            parts,
+            writers,
+            readers,
+        })
     }
 
     /// The capacity that a channel of capacity `cap` has after one growth. It is at most the limit.

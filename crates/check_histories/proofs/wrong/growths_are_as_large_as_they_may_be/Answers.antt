@@ -1,11 +1,10 @@
-use Rattle.std.proofs.Common.{arith, lit<, refl, ◌≤◌, take}
+use Rattle.std.proofs.Common.{arith, lit<, refl, ◌≤◌}
 use Rattle.kpn_trace.specs.declared.event.Event.TheVariants.{Grow}
-use Rattle.kpn_trace.proofs.Legality.{Legal-consistent, Legal-last}
-use Rattle.check_histories.specs.Networks.{one_more_network, doubling_to_limit_network}
+use Rattle.kpn_trace.proofs.Legality.{Legal-consistent}
+use Rattle.check_histories.specs.Networks.{doubling_network, one_more_network, doubling_to_limit_network}
 use Rattle.check_histories.specs.Runs.{doubling_run, doubled_to_limit_run}
-use Rattle.check_histories.specs.WrongLists.{puts_as_if_doubled, puts_past_the_limit, grows_past_the_limit}
-use Rattle.check_histories.proofs.GrowthTests.{owes_none-true}
-use Rattle.check_histories.proofs.Claiming.{breaks_at}
+use Rattle.check_histories.specs.WrongLists.{puts_as_if_doubled, puts_past_the_limit, grows_past_the_limit, tells_too_small_a_capacity, tells_too_large_a_capacity}
+use Rattle.check_histories.proofs.Claiming.{breaks_at, breaks_by_growth, breaks_owing}
 use Rattle.check_histories.proofs.wrong.growths_are_as_large_as_they_may_be.Goals as goal
 
 pub returns-clause-by_one : goal.returns-clause-by_one
@@ -23,6 +22,15 @@ returns-clause-past_the_limit c = breaks_at doubling_to_limit_network 1 puts_pas
 
 pub returns-clause-at_the_limit : goal.returns-clause-at_the_limit
 unfolding doubling_to_limit_network grows_past_the_limit doubled_to_limit_run
-returns-clause-at_the_limit c = breaks_at doubling_to_limit_network 1 grows_past_the_limit 6 refl (λ legal.
-    owes_none-true doubling_to_limit_network (take 6 grows_past_the_limit) 0 0 refl
-    (Legal-last doubling_to_limit_network (take 6 grows_past_the_limit) (Grow 0 0) legal).due)
+returns-clause-at_the_limit c =
+    breaks_by_growth doubling_to_limit_network 1 grows_past_the_limit 6 0 0 3 refl refl refl
+
+pub returns-clause-tells_too_small : goal.returns-clause-tells_too_small
+unfolding doubling_network tells_too_small_a_capacity doubling_run
+returns-clause-tells_too_small c =
+    breaks_owing doubling_network 1 tells_too_small_a_capacity 5 0 0 (Grow 0 0 3) refl refl refl (λ same. cc)
+
+pub returns-clause-tells_too_large : goal.returns-clause-tells_too_large
+unfolding one_more_network tells_too_large_a_capacity doubling_run
+returns-clause-tells_too_large c =
+    breaks_owing one_more_network 1 tells_too_large_a_capacity 5 0 0 (Grow 0 0 4) refl refl refl (λ same. cc)

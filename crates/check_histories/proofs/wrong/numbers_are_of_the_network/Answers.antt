@@ -1,33 +1,32 @@
 use Rattle.std.specs.Prelude.{pos}
-use Rattle.std.proofs.Common.{arith, refl, take, ◌<◌}
+use Rattle.std.proofs.Common.{arith, refl, ◌<◌}
 use Rattle.kpn_trace.specs.declared.event.How.TheVariants as how
 use Rattle.kpn_trace.specs.declared.event.Event.TheVariants.{Ended, Get, Put}
-use Rattle.kpn_trace.proofs.Legality.{Legal-last}
 use Rattle.check_histories.specs.Networks.{ended_reader_network}
 use Rattle.check_histories.specs.WrongLists.{nobody_puts, nobody_gets, nobody_ends, nobody_puts_nowhere}
-use Rattle.check_histories.proofs.Claiming.{breaks_at}
+use Rattle.check_histories.proofs.Claiming.{breaks_by}
 use Rattle.check_histories.proofs.wrong.numbers_are_of_the_network.Goals as goal
 
 pub returns-clause-nobody_puts : goal.returns-clause-nobody_puts
 unfolding ended_reader_network nobody_puts
-returns-clause-nobody_puts c = breaks_at ended_reader_network 1 nobody_puts 0 refl (λ legal.
-    let below : 2 < 2 =
-    (Legal-last ended_reader_network (take 0 nobody_puts) (Put 2 0 (pos 1)) legal).numbers.0 in omega arith)
+returns-clause-nobody_puts c =
+    breaks_by ended_reader_network 1 nobody_puts 0 (Put 2 0 (pos 1)) refl refl (λ follows.
+    let below : 2 < 2 = follows.numbers.0 in omega arith)
 
 pub returns-clause-nobody_gets : goal.returns-clause-nobody_gets
 unfolding ended_reader_network nobody_gets
-returns-clause-nobody_gets c = breaks_at ended_reader_network 1 nobody_gets 1 refl (λ legal.
-    let below : 2 < 2 =
-    (Legal-last ended_reader_network (take 1 nobody_gets) (Get 2 0 (pos 1)) legal).numbers.0 in omega arith)
+returns-clause-nobody_gets c =
+    breaks_by ended_reader_network 1 nobody_gets 1 (Get 2 0 (pos 1)) refl refl (λ follows.
+    let below : 2 < 2 = follows.numbers.0 in omega arith)
 
 pub returns-clause-nobody_ends : goal.returns-clause-nobody_ends
 unfolding ended_reader_network nobody_ends
-returns-clause-nobody_ends c = breaks_at ended_reader_network 1 nobody_ends 0 refl (λ legal.
-    let below : 2 < 2 =
-    (Legal-last ended_reader_network (take 0 nobody_ends) (Ended 2 how.Done) legal).numbers in omega arith)
+returns-clause-nobody_ends c =
+    breaks_by ended_reader_network 1 nobody_ends 0 (Ended 2 how.Done) refl refl (λ follows.
+    let below : 2 < 2 = follows.numbers in omega arith)
 
 pub returns-clause-nobody_puts_nowhere : goal.returns-clause-nobody_puts_nowhere
 unfolding ended_reader_network nobody_puts_nowhere
-returns-clause-nobody_puts_nowhere c = breaks_at ended_reader_network 1 nobody_puts_nowhere 0 refl (λ legal.
-    let below : 2 < 2 =
-    (Legal-last ended_reader_network (take 0 nobody_puts_nowhere) (Put 2 1 (pos 1)) legal).numbers.0 in omega arith)
+returns-clause-nobody_puts_nowhere c =
+    breaks_by ended_reader_network 1 nobody_puts_nowhere 0 (Put 2 1 (pos 1)) refl refl (λ follows.
+    let below : 2 < 2 = follows.numbers.0 in omega arith)

@@ -1,11 +1,11 @@
-use Rattle.std.proofs.Common.{lit<, refl, take}
+use Rattle.std.proofs.Common.{lit<, refl}
 use Rattle.kpn_trace.specs.declared.event.How.TheVariants as how
 use Rattle.kpn_trace.specs.declared.event.Event.TheVariants.{Ended, WaitEmpty, WaitFull}
-use Rattle.kpn_trace.proofs.Legality.{Legal-consistent, Legal-last}
+use Rattle.kpn_trace.proofs.Legality.{Legal-consistent}
 use Rattle.check_histories.specs.Networks.{two_network, zero_divisor_network, overflow_network}
 use Rattle.check_histories.specs.Runs.{two_run}
 use Rattle.check_histories.specs.WrongLists.{puts_another_item, gets_out_of_turn, puts_for_a_fault, ends_too_early, ends_as_done, ends_as_overflow, ends_as_zero_divisor, waits_where_it_does_not_read, waits_where_it_does_not_write}
-use Rattle.check_histories.proofs.Claiming.{breaks_at}
+use Rattle.check_histories.proofs.Claiming.{breaks_at, breaks_by}
 use Rattle.check_histories.proofs.wrong.processes_keep_to_their_texts.Goals as goal
 
 pub returns-clause-puts_another_item : goal.returns-clause-puts_another_item
@@ -25,35 +25,36 @@ returns-clause-puts_for_a_fault c = breaks_at zero_divisor_network 1 puts_for_a_
 
 pub returns-clause-ends_too_early : goal.returns-clause-ends_too_early
 unfolding two_network ends_too_early
-returns-clause-ends_too_early c = breaks_at two_network 1 ends_too_early 1 refl (λ legal.
-    let said = (Legal-last two_network (take 1 ends_too_early) (Ended 0 how.Done) legal).due.1.said in cc)
+returns-clause-ends_too_early c =
+    breaks_by two_network 1 ends_too_early 1 (Ended 0 how.Done) refl refl (λ follows.
+    let said = follows.due.1.said in cc)
 
 pub returns-clause-ends_as_done : goal.returns-clause-ends_as_done
 unfolding zero_divisor_network ends_as_done
-returns-clause-ends_as_done c = breaks_at zero_divisor_network 1 ends_as_done 1 refl (λ legal.
-    let ended = (Legal-last zero_divisor_network (take 1 ends_as_done) (Ended 0 how.Done) legal).due.1.ended in cc)
+returns-clause-ends_as_done c =
+    breaks_by zero_divisor_network 1 ends_as_done 1 (Ended 0 how.Done) refl refl (λ follows.
+    let ended = follows.due.1.ended in cc)
 
 pub returns-clause-ends_as_overflow : goal.returns-clause-ends_as_overflow
 unfolding zero_divisor_network ends_as_overflow
-returns-clause-ends_as_overflow c = breaks_at zero_divisor_network 1 ends_as_overflow 1 refl (λ legal.
-    let ended =
-    (Legal-last zero_divisor_network (take 1 ends_as_overflow) (Ended 0 how.Overflow) legal).due.1.ended in cc)
+returns-clause-ends_as_overflow c =
+    breaks_by zero_divisor_network 1 ends_as_overflow 1 (Ended 0 how.Overflow) refl refl (λ follows.
+    let ended = follows.due.1.ended in cc)
 
 pub returns-clause-ends_as_zero_divisor : goal.returns-clause-ends_as_zero_divisor
 unfolding overflow_network ends_as_zero_divisor
-returns-clause-ends_as_zero_divisor c = breaks_at overflow_network 1 ends_as_zero_divisor 1 refl (λ legal.
-    let ended =
-    (Legal-last overflow_network (take 1 ends_as_zero_divisor) (Ended 0 how.ZeroDivisor) legal).due.1.ended in cc)
+returns-clause-ends_as_zero_divisor c =
+    breaks_by overflow_network 1 ends_as_zero_divisor 1 (Ended 0 how.ZeroDivisor) refl refl (λ follows.
+    let ended = follows.due.1.ended in cc)
 
 pub returns-clause-does_not_read : goal.returns-clause-does_not_read
 unfolding two_network waits_where_it_does_not_read
-returns-clause-does_not_read c = breaks_at two_network 1 waits_where_it_does_not_read 0 refl (λ legal.
-    let ended =
-    (Legal-last two_network (take 0 waits_where_it_does_not_read) (WaitEmpty 1 0) legal).due.1.starved.ended in cc)
+returns-clause-does_not_read c =
+    breaks_by two_network 1 waits_where_it_does_not_read 0 (WaitEmpty 1 0) refl refl (λ follows.
+    let ended = follows.due.1.starved.ended in cc)
 
 pub returns-clause-does_not_write : goal.returns-clause-does_not_write
 unfolding two_network waits_where_it_does_not_write two_run
-returns-clause-does_not_write c = breaks_at two_network 1 waits_where_it_does_not_write 5 refl (λ legal.
-    let item =
-    (Legal-last two_network (take 5 waits_where_it_does_not_write) (WaitFull 0 0) legal).due.1.next.said.1.1.0 in
-    cc)
+returns-clause-does_not_write c =
+    breaks_by two_network 1 waits_where_it_does_not_write 5 (WaitFull 0 0) refl refl (λ follows.
+    let item = follows.due.1.next.said.1.1.0 in cc)

@@ -1,18 +1,19 @@
-use Rattle.std.proofs.Common.{refl, take}
+use Rattle.std.proofs.Common.{refl}
 use Rattle.kpn_trace.specs.declared.event.How.TheVariants as how
 use Rattle.kpn_trace.specs.declared.event.Event.TheVariants.{Ended, WaitEmpty}
-use Rattle.kpn_trace.proofs.Legality.{Legal-last}
 use Rattle.check_histories.specs.Networks.{ended_reader_network, two_readers_network}
 use Rattle.check_histories.specs.WrongLists.{ends_twice, waits_while_blocked}
-use Rattle.check_histories.proofs.Claiming.{breaks_at}
+use Rattle.check_histories.proofs.Claiming.{breaks_by}
 use Rattle.check_histories.proofs.wrong.the_ended_and_the_blocked_rest.Goals as goal
 
 pub returns-clause-ends_twice : goal.returns-clause-ends_twice
 unfolding ended_reader_network ends_twice
-returns-clause-ends_twice c = breaks_at ended_reader_network 1 ends_twice 2 refl (λ legal.
-    let lives = (Legal-last ended_reader_network (take 2 ends_twice) (Ended 1 how.Done) legal).due.0.lives in cc)
+returns-clause-ends_twice c =
+    breaks_by ended_reader_network 1 ends_twice 2 (Ended 1 how.Done) refl refl (λ follows.
+    let lives = follows.due.0.lives in cc)
 
 pub returns-clause-waits_while_blocked : goal.returns-clause-waits_while_blocked
 unfolding two_readers_network waits_while_blocked
-returns-clause-waits_while_blocked c = breaks_at two_readers_network 1 waits_while_blocked 1 refl (λ legal.
-    let free = (Legal-last two_readers_network (take 1 waits_while_blocked) (WaitEmpty 0 0) legal).due.0.free in cc)
+returns-clause-waits_while_blocked c =
+    breaks_by two_readers_network 1 waits_while_blocked 1 (WaitEmpty 0 0) refl refl (λ follows.
+    let free = follows.due.0.free in cc)

@@ -1,15 +1,21 @@
 -- The capacity of the channel in the configuration is that of the history.
 use Rattle.std.proofs.Common.{ap, ◌∙◌}
 use Rattle.kpn_trace.specs.declared.event.Event.TheVariants.{Grow}
+use Rattle.kpn_trace.specs.Channels.{capacity_after}
+use Rattle.kpn_audit.specs.Stored.{told_capacity}
 use Rattle.kpn_audit.proofs.Telling.{has_room, same_capacity}
 use Rattle.kpn_audit.proofs.stored.told.Goals as goal
 
-pub told_capacity-requires-room : goal.told_capacity-requires-room
-told_capacity-requires-room g c =
-    has_room c.args.network.now c.known.ensures c.requires.run.0 c.args.configuration.now c.requires.run.1 _
+pub told_capacity-requires-clause-room : goal.told_capacity-requires-clause-room
+told_capacity-requires-clause-room g c =
+    has_room c.args.network.now c.known.ensures c.requires.run.0 c.args.configuration.now c.requires.run.1
+    c.into.result
 
 pub returns-in-Grow : goal.returns-in-Grow
 returns-in-Grow g c H run =
-    ap (λ n. Grow c.in-Grow.p c.in-Grow.c n)
-    (c.told_capacity.ensures
-    ∙ same_capacity c.args.network.now H c.args.configuration.now run c.in-Grow.c c.in-Grow.n)
+    let t = c.args.network.now in
+    let n = c.in-Grow.n in
+    rw (c.in-One.is, c.in-Grow.is)
+    (ap (λ m. Grow c.in-Grow.p c.in-Grow.c m)
+    (c.told_capacity.ensures ∙ same_capacity t H c.args.configuration.now run c.into.result n
+    ∙ ap (λ x. told_capacity t (capacity_after t H x) x n) c.into.ensures))
