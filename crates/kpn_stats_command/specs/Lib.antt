@@ -1,4 +1,3 @@
 pub mod Figures
 pub mod Layout
 pub mod StatsText
-pub mod Answers

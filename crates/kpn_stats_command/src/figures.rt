@@ -9,39 +9,39 @@ use std::alloc::{AllocError, Global};
 
 /// The figures of a channel.
 #[derive(Clone, Copy, Debug)]
-pub(crate) struct ChannelFigures {
+pub struct ChannelFigures {
     /// Items that were put on it or fed to it.
-    pub(crate) put: usize,
+    pub put: usize,
     /// Items that were got or taken from it.
-    pub(crate) read: usize,
+    pub read: usize,
     /// The most items that lay unread.
-    pub(crate) most: usize,
+    pub most: usize,
     /// How often its capacity grew.
-    pub(crate) growths: usize,
+    pub growths: usize,
     /// How often its reader came to wait for an item.
-    pub(crate) waits_empty: usize,
+    pub waits_empty: usize,
     /// How often its writer came to wait for room.
-    pub(crate) waits_full: usize,
+    pub waits_full: usize,
 }
 
 /// The figures of a process.
 #[derive(Clone, Copy, Debug)]
-pub(crate) struct ProcessFigures {
+pub struct ProcessFigures {
     /// Items that it got.
-    pub(crate) gets: usize,
+    pub gets: usize,
     /// Items that it put.
-    pub(crate) puts: usize,
+    pub puts: usize,
     /// How often it came to wait for an item.
-    pub(crate) waits_empty: usize,
+    pub waits_empty: usize,
     /// How often it came to wait for room.
-    pub(crate) waits_full: usize,
+    pub waits_full: usize,
 }
 
 /// The figures of a history: of each channel and of each process, in order of number.
 #[derive(Debug, Drop)]
-pub(crate) struct Figures {
-    pub(crate) channels: Sequence<ChannelFigures>,
-    pub(crate) processes: Sequence<ProcessFigures>,
+pub struct Figures {
+    pub channels: Sequence<ChannelFigures>,
+    pub processes: Sequence<ProcessFigures>,
 }
 
 const NO_CHANNEL: ChannelFigures = ChannelFigures {
@@ -61,18 +61,14 @@ const NO_PROCESS: ProcessFigures = ProcessFigures {
 };
 
 /// The figures of these events. The error is that memory ran out.
-pub(crate) fn count(
-    alloc: Global,
-    network: &Network,
-    events: &[Event],
-) -> Result<Figures, AllocError>
+pub fn count(alloc: Global, network: &Network, events: &[Event]) -> Result<Figures, AllocError>
     ensures { IfOk result (AreFigures network.now events.now) }
 {
     let mut channels = no_channels(alloc, network.channels())?;
     let mut processes = no_processes(alloc, network.instances())?;
-    for event in events {
-        count_on_channel(&mut channels, *event);
-        count_of_process(&mut processes, *event);
+    for k in 0..events.len() {
+        count_on_channel(&mut channels, events[k]);
+        count_of_process(&mut processes, events[k]);
     }
     Ok(Figures {
         channels: Sequence::from_vec(channels),
@@ -95,10 +91,10 @@ fn no_processes(alloc: Global, processes: usize) -> Result<Vec<ProcessFigures>, 
 }
 
 // Counts an event in the figures of its channel.
-fn count_on_channel(channels: &mut [ChannelFigures], event: Event)
-    requires { (c : ℕ) → c < length channels.old
-        → channel_total (slice_index_or channels.old c no_channel) + 1 < 2 ^ 64 }
-    ensures { channels.new ≡ channels_then channels.old event }
+fn count_on_channel(channels: &mut Vec<ChannelFigures>, event: Event)
+    requires { (c : ℕ) → c < length channels.old.items
+        → channel_total (slice_index_or channels.old.items c no_channel) + 1 < 2 ^ 64 }
+    ensures { channels.new.items ≡ channels_then channels.old.items event }
 {
     let Some(c) = channel_of(event) else {
         return;
@@ -109,10 +105,10 @@ fn count_on_channel(channels: &mut [ChannelFigures], event: Event)
 }
 
 // Counts an event in the figures of its process.
-fn count_of_process(processes: &mut [ProcessFigures], event: Event)
-    requires { (p : ℕ) → p < length processes.old
-        → process_total (slice_index_or processes.old p no_process) + 1 < 2 ^ 64 }
-    ensures { processes.new ≡ processes_then processes.old event }
+fn count_of_process(processes: &mut Vec<ProcessFigures>, event: Event)
+    requires { (p : ℕ) → p < length processes.old.items
+        → process_total (slice_index_or processes.old.items p no_process) + 1 < 2 ^ 64 }
+    ensures { processes.new.items ≡ processes_then processes.old.items event }
 {
     let Some(p) = process_of(event) else {
         return;
