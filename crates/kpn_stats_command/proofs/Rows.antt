@@ -1,5 +1,5 @@
 -- Tables row by row.
-use Rattle.std.proofs.Common.{◌≡◌, ◌≢◌, ℕ, ◌+◌, ◌<◌, ◌≤◌, max, List, [], ◌∷◌, ◌++◌, length, map, drop, get_or, codes, cond, eq-eqb, ne_eqb, drop-cons, drop_of_length-le, sym, ap, ◌∙◌, arith}
+use Rattle.std.proofs.Common.{◌≡◌, ◌≢◌, ℕ, suc, ◌+◌, ◌<◌, ◌≤◌, max, List, [], ◌∷◌, ◌++◌, length, map, drop, get_or, codes, cond, eq-eqb, ne_eqb, drop-cons, drop_of_length-le, sym, ap, ◌∙◌, arith}
 use Rattle.std.specs.List.{range_with_len}
 use Rattle.std.proofs.lemmas.List.FromFn.{map-range_with_len_more}
 use Rattle.kpn_stats_command.specs.declared.table.Row.{Row}
@@ -30,9 +30,11 @@ pub longest_next : (f : Row → List ℕ) (rows : List Row) (k : ℕ) (row : Row
     → row ≡ get_or rows k row → wider ≡ max width (length (f row))
     → max width (longest (map f (drop k rows))) ≡ all → max wider (longest (map f (drop (k + 1) rows))) ≡ all
 longest_next f rows k row width wider all below is wide so_far =
+    let step : suc k ≡ k + 1 = omega arith in
     let next : longest (map f (drop k rows)) ≡ max (length (f row)) (longest (map f (drop (k + 1) rows))) =
     ap (λ (xs : List Row). longest (map f xs)) (drop-cons rows k row below)
-    ∙ ap (λ (r : Row). max (length (f r)) (longest (map f (drop (k + 1) rows)))) (sym is) in
+    ∙ ap (λ (r : Row). max (length (f r)) (longest (map f (drop (suc k) rows)))) (sym is)
+    ∙ ap (λ n. max (length (f row)) (longest (map f (drop n rows)))) step in
     omega (arith, next, wide, so_far)
 
 pub longest_done : (f : Row → List ℕ) (rows : List Row) (k width all : ℕ) → length rows ≤ k

@@ -9,39 +9,39 @@ use std::alloc::{AllocError, Global};
 
 /// The figures of a channel.
 #[derive(Clone, Copy, Debug)]
-pub struct ChannelFigures {
+pub(crate) struct ChannelFigures {
     /// Items that were put on it or fed to it.
-    pub put: usize,
+    pub(crate) put: usize,
     /// Items that were got or taken from it.
-    pub read: usize,
+    pub(crate) read: usize,
     /// The most items that lay unread.
-    pub most: usize,
+    pub(crate) most: usize,
     /// How often its capacity grew.
-    pub growths: usize,
+    pub(crate) growths: usize,
     /// How often its reader came to wait for an item.
-    pub waits_empty: usize,
+    pub(crate) waits_empty: usize,
     /// How often its writer came to wait for room.
-    pub waits_full: usize,
+    pub(crate) waits_full: usize,
 }
 
 /// The figures of a process.
 #[derive(Clone, Copy, Debug)]
-pub struct ProcessFigures {
+pub(crate) struct ProcessFigures {
     /// Items that it got.
-    pub gets: usize,
+    pub(crate) gets: usize,
     /// Items that it put.
-    pub puts: usize,
+    pub(crate) puts: usize,
     /// How often it came to wait for an item.
-    pub waits_empty: usize,
+    pub(crate) waits_empty: usize,
     /// How often it came to wait for room.
-    pub waits_full: usize,
+    pub(crate) waits_full: usize,
 }
 
 /// The figures of a history: of each channel and of each process, in order of number.
 #[derive(Debug, Drop)]
-pub struct Figures {
-    pub channels: Sequence<ChannelFigures>,
-    pub processes: Sequence<ProcessFigures>,
+pub(crate) struct Figures {
+    pub(crate) channels: Sequence<ChannelFigures>,
+    pub(crate) processes: Sequence<ProcessFigures>,
 }
 
 const NO_CHANNEL: ChannelFigures = ChannelFigures {
@@ -61,7 +61,11 @@ const NO_PROCESS: ProcessFigures = ProcessFigures {
 };
 
 /// The figures of these events. The error is that memory ran out.
-pub fn count(alloc: Global, network: &Network, events: &[Event]) -> Result<Figures, AllocError>
+pub(crate) fn count(
+    alloc: Global,
+    network: &Network,
+    events: &[Event],
+) -> Result<Figures, AllocError>
     ensures { IfOk result (AreFigures network.now events.now) }
 {
     let mut channels = no_channels(alloc, network.channels())?;

@@ -26,7 +26,7 @@ pub enum StatsTables {
 }
 
 /// The tables of a history of the document's network. There is a capacity and there are figures for each channel.
-pub fn text_of(
+pub(crate) fn text_of(
     alloc: Global,
     tables: StatsTables,
     document: &Document,
