@@ -1,5 +1,5 @@
 -- What one more event does to the figures of a history.
-use Rattle.std.proofs.Common.{◌≡◌, ◌≢◌, ℕ, suc, ◌+◌, ◌-◌, ◌^◌, ◌<◌, ◌≤◌, max, Bool, true, false, ℤ, cond, nat_eq, eq-eqb, List, [], ◌∷◌, ◌++◌, length, take, drop, set, get_or, replicate, count_by, Option, Some, None, refl, sym, ap, ◌∙◌, subst, inl, inr, arith, length-drop, length-append}
+use Rattle.std.proofs.Common.{◌≡◌, ◌≢◌, ℕ, ◌+◌, ◌-◌, ◌^◌, ◌<◌, ◌≤◌, max, Bool, true, false, ℤ, cond, nat_eq, eq-eqb, List, [], ◌∷◌, ◌++◌, length, take, set, get_or, replicate, count_by, Option, Some, None, refl, sym, ap, ◌∙◌, subst, inl, inr, arith, length-drop, length-append}
 use Rattle.std.specs.List.{flat_map}
 use Rattle.std.proofs.lemmas.Bool.{cases_lt, ne_eqb}
 use Rattle.std.proofs.lemmas.Bool.Decides.{eqb_tells}
@@ -49,8 +49,13 @@ most_push H e c m u most now =
       reached = elim (cases_lt m u) [
         | inl less ↦ (length more, (omega arith, last ∙ (omega (arith, less))))
         | inr most_before ↦
-            let old = most.reached in
-            (old.0, (omega (arith, one, old.1.0), unread_before H e c old.0 old.1.0 ∙ old.1.1 ∙ (omega (arith, most_before))))
+            let old = most.reached in (
+              old.0,
+              (
+                omega (arith, one, old.1.0),
+                unread_before H e c old.0 old.1.0 ∙ old.1.1 ∙ (omega (arith, most_before)),
+              ),
+            )
       ];
       bounded = λ k fits. elim (cases_lt (length H) k) [
         | inl past ↦
@@ -114,44 +119,201 @@ same_number d c is = eq-eqb d c cc
 
 adds_on : (c : ℕ) (e : Event) (f : ChannelFigures) → channel_of e ≡ Some c → AddsChannel c e f (channel_counts_then f e)
 adds_on c (Get p d v) f is = let at = one_item (nat_eq d c) v (same_number d c is) in
-    record { put = omega arith; read = omega (arith, at); growths = omega arith; waits_empty = omega arith; waits_full = omega arith; most = refl; total = omega arith }
+    record {
+      put = omega arith;
+      read = omega (arith, at);
+      growths = omega arith;
+      waits_empty = omega arith;
+      waits_full = omega arith;
+      most = refl;
+      total = omega arith;
+    }
 adds_on c (Put p d v) f is = let at = one_item (nat_eq d c) v (same_number d c is) in
-    record { put = omega (arith, at); read = omega arith; growths = omega arith; waits_empty = omega arith; waits_full = omega arith; most = refl; total = omega arith }
+    record {
+      put = omega (arith, at);
+      read = omega arith;
+      growths = omega arith;
+      waits_empty = omega arith;
+      waits_full = omega arith;
+      most = refl;
+      total = omega arith;
+    }
 adds_on c (WaitEmpty p d) f is = let at = one (nat_eq d c) (same_number d c is) in
-    record { put = omega arith; read = omega arith; growths = omega arith; waits_empty = omega (arith, at); waits_full = omega arith; most = refl; total = omega arith }
+    record {
+      put = omega arith;
+      read = omega arith;
+      growths = omega arith;
+      waits_empty = omega (arith, at);
+      waits_full = omega arith;
+      most = refl;
+      total = omega arith;
+    }
 adds_on c (WaitFull p d) f is = let at = one (nat_eq d c) (same_number d c is) in
-    record { put = omega arith; read = omega arith; growths = omega arith; waits_empty = omega arith; waits_full = omega (arith, at); most = refl; total = omega arith }
+    record {
+      put = omega arith;
+      read = omega arith;
+      growths = omega arith;
+      waits_empty = omega arith;
+      waits_full = omega (arith, at);
+      most = refl;
+      total = omega arith;
+    }
 adds_on c (Ended p how) f is = absurd cc
 adds_on c (Feed d v) f is = let at = one_item (nat_eq d c) v (same_number d c is) in
-    record { put = omega (arith, at); read = omega arith; growths = omega arith; waits_empty = omega arith; waits_full = omega arith; most = refl; total = omega arith }
-adds_on c (Close d) f is = record { put = omega arith; read = omega arith; growths = omega arith; waits_empty = omega arith; waits_full = omega arith; most = refl; total = omega arith }
+    record {
+      put = omega (arith, at);
+      read = omega arith;
+      growths = omega arith;
+      waits_empty = omega arith;
+      waits_full = omega arith;
+      most = refl;
+      total = omega arith;
+    }
+adds_on c (Close d) f is =
+    record {
+      put = omega arith;
+      read = omega arith;
+      growths = omega arith;
+      waits_empty = omega arith;
+      waits_full = omega arith;
+      most = refl;
+      total = omega arith;
+    }
 adds_on c (Take d v) f is = let at = one_item (nat_eq d c) v (same_number d c is) in
-    record { put = omega arith; read = omega (arith, at); growths = omega arith; waits_empty = omega arith; waits_full = omega arith; most = refl; total = omega arith }
-adds_on c (Leave d) f is = record { put = omega arith; read = omega arith; growths = omega arith; waits_empty = omega arith; waits_full = omega arith; most = refl; total = omega arith }
+    record {
+      put = omega arith;
+      read = omega (arith, at);
+      growths = omega arith;
+      waits_empty = omega arith;
+      waits_full = omega arith;
+      most = refl;
+      total = omega arith;
+    }
+adds_on c (Leave d) f is =
+    record {
+      put = omega arith;
+      read = omega arith;
+      growths = omega arith;
+      waits_empty = omega arith;
+      waits_full = omega arith;
+      most = refl;
+      total = omega arith;
+    }
 adds_on c (Grow p d n) f is = let at = one (nat_eq d c) (same_number d c is) in
-    record { put = omega arith; read = omega arith; growths = omega (arith, at); waits_empty = omega arith; waits_full = omega arith; most = refl; total = omega arith }
+    record {
+      put = omega arith;
+      read = omega arith;
+      growths = omega (arith, at);
+      waits_empty = omega arith;
+      waits_full = omega arith;
+      most = refl;
+      total = omega arith;
+    }
 
 other_number : (d c : ℕ) → Some d ≢ Some c → nat_eq d c ≡ false
 other_number d c differs = ne_eqb d c (λ same. differs (ap Some same))
 
 adds_off : (c : ℕ) (e : Event) (f : ChannelFigures) → channel_of e ≢ Some c → AddsChannel c e f f
 adds_off c (Get p d v) f differs = let at = no_item (nat_eq d c) v (other_number d c differs) in
-    record { put = omega arith; read = omega (arith, at); growths = omega arith; waits_empty = omega arith; waits_full = omega arith; most = refl; total = omega arith }
+    record {
+      put = omega arith;
+      read = omega (arith, at);
+      growths = omega arith;
+      waits_empty = omega arith;
+      waits_full = omega arith;
+      most = refl;
+      total = omega arith;
+    }
 adds_off c (Put p d v) f differs = let at = no_item (nat_eq d c) v (other_number d c differs) in
-    record { put = omega (arith, at); read = omega arith; growths = omega arith; waits_empty = omega arith; waits_full = omega arith; most = refl; total = omega arith }
+    record {
+      put = omega (arith, at);
+      read = omega arith;
+      growths = omega arith;
+      waits_empty = omega arith;
+      waits_full = omega arith;
+      most = refl;
+      total = omega arith;
+    }
 adds_off c (WaitEmpty p d) f differs = let at = none (nat_eq d c) (other_number d c differs) in
-    record { put = omega arith; read = omega arith; growths = omega arith; waits_empty = omega (arith, at); waits_full = omega arith; most = refl; total = omega arith }
+    record {
+      put = omega arith;
+      read = omega arith;
+      growths = omega arith;
+      waits_empty = omega (arith, at);
+      waits_full = omega arith;
+      most = refl;
+      total = omega arith;
+    }
 adds_off c (WaitFull p d) f differs = let at = none (nat_eq d c) (other_number d c differs) in
-    record { put = omega arith; read = omega arith; growths = omega arith; waits_empty = omega arith; waits_full = omega (arith, at); most = refl; total = omega arith }
-adds_off c (Ended p how) f differs = record { put = omega arith; read = omega arith; growths = omega arith; waits_empty = omega arith; waits_full = omega arith; most = refl; total = omega arith }
+    record {
+      put = omega arith;
+      read = omega arith;
+      growths = omega arith;
+      waits_empty = omega arith;
+      waits_full = omega (arith, at);
+      most = refl;
+      total = omega arith;
+    }
+adds_off c (Ended p how) f differs =
+    record {
+      put = omega arith;
+      read = omega arith;
+      growths = omega arith;
+      waits_empty = omega arith;
+      waits_full = omega arith;
+      most = refl;
+      total = omega arith;
+    }
 adds_off c (Feed d v) f differs = let at = no_item (nat_eq d c) v (other_number d c differs) in
-    record { put = omega (arith, at); read = omega arith; growths = omega arith; waits_empty = omega arith; waits_full = omega arith; most = refl; total = omega arith }
-adds_off c (Close d) f differs = record { put = omega arith; read = omega arith; growths = omega arith; waits_empty = omega arith; waits_full = omega arith; most = refl; total = omega arith }
+    record {
+      put = omega (arith, at);
+      read = omega arith;
+      growths = omega arith;
+      waits_empty = omega arith;
+      waits_full = omega arith;
+      most = refl;
+      total = omega arith;
+    }
+adds_off c (Close d) f differs =
+    record {
+      put = omega arith;
+      read = omega arith;
+      growths = omega arith;
+      waits_empty = omega arith;
+      waits_full = omega arith;
+      most = refl;
+      total = omega arith;
+    }
 adds_off c (Take d v) f differs = let at = no_item (nat_eq d c) v (other_number d c differs) in
-    record { put = omega arith; read = omega (arith, at); growths = omega arith; waits_empty = omega arith; waits_full = omega arith; most = refl; total = omega arith }
-adds_off c (Leave d) f differs = record { put = omega arith; read = omega arith; growths = omega arith; waits_empty = omega arith; waits_full = omega arith; most = refl; total = omega arith }
+    record {
+      put = omega arith;
+      read = omega (arith, at);
+      growths = omega arith;
+      waits_empty = omega arith;
+      waits_full = omega arith;
+      most = refl;
+      total = omega arith;
+    }
+adds_off c (Leave d) f differs =
+    record {
+      put = omega arith;
+      read = omega arith;
+      growths = omega arith;
+      waits_empty = omega arith;
+      waits_full = omega arith;
+      most = refl;
+      total = omega arith;
+    }
 adds_off c (Grow p d n) f differs = let at = none (nat_eq d c) (other_number d c differs) in
-    record { put = omega arith; read = omega arith; growths = omega (arith, at); waits_empty = omega arith; waits_full = omega arith; most = refl; total = omega arith }
+    record {
+      put = omega arith;
+      read = omega arith;
+      growths = omega (arith, at);
+      waits_empty = omega arith;
+      waits_full = omega arith;
+      most = refl;
+      total = omega arith;
+    }
 
 next_channel : (H : List Event) (e : Event) (c : ℕ) (f g : ChannelFigures) → AddsChannel c e f g
     → CountedChannel H c f → CountedChannel (H ++ e ∷ []) c (with_most g)
@@ -236,9 +398,17 @@ pub channels_first : (n : ℕ) (figures : List ChannelFigures) → figures ≡ r
     → CountedChannels [] figures
 channels_first n figures made c below =
     let there : c < n = omega (arith, below, ap length made, length-replicate n no_channel) in
-    subst (CountedChannel [] c) (sym (ap (λ xs. get_or xs c no_channel) made ∙ get_or-replicate n c no_channel no_channel there))
+    subst (CountedChannel [] c)
+    (sym (ap (λ xs. get_or xs c no_channel) made ∙ get_or-replicate n c no_channel no_channel there))
     (record {
-      counts = record { put = refl; read = refl; most = most_of_none c; growths = refl; waits_empty = refl; waits_full = refl };
+      counts = record {
+        put = refl;
+        read = refl;
+        most = most_of_none c;
+        growths = refl;
+        waits_empty = refl;
+        waits_full = refl;
+      };
       total = omega arith;
     })
 
@@ -257,26 +427,80 @@ record AddsProcess (p : ℕ) (e : Event) (f g : ProcessFigures) : Type 0 where
 
 own_adds : (p : ℕ) (e : Event) (f : ProcessFigures) → process_of e ≡ Some p → AddsProcess p e f (process_then f e)
 own_adds p (Get q c v) f is = let at = one (nat_eq q p) (same_number q p is) in
-    record { gets = omega (arith, at); puts = omega arith; waits_empty = omega arith; waits_full = omega arith; total = omega arith }
+    record {
+      gets = omega (arith, at);
+      puts = omega arith;
+      waits_empty = omega arith;
+      waits_full = omega arith;
+      total = omega arith;
+    }
 own_adds p (Put q c v) f is = let at = one (nat_eq q p) (same_number q p is) in
-    record { gets = omega arith; puts = omega (arith, at); waits_empty = omega arith; waits_full = omega arith; total = omega arith }
+    record {
+      gets = omega arith;
+      puts = omega (arith, at);
+      waits_empty = omega arith;
+      waits_full = omega arith;
+      total = omega arith;
+    }
 own_adds p (WaitEmpty q c) f is = let at = one (nat_eq q p) (same_number q p is) in
-    record { gets = omega arith; puts = omega arith; waits_empty = omega (arith, at); waits_full = omega arith; total = omega arith }
+    record {
+      gets = omega arith;
+      puts = omega arith;
+      waits_empty = omega (arith, at);
+      waits_full = omega arith;
+      total = omega arith;
+    }
 own_adds p (WaitFull q c) f is = let at = one (nat_eq q p) (same_number q p is) in
-    record { gets = omega arith; puts = omega arith; waits_empty = omega arith; waits_full = omega (arith, at); total = omega arith }
+    record {
+      gets = omega arith;
+      puts = omega arith;
+      waits_empty = omega arith;
+      waits_full = omega (arith, at);
+      total = omega arith;
+    }
 own_adds p event f is = absurd cc
 
 other_adds : (p : ℕ) (e : Event) (f : ProcessFigures) → process_of e ≢ Some p → AddsProcess p e f f
 other_adds p (Get q c v) f differs = let at = none (nat_eq q p) (other_number q p differs) in
-    record { gets = omega (arith, at); puts = omega arith; waits_empty = omega arith; waits_full = omega arith; total = omega arith }
+    record {
+      gets = omega (arith, at);
+      puts = omega arith;
+      waits_empty = omega arith;
+      waits_full = omega arith;
+      total = omega arith;
+    }
 other_adds p (Put q c v) f differs = let at = none (nat_eq q p) (other_number q p differs) in
-    record { gets = omega arith; puts = omega (arith, at); waits_empty = omega arith; waits_full = omega arith; total = omega arith }
+    record {
+      gets = omega arith;
+      puts = omega (arith, at);
+      waits_empty = omega arith;
+      waits_full = omega arith;
+      total = omega arith;
+    }
 other_adds p (WaitEmpty q c) f differs = let at = none (nat_eq q p) (other_number q p differs) in
-    record { gets = omega arith; puts = omega arith; waits_empty = omega (arith, at); waits_full = omega arith; total = omega arith }
+    record {
+      gets = omega arith;
+      puts = omega arith;
+      waits_empty = omega (arith, at);
+      waits_full = omega arith;
+      total = omega arith;
+    }
 other_adds p (WaitFull q c) f differs = let at = none (nat_eq q p) (other_number q p differs) in
-    record { gets = omega arith; puts = omega arith; waits_empty = omega arith; waits_full = omega (arith, at); total = omega arith }
+    record {
+      gets = omega arith;
+      puts = omega arith;
+      waits_empty = omega arith;
+      waits_full = omega (arith, at);
+      total = omega arith;
+    }
 other_adds p event f differs =
-    record { gets = omega arith; puts = omega arith; waits_empty = omega arith; waits_full = omega arith; total = omega arith }
+    record {
+      gets = omega arith;
+      puts = omega arith;
+      waits_empty = omega arith;
+      waits_full = omega arith;
+      total = omega arith;
+    }
 
 next_process : (H : List Event) (e : Event) (p : ℕ) (f g : ProcessFigures) → AddsProcess p e f g
     → CountedProcess H p f → CountedProcess (H ++ e ∷ []) p g
@@ -390,7 +614,8 @@ all_counted t events k channels processes figures past was same_channels same_pr
       channel_count = ap length same_channels ∙ was.channel_count;
       channels =
           subst (CountChannels events) (sym same_channels)
-          (λ c below. subst (λ H. CountsChannel H c (get_or channels c no_channel)) whole (was.each_channel c below).counts);
+          (λ c below. subst (λ H. CountsChannel H c (get_or channels c no_channel)) whole
+          (was.each_channel c below).counts);
       process_count = ap length same_processes ∙ was.process_count;
       processes =
           subst (CountProcesses events) (sym same_processes)

@@ -20,7 +20,8 @@ one_more f n xs more so_far added =
 
 -- the same behind a heading
 pub one_more_row : (heading : Row) (f : ℕ → Row) (n : ℕ) (xs more : List Row)
-    → xs ≡ heading ∷ map f (range_with_len 0 n) → more ≡ xs ++ f n ∷ [] → more ≡ heading ∷ map f (range_with_len 0 (n + 1))
+    → xs ≡ heading ∷ map f (range_with_len 0 n) → more ≡ xs ++ f n ∷ []
+    → more ≡ heading ∷ map f (range_with_len 0 (n + 1))
 one_more_row heading f n xs more so_far added =
     added ∙ ap (λ ys. ys ++ f n ∷ []) so_far
     ∙ ap (λ ys. heading ∷ ys) (sym (map-range_with_len_more f 0 n n (omega arith)))

@@ -1,6 +1,6 @@
 -- The figures of the events of a trace are those of the history that it tells: no figure looks at the capacity that a
 -- growth tells, and in nothing else do the two differ.
-use Rattle.std.proofs.Common.{◌≡◌, ℕ, ℤ, ◌+◌, ◌<◌, ◌≤◌, Bool, true, false, cond, List, [], ◌∷◌, ◌++◌, length, map, take, drop, count_by, sum, refl, sym, ap, ap₂, ◌∙◌, subst}
+use Rattle.std.proofs.Common.{◌≡◌, ℕ, ℤ, ◌≤◌, Bool, cond, List, [], ◌∷◌, ◌++◌, length, map, take, drop, count_by, sum, refl, sym, ap, ap₂, ◌∙◌, subst}
 use Rattle.std.specs.List.{flat_map}
 use Rattle.std.proofs.lemmas.List.Sums.{sum-map}
 use Rattle.std.proofs.lemmas.List.{take-map, length-map}
@@ -14,7 +14,7 @@ use Rattle.kpn_trace.specs.declared.event.Event.TheVariants.{Grow}
 use Rattle.kpn_trace.specs.declared.stored.Version.{Version}
 use Rattle.kpn_trace.specs.declared.stored.Version.TheVariants.{One, Two}
 use Rattle.kpn_trace.specs.declared.stored.Trace.{Trace}
-use Rattle.kpn_trace.specs.Channels.{written_in, read_in, written_on, read_on, unread_on, is_growth_of, capacity_after}
+use Rattle.kpn_trace.specs.Channels.{written_in, read_in, written_on, read_on, is_growth_of, capacity_after}
 use Rattle.kpn_audit.specs.declared.findings.Audit.{Audit}
 use Rattle.kpn_audit.specs.Stored.{audited_under, told, told_behind, history_of, tables_for, history_in}
 use Rattle.kpn_audit_command.specs.Answers.{IsFoundLegal, IsNotLegal}
@@ -104,7 +104,13 @@ most_alike : (H G : List Event) (c m : ℕ) → Alike H G → IsMostUnread H c m
 most_alike H G c m alike most =
     let at = most.reached in
     record {
-      reached = (at.0, (subst (λ n. at.0 ≤ n) (alike_length H G alike) at.1.0, sym (same_unread H G c at.0 alike) ∙ at.1.1));
+      reached = (
+        at.0,
+        (
+          subst (λ n. at.0 ≤ n) (alike_length H G alike) at.1.0,
+          sym (same_unread H G c at.0 alike) ∙ at.1.1,
+        ),
+      );
       bounded = λ k fits.
           subst (λ n. n ≤ m) (same_unread H G c k alike)
           (most.bounded k (subst (λ n. k ≤ n) (sym (alike_length H G alike)) fits));

@@ -4,7 +4,7 @@ use Rattle.kpn_text.specs.Document.{Document}
 use Rattle.kpn_trace.specs.declared.stored.Trace.{Trace}
 use Rattle.std.specs.declared.alloc.Global.{Global}
 use Rattle.kpn_audit.specs.declared.findings.Audit.{Audit}
-use Rattle.kpn_audit.specs.Stored.{tables_for, history_in}
+use Rattle.kpn_audit.specs.Stored.{history_in}
 use Rattle.kpn_answers.specs.Shelf.{Loads}
 use Rattle.kpn_answers.specs.Description.{IsDescribed}
 use Rattle.kpn_audit_command.specs.Answers.{IsTraced, IsFoundLegal, IsNotLegal}

@@ -1,7 +1,7 @@
 -- Each finding gives its text under its status.
 use Rattle.std.proofs.Common.{◌∙◌, ap, length, subst}
 use Rattle.kpn_net.specs.Tables.{Tables}
-use Rattle.kpn_audit_command.specs.Answers.{IsFinding, IsNoFinding}
+use Rattle.kpn_audit_command.specs.Answers.{IsFinding}
 use Rattle.kpn_stats_command.specs.Figures.{AreFigures}
 use Rattle.kpn_stats_command.proofs.Told.{caps_there, concludes_legal, concludes_other}
 use Rattle.kpn_stats_command.proofs.command.conclusion.Goals as goal
@@ -10,7 +10,8 @@ pub text_of-requires-clause-caps : goal.text_of-requires-clause-caps
 text_of-requires-clause-caps c =
     let t = c.network-network.result.now in
     let found = subst (IsFinding t c.args.trace.now c.args.steps) c.in-Legal.is c.in_ok-found.ensures.found in
-    caps_there c.args.document.now.tables t c.args.trace.now c.args.steps c.in-Legal.audit c.network-network.ensures found
+    caps_there c.args.document.now.tables t c.args.trace.now c.args.steps c.in-Legal.audit
+    c.network-network.ensures found
 
 pub text_of-requires-clause-channels : goal.text_of-requires-clause-channels
 text_of-requires-clause-channels c =

@@ -1,4 +1,4 @@
-use Rattle.std.proofs.Common.{rules, arith, length}
+use Rattle.std.proofs.Common.{rules, length}
 use Rattle.kpn_stats_command.proofs.Counting.{nothing_counted, one_more_counted, room_for_one, all_counted}
 use Rattle.kpn_stats_command.proofs.figures.count.Goals as goal
 
@@ -10,12 +10,14 @@ loop-k-init c =
 
 pub count_on_channel-requires : goal.count_on_channel-requires
 count_on_channel-requires c =
-    (room_for_one c.args.network.now c.args.events.now c.loop-k.k (length c.args.events.now) _ _ c.loop-k.invariant (search rules)
+    (room_for_one c.args.network.now c.args.events.now c.loop-k.k (length c.args.events.now) _ _
+    c.loop-k.invariant (search rules)
     (search rules)).0
 
 pub count_of_process-requires : goal.count_of_process-requires
 count_of_process-requires c =
-    (room_for_one c.args.network.now c.args.events.now c.loop-k.k (length c.args.events.now) _ _ c.loop-k.invariant (search rules)
+    (room_for_one c.args.network.now c.args.events.now c.loop-k.k (length c.args.events.now) _ _
+    c.loop-k.invariant (search rules)
     (search rules)).1
 
 pub loop-k-preserved : goal.loop-k-preserved

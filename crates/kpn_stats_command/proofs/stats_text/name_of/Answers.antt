@@ -1,4 +1,4 @@
-use Rattle.std.proofs.Common.{rules, [], sym, arith}
+use Rattle.std.proofs.Common.{rules, [], sym}
 use Rattle.std.proofs.lemmas.List.{get_or_past}
 use Rattle.kpn_text.proofs.ReadingLaws.{spelled_named}
 use Rattle.kpn_stats_command.proofs.stats_text.name_of.Goals as goal

@@ -1,5 +1,5 @@
-use Rattle.std.proofs.Common.{◌≡◌, ◌∷◌, ◌++◌, map, max, take, drop, replicate, length}
-use Rattle.kpn_stats_command.specs.StatsText.{number_cell, channel_heading, channel_row, process_heading, process_row, advice, advice_line}
+use Rattle.std.proofs.Common.{◌≡◌, ◌∷◌, map}
+use Rattle.kpn_stats_command.specs.StatsText.{process_heading, process_row}
 use Rattle.std.specs.List.{range_with_len}
 use Rattle.kpn_stats_command.proofs.stats_text.process_rows.Given as goal
 

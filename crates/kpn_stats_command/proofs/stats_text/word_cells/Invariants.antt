@@ -1,4 +1,4 @@
-use Rattle.std.proofs.Common.{◌≡◌, ◌∷◌, ◌++◌, map, max, take, drop, replicate, length}
+use Rattle.std.proofs.Common.{◌≡◌, map, take}
 use Rattle.kpn_stats_command.proofs.stats_text.word_cells.Given as goal
 
 abbrev pub invariant-loop-word : goal.invariant-loop-word

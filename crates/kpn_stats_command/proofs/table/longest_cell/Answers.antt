@@ -1,4 +1,4 @@
-use Rattle.std.proofs.Common.{rules, arith, [], slice_index_or}
+use Rattle.std.proofs.Common.{rules, [], slice_index_or}
 use Rattle.kpn_stats_command.proofs.Rows.{longest_next, longest_done}
 use Rattle.kpn_stats_command.proofs.table.longest_cell.Goals as goal
 

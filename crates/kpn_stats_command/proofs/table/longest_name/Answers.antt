@@ -1,4 +1,4 @@
-use Rattle.std.proofs.Common.{rules, arith}
+use Rattle.std.proofs.Common.{rules}
 use Rattle.kpn_stats_command.proofs.Rows.{longest_next, longest_done}
 use Rattle.kpn_stats_command.proofs.table.longest_name.Goals as goal
 

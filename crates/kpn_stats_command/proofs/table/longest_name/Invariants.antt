@@ -1,5 +1,5 @@
-use Rattle.std.proofs.Common.{◌≡◌, ◌∷◌, ◌++◌, map, max, take, drop, replicate, length}
-use Rattle.kpn_stats_command.specs.Layout.{tabbed, longest, names, column, right_cell}
+use Rattle.std.proofs.Common.{◌≡◌, max, drop}
+use Rattle.kpn_stats_command.specs.Layout.{longest, names}
 use Rattle.kpn_stats_command.proofs.table.longest_name.Given as goal
 
 abbrev pub invariant-loop-row : goal.invariant-loop-row

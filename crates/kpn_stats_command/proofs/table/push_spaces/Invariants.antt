@@ -1,4 +1,4 @@
-use Rattle.std.proofs.Common.{◌≡◌, ◌∷◌, ◌++◌, map, max, take, drop, replicate, length}
+use Rattle.std.proofs.Common.{◌≡◌, ◌++◌, replicate}
 use Rattle.kpn_stats_command.proofs.table.push_spaces.Given as goal
 
 abbrev pub invariant-loop-turn : goal.invariant-loop-turn

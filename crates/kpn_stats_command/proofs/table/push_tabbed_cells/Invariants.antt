@@ -1,5 +1,5 @@
-use Rattle.std.proofs.Common.{◌≡◌, ◌∷◌, ◌++◌, map, max, take, drop, replicate, length}
-use Rattle.kpn_stats_command.specs.Layout.{tabbed, longest, names, column, right_cell}
+use Rattle.std.proofs.Common.{◌≡◌, ◌++◌, drop}
+use Rattle.kpn_stats_command.specs.Layout.{tabbed}
 use Rattle.kpn_stats_command.proofs.table.push_tabbed_cells.Given as goal
 
 abbrev pub invariant-loop-cell : goal.invariant-loop-cell

@@ -1,5 +1,5 @@
-use Rattle.std.proofs.Common.{◌≡◌, ◌∷◌, ◌++◌, map, max, take, drop, replicate, length}
-use Rattle.kpn_stats_command.specs.Layout.{tabbed, longest, names, column, right_cell}
+use Rattle.std.proofs.Common.{◌≡◌, map}
+use Rattle.kpn_stats_command.specs.Layout.{longest, column}
 use Rattle.std.specs.List.{range_with_len}
 use Rattle.kpn_stats_command.proofs.table.widths_of.Given as goal
 
