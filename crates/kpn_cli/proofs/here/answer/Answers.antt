@@ -9,7 +9,8 @@ use Rattle.kpn_run_command.specs.declared.request.RunRequest.{RunRequest}
 use Rattle.kpn_answers.specs.declared.refusal.Refusal.{Refusal}
 use Rattle.kpn_answers.specs.declared.refusal.Refusal.TheVariants.{NoMemory}
 use Rattle.kpn_answers.proofs.Answers.{answers_given}
-use Rattle.kpn_cli.specs.Command.{alone, check, print, rounds, run, audit, clap, help, AsksForRunWithin, run_of}
+use Rattle.kpn_cli.specs.Command.{alone, check, print, draw, rounds, run, audit, stats, clap, help}
+use Rattle.kpn_cli.specs.Command.{AsksForRunWithin, run_of}
 use Rattle.kpn_cli.proofs.here.answer.Goals as goal
 
 pub returns-in-Alone : goal.returns-in-Alone
@@ -26,6 +27,11 @@ pub returns-in-Print : goal.returns-in-Print
 returns-in-Print g c =
     print _ (subst (IsAsked (map string_bytes c.args.words.now)) c.in-Print.is c.requires) refl refl
     c.print_command.ensures
+
+pub returns-in-Draw : goal.returns-in-Draw
+returns-in-Draw g c =
+    draw _ _ (subst (IsAsked (map string_bytes c.args.words.now)) c.in-Draw.is c.requires) refl refl
+    c.draw_command.ensures
 
 -- the words behind `--source` are handed on as a slice
 sources_handed : (asked : List (List ℕ)) (file : List ℕ) (n : ℕ) (sources slice : List (Bor (List ℕ)))
@@ -71,6 +77,11 @@ pub returns-in-Audit : goal.returns-in-Audit
 returns-in-Audit g c =
     audit _ _ _ (subst (IsAsked (map string_bytes c.args.words.now)) c.in-Audit.is c.requires) refl refl
     c.audit_command.ensures
+
+pub returns-in-Stats : goal.returns-in-Stats
+returns-in-Stats g c =
+    stats _ _ _ _ (subst (IsAsked (map string_bytes c.args.words.now)) c.in-Stats.is c.requires) refl refl
+    c.stats_command.ensures
 
 any_text : {A E : Type 0} (r : Result A E) → IfOk r (λ _. ⊤)
 any_text (Ok text) = tt
