@@ -320,7 +320,7 @@ fn refutes_one_worker_steps_everything(rt: HostRuntime) -> Result<(), Fail> {
 /// The history tells what the workers did: the one that is held puts its item later. On one thread `TWO` is four puts,
 /// three gets, a wait and an end of each process.
 #[test]
-fn run_answers_what_run_here_computes(rt: HostRuntime) -> Result<(), Fail> {
+fn journals_from_rounds(rt: HostRuntime) -> Result<(), Fail> {
     for (process, first) in [(0, Event::Put(1, 1, 7)), (1, Event::Put(0, 0, 7))] {
         let held = Held {
             process: Some(process),

@@ -4,7 +4,6 @@ ghost use Rattle.std.specs.Prelude.{◌≡◌};
 use crate::networks::two_sevens;
 use crate::working::both_work;
 use commit_gates::{Held, Holding, MOST_TURNS};
-use kpn_book::Event;
 use kpn_net::Network;
 use kpn_pool::{Gate, Go, Job, Opened, Shared, Why, WorkerSeat, gather};
 use std::alloc::{AllocError, Global};
@@ -66,7 +65,6 @@ struct Met {
     whys: (Option<Why>, Option<Why>),
     /// The commits of the two seats, and those of the book.
     commits: (u64, u64),
-    first_event: Option<Event>,
 }
 
 impl Met {
@@ -105,7 +103,6 @@ fn meet<J: Job + Send + Sync, R: Threads + Wait + Clock + Sync>(
         have_met,
         whys,
         commits: (sum, book.commits()),
-        first_event: book.history().at(0),
     }))
 }
 
@@ -128,19 +125,5 @@ fn refutes_one_worker_steps_everything(rt: HostRuntime) -> Result<(), Fail> {
     };
     let met = workers_meet(&rt, rt.alloc(), held)?;
     assert!(rt; met.is_some_and(|met| met.is_whole()));
-    Ok(())
-}
-
-/// The history tells what the workers did: the one that is held puts its item later.
-#[test]
-fn journals_from_rounds(rt: HostRuntime) -> Result<(), Fail> {
-    for (process, first) in [(0, Event::Put(1, 1, 7)), (1, Event::Put(0, 0, 7))] {
-        let held = Held {
-            process: Some(process),
-            until: 2,
-        };
-        let met = workers_meet(&rt, rt.alloc(), held)?;
-        assert!(rt; met.is_some_and(|met| met.is_whole() && met.first_event == Some(first)));
-    }
     Ok(())
 }

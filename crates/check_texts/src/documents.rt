@@ -52,7 +52,7 @@ fn names_go_with_their_numbers(rt: HostRuntime) -> Result<(), Fail> {
 fn a_text_that_ends_early_is_refused(rt: HostRuntime) -> Result<(), Fail> {
     let text = COPY.as_bytes();
     assert_eq!(rt; text.len(), 115);
-    for end in 0..113 {
+    for end in 0..114 {
         match fault_of(rt.alloc(), &text[..end]) {
             Some(TextFault::Grammar(at)) => assert!(rt; at <= end),
             _ => assert!(rt; false, "the front of {end} bytes is read"),

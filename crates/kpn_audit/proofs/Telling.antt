@@ -1,18 +1,27 @@
 -- The history that a stored trace tells, one event after another.
-use Rattle.std.proofs.Common.{◌≡◌, ℕ, zero, suc, ◌+◌, ◌^◌, ◌<◌, Bool, true, false, List, [], ◌∷◌, ◌++◌, length, take, get_or, Option, Some, refl, sym, ap, ◌∙◌, append-nil, append_assoc, arith}
+use Rattle.std.proofs.Common.{◌≡◌, ℕ, zero, suc, ◌+◌, ◌^◌, ◌<◌, Bool, true, false, List, [], ◌∷◌, ◌++◌, length, take, get_or, Some, refl, sym, ap, ap₂, subst, ◌∙◌, append-nil, append_assoc, arith}
 use Rattle.std.specs.Prelude.{nat_lt, if◌then◌else◌}
 use Rattle.std.proofs.lemmas.Bool.{ltb-true}
+use Rattle.kpn_net.specs.declared.tables.Policy.{Policy}
+use Rattle.kpn_net.specs.declared.tables.Policy.TheVariants.{Cycles}
+use Rattle.kpn_net.specs.declared.tables.Growth.{Growth}
+use Rattle.kpn_net.specs.declared.tables.Growth.TheVariants as growth
 use Rattle.kpn_net.specs.Tables.{Tables}
 use Rattle.kpn_net.specs.Faults.{IsNetwork}
 use Rattle.kpn_net.proofs.Networks.{limit_in_range}
 use Rattle.kpn_trace.specs.declared.event.Event.{Event}
 use Rattle.kpn_trace.specs.declared.stored.Version.{Version}
 use Rattle.kpn_trace.specs.declared.stored.Version.TheVariants.{One, Two}
+use Rattle.kpn_trace.specs.declared.stored.Trace.{Trace}
 use Rattle.kpn_trace.specs.Channels.{capacity_after}
 use Rattle.kpn_trace.proofs.Capacities.{in_limit}
 use Rattle.kpn_configuration.specs.Configuration.{Configuration, channel_in}
 use Rattle.kpn_configuration.specs.Run.{IsRun}
-use Rattle.kpn_audit.specs.Stored.{told, told_behind, history_of, told_in, told_capacity, one_larger}
+use Rattle.kpn_audit.specs.declared.findings.AuditFault.{AuditFault}
+use Rattle.kpn_audit.specs.declared.findings.AuditFault.TheVariants.{Illegal, NoMemory, Budget, PolicyDiffers}
+use Rattle.kpn_audit.specs.Audit.{IsFault, IsRefusal}
+use Rattle.kpn_audit.specs.Stored.{Differs, audited_under, told, told_behind, history_of, tables_for, history_in}
+use Rattle.kpn_audit.specs.Stored.{told_in, told_capacity, one_larger}
 
 -- ---- as many events as stand there
 
@@ -71,3 +80,30 @@ same_capacity t H s run c n = by_test (nat_lt c (length t.channels)) refl
         ≡ (if b then one_larger (capacity_after t H c) n else n)
     by_test true is = ap (λ o. one_larger o n) (run.leads.channels c (ltb-true c (length t.channels) is)).capacity
     by_test false is = refl
+
+-- ---- a trace and its events
+
+-- what holds of the events under these tables holds of the trace
+pub of_trace : {A : Type 0} (t : Tables) (trace : Trace A) (v : Version) → trace.version ≡ v → (n : Tables)
+    → n ≡ audited_under v t → (events : List Event) → events ≡ trace.events → (P : Tables → List Event → Type 0)
+    → P n (history_of v n events) → P (tables_for t trace) (history_in t trace)
+of_trace t trace v is n of events are P holds =
+    subst (λ w. P (audited_under w t) (history_of w (audited_under w t) trace.events)) (sym is)
+    (subst (λ m. P m (history_of v m trace.events)) of (subst (λ es. P n (history_of v n es)) are holds))
+
+-- a trace of version 1 differs from no network
+pub one_agrees : {A : Type 0} (t : Tables) (trace : Trace A) → trace.version ≡ One → Differs t trace → ⊥
+one_agrees t trace is differs = let clash : ◌≡◌ {A = Version} One Two = sym is ∙ differs.version in absurd cc
+
+-- a network of the old rules is audited as it is
+pub plain_tables : (t : Tables) → Cycles ≡ t.policy → growth.One ≡ t.growth → t ≡ audited_under One t
+plain_tables t policy growth =
+    ap₂ (λ (p : Policy) (g : Growth). record t { policy = p; growth = g }) (sym policy) (sym growth)
+
+-- a fault of the events refuses a trace that does not differ
+pub refuses_trace : {A : Type 0} (t : Tables) (trace : Trace A) (quota : ℕ) → ¬ Differs t trace → (fault : AuditFault)
+    → IsFault (tables_for t trace) (history_in t trace) quota fault → IsRefusal t trace quota fault
+refuses_trace t trace quota agrees (Illegal k) at = (agrees, at)
+refuses_trace t trace quota agrees NoMemory at = (agrees, at)
+refuses_trace t trace quota agrees (Budget k) at = (agrees, at)
+refuses_trace t trace quota agrees PolicyDiffers at = absurd at

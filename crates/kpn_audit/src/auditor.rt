@@ -47,14 +47,19 @@ pub fn audit<A: Allocator + Copy, B: Allocator>(
 {
     let events = trace.events.as_slice();
     match trace.version {
-        Version::Two if !has_rules(network, trace.policy, trace.growth) => {
-            Err(AuditFault::PolicyDiffers)
+        Version::Two => {
+            if !has_rules(network, trace.policy, trace.growth) {
+                return Err(AuditFault::PolicyDiffers);
+            }
+            audit_events(alloc, network, Version::Two, events, quota)
         }
-        Version::One if !has_rules(network, Policy::Cycles, Growth::One) => {
-            let network = network.under(Policy::Cycles, Growth::One)?;
-            audit_events(alloc, &network, Version::One, events, quota)
+        Version::One => {
+            if has_rules(network, Policy::Cycles, Growth::One) {
+                return audit_events(alloc, network, Version::One, events, quota);
+            }
+            let plain = network.under(Policy::Cycles, Growth::One)?;
+            audit_events(alloc, &plain, Version::One, events, quota)
         }
-        version => audit_events(alloc, network, version, events, quota),
     }
 }
 

@@ -63,7 +63,8 @@ fn conclusion(
         conclusion.text.items conclusion.status) }
     ensures refused { IfErr result (IsNoFinding document.now.tables trace.now) }
 {
-    match audit_trace(alloc, document.network(), trace, steps)? {
+    let found = audit_trace(alloc, document.network(), trace, steps)?;
+    match found {
         Audited::Legal(audit) => Ok(Conclusion {
             text: text_of(alloc, document, &audit)?,
             status: 0,

@@ -47,24 +47,7 @@ pub fn run<R: Threads + Wait + Clock + Sync, G: Gate>(
         AreSupplied network.now lists.now (events_of report)) }
 {
     let blank = Blank::new(workers as u64);
-    let task = Task {
-        network,
-        lists,
-        workers,
-        gate,
-        limits,
-    };
-    run_job::<Brand, R, G>(rt, alloc, blank, task)
-}
-
-/// What is run: a network on lists, by so many workers.
-#[derive(Drop)]
-struct Task<'a, G> {
-    network: &'a Network,
-    lists: &'a [Sequence<i64>],
-    workers: usize,
-    gate: &'a G,
-    limits: &'a Limits,
+    run_job::<Brand, R, G>(rt, alloc, blank, network, lists, workers, gate, limits)
 }
 
 /// Runs the network, whose commits are counted in the ledger that the blank makes.
@@ -72,24 +55,20 @@ fn run_job<J: Job + Send + Sync, R: Threads + Wait + Clock + Sync, G: Gate>(
     rt: &R,
     alloc: Global,
     blank: Blank,
-    task: Task<'_, G>,
+    network: &Network,
+    lists: &[Sequence<i64>],
+    workers: usize,
+    gate: &G,
+    limits: &Limits,
 ) -> Result<Report, RunFault>
     requires ledger { (blank.name ≡ J.name) × (blank.parts ≡ J.parts) }
-    requires network { task.network.now ≡ J.network }
-    requires lists { length task.lists.now ≡ sources J.network }
-    requires workers { (task.workers ≡ J.parts) × (0 < task.workers) × (task.workers ≤ MAX_WORKERS) }
-    ensures report { IfOk result (λ report.
-        IsReport J.network task.entry.lists.now task.entry.limits.now report) }
+    requires network { network.now ≡ J.network }
+    requires lists { length lists.now ≡ sources J.network }
+    requires workers { (workers ≡ J.parts) × (0 < workers) × (workers ≤ MAX_WORKERS) }
+    ensures report { IfOk result (λ report. IsReport J.network lists.now limits.now report) }
     ensures supplied { IfOk result (λ report.
-        AreSupplied J.network task.entry.lists.now (events_of report)) }
+        AreSupplied J.network lists.now (events_of report)) }
 {
-    let Task {
-        network,
-        lists,
-        workers,
-        gate,
-        limits,
-    } = task;
     let Opened {
         shared,
         workers: seats,

@@ -102,7 +102,7 @@ impl Pace {
 }
 
 /// How many workers there are of each kind, what their turns take, and whether somebody outside waits.
-#[derive(Clone, Copy)]
+#[derive(Clone, Copy, Default)]
 pub(crate) struct Crew {
     // all, those that have ended too
     workers: usize,
@@ -115,6 +115,8 @@ pub(crate) struct Crew {
     notified: usize,
     // one of those that rest keeps watch
     is_watched: bool,
+    // so many processes were ready when somebody last claimed or the outside last called
+    left: usize,
     // the mean of the nanoseconds for which a turn leaves the lock free
     away: u32,
     // somebody outside sleeps until the outside is called
@@ -125,18 +127,11 @@ pub(crate) struct Crew {
 
 impl Crew {
     /// So many workers, none of which has come yet.
-    pub(crate) const fn new(workers: usize) -> Crew {
+    pub(crate) fn new(workers: usize) -> Crew {
         Crew {
             workers,
             working: workers,
-            busy: 0,
-            looking: 0,
-            resting: 0,
-            notified: 0,
-            is_watched: false,
-            away: 0,
-            is_awaited: false,
-            owes_call: false,
+            ..Crew::default()
         }
     }
 
@@ -228,12 +223,13 @@ impl Crew {
     }
 
     /// A worker claims or ends, or a call of the outside was made, and so many processes are left ready. Tells whether
-    /// one of those that rest is to be notified, and counts it. `is_new` says that the call made a process ready.
-    pub(crate) fn notify(&mut self, ready: usize, is_new: bool) -> bool {
+    /// one of those that rest is to be notified, and counts it.
+    pub(crate) fn notify(&mut self, ready: usize, is_call: bool) -> bool {
+        let are_more = ready > mem::replace(&mut self.left, ready);
         let coming = self.looking.saturating_add(self.notified);
         let awake = self.busy.saturating_add(coming);
         let pays = awake < self.paying().min(self.busy.saturating_add(ready));
-        let is_alone = ready > 0 && coming == 0 && (is_new || !self.is_watched);
+        let is_alone = ready > 0 && coming == 0 && (is_call && are_more || !self.is_watched);
         let is_wanted = self.resting > self.notified && (pays || is_alone);
         if is_wanted {
             self.notified = self.notified.saturating_add(1);

@@ -152,23 +152,18 @@ impl<'n, J: Job, A: Allocator> Desk<'n, J, A> {
         self.crew.has_place(self.ready(), false) || self.reason_to_end(most).is_some()
     }
 
-    /// Whether a channel is a sink that is half full.
+    /// Whether a channel is a sink that is half full, or, where one item is enough, has that.
     #[tactic(auto, using(kpn_net::proofs::Networks::sink_there))]
-    fn is_half_full(&self, c: usize) -> bool {
+    fn is_filled(&self, c: usize, is_one_enough: bool) -> bool {
         let network = self.book.network();
         if !network.is_sink(c) {
             return false;
         }
+        let unread = self.book.unread_count(c);
         match network.cap_of(c) {
-            Some(cap) => self.book.unread_count(c) >= cap.div_ceil(2) as usize,
+            Some(cap) => unread >= cap.div_ceil(2) as usize || is_one_enough && unread > 0,
             None => false,
         }
-    }
-
-    /// Whether a channel is a sink that has an item.
-    #[tactic(auto, using(kpn_net::proofs::Networks::sink_there))]
-    fn has_item(&self, c: usize) -> bool {
-        self.book.network().is_sink(c) && self.book.has_item(c)
     }
 
     /// Whether it is time to take from one of these sinks, as it is half full, or has an item and nobody is busy, or
@@ -176,10 +171,9 @@ impl<'n, J: Job, A: Allocator> Desk<'n, J, A> {
     pub(crate) fn are_due<B: Allocator>(&self, seats: &[SinkSeat<B>]) -> bool {
         let is_idle = self.crew.is_idle();
         self.crew.has_ended()
-            || seats.iter().any(|seat| {
-                let c = seat.channel();
-                self.is_half_full(c) || is_idle && self.has_item(c)
-            })
+            || seats
+                .iter()
+                .any(|seat| self.is_filled(seat.channel(), is_idle))
     }
 
     /// Notes that the outside is to be called, if the last event has put an item on a sink that is half full.
@@ -187,7 +181,7 @@ impl<'n, J: Job, A: Allocator> Desk<'n, J, A> {
         ensures { self.new ≡ self.old }
     {
         if let Some(Event::Put(_, c, _)) = self.book.history().last() {
-            if self.is_half_full(usize::from(c)) {
+            if self.is_filled(usize::from(c), false) {
                 self.crew.owe_call();
             }
         }
@@ -210,8 +204,7 @@ impl<'n, J: Job, A: Allocator> Desk<'n, J, A> {
         let Desk {
             book,
             mut total,
-            halts: _,
-            crew: _,
+            ..
         } = self;
         let mut all = all;
         total.audit(&mut all);

@@ -5,9 +5,7 @@ mod batch;
 mod crew;
 mod desk;
 mod gate;
-mod gathering;
 mod job;
-mod look;
 mod opening;
 mod outside_calls;
 mod outside_seats;
@@ -18,14 +16,12 @@ mod working;
 
 pub use desk::Desk;
 pub use gate::{CommitsAll, Gate, Go};
-pub use gathering::gather;
 pub use job::Job;
 pub use kpn_book::{Counts, Refused, State, View};
-pub use look::Look;
 pub use outside_calls::{
     SnapFault, close, feed, feed_all, leave, snapshot, take, take_each, take_when_due,
 };
 pub use outside_seats::{SinkSeat, SourceSeat};
 pub use seat::{Why, WorkerSeat};
-pub use shared::{Opened, Shared};
+pub use shared::{Look, Opened, Shared, gather};
 pub use working::work;

@@ -47,9 +47,8 @@ pub fn feed<J: Job, A: Allocator + Copy, B: Allocator, R: Wait>(
         MayRefuseFeed (is_source (channel_at J.network seat.old.channel)) item cause) }
 {
     let mut desk = shared.lock(rt);
-    let before = desk.ready();
     let fed = seat.feed(&mut desk, item, bound);
-    shared.tell(desk, before);
+    shared.tell(desk);
     fed
 }
 
@@ -71,9 +70,8 @@ pub fn feed_all<J: Job, A: Allocator + Copy, B: Allocator, R: Wait>(
         MayRefuseFeed (is_source (channel_at J.network seat.old.channel)) item cause)) }
 {
     let mut desk = shared.lock(rt);
-    let before = desk.ready();
     let fed = seat.feed_all(&mut desk, items, bound);
-    shared.tell(desk, before);
+    shared.tell(desk);
     fed
 }
 
@@ -88,9 +86,8 @@ pub fn close<J: Job, A: Allocator, B: Allocator, R: Wait>(
         MayRefuseEnd (is_source (channel_at J.network seat.now.channel)) cause) }
 {
     let mut desk = shared.lock(rt);
-    let before = desk.ready();
     let closed = seat.close(&mut desk);
-    shared.tell(desk, before);
+    shared.tell(desk);
     closed
 }
 
@@ -107,9 +104,8 @@ pub fn take<J: Job, A: Allocator, B: Allocator, R: Wait>(
         MayRefuseTake (is_sink (channel_at J.network seat.old.channel)) cause) }
 {
     let mut desk = shared.lock(rt);
-    let before = desk.ready();
     let item = seat.take(&mut desk);
-    shared.tell(desk, before);
+    shared.tell(desk);
     item
 }
 
@@ -123,9 +119,8 @@ pub fn take_each<J: Job, A: Allocator, B: Allocator, R: Wait>(
     ensures { HaveTaken seats.old seats.new }
 {
     let mut desk = shared.lock(rt);
-    let before = desk.ready();
     let taken = take_from_each(&mut desk, seats);
-    shared.tell(desk, before);
+    shared.tell(desk);
     taken
 }
 
@@ -142,10 +137,9 @@ pub fn take_when_due<J: Job, A: Allocator, B: Allocator, R: Wait + Clock>(
     ensures { HaveTaken seats.old seats.new }
 {
     let mut desk = shared.lock_when_due(rt, seats);
-    let before = desk.ready();
     let goes_on = !desk.crew.has_ended();
     let taken = take_from_each(&mut desk, seats);
-    shared.tell(desk, before);
+    shared.tell(desk);
     taken?;
     Ok(goes_on)
 }
@@ -162,9 +156,8 @@ pub fn leave<J: Job, A: Allocator, B: Allocator, R: Wait>(
         MayRefuseEnd (is_sink (channel_at J.network seat.now.channel)) cause) }
 {
     let mut desk = shared.lock(rt);
-    let before = desk.ready();
     let left = seat.leave(&mut desk);
-    shared.tell(desk, before);
+    shared.tell(desk);
     left
 }
 

@@ -118,12 +118,7 @@ impl<J: Job> WorkerSeat<J> {
         ensures parts { result.parts ≡ 1 }
         ensures amount { result.amount ≡ self.commits }
     {
-        let WorkerSeat {
-            number: _,
-            why: _,
-            commits: _,
-            share,
-        } = self;
+        let WorkerSeat { share, .. } = self;
         share
     }
 

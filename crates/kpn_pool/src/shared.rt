@@ -1,18 +1,19 @@
 //! The lock round a desk, and how workers wait for it to change.
-ghost use Rattle.std.specs.Prelude.{◌≡◌, ◌<◌, ◌≤◌, IfOk, IfSome};
+ghost use Rattle.std.specs.Prelude.{◌≡◌, ◌<◌, ◌≤◌, length, IfOk, IfSome};
+ghost use Rattle.std.specs.List.{sum_by};
 ghost use Rattle.kpn_net.specs.Tables.{is_source, is_sink};
 ghost use Rattle.kpn_pool.specs.OutsideSeats.{new_ends};
+ghost use Rattle.kpn_book.specs.Kept.{IsBook};
 ghost use Rattle.kpn_book.specs.Snapshot.{ShowsARun, IsBelowKahn, IsKahnAtRest};
 ghost use Rattle.kpn_pool.specs.Seat.{AreNewSeats};
 
 use crate::crew::MOMENT;
 use crate::desk::Desk;
 use crate::job::Job;
-use crate::look::Look;
 use crate::opening::{EndSeats, end_seats};
 use crate::outside_seats::{SinkSeat, SourceSeat};
 use crate::seat::WorkerSeat;
-use kpn_book::View;
+use kpn_book::{Book, View};
 use kpn_limits::MAX_WORKERS;
 use kpn_net::Network;
 use std::alloc::{AllocError, Allocator, Global};
@@ -44,6 +45,20 @@ pub struct Opened<'n, J: Job, A: Allocator = Global> {
     pub workers: Vec<WorkerSeat<J>, A>,
     pub sources: Vec<SourceSeat<A>, A>,
     pub sinks: Vec<SinkSeat<A>, A>,
+}
+
+/// The desk of a run under its lock, which is free again once the look is dropped. Meanwhile all other calls on the run
+/// wait, also those of who has the look.
+#[derive(Drop)]
+pub struct Look<'l, 'n, J: Job, A: Allocator = Global> {
+    desk: MutexGuard<'l, Desk<'n, J, A>>,
+}
+
+impl<'l, 'n, J: Job, A: Allocator> Look<'l, 'n, J, A> {
+    /// The desk as it is now. What holds of it `Desk::known` tells.
+    pub fn desk(&self) -> &Desk<'n, J, A> {
+        &self.desk
+    }
 }
 
 impl<'n, J: Job, A: Allocator + Copy> Shared<'n, J, A> {
@@ -119,17 +134,6 @@ impl<'n, J: Job, A: Allocator> Shared<'n, J, A> {
         Ok(Some(view))
     }
 
-    /// The desk, which nobody shares any more.
-    pub(crate) fn into_desk(self) -> Desk<'n, J, A> {
-        let Shared {
-            desk,
-            changed: _,
-            called: _,
-            max_commits: _,
-        } = self;
-        desk.into_inner()
-    }
-
     /// The desk, once nobody else has it. Others have it often and for a short time, so who asks for it tries for a
     /// while before it sleeps.
     pub(crate) fn lock<R: Wait>(&self, rt: &R) -> MutexGuard<'_, Desk<'n, J, A>> {
@@ -141,19 +145,28 @@ impl<'n, J: Job, A: Allocator> Shared<'n, J, A> {
         self.desk.lock(rt)
     }
 
-    /// The desk, if nobody else has it at some time before the moment from then on is over.
-    fn lock_within_moment<R: Wait + Clock>(
+    /// The desk, once there is something to do there or the moment is over: for who takes from these sinks, or, if
+    /// there are none, for a worker.
+    fn lock_in_moment<B: Allocator, R: Wait + Clock>(
         &self,
         rt: &R,
-        begun: Option<Instant>,
-    ) -> Option<MutexGuard<'_, Desk<'n, J, A>>> {
+        seats: Option<&[SinkSeat<B>]>,
+    ) -> MutexGuard<'_, Desk<'n, J, A>> {
+        let Ok(begun) = Instant::now(rt) else {
+            return self.lock(rt);
+        };
         for _ in rt.forever() {
-            let time = begun?.elapsed(rt).ok()?;
-            if time > Duration::from_micros(MOMENT) {
-                return None;
+            if begun.elapsed(rt).unwrap_or(Duration::MAX) > Duration::from_micros(MOMENT) {
+                return self.lock(rt);
             }
             if let Some(desk) = self.desk.try_lock() {
-                return Some(desk);
+                let is_due = match seats {
+                    Some(seats) => desk.are_due(seats),
+                    None => desk.has_work(self.max_commits),
+                };
+                if is_due {
+                    return desk;
+                }
             }
         }
         unreachable!()
@@ -166,16 +179,7 @@ impl<'n, J: Job, A: Allocator> Shared<'n, J, A> {
         rt: &R,
         seats: &[SinkSeat<B>],
     ) -> MutexGuard<'_, Desk<'n, J, A>> {
-        let begun = Instant::now(rt).ok();
-        for _ in rt.forever() {
-            let Some(desk) = self.lock_within_moment(rt, begun) else {
-                break;
-            };
-            if desk.are_due(seats) {
-                return desk;
-            }
-        }
-        let mut desk = self.lock(rt);
+        let mut desk = self.lock_in_moment(rt, Some(seats));
         if !desk.are_due(seats) {
             let most = desk.crew.await_call();
             desk = self.called.wait_timeout(rt, desk, most).0;
@@ -183,12 +187,12 @@ impl<'n, J: Job, A: Allocator> Shared<'n, J, A> {
         desk
     }
 
-    /// Lets the desk go after a call of the outside, before which so many processes were ready. Notifies a worker if
-    /// the call has made another one ready, and all if the run is settled.
-    pub(crate) fn tell<'l>(&'l self, desk: MutexGuard<'l, Desk<'n, J, A>>, before: usize) {
+    /// Lets the desk go after a call of the outside. Notifies a worker if the call has made a process ready, and all if
+    /// the run is settled.
+    pub(crate) fn tell<'l>(&'l self, desk: MutexGuard<'l, Desk<'n, J, A>>) {
         let mut desk = desk;
         let ready = desk.ready();
-        let notifies = desk.crew.notify(ready, ready > before);
+        let notifies = desk.crew.notify(ready, true);
         let is_settled = desk.book.verdict().is_some();
         drop(desk);
         if is_settled {
@@ -197,4 +201,26 @@ impl<'n, J: Job, A: Allocator> Shared<'n, J, A> {
             self.changed.notify_one();
         }
     }
+}
+
+/// The book of a run, for the seats of all its workers: its commits are the sum of theirs.
+pub fn gather<'n, J: Job, A: Allocator>(
+    shared: Shared<'n, J, A>,
+    workers: Vec<WorkerSeat<J>, A>,
+) -> Book<'n, A>
+    requires { (length workers.items ≡ J.parts) × (0 < J.parts) }
+    ensures network { result.tables ≡ J.network }
+    ensures book { IsBook result }
+    ensures commits { result.commits ≡ sum_by (λ seat. seat.commits) workers.items }
+{
+    let mut workers = workers;
+    let Some(last) = workers.pop() else {
+        unreachable!()
+    };
+    let mut all = last.into_share();
+    while let Some(seat) = workers.pop() {
+        all.merge(seat.into_share());
+    }
+    let Shared { desk, .. } = shared;
+    desk.into_inner().into_book(all)
 }

@@ -9,9 +9,9 @@ use crate::crew::{Crew, Pace};
 use crate::desk::Desk;
 use crate::job::Job;
 use crate::seat::{Why, WorkerSeat};
-use std::alloc::Allocator;
+use std::alloc::{Allocator, Global};
 use std::sync::{MutexGuard, Wait};
-use std::time::{Clock, Instant};
+use std::time::Clock;
 
 impl<'n, J: Job, A: Allocator> Shared<'n, J, A> {
     /// Commits the batch of a worker, which becomes that of the next processes. Tells whether there are such: if not,
@@ -95,23 +95,9 @@ impl<'n, J: Job, A: Allocator> Shared<'n, J, A> {
         if calls {
             self.called.notify_all();
         }
-        let mut desk = self.lock_for_work(rt);
+        let mut desk = self.lock_in_moment::<Global, R>(rt, None);
         desk.crew.look_away();
         desk
-    }
-
-    /// The lock, once there is a place for a worker or a reason to end, or the moment is over.
-    fn lock_for_work<R: Wait + Clock>(&self, rt: &R) -> MutexGuard<'_, Desk<'n, J, A>> {
-        let begun = Instant::now(rt).ok();
-        for _ in rt.forever() {
-            let Some(desk) = self.lock_within_moment(rt, begun) else {
-                return self.lock(rt);
-            };
-            if desk.has_work(self.max_commits) {
-                return desk;
-            }
-        }
-        unreachable!()
     }
 
     /// A worker rests until it is notified or its time is over. Tells whether it was notified.

@@ -1,7 +1,9 @@
 -- What is found of an event is said of the events before it, and of the place where it stands.
-use Rattle.std.proofs.Common.{suc, pos, take, get_or, refl, subst, add-one, arith}
+use Rattle.std.proofs.Common.{suc, pos, take, subst, add-one, arith}
+use Rattle.std.proofs.lemmas.List.{take_all}
 use Rattle.kpn_trace.specs.declared.event.Event.TheVariants.{Get}
 use Rattle.kpn_trace.proofs.Growth.{none_owed_at_first}
+use Rattle.kpn_configuration.specs.Run.{IsRun}
 use Rattle.kpn_audit.specs.Judged.{IsJudged}
 use Rattle.kpn_audit.specs.Audit.{AreWithinSteps}
 use Rattle.kpn_audit.proofs.Replaying.{followed_by, illegal_at, budget_at, none_within, within_more, follows_in_time, illegal_in_time}
@@ -91,7 +93,16 @@ events-init g c =
 
 pub told-event-requires : goal.told-event-requires
 told-event-requires g c =
-    (take c.events.k (history_of c.args.version c.args.network.now c.args.events.now), c.events.invariant.run)
+    record {
+      run = (take c.events.k (history_of c.args.version c.args.network.now c.args.events.now), c.events.invariant.run);
+    }
+
+pub returns-clause-run : goal.returns-clause-run
+returns-clause-run g c =
+    let H = history_of c.args.version c.args.network.now c.args.events.now in
+    let same = history_of-length c.args.version c.args.network.now c.args.events.now in
+    subst (λ B. IsRun c.args.network.now B c.events.configuration)
+    (take_all c.events.k H (omega (arith, same))) c.events.invariant.run
 
 pub returns-clause-within : goal.returns-clause-within
 returns-clause-within g c k below =

@@ -15,6 +15,7 @@ pub returns-in-Grow : goal.returns-in-Grow
 returns-in-Grow g c H run =
     let t = c.args.network.now in
     let n = c.in-Grow.n in
-    ap (λ m. Grow c.in-Grow.p c.in-Grow.c m)
+    rw (c.in-One.is, c.in-Grow.is)
+    (ap (λ m. Grow c.in-Grow.p c.in-Grow.c m)
     (c.told_capacity.ensures ∙ same_capacity t H c.args.configuration.now run c.into.result n
-    ∙ ap (λ x. told_capacity t (capacity_after t H x) x n) c.into.ensures)
+    ∙ ap (λ x. told_capacity t (capacity_after t H x) x n) c.into.ensures))

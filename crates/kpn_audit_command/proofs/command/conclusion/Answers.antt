@@ -1,22 +1,27 @@
 -- Each finding gives its text under its status.
 use Rattle.std.proofs.Common.{subst}
-use Rattle.kpn_audit_command.specs.Answers.{IsNoFinding}
+use Rattle.kpn_audit_command.specs.Answers.{IsFinding, IsNoFinding}
 use Rattle.kpn_audit_command.proofs.Found.{journals_within, concludes_legal, concludes_other}
 use Rattle.kpn_audit_command.proofs.command.conclusion.Goals as goal
 
 pub text_of-requires-clause-channels : goal.text_of-requires-clause-channels
 text_of-requires-clause-channels c =
-    journals_within c.args.document.now.tables c.network.result.now c.args.trace.now c.in-Legal.audit c.network.ensures
-    c.in-Legal.ensures.audited
+    let t = c.network.result.now in
+    let found = subst (IsFinding t c.args.trace.now c.args.steps) c.in-Legal.is c.in_ok-found.ensures.found in
+    journals_within c.args.document.now.tables t c.args.trace.now c.in-Legal.audit c.network.ensures found.audited
 
 pub returns-in_ok-text_of-in-Legal-clause-ok : goal.returns-in_ok-text_of-in-Legal-clause-ok
 returns-in_ok-text_of-in-Legal-clause-ok c =
     let d = c.args.document.now in
-    concludes_legal d.tables c.network.result.now c.network.ensures d.names.channels c.args.trace.now c.args.steps
-    c.in-Legal.audit c.in_ok-text_of-in-Legal.field-0.items c.in-Legal.ensures c.in_ok-text_of-in-Legal.ensures
+    let t = c.network.result.now in
+    let found = subst (IsFinding t c.args.trace.now c.args.steps) c.in-Legal.is c.in_ok-found.ensures.found in
+    concludes_legal d.tables t c.network.ensures d.names.channels c.args.trace.now c.args.steps c.in-Legal.audit
+    c.in_ok-text_of-in-Legal.field-0.items found c.in_ok-text_of-in-Legal.ensures
 
 pub returns-in-NotLegal-clause-ok : goal.returns-in-NotLegal-clause-ok
 returns-in-NotLegal-clause-ok c =
     let d = c.args.document.now in
-    concludes_other d.tables c.network.result.now c.network.ensures d.names.channels c.args.trace.now c.args.steps
-    c.in-NotLegal.conclusion.text.items c.in-NotLegal.conclusion.status c.in-NotLegal.ensures
+    let t = c.network.result.now in
+    let found = subst (IsFinding t c.args.trace.now c.args.steps) c.in-NotLegal.is c.in_ok-found.ensures.found in
+    concludes_other d.tables t c.network.ensures d.names.channels c.args.trace.now c.args.steps
+    c.in-NotLegal.conclusion.text.items c.in-NotLegal.conclusion.status found

@@ -1,0 +1,118 @@
+-- The drawing of a network that `kpn draw` writes: a directed graph in the language of Graphviz. A box is a process, an
+-- ellipse the outside at a source or a sink, and an edge is a channel, from its writer to its reader. After a history
+-- boxes and edges tell what stands then.
+use Rattle.std.specs.Prelude.{ℕ, zero, suc, if◌then◌else◌, List, [], ◌++◌, length, codes, Option, Some, None}
+use Rattle.std.specs.Fmt.{decimal}
+use Rattle.kpn_net.specs.declared.tables.ChannelSpec.{ChannelSpec}
+use Rattle.kpn_net.specs.declared.tables.End.{End}
+use Rattle.kpn_net.specs.declared.tables.End.TheVariants.{Process}
+use Rattle.kpn_net.specs.Tables.{Tables, instance_at, channel_at, is_source, is_sink, capacity, writer_of, reader_of}
+use Rattle.kpn_trace.specs.declared.event.How.TheVariants.{Done}
+use Rattle.kpn_trace.specs.declared.state.State.{State}
+use Rattle.kpn_trace.specs.declared.state.State.TheVariants.{WaitsEmpty, WaitsFull, Ended}
+use Rattle.kpn_trace_text.specs.EventLine.{how_word}
+use Rattle.kpn_names.specs.Names.{name_at}
+use Rattle.kpn_names.specs.NetworkNames.{process_names}
+use Rattle.kpn_text.specs.Document.{Document}
+use Rattle.kpn_audit.specs.declared.findings.Audit.{Audit}
+use Rattle.kpn_draw_command.specs.declared.found.Flow.{Flow}
+use Rattle.kpn_draw_command.specs.Found.{state_of, flow_of}
+
+-- ---- processes
+
+-- `INSTANCE: PROCESS`
+abbrev pub process_title : Document → (p : ℕ) → List ℕ
+process_title d p =
+    name_at d.names.instances p ++ codes ": " ++ name_at (process_names d.names) (instance_at d.tables p).program
+
+-- a second line of a box: what the process waits for, or how it has ended
+abbrev pub state_line : (channels : List (List ℕ)) → State → List ℕ
+state_line channels (WaitsEmpty c) = codes "\\nwaits " ++ name_at channels c
+state_line channels (WaitsFull c) = codes "\\nwaits " ++ name_at channels c ++ codes " full"
+state_line channels (Ended how) = codes "\\n" ++ how_word how
+state_line channels other = []
+
+-- how a box is filled: grey if its process is done, red if it has faulted, yellow if it waits
+abbrev pub filling : State → List ℕ
+filling (WaitsEmpty c) = codes ", style=filled, fillcolor=lightyellow"
+filling (WaitsFull c) = codes ", style=filled, fillcolor=lightyellow"
+filling (Ended Done) = codes ", style=filled, fillcolor=lightgrey"
+filling (Ended how) = codes ", style=filled, fillcolor=lightpink"
+filling other = []
+
+-- the line of process p in this state
+abbrev pub process_line : Document → (p : ℕ) → State → List ℕ
+process_line d p state =
+    codes "  p" ++ decimal p ++ codes " [label=\"" ++ process_title d p ++ state_line d.names.channels state
+    ++ codes "\"" ++ filling state ++ codes "];\n"
+
+-- ---- channels
+
+-- the line of the outside at channel c, if it is a source or a sink
+abbrev pub outside_line : ChannelSpec → (c : ℕ) → List ℕ
+outside_line channel c =
+    if is_source channel then codes "  c" ++ decimal c ++ codes " [label=\"source\", shape=ellipse];\n" else
+    if is_sink channel then codes "  c" ++ decimal c ++ codes " [label=\"sink\", shape=ellipse, peripheries=2];\n" else []
+
+-- the box or the ellipse at an end of channel c
+abbrev pub end_node : (c : ℕ) → End → List ℕ
+end_node c (Process p) = codes "p" ++ decimal p
+end_node c outside = codes "c" ++ decimal c
+
+-- the capacity at first, behind a space; a source has none
+abbrev pub capacity_label : Option ℕ → List ℕ
+capacity_label None = []
+capacity_label (Some cap) = codes " (" ++ decimal cap ++ codes ")"
+
+abbrev pub growth_label : Option ℕ → List ℕ
+growth_label None = []
+growth_label (Some cap) = codes ", grown to " ++ decimal cap
+
+-- a second line at an edge, where there is a history
+abbrev pub flow_line : Option Flow → List ℕ
+flow_line None = []
+flow_line (Some flow) =
+    codes "\\n" ++ decimal flow.put ++ codes " put, " ++ decimal flow.unread ++ codes " unread"
+    ++ growth_label flow.grown
+
+-- an edge is bold if its channel has grown
+abbrev pub boldness : Option ℕ → List ℕ
+boldness None = []
+boldness (Some cap) = codes ", style=bold"
+
+abbrev pub thickness : Option Flow → List ℕ
+thickness None = []
+thickness (Some flow) = boldness flow.grown
+
+-- an arrow from the writer of channel c to its reader
+abbrev pub arrow : Tables → (c : ℕ) → List ℕ
+arrow t c = codes "  " ++ end_node c (writer_of t c) ++ codes " -> " ++ end_node c (reader_of t c)
+
+-- the line of channel c, over which this went
+abbrev pub edge_line : Document → (c : ℕ) → Option Flow → List ℕ
+edge_line d c flow =
+    arrow d.tables c ++ codes " [label=\"" ++ name_at d.names.channels c
+    ++ capacity_label (capacity (channel_at d.tables c)) ++ flow_line flow ++ codes "\"" ++ thickness flow ++ codes "];\n"
+
+abbrev pub channel_lines : Document → (c : ℕ) → Option Flow → List ℕ
+channel_lines d c flow = outside_line (channel_at d.tables c) c ++ edge_line d c flow
+
+-- ---- the whole
+
+-- the text of each of the first n numbers, in order
+abbrev pub each_below : (n : ℕ) → (text : ℕ → List ℕ) → List ℕ
+each_below zero text = []
+each_below (suc n) text = each_below n text ++ text n
+
+abbrev pub head : List ℕ
+head =
+    codes "digraph network {\n  rankdir=LR;\n  node [fontname=\"sans-serif\", shape=box];\n"
+    ++ codes "  edge [fontname=\"sans-serif\", fontsize=11];\n"
+
+-- the network, and where there is an audit what stands after its history
+abbrev pub drawing : {A : Type 0} → Document → Option (Audit A) → List ℕ
+drawing d audit =
+    head
+    ++ each_below (length d.tables.instances) (λ p. process_line d p (state_of audit p))
+    ++ each_below (length d.tables.channels) (λ c. channel_lines d c (flow_of d.tables audit c))
+    ++ codes "}\n"

@@ -1,0 +1,65 @@
+#!/usr/bin/env python3
+"""Draws each of the examples with `./kpn draw` and Graphviz, and looks whether Graphviz takes each drawing without a
+warning. It is run by hand, and wants the program `dot` (in Debian the package graphviz).
+
+    tools/draw.py [FOLDER]
+
+The pictures go to FOLDER, if there is one. Those of PICTURES, which README shows, go to docs/pictures/ too.
+"""
+import pathlib
+import subprocess
+import sys
+import tempfile
+
+TOP = pathlib.Path(__file__).resolve().parent.parent
+KPN = TOP / 'kpn'
+EXAMPLES = TOP / 'examples'
+# The pictures of docs/pictures/: the example, and the words of a run whose trace is drawn too.
+PICTURES = {
+    'kahn': ('kahn.kpn', None),
+    'fibonacci': ('fibonacci.kpn', None),
+    'moving_average_after_its_run': ('moving_average.kpn', ('--source', f'signal={EXAMPLES / "signal"}')),
+}
+MOST_BYTES = 20_000
+
+
+def kpn(*words):
+    """What the program writes."""
+    return subprocess.run([KPN, *words], stdout=subprocess.PIPE, text=True, check=True).stdout
+
+
+def svg(drawing):
+    """The picture of a drawing. Graphviz may not warn."""
+    made = subprocess.run(['dot', '-Tsvg'], input=drawing, capture_output=True, text=True, check=True)
+    assert not made.stderr, made.stderr
+    return made.stdout
+
+
+def drawing_after(example, words):
+    """The drawing of an example as it stands after a run."""
+    with tempfile.TemporaryDirectory() as folder:
+        trace = pathlib.Path(folder) / 'trace'
+        kpn('run', example, *words, '--trace', trace)
+        return kpn('draw', example, trace)
+
+
+def write(path, picture):
+    path.parent.mkdir(parents=True, exist_ok=True)
+    path.write_text(picture)
+    print(path, len(picture))
+
+
+def main():
+    for example in sorted(EXAMPLES.glob('*.kpn')):
+        picture = svg(kpn('draw', example))
+        for folder in sys.argv[1:]:
+            write(pathlib.Path(folder) / f'{example.stem}.svg', picture)
+    for name, (example, words) in PICTURES.items():
+        file = EXAMPLES / example
+        picture = svg(kpn('draw', file) if words is None else drawing_after(file, words))
+        assert len(picture) <= MOST_BYTES, name
+        write(TOP / 'docs/pictures' / f'{name}.svg', picture)
+
+
+if __name__ == '__main__':
+    main()
