@@ -1,0 +1,4 @@
+pub mod Figures
+pub mod Layout
+pub mod StatsText
+pub mod Answers

@@ -1,0 +1,10 @@
+//! `kpn stats FILE TRACE`: figures of the run that a trace tells.
+#![tactic(auto)]
+
+mod command;
+mod figures;
+mod stats_text;
+mod table;
+
+pub use command::stats_command;
+pub use stats_text::StatsTables;

@@ -1,0 +1,137 @@
+//! Tables of texts: with tabs for other programs, and in columns for people.
+ghost use Rattle.std.specs.Prelude.{◌≡◌, [], ◌++◌, slice_index_or, length, replicate, IfOk, OnOk};
+ghost use Rattle.kpn_stats_command.specs.Layout.{tabbed_line, tabbed_table, longest, names, column, widths, spaces_for, right_cell, aligned_line, aligned_table};
+
+use kpn_lang::Sequence;
+use std::alloc::{AllocError, Global};
+
+/// A row of a table: its name and its further cells.
+#[derive(Debug, Drop)]
+pub(crate) struct Row {
+    pub(crate) name: Sequence<u8>,
+    pub(crate) cells: Sequence<Sequence<u8>>,
+}
+
+/// Writes the table with a tab between two cells.
+pub(crate) fn push_tabbed(text: &mut Vec<u8>, rows: &[Row]) -> Result<(), AllocError>
+    ensures { OnOk result (text.new.items ≡ text.old.items ++ tabbed_table rows.now) }
+{
+    for row in rows {
+        push_tabbed_line(text, row)?;
+    }
+    Ok(())
+}
+
+// A line with tabs.
+fn push_tabbed_line(text: &mut Vec<u8>, row: &Row) -> Result<(), AllocError>
+    ensures { OnOk result (text.new.items ≡ text.old.items ++ tabbed_line row.now) }
+{
+    text.extend_from_slice(row.name.as_slice())?;
+    for cell in row.cells.as_slice() {
+        text.push(b'\t')?;
+        text.extend_from_slice(cell.as_slice())?;
+    }
+    text.push(b'\n')?;
+    Ok(())
+}
+
+/// Writes the table with each column as wide as the longest text in it: the names at the left of theirs, the cells at
+/// the right.
+pub(crate) fn push_aligned(
+    alloc: Global,
+    text: &mut Vec<u8>,
+    columns: usize,
+    rows: &[Row],
+) -> Result<(), AllocError>
+    ensures { OnOk result (text.new.items ≡ text.old.items ++ aligned_table columns rows.now) }
+{
+    let name_width = longest_name(rows);
+    let widths = widths_of(alloc, columns, rows)?;
+    for row in rows {
+        push_aligned_line(text, name_width, &widths, row)?;
+    }
+    Ok(())
+}
+
+// The length of the longest name.
+fn longest_name(rows: &[Row]) -> usize
+    ensures { result ≡ longest (names rows.now) }
+{
+    let mut width = 0;
+    for row in rows {
+        width = width.max(row.name.as_slice().len());
+    }
+    width
+}
+
+// The length of the longest text in a column.
+fn longest_cell(rows: &[Row], k: usize) -> usize
+    ensures { result ≡ longest (column rows.now k) }
+{
+    let mut width = 0;
+    for row in rows {
+        width = width.max(cell_length(row, k));
+    }
+    width
+}
+
+// The length of a cell; 0 where there is none.
+fn cell_length(row: &Row, k: usize) -> usize
+    ensures { result ≡ length (slice_index_or row.now.cells k []) }
+{
+    match row.cells.as_slice().get(k) {
+        Some(cell) => cell.as_slice().len(),
+        None => 0,
+    }
+}
+
+// The width of each column.
+fn widths_of(alloc: Global, columns: usize, rows: &[Row]) -> Result<Vec<usize>, AllocError>
+    ensures { IfOk result (λ made. made.items ≡ widths columns rows.now) }
+{
+    let mut widths = Vec::new(alloc);
+    for k in 0..columns {
+        widths.push(longest_cell(rows, k))?;
+    }
+    Ok(widths)
+}
+
+// A line in columns.
+fn push_aligned_line(
+    text: &mut Vec<u8>,
+    name_width: usize,
+    widths: &[usize],
+    row: &Row,
+) -> Result<(), AllocError>
+    ensures { OnOk result
+        (text.new.items ≡ text.old.items ++ aligned_line name_width widths.now row.now) }
+{
+    let name = row.name.as_slice();
+    text.extend_from_slice(name)?;
+    push_spaces(text, name_width.saturating_sub(name.len()))?;
+    for (k, cell) in row.cells.as_slice().iter().enumerate() {
+        push_right(text, widths, k, cell.as_slice())?;
+    }
+    text.push(b'\n')?;
+    Ok(())
+}
+
+// A cell at the right of its column, behind two spaces.
+fn push_right(text: &mut Vec<u8>, widths: &[usize], k: usize, cell: &[u8]) -> Result<(), AllocError>
+    ensures { OnOk result (text.new.items ≡ text.old.items ++ right_cell widths.now k cell.now) }
+{
+    let width = widths.get(k).copied().unwrap_or(0);
+    text.extend_from_slice(b"  ")?;
+    push_spaces(text, width.saturating_sub(cell.len()))?;
+    text.extend_from_slice(cell)
+}
+
+// So many spaces.
+fn push_spaces(text: &mut Vec<u8>, count: usize) -> Result<(), AllocError>
+    ensures { OnOk result (text.new.items ≡ text.old.items ++ replicate count 32) }
+{
+    for _ in 0..count {
+        text.push(b' ')?;
+    }
+    Ok(())
+}
