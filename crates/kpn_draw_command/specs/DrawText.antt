@@ -18,6 +18,10 @@ use Rattle.kpn_audit.specs.declared.findings.Audit.{Audit}
 use Rattle.kpn_draw_command.specs.declared.found.Flow.{Flow}
 use Rattle.kpn_draw_command.specs.Found.{state_of, flow_of}
 
+-- the end of a label, and the style of its box or edge
+abbrev pub closing : (style : List ℕ) → List ℕ
+closing style = codes "\"" ++ style ++ codes "];\n"
+
 -- ---- processes
 
 -- `INSTANCE: PROCESS`
@@ -44,7 +48,7 @@ filling other = []
 abbrev pub process_line : Document → (p : ℕ) → State → List ℕ
 process_line d p state =
     codes "  p" ++ decimal p ++ codes " [label=\"" ++ process_title d p ++ state_line d.names.channels state
-    ++ codes "\"" ++ filling state ++ codes "];\n"
+    ++ closing (filling state)
 
 -- ---- channels
 
@@ -88,11 +92,15 @@ thickness (Some flow) = boldness flow.grown
 abbrev pub arrow : Tables → (c : ℕ) → List ℕ
 arrow t c = codes "  " ++ end_node c (writer_of t c) ++ codes " -> " ++ end_node c (reader_of t c)
 
--- the line of channel c, over which this went
+-- `NAME (CAPACITY)`, and behind a history what went over the channel
+abbrev pub edge_label : Document → (c : ℕ) → Option Flow → List ℕ
+edge_label d c flow =
+    name_at d.names.channels c ++ capacity_label (capacity (channel_at d.tables c)) ++ flow_line flow
+
+-- the line of channel c
 abbrev pub edge_line : Document → (c : ℕ) → Option Flow → List ℕ
 edge_line d c flow =
-    arrow d.tables c ++ codes " [label=\"" ++ name_at d.names.channels c
-    ++ capacity_label (capacity (channel_at d.tables c)) ++ flow_line flow ++ codes "\"" ++ thickness flow ++ codes "];\n"
+    arrow d.tables c ++ codes " [label=\"" ++ edge_label d c flow ++ closing (thickness flow)
 
 abbrev pub channel_lines : Document → (c : ℕ) → Option Flow → List ℕ
 channel_lines d c flow = outside_line (channel_at d.tables c) c ++ edge_line d c flow

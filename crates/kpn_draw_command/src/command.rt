@@ -29,7 +29,7 @@ pub fn draw_command<S: Shelf, O: Write, E: Write>(
     err: &mut E,
 ) -> u8
     ensures { let may_give = S.may_give shelf.now in
-        let trace = option_map (λ name. name.now) trace in
+        let trace = option_map (λ name. name.now) trace.entry in
         Concludes O.contents (IsDrawn may_give file.now trace steps)
         (IsRefusalOfDrawing may_give file.now trace) out.old out.new err.old err.new result }
 {
@@ -45,10 +45,10 @@ fn answer<S: Shelf>(
     shelf: &S,
 ) -> Result<Conclusion, Refusal>
     ensures ok { IfOk result (λ made.
-        IsDrawn (S.may_give shelf.now) file.now (option_map (λ name. name.now) trace) steps
+        IsDrawn (S.may_give shelf.now) file.now (option_map (λ name. name.now) trace.entry) steps
         made.text.items made.status) }
     ensures refused { IfErr result (IsRefusalOfDrawing (S.may_give shelf.now) file.now
-        (option_map (λ name. name.now) trace)) }
+        (option_map (λ name. name.now) trace.entry)) }
 {
     match trace {
         Some(trace) => drawn_after(alloc, file, trace, steps, shelf),
@@ -98,7 +98,8 @@ fn conclusion(
 {
     let network = document.network();
     network.known();
-    match audit_trace(alloc, network, trace, steps)? {
+    let found = audit_trace(alloc, network, trace, steps)?;
+    match found {
         Audited::Legal(audit) => Ok(Conclusion {
             text: text_of(alloc, document, Some(&audit))?,
             status: 0,

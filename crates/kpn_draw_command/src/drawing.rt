@@ -1,11 +1,11 @@
 //! The drawing of a network: a line for each process, source, sink and channel.
 ghost use Rattle.std.specs.Prelude.{◌≡◌, ◌<◌, ◌++◌, length, codes, option_map, OnOk, IfOk, IfSome};
 ghost use Rattle.kpn_net.specs.Tables.{channel_at, capacity};
-ghost use Rattle.kpn_draw_command.specs.DrawText.{drawing, head, each_below, process_line, process_title, state_line, filling, outside_line, end_node, capacity_label, growth_label, flow_line, boldness, thickness, arrow, edge_line, channel_lines};
+ghost use Rattle.kpn_draw_command.specs.DrawText.{drawing, head, each_below, process_line, process_title, state_line, filling, outside_line, end_node, capacity_label, growth_label, flow_line, boldness, thickness, arrow, closing, edge_label, edge_line, channel_lines};
 ghost use Rattle.kpn_draw_command.specs.Found.{state_of, flow_of, IsStateWithin, IsWhole};
 
 use crate::found::{Flow, flow_of, state_of};
-use crate::pieces::{push_name, push_number};
+use crate::pieces::{push_between, push_number};
 use kpn_audit::Audit;
 use kpn_net::{End, Network};
 use kpn_text::Document;
@@ -21,7 +21,7 @@ pub(crate) fn text_of(
 ) -> Result<Vec<u8>, AllocError>
     requires { IfSome (option_map (λ a. a.now) audit) (IsWhole document.now.tables) }
     ensures { IfOk result (λ text.
-        text.items ≡ drawing document.now (option_map (λ a. a.now) audit)) }
+        text.items ≡ drawing document.now (option_map (λ a. a.now) audit.entry)) }
 {
     let mut text = Vec::new(alloc);
     push_head(&mut text)?;
@@ -50,11 +50,12 @@ fn push_processes(
     requires { IfSome (option_map (λ a. a.now) audit) (IsWhole document.now.tables) }
     ensures { let d = document.now in
         OnOk result (text.new.items ≡ text.old.items ++ each_below (length d.tables.instances)
-        (λ p. process_line d p (state_of (option_map (λ a. a.now) audit) p))) }
+        (λ p. process_line d p (state_of (option_map (λ a. a.now) audit.entry) p))) }
 {
     let network = document.network();
     for p in 0..network.instances() {
-        push_process(text, document, p, state_of(network, audit, p))?;
+        let state = state_of(network, audit, p);
+        push_process(text, document, p, state)?;
     }
     Ok(())
 }
@@ -74,9 +75,15 @@ fn push_process(
     push_number(text, b"  p", p, b" [label=\"")?;
     push_title(text, document, p)?;
     push_state(text, document, state)?;
-    text.extend_from_slice(b"\"")?;
-    text.extend_from_slice(filling(state))?;
-    text.extend_from_slice(b"];\n")
+    push_closing(text, filling(state))?;
+    Ok(())
+}
+
+// The end of a label, and the style of its box or edge.
+fn push_closing(text: &mut Vec<u8>, style: &[u8]) -> Result<(), AllocError>
+    ensures { OnOk result (text.new.items ≡ text.old.items ++ closing style.now) }
+{
+    push_between(text, b"\"", style, b"];\n")
 }
 
 // The instance and its process.
@@ -87,7 +94,7 @@ fn push_title(text: &mut Vec<u8>, document: &Document, p: usize) -> Result<(), A
     let network = document.network();
     network.known();
     let process = document.process_name(network.program_number(p));
-    push_name(text, document.instance_name(p), b": ", process)
+    push_between(text, document.instance_name(p), b": ", process)
 }
 
 // What a process waits for, or how it has ended.
@@ -97,9 +104,9 @@ fn push_state(text: &mut Vec<u8>, document: &Document, state: State) -> Result<(
         (text.new.items ≡ text.old.items ++ state_line document.now.names.channels state) }
 {
     match state {
-        State::WaitsEmpty(c) => push_name(text, b"\\nwaits ", document.channel_name(c), b""),
-        State::WaitsFull(c) => push_name(text, b"\\nwaits ", document.channel_name(c), b" full"),
-        State::Ended(how) => push_name(text, b"\\n", how_word(how).as_bytes(), b""),
+        State::WaitsEmpty(c) => push_between(text, b"\\nwaits ", document.channel_name(c), b""),
+        State::WaitsFull(c) => push_between(text, b"\\nwaits ", document.channel_name(c), b" full"),
+        State::Ended(how) => push_between(text, b"\\n", how_word(how).as_bytes(), b""),
         State::Ready | State::Held => Ok(()),
     }
 }
@@ -125,7 +132,7 @@ fn push_channels(
     requires { IfSome (option_map (λ a. a.now) audit) (IsWhole document.now.tables) }
     ensures { let d = document.now in
         OnOk result (text.new.items ≡ text.old.items ++ each_below (length d.tables.channels)
-        (λ c. channel_lines d c (flow_of d.tables (option_map (λ a. a.now) audit) c))) }
+        (λ c. channel_lines d c (flow_of d.tables (option_map (λ a. a.now) audit.entry) c))) }
 {
     let network = document.network();
     for c in 0..network.channels() {
@@ -166,12 +173,25 @@ fn push_edge(
     ensures { OnOk result (text.new.items ≡ text.old.items ++ edge_line document.now c flow) }
 {
     push_arrow(text, document.network(), c)?;
-    push_name(text, b" [label=\"", document.channel_name(c), b"")?;
+    text.extend_from_slice(b" [label=\"")?;
+    push_label(text, document, c, flow)?;
+    push_closing(text, thickness(flow))?;
+    Ok(())
+}
+
+// The name of a channel, its capacity, and what went over it.
+fn push_label(
+    text: &mut Vec<u8>,
+    document: &Document,
+    c: usize,
+    flow: Option<Flow>,
+) -> Result<(), AllocError>
+    requires { c < length document.now.tables.channels }
+    ensures { OnOk result (text.new.items ≡ text.old.items ++ edge_label document.now c flow) }
+{
+    text.extend_from_slice(document.channel_name(c))?;
     push_capacity(text, document.network().cap_of(c))?;
-    push_flow(text, flow)?;
-    text.extend_from_slice(b"\"")?;
-    text.extend_from_slice(thickness(flow))?;
-    text.extend_from_slice(b"];\n")
+    push_flow(text, flow)
 }
 
 // From the writer of a channel to its reader.

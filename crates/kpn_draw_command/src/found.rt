@@ -22,7 +22,7 @@ pub(crate) struct Flow {
 pub(crate) fn state_of(network: &Network, audit: Option<&Audit>, p: usize) -> State
     requires there { p < length network.now.instances }
     requires whole { IfSome (option_map (λ a. a.now) audit) (IsWhole network.now) }
-    ensures { result ≡ state_of (option_map (λ a. a.now) audit) p }
+    ensures { result ≡ state_of (option_map (λ a. a.now) audit.entry) p }
 {
     match audit {
         Some(audit) => standing(audit.ends.as_slice()[p], audit.waits.as_slice()[p]),
@@ -46,7 +46,7 @@ fn standing(end: Option<How>, wait: Wait) -> State
 pub(crate) fn flow_of(network: &Network, audit: Option<&Audit>, c: usize) -> Option<Flow>
     requires there { c < length network.now.channels }
     requires whole { IfSome (option_map (λ a. a.now) audit) (IsWhole network.now) }
-    ensures { result ≡ flow_of network.now (option_map (λ a. a.now) audit) c }
+    ensures { result ≡ flow_of network.now (option_map (λ a. a.now) audit.entry) c }
 {
     match audit {
         Some(audit) => Some(flow_in(network, audit, c)),

@@ -21,17 +21,17 @@ pub(crate) fn push_number(
     text.extend_from_slice(after)
 }
 
-/// A name between two texts.
-pub(crate) fn push_name(
+/// A text between two others.
+pub(crate) fn push_between(
     text: &mut Vec<u8>,
     before: &[u8],
-    name: &[u8],
+    piece: &[u8],
     after: &[u8],
 ) -> Result<(), AllocError>
     ensures { OnOk result
-        (text.new.items ≡ text.old.items ++ (before.now ++ name.now ++ after.now)) }
+        (text.new.items ≡ text.old.items ++ (before.now ++ piece.now ++ after.now)) }
 {
     text.extend_from_slice(before)?;
-    text.extend_from_slice(name)?;
+    text.extend_from_slice(piece)?;
     text.extend_from_slice(after)
 }
