@@ -1,5 +1,5 @@
 -- The text that `kpn stats` writes of a legal history: what each cell shows, and the advice on capacities.
-use Rattle.std.specs.Prelude.{ℕ, suc, zero, ◌-◌, max, List, [], ◌∷◌, ◌++◌, length, map, codes, Option, Some, None, slice_index_or}
+use Rattle.std.specs.Prelude.{ℕ, ◌-◌, max, nat_eq, if◌then◌else◌, List, [], ◌∷◌, ◌++◌, length, map, codes, Option, Some, None, slice_index_or}
 use Rattle.std.specs.List.{range_with_len}
 use Rattle.std.specs.Fmt.{decimal}
 use Rattle.kpn_net.specs.declared.wait.Wait.{Wait}
@@ -88,8 +88,10 @@ process_rows d audit figures =
 -- where no writer waited for room, the most that lay unread is a capacity, at least 1, under which the same events are
 -- legal; else only more than the last capacity could have spared the writer
 abbrev pub advice_for : (waits last most : ℕ) → List ℕ
-advice_for zero last most = codes ": " ++ decimal (max most 1) ++ codes " would have been enough for these events\n"
-advice_for (suc waits) last most = codes ": more than " ++ decimal last ++ codes ", since its writer waited for room\n"
+advice_for waits last most =
+    if nat_eq waits 0
+    then codes ": " ++ decimal (max most 1) ++ codes " would have been enough for these events\n"
+    else codes ": more than " ++ decimal last ++ codes ", since its writer waited for room\n"
 
 -- the advice on a channel of this last capacity; none on a source
 abbrev pub advice_line : (name : List ℕ) (last : Option ℕ) → ChannelFigures → List ℕ
@@ -103,10 +105,14 @@ advice d audit figures =
 
 -- ---- the whole text
 
--- for people both tables and the advice, with an empty line between two of them; for programs one table
+-- both tables and the advice, with an empty line between two of them
+abbrev pub people_text : {A : Type 0} → Document → Audit A → List ChannelFigures → List ProcessFigures → List ℕ
+people_text d audit channels processes =
+    aligned_table 9 (channel_rows d audit channels) ++ codes "\n" ++ aligned_table 5 (process_rows d audit processes)
+    ++ codes "\n" ++ advice d audit channels
+
+-- what is written for people, or one of the tables for other programs
 abbrev pub stats_text : {A : Type 0} → StatsTables → Document → Audit A → Figures → List ℕ
-stats_text People d audit f =
-    aligned_table 9 (channel_rows d audit f.channels) ++ codes "\n"
-    ++ aligned_table 5 (process_rows d audit f.processes) ++ codes "\n" ++ advice d audit f.channels
+stats_text People d audit f = people_text d audit f.channels f.processes
 stats_text Channels d audit f = tabbed_table (channel_rows d audit f.channels)
 stats_text Processes d audit f = tabbed_table (process_rows d audit f.processes)

@@ -69,7 +69,8 @@ fn conclusion(
     ensures refused { IfErr result (IsNoFinding document.now.tables trace.now) }
 {
     let network = document.network();
-    match audit_trace(alloc, network, trace, steps)? {
+    let found = audit_trace(alloc, network, trace, steps)?;
+    match found {
         Audited::Legal(audit) => {
             let figures = count(alloc, network, trace.events.as_slice())?;
             let text = text_of(alloc, tables, document, &audit, &figures)?;

@@ -70,9 +70,9 @@ pub(crate) fn count(
 {
     let mut channels = no_channels(alloc, network.channels())?;
     let mut processes = no_processes(alloc, network.instances())?;
-    for event in events {
-        count_on_channel(&mut channels, *event);
-        count_of_process(&mut processes, *event);
+    for k in 0..events.len() {
+        count_on_channel(&mut channels, events[k]);
+        count_of_process(&mut processes, events[k]);
     }
     Ok(Figures {
         channels: Sequence::from_vec(channels),
@@ -95,10 +95,10 @@ fn no_processes(alloc: Global, processes: usize) -> Result<Vec<ProcessFigures>, 
 }
 
 // Counts an event in the figures of its channel.
-fn count_on_channel(channels: &mut [ChannelFigures], event: Event)
-    requires { (c : ℕ) → c < length channels.old
-        → channel_total (slice_index_or channels.old c no_channel) + 1 < 2 ^ 64 }
-    ensures { channels.new ≡ channels_then channels.old event }
+fn count_on_channel(channels: &mut Vec<ChannelFigures>, event: Event)
+    requires { (c : ℕ) → c < length channels.old.items
+        → channel_total (slice_index_or channels.old.items c no_channel) + 1 < 2 ^ 64 }
+    ensures { channels.new.items ≡ channels_then channels.old.items event }
 {
     let Some(c) = channel_of(event) else {
         return;
@@ -109,10 +109,10 @@ fn count_on_channel(channels: &mut [ChannelFigures], event: Event)
 }
 
 // Counts an event in the figures of its process.
-fn count_of_process(processes: &mut [ProcessFigures], event: Event)
-    requires { (p : ℕ) → p < length processes.old
-        → process_total (slice_index_or processes.old p no_process) + 1 < 2 ^ 64 }
-    ensures { processes.new ≡ processes_then processes.old event }
+fn count_of_process(processes: &mut Vec<ProcessFigures>, event: Event)
+    requires { (p : ℕ) → p < length processes.old.items
+        → process_total (slice_index_or processes.old.items p no_process) + 1 < 2 ^ 64 }
+    ensures { processes.new.items ≡ processes_then processes.old.items event }
 {
     let Some(p) = process_of(event) else {
         return;

@@ -1,7 +1,8 @@
 //! The text that `kpn stats` writes of a legal history.
 ghost use Rattle.std.specs.Prelude.{◌≡◌, ◌++◌, ◌<◌, length, map, IfOk, OnOk};
+ghost use Rattle.std.specs.Fmt.{decimal};
 ghost use Rattle.kpn_names.specs.Names.{name_at};
-ghost use Rattle.kpn_stats_command.specs.StatsText.{stats_text, number_cell, channel_heading, channel_row, channel_rows, process_heading, process_row, process_rows, end_cell, advice, advice_line, advice_for, row_of};
+ghost use Rattle.kpn_stats_command.specs.StatsText.{stats_text, people_text, number_cell, channel_heading, channel_row, channel_rows, process_heading, process_row, process_rows, end_cell, advice, advice_line, advice_for, row_of};
 
 use crate::figures::{ChannelFigures, Figures, ProcessFigures};
 use crate::table::{Row, push_aligned, push_tabbed};
@@ -43,22 +44,43 @@ pub(crate) fn text_of(
     let processes = figures.processes.as_slice();
     match tables {
         StatsTables::People => {
-            let rows = channel_rows(alloc, document, audit, channels)?;
-            push_aligned(alloc, &mut text, 9, &rows)?;
-            text.push(b'\n')?;
-            let rows = process_rows(alloc, document, audit, processes)?;
-            push_aligned(alloc, &mut text, 5, &rows)?;
-            text.push(b'\n')?;
-            push_advice(&mut text, document, audit, channels)?;
+            push_people(alloc, &mut text, document, audit, channels, processes)?;
         }
         StatsTables::Channels => {
-            push_tabbed(&mut text, &channel_rows(alloc, document, audit, channels)?)?;
+            let rows = channel_rows(alloc, document, audit, channels)?;
+            push_tabbed(&mut text, &rows)?;
         }
         StatsTables::Processes => {
-            push_tabbed(&mut text, &process_rows(alloc, document, audit, processes)?)?;
+            let rows = process_rows(alloc, document, audit, processes)?;
+            push_tabbed(&mut text, &rows)?;
         }
     }
     Ok(text)
+}
+
+// Both tables and the advice.
+fn push_people(
+    alloc: Global,
+    text: &mut Vec<u8>,
+    document: &Document,
+    audit: &Audit,
+    channels: &[ChannelFigures],
+    processes: &[ProcessFigures],
+) -> Result<(), AllocError>
+    requires caps { length audit.now.caps ≡ length document.now.tables.channels }
+    requires channels { length channels.now ≡ length document.now.tables.channels }
+    requires processes { length processes.now ≡ length document.now.tables.instances }
+    ensures { OnOk result (text.new.items
+        ≡ text.old.items ++ people_text document.now audit.now channels.now processes.now) }
+{
+    let rows = channel_rows(alloc, document, audit, channels)?;
+    push_aligned(alloc, text, 9, &rows)?;
+    text.push(b'\n')?;
+    let rows = process_rows(alloc, document, audit, processes)?;
+    push_aligned(alloc, text, 5, &rows)?;
+    text.push(b'\n')?;
+    push_advice(text, document, audit, channels)?;
+    Ok(())
 }
 
 // The heading, and a row for each channel.
@@ -73,9 +95,11 @@ fn channel_rows(
     ensures { IfOk result (λ rows. rows.items ≡ channel_rows document.now audit.now figures.now) }
 {
     let mut rows = Vec::new(alloc);
-    rows.push(channel_heading(alloc)?)?;
+    let heading = channel_heading(alloc)?;
+    rows.push(heading)?;
     for c in 0..figures.len() {
-        rows.push(channel_row(alloc, document, audit, figures, c)?)?;
+        let row = channel_row(alloc, document, audit, figures, c)?;
+        rows.push(row)?;
     }
     Ok(rows)
 }
@@ -154,9 +178,11 @@ fn process_rows(
     ensures { IfOk result (λ rows. rows.items ≡ process_rows document.now audit.now figures.now) }
 {
     let mut rows = Vec::new(alloc);
-    rows.push(process_heading(alloc)?)?;
+    let heading = process_heading(alloc)?;
+    rows.push(heading)?;
     for p in 0..figures.len() {
-        rows.push(process_row(alloc, document, audit, figures, p)?)?;
+        let row = process_row(alloc, document, audit, figures, p)?;
+        rows.push(row)?;
     }
     Ok(rows)
 }
@@ -231,6 +257,7 @@ fn end_cell(
 fn name_of(document: &Document, c: usize) -> &[u8]
     ensures { result.now ≡ name_at document.now.names.channels c }
 {
+    document.known();
     if c < document.network().channels() {
         document.channel_name(c)
     } else {
@@ -255,7 +282,8 @@ fn word_cells(alloc: Global, words: &[&str]) -> Result<Vec<Sequence<u8>>, AllocE
 {
     let mut cells = Vec::new(alloc);
     for word in words {
-        cells.push(text_cell(alloc, word.as_bytes())?)?;
+        let cell = text_cell(alloc, word.as_bytes())?;
+        cells.push(cell)?;
     }
     Ok(cells)
 }
@@ -266,7 +294,8 @@ fn number_cells(alloc: Global, numbers: &[Option<usize>]) -> Result<Vec<Sequence
 {
     let mut cells = Vec::new(alloc);
     for number in numbers {
-        cells.push(number_cell(alloc, *number)?)?;
+        let cell = number_cell(alloc, *number)?;
+        cells.push(cell)?;
     }
     Ok(cells)
 }
@@ -324,14 +353,47 @@ fn push_advice_line(
         return Ok(());
     };
     text.extend_from_slice(name)?;
-    let mut buffer = itoa::Buffer::new();
-    if figures.waits_full == 0 {
-        text.extend_from_slice(b": ")?;
-        text.extend_from_slice(buffer.format(figures.most.max(1)).as_bytes())?;
-        text.extend_from_slice(b" would have been enough for these events\n")
+    push_advice_for(text, figures.waits_full, last as usize, figures.most)
+}
+
+// What the advice says of a capacity.
+fn push_advice_for(
+    text: &mut Vec<u8>,
+    waits: usize,
+    last: usize,
+    most: usize,
+) -> Result<(), AllocError>
+    ensures { OnOk result (text.new.items ≡ text.old.items ++ advice_for waits last most) }
+{
+    if waits == 0 {
+        push_number(
+            text,
+            b": ",
+            most.max(1),
+            b" would have been enough for these events\n",
+        )
     } else {
-        text.extend_from_slice(b": more than ")?;
-        text.extend_from_slice(buffer.format(last).as_bytes())?;
-        text.extend_from_slice(b", since its writer waited for room\n")
+        push_number(
+            text,
+            b": more than ",
+            last,
+            b", since its writer waited for room\n",
+        )
     }
+}
+
+// A number between two texts.
+fn push_number(
+    text: &mut Vec<u8>,
+    before: &[u8],
+    number: usize,
+    behind: &[u8],
+) -> Result<(), AllocError>
+    ensures { OnOk result (text.new.items
+        ≡ text.old.items ++ (before.now ++ decimal number ++ behind.now)) }
+{
+    let mut buffer = itoa::Buffer::new();
+    text.extend_from_slice(before)?;
+    text.extend_from_slice(buffer.format(number).as_bytes())?;
+    text.extend_from_slice(behind)
 }

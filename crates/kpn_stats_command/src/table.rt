@@ -1,6 +1,8 @@
 //! Tables of texts: with tabs for other programs, and in columns for people.
 ghost use Rattle.std.specs.Prelude.{◌≡◌, [], ◌++◌, slice_index_or, length, replicate, IfOk, OnOk};
-ghost use Rattle.kpn_stats_command.specs.Layout.{tabbed_line, tabbed_table, longest, names, column, widths, spaces_for, right_cell, aligned_line, aligned_table};
+ghost use Rattle.std.specs.List.{flat_map};
+ghost use Rattle.kpn_answers.specs.ListText.{lines_from};
+ghost use Rattle.kpn_stats_command.specs.Layout.{tabbed, tabbed_line, tabbed_table, longest, names, column, widths, spaces_for, right_cell, aligned_line, aligned_table};
 
 use kpn_lang::Sequence;
 use std::alloc::{AllocError, Global};
@@ -27,11 +29,19 @@ fn push_tabbed_line(text: &mut Vec<u8>, row: &Row) -> Result<(), AllocError>
     ensures { OnOk result (text.new.items ≡ text.old.items ++ tabbed_line row.now) }
 {
     text.extend_from_slice(row.name.as_slice())?;
-    for cell in row.cells.as_slice() {
+    push_tabbed_cells(text, row.cells.as_slice())?;
+    text.push(b'\n')?;
+    Ok(())
+}
+
+// Each of the cells behind a tab.
+fn push_tabbed_cells(text: &mut Vec<u8>, cells: &[Sequence<u8>]) -> Result<(), AllocError>
+    ensures { OnOk result (text.new.items ≡ text.old.items ++ tabbed cells.now) }
+{
+    for cell in cells {
         text.push(b'\t')?;
         text.extend_from_slice(cell.as_slice())?;
     }
-    text.push(b'\n')?;
     Ok(())
 }
 
@@ -47,8 +57,21 @@ pub(crate) fn push_aligned(
 {
     let name_width = longest_name(rows);
     let widths = widths_of(alloc, columns, rows)?;
+    push_aligned_lines(text, name_width, &widths, rows)
+}
+
+// The lines in columns of these widths.
+fn push_aligned_lines(
+    text: &mut Vec<u8>,
+    name_width: usize,
+    widths: &[usize],
+    rows: &[Row],
+) -> Result<(), AllocError>
+    ensures { OnOk result (text.new.items
+        ≡ text.old.items ++ flat_map (aligned_line name_width widths.now) rows.now) }
+{
     for row in rows {
-        push_aligned_line(text, name_width, &widths, row)?;
+        push_aligned_line(text, name_width, widths, row)?;
     }
     Ok(())
 }
@@ -109,10 +132,23 @@ fn push_aligned_line(
     let name = row.name.as_slice();
     text.extend_from_slice(name)?;
     push_spaces(text, name_width.saturating_sub(name.len()))?;
-    for (k, cell) in row.cells.as_slice().iter().enumerate() {
+    push_right_cells(text, widths, row.cells.as_slice())?;
+    text.push(b'\n')?;
+    Ok(())
+}
+
+// The cells, each at the right of its column.
+fn push_right_cells(
+    text: &mut Vec<u8>,
+    widths: &[usize],
+    cells: &[Sequence<u8>],
+) -> Result<(), AllocError>
+    ensures { OnOk result
+        (text.new.items ≡ text.old.items ++ lines_from (right_cell widths.now) 0 cells.now) }
+{
+    for (k, cell) in cells.iter().enumerate() {
         push_right(text, widths, k, cell.as_slice())?;
     }
-    text.push(b'\n')?;
     Ok(())
 }
 
@@ -130,7 +166,7 @@ fn push_right(text: &mut Vec<u8>, widths: &[usize], k: usize, cell: &[u8]) -> Re
 fn push_spaces(text: &mut Vec<u8>, count: usize) -> Result<(), AllocError>
     ensures { OnOk result (text.new.items ≡ text.old.items ++ replicate count 32) }
 {
-    for _ in 0..count {
+    for _turn in 0..count {
         text.push(b' ')?;
     }
     Ok(())

@@ -1,0 +1,80 @@
+-- Tables row by row.
+use Rattle.std.proofs.Common.{◌≡◌, ◌≢◌, ℕ, suc, ◌+◌, ◌<◌, ◌≤◌, max, List, [], ◌∷◌, ◌++◌, length, map, drop, get_or, codes, cond, eq-eqb, ne_eqb, drop-cons, drop_of_length-le, sym, ap, ◌∙◌, arith}
+use Rattle.std.specs.List.{range_with_len}
+use Rattle.std.proofs.lemmas.List.FromFn.{map-range_with_len_more}
+use Rattle.kpn_stats_command.specs.declared.table.Row.{Row}
+use Rattle.std.specs.Fmt.{decimal}
+use Rattle.kpn_stats_command.specs.Layout.{longest, aligned_table}
+use Rattle.std.proofs.lemmas.List.{append_assoc}
+use Rattle.kpn_text.specs.Document.{Document}
+use Rattle.kpn_audit.specs.declared.findings.Audit.{Audit}
+use Rattle.kpn_stats_command.specs.declared.figures.ChannelFigures.{ChannelFigures}
+use Rattle.kpn_stats_command.specs.declared.figures.ProcessFigures.{ProcessFigures}
+use Rattle.kpn_stats_command.specs.StatsText.{channel_rows, process_rows, advice, advice_for, people_text}
+
+-- one entry more
+pub one_more : {A : Type 0} (f : ℕ → A) (n : ℕ) (xs more : List A) → xs ≡ map f (range_with_len 0 n)
+    → more ≡ xs ++ f n ∷ [] → more ≡ map f (range_with_len 0 (n + 1))
+one_more f n xs more so_far added =
+    added ∙ ap (λ ys. ys ++ f n ∷ []) so_far ∙ sym (map-range_with_len_more f 0 n n (omega arith))
+
+-- the same behind a heading
+pub one_more_row : (heading : Row) (f : ℕ → Row) (n : ℕ) (xs more : List Row)
+    → xs ≡ heading ∷ map f (range_with_len 0 n) → more ≡ xs ++ f n ∷ [] → more ≡ heading ∷ map f (range_with_len 0 (n + 1))
+one_more_row heading f n xs more so_far added =
+    added ∙ ap (λ ys. ys ++ f n ∷ []) so_far
+    ∙ ap (λ ys. heading ∷ ys) (sym (map-range_with_len_more f 0 n n (omega arith)))
+
+-- the longest text of a column, as far as the rows were looked at
+pub longest_next : (f : Row → List ℕ) (rows : List Row) (k : ℕ) (row : Row) (width wider all : ℕ) → k < length rows
+    → row ≡ get_or rows k row → wider ≡ max width (length (f row))
+    → max width (longest (map f (drop k rows))) ≡ all → max wider (longest (map f (drop (k + 1) rows))) ≡ all
+longest_next f rows k row width wider all below is wide so_far =
+    let step : suc k ≡ k + 1 = omega arith in
+    let next : longest (map f (drop k rows)) ≡ max (length (f row)) (longest (map f (drop (k + 1) rows))) =
+    ap (λ (xs : List Row). longest (map f xs)) (drop-cons rows k row below)
+    ∙ ap (λ (r : Row). max (length (f r)) (longest (map f (drop (suc k) rows)))) (sym is)
+    ∙ ap (λ n. max (length (f row)) (longest (map f (drop n rows)))) step in
+    omega (arith, next, wide, so_far)
+
+pub longest_done : (f : Row → List ℕ) (rows : List Row) (k width all : ℕ) → length rows ≤ k
+    → max width (longest (map f (drop k rows))) ≡ all → width ≡ all
+longest_done f rows k width all past so_far =
+    let none : longest (map f (drop k rows)) ≡ 0 =
+    ap (λ (xs : List Row). longest (map f xs)) (drop_of_length-le rows past) in
+    omega (arith, none, so_far)
+
+-- the advice where no writer waited, and where one did
+pub advice_enough : (waits last most enough : ℕ) → waits ≡ 0 → enough ≡ max most 1
+    → codes ": " ++ decimal enough ++ codes " would have been enough for these events\n" ≡ advice_for waits last most
+advice_enough waits last most enough none is =
+    ap (λ n. codes ": " ++ decimal n ++ codes " would have been enough for these events\n") is
+    ∙ sym (ap (λ b. cond b
+    (codes ": " ++ decimal (max most 1) ++ codes " would have been enough for these events\n")
+    (codes ": more than " ++ decimal last ++ codes ", since its writer waited for room\n")) (eq-eqb waits 0 none))
+
+pub advice_more : (waits last most : ℕ) → waits ≢ 0
+    → codes ": more than " ++ decimal last ++ codes ", since its writer waited for room\n" ≡ advice_for waits last most
+advice_more waits last most some =
+    sym (ap (λ b. cond b
+    (codes ": " ++ decimal (max most 1) ++ codes " would have been enough for these events\n")
+    (codes ": more than " ++ decimal last ++ codes ", since its writer waited for room\n")) (ne_eqb waits 0 some))
+
+-- ---- one text behind another
+
+joined : (old a b so_far more : List ℕ) → so_far ≡ old ++ a → more ≡ so_far ++ b → more ≡ old ++ (a ++ b)
+joined old a b so_far more was added = added ∙ ap (λ x. x ++ b) was ∙ append_assoc old a b
+
+pub people_told : {A : Type 0} (d : Document) (audit : Audit A) (channels : List ChannelFigures)
+    (processes : List ProcessFigures) (old t1 t2 t3 t4 new : List ℕ) (first second : List Row)
+    → first ≡ channel_rows d audit channels → t1 ≡ old ++ aligned_table 9 first → t2 ≡ t1 ++ codes "\n"
+    → second ≡ process_rows d audit processes → t3 ≡ t2 ++ aligned_table 5 second → t4 ≡ t3 ++ codes "\n"
+    → new ≡ t4 ++ advice d audit channels → new ≡ old ++ people_text d audit channels processes
+people_told d audit channels processes old t1 t2 t3 t4 new first second rows e1 e2 more e3 e4 e5 =
+    let a = aligned_table 9 (channel_rows d audit channels) in
+    let b = aligned_table 5 (process_rows d audit processes) in
+    let s1 : t1 ≡ old ++ a = e1 ∙ ap (λ r. old ++ aligned_table 9 r) rows in
+    let s2 = joined old a (codes "\n") t1 t2 s1 e2 in
+    let s3 = joined old (a ++ codes "\n") b t2 t3 s2 (e3 ∙ ap (λ r. t2 ++ aligned_table 5 r) more) in
+    let s4 = joined old (a ++ codes "\n" ++ b) (codes "\n") t3 t4 s3 e4 in
+    joined old (a ++ codes "\n" ++ b ++ codes "\n") (advice d audit channels) t4 new s4 e5

@@ -1,0 +1,166 @@
+-- The figures of the events of a trace are those of the history that it tells: no figure looks at the capacity that a
+-- growth tells, and in nothing else do the two differ.
+use Rattle.std.proofs.Common.{◌≡◌, ℕ, ℤ, ◌+◌, ◌<◌, ◌≤◌, Bool, true, false, cond, List, [], ◌∷◌, ◌++◌, length, map, take, drop, count_by, refl, sym, ap, ap₂, ◌∙◌, subst}
+use Rattle.std.specs.List.{flat_map}
+use Rattle.std.proofs.lemmas.List.{take-map, length-map}
+use Rattle.std.proofs.lemmas.List.FromFn.{length-map-range_with_len}
+use Rattle.std.specs.declared.alloc.Global.{Global}
+use Rattle.kpn_net.specs.declared.tables.ChannelSpec.{ChannelSpec}
+use Rattle.kpn_net.specs.Tables.{Tables}
+use Rattle.kpn_text.specs.Document.{Document}
+use Rattle.kpn_trace.specs.declared.event.Event.{Event}
+use Rattle.kpn_trace.specs.declared.event.Event.TheVariants.{Grow}
+use Rattle.kpn_trace.specs.declared.stored.Version.{Version}
+use Rattle.kpn_trace.specs.declared.stored.Version.TheVariants.{One, Two}
+use Rattle.kpn_trace.specs.declared.stored.Trace.{Trace}
+use Rattle.kpn_trace.specs.Channels.{written_in, read_in, written_on, read_on, unread_on, is_growth_of, capacity_after}
+use Rattle.kpn_audit.specs.declared.findings.Audit.{Audit}
+use Rattle.kpn_audit.specs.Stored.{audited_under, told, told_behind, history_of, tables_for, history_in}
+use Rattle.kpn_audit_command.specs.Answers.{IsFoundLegal, IsNotLegal}
+use Rattle.kpn_stats_command.specs.declared.figures.ChannelFigures.{ChannelFigures}
+use Rattle.kpn_stats_command.specs.declared.figures.ProcessFigures.{ProcessFigures}
+use Rattle.kpn_stats_command.specs.declared.figures.Figures.{Figures}
+use Rattle.kpn_stats_command.specs.declared.stats_text.StatsTables.{StatsTables}
+use Rattle.kpn_stats_command.specs.Figures.{waits_for_item, waits_for_room, is_get_of, is_put_of, is_wait_empty_of, is_wait_full_of, unread_behind, IsMostUnread, CountsChannel, CountsProcess, AreFigures}
+use Rattle.kpn_stats_command.specs.StatsText.{stats_text}
+use Rattle.kpn_stats_command.specs.Answers as answers
+
+-- ---- events without the capacities that growths tell
+
+plain : Event → Event
+plain (Grow p c n) = Grow p c 0
+plain event = event
+
+told_plain : (t : Tables) (B : List Event) (e : Event) → plain (told t B e) ≡ plain e
+told_plain t B (Grow p c n) = refl
+told_plain t B event = refl
+
+told_behind_plain : (t : Tables) (B events : List Event) → map plain (told_behind t B events) ≡ map plain events
+told_behind_plain t B [] = refl
+told_behind_plain t B (e ∷ events) =
+    ap₂ (λ (x : Event) (xs : List Event). x ∷ xs) (told_plain t B e)
+    (told_behind_plain t (B ++ told t B e ∷ []) events)
+
+history_plain : (v : Version) (t : Tables) (events : List Event) → map plain events ≡ map plain (history_of v t events)
+history_plain One t events = sym (told_behind_plain t [] events)
+history_plain Two t events = refl
+
+-- what looks at no capacity
+blind : {A : Type 0} (f : Event → A) → ((p c n : ℕ) → f (Grow p c 0) ≡ f (Grow p c n)) → (e : Event)
+    → f (plain e) ≡ f e
+blind f none (Grow p c n) = none p c n
+blind f none event = refl
+
+flat_plain : {A : Type 0} (f : Event → List A) → ((p c n : ℕ) → f (Grow p c 0) ≡ f (Grow p c n)) → (H : List Event)
+    → flat_map f (map plain H) ≡ flat_map f H
+flat_plain f none [] = refl
+flat_plain f none (e ∷ H) = ap₂ (λ xs ys. xs ++ ys) (blind f none e) (flat_plain f none H)
+
+count_plain : (f : Event → Bool) → ((p c n : ℕ) → f (Grow p c 0) ≡ f (Grow p c n)) → (H : List Event)
+    → count_by f (map plain H) ≡ count_by f H
+count_plain f none [] = refl
+count_plain f none (e ∷ H) = ap₂ (λ b n. cond b 1 0 + n) (blind f none e) (count_plain f none H)
+
+-- ---- histories that are alike but for these capacities
+
+Alike : List Event → List Event → Type 0
+Alike H G = map plain H ≡ map plain G
+
+same_flat : {A : Type 0} (f : Event → List A) → ((p c n : ℕ) → f (Grow p c 0) ≡ f (Grow p c n)) → (H G : List Event)
+    → Alike H G → flat_map f H ≡ flat_map f G
+same_flat f none H G alike = sym (flat_plain f none H) ∙ ap (flat_map f) alike ∙ flat_plain f none G
+
+same_count : (f : Event → Bool) → ((p c n : ℕ) → f (Grow p c 0) ≡ f (Grow p c n)) → (H G : List Event)
+    → Alike H G → count_by f H ≡ count_by f G
+same_count f none H G alike = sym (count_plain f none H) ∙ ap (count_by f) alike ∙ count_plain f none G
+
+alike_take : (H G : List Event) (k : ℕ) → Alike H G → Alike (take k H) (take k G)
+alike_take H G k alike = sym (take-map plain k H) ∙ ap (take k) alike ∙ take-map plain k G
+
+alike_length : (H G : List Event) → Alike H G → length H ≡ length G
+alike_length H G alike = sym (length-map H plain) ∙ ap length alike ∙ length-map G plain
+
+same_written : (H G : List Event) (c : ℕ) → Alike H G → written_on H c ≡ written_on G c
+same_written H G c alike = same_flat (written_in c) (λ p d n. refl) H G alike
+
+same_read : (H G : List Event) (c : ℕ) → Alike H G → read_on H c ≡ read_on G c
+same_read H G c alike = same_flat (read_in c) (λ p d n. refl) H G alike
+
+same_unread : (H G : List Event) (c k : ℕ) → Alike H G → unread_behind H c k ≡ unread_behind G c k
+same_unread H G c k alike =
+    let behind = alike_take H G k alike in
+    ap₂ (λ (r w : List ℤ). length (drop (length r) w)) (same_read (take k H) (take k G) c behind)
+    (same_written (take k H) (take k G) c behind)
+
+most_alike : (H G : List Event) (c m : ℕ) → Alike H G → IsMostUnread H c m → IsMostUnread G c m
+most_alike H G c m alike most =
+    let at = most.reached in
+    record {
+      reached = (at.0, (subst (λ n. at.0 ≤ n) (alike_length H G alike) at.1.0, sym (same_unread H G c at.0 alike) ∙ at.1.1));
+      bounded = λ k fits.
+          subst (λ n. n ≤ m) (same_unread H G c k alike)
+          (most.bounded k (subst (λ n. k ≤ n) (sym (alike_length H G alike)) fits));
+    }
+
+channel_alike : (H G : List Event) (c : ℕ) (f : ChannelFigures) → Alike H G → CountsChannel H c f
+    → CountsChannel G c f
+channel_alike H G c f alike counts =
+    record {
+      put = counts.put ∙ ap length (same_written H G c alike);
+      read = counts.read ∙ ap length (same_read H G c alike);
+      most = most_alike H G c f.most alike counts.most;
+      growths = counts.growths ∙ same_count (is_growth_of c) (λ p d n. refl) H G alike;
+      waits_empty = counts.waits_empty ∙ same_count (waits_for_item c) (λ p d n. refl) H G alike;
+      waits_full = counts.waits_full ∙ same_count (waits_for_room c) (λ p d n. refl) H G alike;
+    }
+
+process_alike : (H G : List Event) (p : ℕ) (f : ProcessFigures) → Alike H G → CountsProcess H p f
+    → CountsProcess G p f
+process_alike H G p f alike counts =
+    record {
+      gets = counts.gets ∙ same_count (is_get_of p) (λ q d n. refl) H G alike;
+      puts = counts.puts ∙ same_count (is_put_of p) (λ q d n. refl) H G alike;
+      waits_empty = counts.waits_empty ∙ same_count (is_wait_empty_of p) (λ q d n. refl) H G alike;
+      waits_full = counts.waits_full ∙ same_count (is_wait_full_of p) (λ q d n. refl) H G alike;
+    }
+
+of_history : (t : Tables) (trace : Trace Global) (figures : Figures) → AreFigures t trace.events figures
+    → AreFigures t (history_in t trace) figures
+of_history t trace figures are =
+    let alike = history_plain trace.version (tables_for t trace) trace.events in
+    record {
+      channel_count = are.channel_count;
+      channels = λ c below. channel_alike trace.events (history_in t trace) c _ alike (are.channels c below);
+      process_count = are.process_count;
+      processes = λ p below. process_alike trace.events (history_in t trace) p _ alike (are.processes p below);
+    }
+
+-- ---- what is told of a document
+
+same_channels : (v : Version) (t : Tables) → (audited_under v t).channels ≡ t.channels
+same_channels One t = refl
+same_channels Two t = refl
+
+-- the audit has a capacity for each channel
+pub caps_there : (t own : Tables) (trace : Trace Global) (steps : ℕ) (audit : Audit Global) → own ≡ t
+    → IsFoundLegal own trace steps audit → length audit.caps ≡ length t.channels
+caps_there t own trace steps audit same found =
+    ap length found.audited.caps
+    ∙ length-map-range_with_len (capacity_after (tables_for own trace) (history_in own trace)) 0
+    (length (tables_for own trace).channels)
+    ∙ ap (λ (channels : List ChannelSpec). length channels) (same_channels trace.version own)
+    ∙ ap (λ (n : Tables). length n.channels) same
+
+pub concludes_legal : (tables : StatsTables) (d : Document) (own : Tables) → own ≡ d.tables
+    → (trace : Trace Global) (steps : ℕ) (audit : Audit Global) (figures : Figures) (text : List ℕ)
+    → IsFoundLegal own trace steps audit → AreFigures own trace.events figures
+    → text ≡ stats_text tables d audit figures → answers.IsConclusion tables d trace steps text 0
+concludes_legal tables d own same trace steps audit figures text found are made =
+    answers.told audit figures (subst (λ t. IsFoundLegal t trace steps audit) same found)
+    (of_history d.tables trace figures (subst (λ t. AreFigures t trace.events figures) same are)) made refl
+
+pub concludes_other : (tables : StatsTables) (d : Document) (own : Tables) → own ≡ d.tables
+    → (trace : Trace Global) (steps : ℕ) (text : List ℕ) (status : ℕ) → IsNotLegal own trace steps text status
+    → answers.IsConclusion tables d trace steps text status
+concludes_other tables d own same trace steps text status is =
+    answers.not_legal (subst (λ t. IsNotLegal t trace steps text status) same is)

@@ -1,0 +1,12 @@
+use Rattle.std.proofs.Common.{◌≡◌, ◌++◌, drop, slice_index_or, None}
+use Rattle.kpn_answers.specs.ListText.{lines_from}
+use Rattle.kpn_names.specs.Names.{name_at}
+use Rattle.kpn_stats_command.specs.StatsText.{number_cell, channel_heading, channel_row, process_heading, process_row, advice, advice_line}
+use Rattle.kpn_stats_command.proofs.stats_text.push_advice.Given as goal
+
+abbrev pub invariant-loop-c : goal.invariant-loop-c
+invariant-loop-c l =
+    l.text.items
+    ++ lines_from (λ c. advice_line (name_at l.document.names.channels c) (slice_index_or l.audit.caps c None)) l.c
+    (drop l.c l.figures)
+    ≡ l.initial.text.items ++ advice l.document l.audit l.figures
