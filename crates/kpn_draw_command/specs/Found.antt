@@ -1,5 +1,5 @@
 -- What an audit shows of each process and each channel of a network.
-use Rattle.std.specs.Prelude.{◌≡◌, ℕ, ◌<◌, ◌-◌, nat_lt, if◌then◌else◌, List, [], length, Option, Some, None, slice_index_or, ⊤}
+use Rattle.std.specs.Prelude.{◌≡◌, ℕ, ◌<◌, ◌-◌, nat_lt, if◌then◌else◌, [], length, Option, Some, None, slice_index_or, ⊤}
 use Rattle.kpn_net.specs.Tables.{Tables, capacity, channel_at}
 use Rattle.kpn_net.specs.Waits.{wait_at}
 use Rattle.kpn_net.specs.declared.wait.Wait.{Wait}

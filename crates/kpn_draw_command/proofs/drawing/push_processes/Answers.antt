@@ -1,5 +1,5 @@
 -- One line more, in a state that is within the network.
-use Rattle.std.proofs.Common.{◌≡◌, ◌<◌, ◌++◌, length, option_map, sym, ap, ◌∙◌, subst, arith}
+use Rattle.std.proofs.Common.{◌<◌, ◌++◌, length, option_map, sym, ap, ◌∙◌, subst, arith}
 use Rattle.kpn_net.specs.Tables.{Tables}
 use Rattle.kpn_draw_command.specs.DrawText.{process_line}
 use Rattle.kpn_draw_command.specs.Found.{state_of, IsStateWithin}
