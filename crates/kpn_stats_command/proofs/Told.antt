@@ -1,7 +1,8 @@
 -- The figures of the events of a trace are those of the history that it tells: no figure looks at the capacity that a
 -- growth tells, and in nothing else do the two differ.
-use Rattle.std.proofs.Common.{◌≡◌, ℕ, ℤ, ◌+◌, ◌<◌, ◌≤◌, Bool, true, false, cond, List, [], ◌∷◌, ◌++◌, length, map, take, drop, count_by, refl, sym, ap, ap₂, ◌∙◌, subst}
+use Rattle.std.proofs.Common.{◌≡◌, ℕ, ℤ, ◌+◌, ◌<◌, ◌≤◌, Bool, true, false, cond, List, [], ◌∷◌, ◌++◌, length, map, take, drop, count_by, sum, refl, sym, ap, ap₂, ◌∙◌, subst}
 use Rattle.std.specs.List.{flat_map}
+use Rattle.std.proofs.lemmas.List.Sums.{sum-map}
 use Rattle.std.proofs.lemmas.List.{take-map, length-map}
 use Rattle.std.proofs.lemmas.List.FromFn.{length-map-range_with_len}
 use Rattle.std.specs.declared.alloc.Global.{Global}
@@ -27,7 +28,7 @@ use Rattle.kpn_stats_command.specs.Answers as answers
 
 -- ---- events without the capacities that growths tell
 
-plain : Event → Event
+abbrev plain : Event → Event
 plain (Grow p c n) = Grow p c 0
 plain event = event
 
@@ -56,14 +57,21 @@ flat_plain : {A : Type 0} (f : Event → List A) → ((p c n : ℕ) → f (Grow 
 flat_plain f none [] = refl
 flat_plain f none (e ∷ H) = ap₂ (λ xs ys. xs ++ ys) (blind f none e) (flat_plain f none H)
 
+map_plain : (f : Event → ℕ) → ((p c n : ℕ) → f (Grow p c 0) ≡ f (Grow p c n)) → (H : List Event)
+    → map f (map plain H) ≡ map f H
+map_plain f none [] = refl
+map_plain f none (e ∷ H) = ap₂ (λ n ns. n ∷ ns) (blind f none e) (map_plain f none H)
+
 count_plain : (f : Event → Bool) → ((p c n : ℕ) → f (Grow p c 0) ≡ f (Grow p c n)) → (H : List Event)
     → count_by f (map plain H) ≡ count_by f H
-count_plain f none [] = refl
-count_plain f none (e ∷ H) = ap₂ (λ b n. cond b 1 0 + n) (blind f none e) (count_plain f none H)
+count_plain f none H =
+    let mark = λ (e : Event). cond {A = ℕ} (f e) 1 0 in
+    sym (sum-map mark (map plain H)) ∙ ap sum (map_plain mark (λ p c n. ap (λ b. cond {A = ℕ} b 1 0) (none p c n)) H)
+    ∙ sum-map mark H
 
 -- ---- histories that are alike but for these capacities
 
-Alike : List Event → List Event → Type 0
+abbrev Alike : List Event → List Event → Type 0
 Alike H G = map plain H ≡ map plain G
 
 same_flat : {A : Type 0} (f : Event → List A) → ((p c n : ℕ) → f (Grow p c 0) ≡ f (Grow p c n)) → (H G : List Event)
