@@ -98,7 +98,8 @@ an item and its writer for room. Of each process: the items that it got and put,
 wait for an item and for room, and how it ended or what it waits for.
 
 With --tsv one of the tables is written for other programs: a line of names, then a line for each
-channel or process, with a tab between two entries. A trace that is not legal is answered as by `kpn audit`.
+channel or process, with a tab between two entries. A trace that is not legal is answered as by
+`kpn audit`.
 
 Statuses: 0 for tables, 1 for an illegal trace, for a refused file and for a device that fails, 2 for
 words that are not understood, 5 for a trace that would take more steps: then give --steps a larger
