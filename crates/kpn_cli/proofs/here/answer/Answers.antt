@@ -97,8 +97,8 @@ of_tables contents may_give file trace steps tables asked out written err told s
 pub returns-in-Stats : goal.returns-in-Stats
 returns-in-Stats g c =
     stats _ _ _ _ (subst (IsAsked (map string_bytes c.args.words.now)) c.in-Stats.is c.requires) refl refl
-    (of_tables g.O.Write.contents (g.S.Shelf.may_give c.args.shelf.now) _ _ _ c.tables_of.result _ c.args.out.now
-    c.stats_command.new.out c.args.err.now c.stats_command.new.err c.stats_command.result c.tables_of.ensures
+    (of_tables g.O.Write.contents (g.S.Shelf.may_give c.args.shelf.now) _ _ _ c.tables_of-tables.result _ c.args.out.now
+    c.stats_command.new.out c.args.err.now c.stats_command.new.err c.stats_command.result c.tables_of-tables.ensures
     c.stats_command.ensures)
 
 any_text : {A E : Type 0} (r : Result A E) → IfOk r (λ _. ⊤)
