@@ -1,9 +1,9 @@
 #!/usr/bin/env python3
 """Writes what crates/check_examples must write for the lines of its standard input below the heading `# The examples`,
 if there is one: each line, and what comes of it, computed by other programs than the proved one (rounds.py,
-histories.py, figures.py). What stands above that heading stays as it is. Two parts have lines that are written anew too: below the
-heading `# The examples run by workers` each run above it once more by 1, 2 and 16 workers, with an audit of its trace;
-below `# Changed histories` those of history_tables.py.
+histories.py, figures.py). What stands above that heading stays as it is. Two parts have lines that are written anew
+too: below the heading `# The examples run by workers` each run above it once more by 1, 2 and 16 workers, with an audit
+of its trace; below `# Changed histories` those of history_tables.py.
 
 Before that it looks whether the comments at the head of each of the examples, and README.md, say what really comes of
 the commands that they name, and whether each of these commands has a row. It is run by hand, after each change of an
