@@ -1,9 +1,9 @@
 #!/usr/bin/env python3
 """Writes what crates/check_examples must write for the lines of its standard input below the heading `# The examples`,
 if there is one: each line, and what comes of it, computed by other programs than the proved one (rounds.py,
-histories.py). What stands above that heading stays as it is. Two parts have lines that are written anew too: below the
-heading `# The examples run by workers` each run above it once more by 1, 2 and 16 workers, with an audit of its trace;
-below `# Changed histories` those of history_tables.py.
+histories.py, figures.py). What stands above that heading stays as it is. Two parts have lines that are written anew
+too: below the heading `# The examples run by workers` each run above it once more by 1, 2 and 16 workers, with an audit
+of its trace; below `# Changed histories` those of history_tables.py.
 
 Before that it looks whether the comments at the head of each of the examples, and README.md, say what really comes of
 the commands that they name, and whether each of these commands has a row. It is run by hand, after each change of an
@@ -12,8 +12,10 @@ example.
 What a run by workers writes is computed by a run on one thread: it is the same for any number of workers. Of the audit
 of its trace only those lines are compared that are the same.
 
-It knows the commands `check`, `print`, `rounds`, `run` and `audit`, and of the refusals those that the lines meet.
+It knows the commands `check`, `print`, `draw`, `rounds`, `run`, `audit` and `stats`, and of the refusals those that the
+lines meet.
 """
+import argparse
 import contextlib
 import itertools
 import pathlib
@@ -21,6 +23,7 @@ import shutil
 import sys
 import tempfile
 
+import figures
 import histories
 import history_tables
 import rounds
@@ -138,14 +141,42 @@ def histories_answer(words):
     return out + told, status
 
 
+def read_words_of_figures(words):
+    parser = argparse.ArgumentParser(description='kpn draw and kpn stats, computed by another program.')
+    parser.add_argument('command')
+    parser.add_argument('file')
+    parser.add_argument('history', nargs='?')
+    parser.add_argument('--steps', type=int, default=histories.MOST_STEPS)
+    parser.add_argument('--tsv', choices=('channels', 'processes'))
+    return parser.parse_args(words)
+
+
+def figures_answer(words):
+    """What `draw` and `stats` write, and the status: those of an audit, if the trace is not legal."""
+    found = read_words_of_figures(words)
+    description(found.file)
+    network = histories.Network(load(found.file))
+    if not found.history:
+        return figures.drawing(network), 0
+    trace = histories.read_trace(load(found.history).encode())
+    audit = histories.audit_text(network, trace, found.steps)
+    if not audit.startswith('legal'):
+        return audit, histories.status_of(audit)
+    if found.command == 'draw':
+        return figures.drawing(network, trace), 0
+    return figures.stats_text(network, trace, found.tsv), 0
+
+
 def answer(words):
     """What a command writes, and its status."""
     command, *rest = words
     try:
         if command in ('run', 'audit'):
             return histories_answer(words)
+        if command in ('draw', 'stats'):
+            return figures_answer(words)
         return {'check': check, 'print': print_text, 'rounds': rounds_text}[command](*rest), 0
-    except Refused as refused:
+    except (Refused, histories.BadText) as refused:
         return f'{refused}\n', 1
 
 

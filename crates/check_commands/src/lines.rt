@@ -123,9 +123,12 @@ fn tells_an_output_that_fails_at_any_call(rt: HostRuntime) -> Result<(), Fail> {
         "kpn alone sum",
         "kpn check n",
         "kpn print n",
+        "kpn draw n",
+        "kpn draw n t",
         "kpn rounds n 3",
         "kpn run n",
         "kpn audit n t",
+        "kpn stats n t",
         "kpn --help",
         "kpn check --help",
     ] {

@@ -74,7 +74,7 @@ const RUN: &str = "kpn run copy --source s=items --trace out";
 const AUDIT: &str = "kpn audit two trace";
 
 /// Command lines with the call that fails for a name: their statuses, what they tell, and whether a trace is stored.
-const ROWS: [(&str, Call, &str, u8, &str, bool); 13] = [
+const ROWS: [(&str, Call, &str, u8, &str, bool); 15] = [
     (RUN, Call::Load, "copy", 1, READ, false),
     (RUN, Call::Load, "items", 1, READ, false),
     (RUN, Call::Load, "trace", 0, "", true),
@@ -88,6 +88,8 @@ const ROWS: [(&str, Call, &str, u8, &str, bool); 13] = [
     (RUN, Call::IsSameFile, "trace", 0, "", true),
     (AUDIT, Call::Load, "two", 1, READ, false),
     (AUDIT, Call::Load, "trace", 1, READ, false),
+    ("kpn draw two trace", Call::Load, "trace", 1, READ, false),
+    ("kpn stats two trace", Call::Load, "trace", 1, READ, false),
 ];
 
 /// A shelf with two networks, items and a trace, of which one call fails for one name.

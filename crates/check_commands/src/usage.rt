@@ -8,7 +8,7 @@ use std::thread::Threads;
 use std::time::Clock;
 
 /// Words, and the status: 2 where they are not understood, 0 where they ask for help.
-const ROWS: [(&str, u8); 30] = [
+const ROWS: [(&str, u8); 38] = [
     ("kpn", 2),
     ("kpn alone", 2),
     ("kpn run two.kpn --take 0", 2),
@@ -22,6 +22,12 @@ const ROWS: [(&str, u8); 30] = [
     ("kpn audit two.kpn", 2),
     ("kpn audit two.kpn two.trace --steps 0", 2),
     ("kpn audit two.kpn two.trace --steps 1000000001", 2),
+    ("kpn stats two.kpn", 2),
+    ("kpn stats two.kpn two.trace --steps 0", 2),
+    ("kpn stats two.kpn two.trace --tsv", 2),
+    ("kpn stats two.kpn two.trace --tsv channel", 2),
+    ("kpn draw", 2),
+    ("kpn draw two.kpn two.trace copy.trace", 2),
     ("kpn check", 2),
     ("kpn print one.kpn two.kpn", 2),
     ("kpn rounds two.kpn", 2),
@@ -36,9 +42,11 @@ const ROWS: [(&str, u8); 30] = [
     ("kpn alone --help", 0),
     ("kpn check --help", 0),
     ("kpn print --help", 0),
+    ("kpn draw --help", 0),
     ("kpn rounds --help", 0),
     ("kpn run --help", 0),
     ("kpn audit --help", 0),
+    ("kpn stats --help", 0),
 ];
 
 /// Whether a command line has this status, and its answer stands where it belongs: help on the output, all else where

@@ -14,10 +14,16 @@ use Rattle.kpn_description_commands.specs.TextOf.{IsTextOf}
 use Rattle.kpn_description_commands.specs.Rounds.{IsRounds}
 use Rattle.kpn_run_command.specs.Run.{AnswersRun}
 use Rattle.kpn_audit_command.specs.Answers.{IsAudited, IsRefusalOfAudit}
+use Rattle.kpn_draw_command.specs.Answers.{IsDrawn, IsRefusalOfDrawing}
+use Rattle.kpn_stats_command.specs.Answers.{AreStats}
+use Rattle.kpn_stats_command.specs.declared.stats_text.StatsTables.{StatsTables}
+use Rattle.kpn_stats_command.specs.declared.stats_text.StatsTables.TheVariants as tables
 use Rattle.kpn_run_command.specs.declared.request.RunRequest.{RunRequest}
-use Rattle.kpn_words.specs.Asked.{AreUnclear, AsksForHelp, AsksForAlone, AsksForCheck, AsksForPrint, AsksForRounds}
-use Rattle.kpn_words.specs.Asked.{AsksForRun, AsksForAudit}
+use Rattle.kpn_words.specs.Asked.{AreUnclear, AsksForHelp, AsksForAlone, AsksForCheck, AsksForPrint, AsksForDraw}
+use Rattle.kpn_words.specs.Asked.{AsksForRounds, AsksForRun, AsksForAudit, AsksForStats}
 use Rattle.kpn_words.specs.declared.request.RunWords.{RunWords}
+use Rattle.kpn_words.specs.declared.request.Tsv.{Tsv}
+use Rattle.kpn_words.specs.declared.request.Tsv.TheVariants.{Channels, Processes}
 use Rattle.kpn_words.specs.declared.request.WordsFault.{WordsFault}
 use Rattle.kpn_words.specs.declared.request.WordsFault.TheVariants.{Usage, NoMemory as Unread}
 use Rattle.kpn_cli.specs.declared.here.Progress.{Progress}
@@ -41,6 +47,12 @@ abbrev pub AsksForRunWithin : (asked : List (List ℕ)) (file : List ℕ) (words
 AsksForRunWithin asked file words limits trace workers =
     AsksForRun asked file words limits.commits limits.take trace workers × (limits.quota ≡ 1000)
 
+-- the tables that are asked for: one for other programs, or those for people
+abbrev pub tables_of : Option Tsv → StatsTables
+tables_of None = tables.People
+tables_of (Some Channels) = tables.Channels
+tables_of (Some Processes) = tables.Processes
+
 -- The command that the words ask for was carried out, and it is no run by workers. Given are the words of the command
 -- line, the shelf, the input, the output and the place for faults, each as it was and as it is afterwards, and the
 -- status. No command changes the shelf but a run with a trace, which changes only the file of that; only `alone` reads
@@ -59,6 +71,10 @@ pub data RunsHere {S I O E : Type 0} (may_give : S → Loads) (may_alias : S →
       Answers contents (IsTextOf canonical_text (may_give shelf) file) (IsRefusalOfCommand (may_give shelf) file) out
       written err told status →
       RunsHere may_give may_alias remaining contents asked shelf kept input read out written err told status
+  draw : (file : List ℕ) (trace : Option (List ℕ)) → AsksForDraw asked file trace → kept ≡ shelf → read ≡ input →
+      Concludes contents (IsDrawn (may_give shelf) file trace 10000000)
+      (IsRefusalOfDrawing (may_give shelf) file trace) out written err told status →
+      RunsHere may_give may_alias remaining contents asked shelf kept input read out written err told status
   rounds : (file : List ℕ) (n : ℕ) (words : List (List ℕ)) → AsksForRounds asked file n words → kept ≡ shelf →
       read ≡ input →
       Answers contents (IsRounds (may_give shelf) file n words) (IsRefusalOfInputs (may_give shelf) file words) out
@@ -70,6 +86,11 @@ pub data RunsHere {S I O E : Type 0} (may_give : S → Loads) (may_alias : S →
       RunsHere may_give may_alias remaining contents asked shelf kept input read out written err told status
   audit : (file trace : List ℕ) (steps : ℕ) → AsksForAudit asked file trace steps → kept ≡ shelf → read ≡ input →
       Concludes contents (IsAudited (may_give shelf) file trace steps)
+      (IsRefusalOfAudit (may_give shelf) file trace) out written err told status →
+      RunsHere may_give may_alias remaining contents asked shelf kept input read out written err told status
+  stats : (file trace : List ℕ) (steps : ℕ) (tsv : Option Tsv) → AsksForStats asked file trace steps tsv →
+      kept ≡ shelf → read ≡ input →
+      Concludes contents (AreStats (may_give shelf) file trace steps (tables_of tsv))
       (IsRefusalOfAudit (may_give shelf) file trace) out written err told status →
       RunsHere may_give may_alias remaining contents asked shelf kept input read out written err told status
   clap : kept ≡ shelf → read ≡ input → IsTold contents asked out written err told status →

@@ -2,7 +2,7 @@
 ghost use Rattle.std.specs.Prelude.{◌≡◌, map};
 ghost use Rattle.std.specs.String.{string_bytes};
 ghost use Rattle.kpn_words.specs.Asked.{IsAsked};
-ghost use Rattle.kpn_cli.specs.Command.{ComesTo, run_of};
+ghost use Rattle.kpn_cli.specs.Command.{ComesTo, run_of, tables_of};
 
 use crate::told::{refuse, text_of};
 use kpn_alone_command::alone_command;
@@ -10,9 +10,12 @@ use kpn_answers::answer::give;
 use kpn_answers::shelf::Shelf;
 use kpn_audit_command::audit_command;
 use kpn_description_commands::{check_command, print_command, rounds_command};
+use kpn_draw_command::draw_command;
+use kpn_limits::USUAL_COUNT;
 use kpn_report::Limits;
 use kpn_run_command::{RunRequest, run_command};
-use kpn_words::{Request, RunWords, read_words};
+use kpn_stats_command::{StatsTables, stats_command};
+use kpn_words::{Request, RunWords, Tsv, read_words};
 use std::alloc::Global;
 use std::io::{Read, Write};
 
@@ -68,6 +71,9 @@ fn answer<'a, S: Shelf, I: Read, O: Write, E: Write>(
         Request::Alone(name) => { Progress::Ended(alone_command(alloc, name, input, out, err)) }
         Request::Check(file) => Progress::Ended(check_command(alloc, file, shelf, out, err)),
         Request::Print(file) => Progress::Ended(print_command(alloc, file, shelf, out, err)),
+        Request::Draw { file, trace } => {
+            Progress::Ended(draw_command(alloc, file, trace, USUAL_COUNT, shelf, out, err))
+        }
         Request::Rounds { file, n, sources } => {
             Progress::Ended(rounds_command(alloc, file, n, &sources, shelf, out, err))
         }
@@ -80,6 +86,26 @@ fn answer<'a, S: Shelf, I: Read, O: Write, E: Write>(
         Request::Audit { file, trace, steps } => {
             Progress::Ended(audit_command(alloc, file, trace, steps, shelf, out, err))
         }
+        Request::Stats {
+            file,
+            trace,
+            steps,
+            tsv,
+        } => {
+            let tables = tables_of(tsv);
+            Progress::Ended(stats_command(alloc, file, trace, steps, tables, shelf, out, err))
+        }
+    }
+}
+
+// The tables that are asked for: one for other programs, or those for people.
+fn tables_of(tsv: Option<Tsv>) -> StatsTables
+    ensures { result ≡ tables_of tsv }
+{
+    match tsv {
+        None => StatsTables::People,
+        Some(Tsv::Channels) => StatsTables::Channels,
+        Some(Tsv::Processes) => StatsTables::Processes,
     }
 }
 

@@ -1,6 +1,6 @@
 -- Words that name a command, but do not give it what it needs, ask for nothing.
 use Rattle.std.proofs.Common.{◌≡◌, ◌∙◌, ℕ, true, false, true≢false, List, [], refl, sym, ap, subst, inl, inr}
-use Rattle.std.proofs.Common.{Option, Some, None, codes}
+use Rattle.std.proofs.Common.{Option, Some, None, option_map, codes}
 use Rattle.std.specs.Prelude.{◌≢◌, unwrap_or}
 use Rattle.std.specs.Option.{is_some}
 use Rattle.std.specs.Str.{bytes_eq}
@@ -9,9 +9,10 @@ use Rattle.clap.specs.Faults.{fault_of}
 use Rattle.clap.specs.Walk.{Row}
 use Rattle.clap.specs.declared.error.kind.ErrorKind.TheVariants.{DisplayHelp, DisplayVersion}
 use Rattle.kpn_words.specs.declared.request.Request.{Request}
-use Rattle.kpn_words.specs.declared.request.Request.TheVariants.{Alone, Check, Print, Rounds, Run, RunByWorkers, Audit, Help}
+use Rattle.kpn_words.specs.declared.request.Request.TheVariants.{Alone, Check, Print, Draw, Rounds, Run, RunByWorkers}
+use Rattle.kpn_words.specs.declared.request.Request.TheVariants.{Audit, Stats, Help}
 use Rattle.kpn_words.specs.CommandLine.{command_line}
-use Rattle.kpn_words.specs.Asked.{AsksForHelp, AskForNothing, IsAsked, Names, text_for, number_for}
+use Rattle.kpn_words.specs.Asked.{AsksForHelp, AskForNothing, IsAsked, IsNoTable, Names, text_for, number_for, table_name}
 
 differ : (a b : List ℕ) → bytes_eq a a ≡ true → bytes_eq a b ≡ false → a ≡ b → ⊥
 differ a b same other e = true≢false (sym same ∙ (ap (bytes_eq a) e ∙ other))
@@ -36,6 +37,7 @@ abbrev Takes : (command : List ℕ) (given : List Row) → Request → Type 0
 Takes command given (Alone name) = (command ≡ codes "alone") × (text_for (codes "NAME") given ≡ Some name.now)
 Takes command given (Check file) = (command ≡ codes "check") × (text_for (codes "FILE") given ≡ Some file.now)
 Takes command given (Print file) = (command ≡ codes "print") × (text_for (codes "FILE") given ≡ Some file.now)
+Takes command given (Draw file trace) = (command ≡ codes "draw") × (text_for (codes "FILE") given ≡ Some file.now)
 Takes command given (Rounds file n sources) =
     (command ≡ codes "rounds") × (text_for (codes "FILE") given ≡ Some file.now)
     × (number_for 32 (codes "N") given ≡ Some n)
@@ -46,6 +48,10 @@ Takes command given (RunByWorkers run workers) =
 Takes command given (Audit file trace steps) =
     (command ≡ codes "audit") × (text_for (codes "FILE") given ≡ Some file.now)
     × (text_for (codes "TRACE") given ≡ Some trace.now)
+Takes command given (Stats file trace steps tsv) =
+    (command ≡ codes "stats") × (text_for (codes "FILE") given ≡ Some file.now)
+    × (text_for (codes "TRACE") given ≡ Some trace.now)
+    × (text_for (codes "TABLE") given ≡ option_map table_name tsv)
 Takes command given (Help text) = ⊥
 
 module _ (words : List (List ℕ)) (command : List ℕ) (given : List Row) (names : Names words command given) where
@@ -59,6 +65,8 @@ module _ (words : List (List ℕ)) (command : List ℕ) (given : List Row) (name
       let is = same _ _ asked.1 in (is.0, ap (text_for (codes "FILE")) is.1 ∙ asked.2)
   taken (Print file) asked =
       let is = same _ _ asked.1 in (is.0, ap (text_for (codes "FILE")) is.1 ∙ asked.2)
+  taken (Draw file trace) asked =
+      let is = same _ _ asked.1 in (is.0, ap (text_for (codes "FILE")) is.1 ∙ asked.2)
   taken (Rounds file n sources) asked =
       let is = same _ _ asked.1 in
       (is.0, ap (text_for (codes "FILE")) is.1 ∙ asked.2, ap (number_for 32 (codes "N")) is.1 ∙ asked.3)
@@ -69,21 +77,31 @@ module _ (words : List (List ℕ)) (command : List ℕ) (given : List Row) (name
   taken (Audit file trace steps) asked =
       let is = same _ _ asked.1 in
       (is.0, ap (text_for (codes "FILE")) is.1 ∙ asked.2, ap (text_for (codes "TRACE")) is.1 ∙ asked.3)
+  taken (Stats file trace steps tsv) asked =
+      let is = same _ _ asked.1 in (
+        is.0,
+        ap (text_for (codes "FILE")) is.1 ∙ asked.2,
+        ap (text_for (codes "TRACE")) is.1 ∙ asked.3,
+        ap (text_for (codes "TABLE")) is.1 ∙ asked.5,
+      )
   taken (Help text) asked = no_help words names.0 asked
 
   -- the command is none of those that there are
   abbrev IsOther : Type 0
   IsOther = (command ≢ codes "alone") × (command ≢ codes "check") × (command ≢ codes "print")
-      × (command ≢ codes "rounds") × (command ≢ codes "run") × (command ≢ codes "audit")
+      × (command ≢ codes "draw") × (command ≢ codes "rounds") × (command ≢ codes "run") × (command ≢ codes "audit")
+      × (command ≢ codes "stats")
 
   pub no_command : IsOther → AskForNothing words
   no_command other (Alone name) asked = other.0 (taken (Alone name) asked).0
   no_command other (Check file) asked = other.1 (taken (Check file) asked).0
   no_command other (Print file) asked = other.2 (taken (Print file) asked).0
-  no_command other (Rounds file n sources) asked = other.3 (taken (Rounds file n sources) asked).0
-  no_command other (Run run) asked = other.4 (taken (Run run) asked).0
-  no_command other (RunByWorkers run workers) asked = other.4 (taken (RunByWorkers run workers) asked).0
-  no_command other (Audit file trace steps) asked = other.5 (taken (Audit file trace steps) asked).0
+  no_command other (Draw file trace) asked = other.3 (taken (Draw file trace) asked).0
+  no_command other (Rounds file n sources) asked = other.4 (taken (Rounds file n sources) asked).0
+  no_command other (Run run) asked = other.5 (taken (Run run) asked).0
+  no_command other (RunByWorkers run workers) asked = other.5 (taken (RunByWorkers run workers) asked).0
+  no_command other (Audit file trace steps) asked = other.6 (taken (Audit file trace steps) asked).0
+  no_command other (Stats file trace steps tsv) asked = other.7 (taken (Stats file trace steps tsv) asked).0
   no_command other (Help text) asked = taken (Help text) asked
 
 module _ (words : List (List ℕ)) (given : List Row) (names : Names words (codes "rounds") given) where
@@ -97,6 +115,8 @@ module _ (words : List (List ℕ)) (given : List Row) (names : Names words (code
       differ (codes "rounds") (codes "check") refl refl (of_rounds (Check file) asked).0
   no_number none (Print file) asked =
       differ (codes "rounds") (codes "print") refl refl (of_rounds (Print file) asked).0
+  no_number none (Draw file trace) asked =
+      differ (codes "rounds") (codes "draw") refl refl (of_rounds (Draw file trace) asked).0
   no_number none (Rounds file n sources) asked =
       some_not_none _ _ none (of_rounds (Rounds file n sources) asked).2
   no_number none (Run run) asked =
@@ -105,4 +125,31 @@ module _ (words : List (List ℕ)) (given : List Row) (names : Names words (code
       differ (codes "rounds") (codes "run") refl refl (of_rounds (RunByWorkers run workers) asked).0
   no_number none (Audit file trace steps) asked =
       differ (codes "rounds") (codes "audit") refl refl (of_rounds (Audit file trace steps) asked).0
+  no_number none (Stats file trace steps tsv) asked =
+      differ (codes "rounds") (codes "stats") refl refl (of_rounds (Stats file trace steps tsv) asked).0
   no_number none (Help text) asked = of_rounds (Help text) asked
+
+module _ (words : List (List ℕ)) (given : List Row) (names : Names words (codes "stats") given) where
+  of_stats : (request : Request) → IsAsked words request → Takes (codes "stats") given request
+  of_stats request asked = taken words (codes "stats") given names request asked
+
+  pub no_table : IsNoTable (text_for (codes "TABLE") given) → AskForNothing words
+  no_table none (Alone name) asked =
+      differ (codes "stats") (codes "alone") refl refl (of_stats (Alone name) asked).0
+  no_table none (Check file) asked =
+      differ (codes "stats") (codes "check") refl refl (of_stats (Check file) asked).0
+  no_table none (Print file) asked =
+      differ (codes "stats") (codes "print") refl refl (of_stats (Print file) asked).0
+  no_table none (Draw file trace) asked =
+      differ (codes "stats") (codes "draw") refl refl (of_stats (Draw file trace) asked).0
+  no_table none (Rounds file n sources) asked =
+      differ (codes "stats") (codes "rounds") refl refl (of_stats (Rounds file n sources) asked).0
+  no_table none (Run run) asked =
+      differ (codes "stats") (codes "run") refl refl (of_stats (Run run) asked).0
+  no_table none (RunByWorkers run workers) asked =
+      differ (codes "stats") (codes "run") refl refl (of_stats (RunByWorkers run workers) asked).0
+  no_table none (Audit file trace steps) asked =
+      differ (codes "stats") (codes "audit") refl refl (of_stats (Audit file trace steps) asked).0
+  no_table none (Stats file trace steps tsv) asked =
+      none tsv (of_stats (Stats file trace steps tsv) asked).3
+  no_table none (Help text) asked = of_stats (Help text) asked

@@ -11,7 +11,10 @@ use Rattle.clap.specs.Walk.{Row, first_of, one_of, all_of}
 use Rattle.clap.specs.declared.error.kind.ErrorKind.{ErrorKind}
 use Rattle.clap.specs.declared.error.kind.ErrorKind.TheVariants.{DisplayHelp, DisplayVersion, OutOfMemory}
 use Rattle.kpn_words.specs.declared.request.Request.{Request}
-use Rattle.kpn_words.specs.declared.request.Request.TheVariants.{Alone, Check, Print, Rounds, Run, RunByWorkers, Audit, Help}
+use Rattle.kpn_words.specs.declared.request.Request.TheVariants.{Alone, Check, Print, Draw, Rounds, Run, RunByWorkers}
+use Rattle.kpn_words.specs.declared.request.Request.TheVariants.{Audit, Stats, Help}
+use Rattle.kpn_words.specs.declared.request.Tsv.{Tsv}
+use Rattle.kpn_words.specs.declared.request.Tsv.TheVariants.{Channels, Processes}
 use Rattle.kpn_words.specs.declared.request.WordsFault.{WordsFault}
 use Rattle.kpn_words.specs.declared.request.WordsFault.TheVariants.{Usage, NoMemory}
 use Rattle.kpn_words.specs.CommandLine.{command_line}
@@ -61,6 +64,11 @@ abbrev pub AsksForPrint : (words : List (List ℕ)) (file : List ℕ) → Type 0
 AsksForPrint words file =
     (given : List Row) × Names words (codes "print") given × (text_for (codes "FILE") given ≡ Some file)
 
+abbrev pub AsksForDraw : (words : List (List ℕ)) (file : List ℕ) (trace : Option (List ℕ)) → Type 0
+AsksForDraw words file trace =
+    (given : List Row) × Names words (codes "draw") given × (text_for (codes "FILE") given ≡ Some file)
+    × (text_for (codes "TRACE") given ≡ trace)
+
 abbrev pub AsksForRounds : (words : List (List ℕ)) (file : List ℕ) (n : ℕ) (sources : List (List ℕ)) → Type 0
 AsksForRounds words file n sources =
     (given : List Row) × Names words (codes "rounds") given × (text_for (codes "FILE") given ≡ Some file)
@@ -83,11 +91,25 @@ AsksForAudit words file trace steps =
     × (text_for (codes "TRACE") given ≡ Some trace)
     × (unwrap_or (number_for 64 (codes "STEPS") given) 10000000 ≡ steps)
 
+-- the word that names a table
+abbrev pub table_name : Tsv → List ℕ
+table_name Channels = codes "channels"
+table_name Processes = codes "processes"
+
+-- 10,000,000 steps without `--steps`; the tables for people without `--tsv`
+abbrev pub AsksForStats : (words : List (List ℕ)) (file trace : List ℕ) (steps : ℕ) (tsv : Option Tsv) → Type 0
+AsksForStats words file trace steps tsv =
+    (given : List Row) × Names words (codes "stats") given × (text_for (codes "FILE") given ≡ Some file)
+    × (text_for (codes "TRACE") given ≡ Some trace)
+    × (unwrap_or (number_for 64 (codes "STEPS") given) 10000000 ≡ steps)
+    × (text_for (codes "TABLE") given ≡ option_map table_name tsv)
+
 -- the request is what the words ask for
 abbrev pub IsAsked : (words : List (List ℕ)) → Request → Type 0
 IsAsked words (Alone name) = AsksForAlone words name.now
 IsAsked words (Check file) = AsksForCheck words file.now
 IsAsked words (Print file) = AsksForPrint words file.now
+IsAsked words (Draw file trace) = AsksForDraw words file.now (option_map (λ name. name.now) trace)
 IsAsked words (Rounds file n sources) =
     AsksForRounds words file.now n (map (λ source. source.now) sources.items)
 IsAsked words (Run run) =
@@ -97,6 +119,7 @@ IsAsked words (RunByWorkers run workers) =
     AsksForRun words run.file.now (map (λ source. source.now) run.sources.items) run.commits run.take
     (option_map (λ trace. trace.now) run.trace) (Some workers)
 IsAsked words (Audit file trace steps) = AsksForAudit words file.now trace.now steps
+IsAsked words (Stats file trace steps tsv) = AsksForStats words file.now trace.now steps tsv
 IsAsked words (Help text) = AsksForHelp words
 
 -- no request is what the words ask for
@@ -134,3 +157,7 @@ IsRefusalOfKind kind NoMemory = ⊤
 abbrev pub IsUsageIf : (cause : Type 0) → WordsFault → Type 0
 IsUsageIf cause (Usage text) = cause
 IsUsageIf cause NoMemory = ⊤
+
+-- this text names no table
+abbrev pub IsNoTable : Option (List ℕ) → Type 0
+IsNoTable text = (tsv : Option Tsv) → text ≡ option_map table_name tsv → ⊥

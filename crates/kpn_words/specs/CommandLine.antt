@@ -9,9 +9,13 @@ use Rattle.clap.specs.declared.builder.arg.Arg.{Arg}
 use Rattle.clap.specs.declared.builder.command.Command.{Command}
 use Rattle.clap.specs.declared.builder.value_parser.ValueParser.TheVariants as parser
 
+-- a word that may be missing
+abbrev pub optional_word : (id : List ℕ) → Rule
+optional_word id = record (new_rule id) { action = Some Set }
+
 -- a word that has to be there
 abbrev pub word : (id : List ℕ) → Rule
-word id = record (new_rule id) { required = true; action = Some Set }
+word id = record (optional_word id) { required = true }
 
 -- an option with a value, which may stand once
 abbrev pub option : (id long : List ℕ) → Rule
@@ -52,6 +56,9 @@ trace_option = option (codes "TRACE") (codes "trace")
 abbrev pub steps_option : Rule
 steps_option = count (codes "STEPS") (codes "steps")
 
+abbrev pub table_option : Rule
+table_option = option (codes "TABLE") (codes "tsv")
+
 -- a command with these words and options
 abbrev pub command : (name : List ℕ) → List Rule → App
 command name rules = on_top (λ shape. record shape { rules = rules }) (new_app name)
@@ -65,6 +72,9 @@ check_words = command (codes "check") (file_word ∷ [])
 abbrev pub print_words : App
 print_words = command (codes "print") (file_word ∷ [])
 
+abbrev pub draw_words : App
+draw_words = command (codes "draw") (file_word ∷ optional_word (codes "TRACE") ∷ [])
+
 abbrev pub rounds_words : App
 rounds_words = command (codes "rounds") (file_word ∷ rounds_word ∷ source_option ∷ [])
 
@@ -76,6 +86,9 @@ run_words =
 abbrev pub audit_words : App
 audit_words = command (codes "audit") (file_word ∷ trace_word ∷ steps_option ∷ [])
 
+abbrev pub stats_words : App
+stats_words = command (codes "stats") (file_word ∷ trace_word ∷ steps_option ∷ table_option ∷ [])
+
 -- the program, which has a version and one command on each line
 abbrev pub command_line : App
 command_line = record {
@@ -85,8 +98,8 @@ command_line = record {
     subcommand_required = true;
     arg_required_else_help = true;
   };
-  subs = alone_words.top ∷ check_words.top ∷ print_words.top ∷ rounds_words.top ∷ run_words.top ∷ audit_words.top
-      ∷ [];
+  subs = alone_words.top ∷ check_words.top ∷ print_words.top ∷ draw_words.top ∷ rounds_words.top ∷ run_words.top
+      ∷ audit_words.top ∷ stats_words.top ∷ [];
 }
 
 -- ---- scaffolding: what the code describes to `clap`

@@ -1,14 +1,15 @@
 //! The command line that the program understands, as it is described to `clap`.
 ghost use Rattle.std.specs.Prelude.{IfOk};
 ghost use Rattle.clap.specs.Words.{new_app};
-ghost use Rattle.kpn_words.specs.CommandLine.{IsArg, IsCommand, command_line, word, option, count};
-ghost use Rattle.kpn_words.specs.CommandLine.{alone_words, check_words, print_words, rounds_words};
-ghost use Rattle.kpn_words.specs.CommandLine.{run_words, audit_words, file_word};
-ghost use Rattle.kpn_words.specs.CommandLine.{rounds_word, source_option, workers_option};
-ghost use Rattle.kpn_words.specs.CommandLine.{run_inputs, bare_command_line};
+ghost use Rattle.kpn_words.specs.CommandLine.{IsArg, IsCommand, command_line, optional_word, word, option, count};
+ghost use Rattle.kpn_words.specs.CommandLine.{alone_words, check_words, print_words, draw_words, rounds_words};
+ghost use Rattle.kpn_words.specs.CommandLine.{run_words, audit_words, stats_words, file_word};
+ghost use Rattle.kpn_words.specs.CommandLine.{rounds_word, source_option, workers_option, steps_option};
+ghost use Rattle.kpn_words.specs.CommandLine.{trace_word, run_inputs, bare_command_line};
 
 use crate::help::{
-    ALONE_HELP, AUDIT_HELP, CHECK_HELP, PRINT_HELP, ROUNDS_HELP, RUN_HELP, STATUSES,
+    ALONE_HELP, AUDIT_HELP, CHECK_HELP, DRAW_HELP, PRINT_HELP, ROUNDS_HELP, RUN_HELP, STATS_HELP,
+    STATUSES,
 };
 use clap::builder::ValueParser;
 use clap::{Arg, ArgAction, Command};
@@ -37,6 +38,8 @@ pub(crate) const TRACE: &str = "TRACE";
 
 pub(crate) const STEPS: &str = "STEPS";
 
+pub(crate) const TABLE: &str = "TABLE";
+
 // The commands and their words.
 pub(crate) fn program<'a>(alloc: Global) -> Result<Command<'a>, AllocError>
     ensures { IfOk result (IsCommand command_line) }
@@ -44,9 +47,11 @@ pub(crate) fn program<'a>(alloc: Global) -> Result<Command<'a>, AllocError>
     let program = bare_program(alloc).subcommand(alone_words(alloc)?)?;
     let program = program.subcommand(check_words(alloc)?)?;
     let program = program.subcommand(print_words(alloc)?)?;
+    let program = program.subcommand(draw_words(alloc)?)?;
     let program = program.subcommand(rounds_words(alloc)?)?;
     let program = program.subcommand(run_words(alloc)?)?;
-    program.subcommand(audit_words(alloc)?)
+    let program = program.subcommand(audit_words(alloc)?)?;
+    program.subcommand(stats_words(alloc)?)
 }
 
 // The program without its commands.
@@ -98,6 +103,17 @@ fn print_words<'a>(alloc: Global) -> Result<Command<'a>, AllocError>
     command(alloc, "print", about, PRINT_HELP).arg(file_word(alloc))
 }
 
+// The words of `kpn draw`.
+fn draw_words<'a>(alloc: Global) -> Result<Command<'a>, AllocError>
+    ensures { IfOk result (IsCommand draw_words) }
+{
+    let about = "Draws a network, alone or after the run of a trace";
+    let trace = "The file of a trace; without it the network is drawn before any run";
+    command(alloc, "draw", about, DRAW_HELP)
+        .arg(file_word(alloc))?
+        .arg(optional_word(alloc, TRACE, trace))
+}
+
 // The words of `kpn rounds`.
 fn rounds_words<'a>(alloc: Global) -> Result<Command<'a>, AllocError>
     ensures { IfOk result (IsCommand rounds_words) }
@@ -139,12 +155,23 @@ fn audit_words<'a>(alloc: Global) -> Result<Command<'a>, AllocError>
     ensures { IfOk result (IsCommand audit_words) }
 {
     let about = "Checks a trace against the network of a description";
-    let steps =
-        "The most steps of a process before an event: 1 to 1000000000, and 10000000 without it";
     command(alloc, "audit", about, AUDIT_HELP)
         .arg(file_word(alloc))?
-        .arg(word(alloc, TRACE, "The file of the trace"))?
-        .arg(count(alloc, STEPS, "steps", "N", steps))
+        .arg(trace_word(alloc))?
+        .arg(steps_word(alloc))
+}
+
+// The words of `kpn stats`.
+fn stats_words<'a>(alloc: Global) -> Result<Command<'a>, AllocError>
+    ensures { IfOk result (IsCommand stats_words) }
+{
+    let about = "Counts what a run did on each channel and in each process, from its trace";
+    let table = "Writes one table for other programs: channels or processes";
+    command(alloc, "stats", about, STATS_HELP)
+        .arg(file_word(alloc))?
+        .arg(trace_word(alloc))?
+        .arg(steps_word(alloc))?
+        .arg(option(alloc, TABLE, "tsv", "TABLE", table))
 }
 
 // The word for the number of rounds.
@@ -181,14 +208,34 @@ fn file_word<'a>(alloc: Global) -> Arg<'a>
     word(alloc, FILE, "The file of the description")
 }
 
+// The word for the file of a trace.
+fn trace_word<'a>(alloc: Global) -> Arg<'a>
+    ensures { IsArg trace_word result }
+{
+    word(alloc, TRACE, "The file of the trace")
+}
+
+// The `--steps` option.
+fn steps_word<'a>(alloc: Global) -> Arg<'a>
+    ensures { IsArg steps_option result }
+{
+    let steps =
+        "The most steps of a process before an event: 1 to 1000000000, and 10000000 without it";
+    count(alloc, STEPS, "steps", "N", steps)
+}
+
 // A word that has to be there.
 fn word<'a>(alloc: Global, id: &'static str, help: &'static str) -> Arg<'a>
     ensures { IsArg (word id.entry.now) result }
 {
-    Arg::new(alloc, id)
-        .help(help)
-        .required(true)
-        .action(ArgAction::Set)
+    optional_word(alloc, id, help).required(true)
+}
+
+// A word that may be missing.
+fn optional_word<'a>(alloc: Global, id: &'static str, help: &'static str) -> Arg<'a>
+    ensures { IsArg (optional_word id.entry.now) result }
+{
+    Arg::new(alloc, id).help(help).action(ArgAction::Set)
 }
 
 // An option with a value, which is called so in help.

@@ -3,9 +3,9 @@
 // Below the commands.
 pub(crate) const STATUSES: &str = "\
 Statuses: 0 for success, 1 for a refused input or a device that fails, 2 for words that are not
-understood, 6 for want of memory; run and audit have more. A refused input is told in one line on
-standard error; words that are not understood are told with how they are used. Nothing is then on
-standard output.";
+understood, 6 for want of memory; draw, run, audit and stats have more. A refused input is told in one
+line on standard error; words that are not understood are told with how they are used. Nothing is then
+on standard output.";
 
 pub(crate) const ALONE_HELP: &str = "\
 The items stand on lines: an optional `-` and 1 to 19 digits each. What the process puts goes to
@@ -27,6 +27,19 @@ without comments. The same network is always written in the same way, and what i
 read again.
 
 Statuses: 0 for success, 1 for a refused file, 6 for want of memory.";
+
+pub(crate) const DRAW_HELP: &str = "\
+Writes a directed graph in the language of Graphviz: `kpn draw FILE | dot -Tsvg` makes a picture. A
+box is a process, with the name of its instance and of its program. An arrow is a channel, from its
+writer to its reader, with its name and capacity. An ellipse is the outside at a source or a sink.
+
+With a trace that `kpn run --trace` has stored, the drawing tells what stands after its events: how
+many items were put on each channel and how many of them are unread, to which capacity a channel has
+grown, which processes wait, on which channel, and which have ended, and how. A trace that is not
+legal is answered as by `kpn audit`, with at most 10000000 steps of a process before an event.
+
+Statuses: 0 for a drawing, 1 for an illegal trace, for a refused file and for a device that fails, 2
+for words that are not understood, 5 for a trace that would take more steps, 6 for want of memory.";
 
 pub(crate) const ROUNDS_HELP: &str = "\
 Round 0 is the given lists on the sources and nothing elsewhere. In each further round every process
@@ -74,3 +87,20 @@ its process made too many steps: then give --steps a larger number.
 
 Statuses: 0 for legal, 1 for illegal and for a refused file, 2 for words that are not understood, 5
 for budget, 6 for want of memory.";
+
+pub(crate) const STATS_HELP: &str = "\
+Counts the events of a trace that `kpn run --trace` has stored. Writes a table of the channels, a table
+of the processes, and what they say of the capacities.
+
+Of each channel: the items that were put and read, those that are left unread, the most that lay
+unread, the capacity at first and at last, how often it grew, and how often its reader came to wait for
+an item and its writer for room. Of each process: the items that it got and put, how often it came to
+wait for an item and for room, and how it ended or what it waits for.
+
+With --tsv one of the tables is written for other programs: a line of names, then a line for each
+channel or process, with a tab between two entries. A trace that is not legal is answered as by
+`kpn audit`.
+
+Statuses: 0 for tables, 1 for an illegal trace, for a refused file and for a device that fails, 2 for
+words that are not understood, 5 for a trace that would take more steps: then give --steps a larger
+number; 6 for want of memory.";

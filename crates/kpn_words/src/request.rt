@@ -12,6 +12,11 @@ pub enum Request<'a> {
     Check(&'a str),
     /// `print FILE`.
     Print(&'a str),
+    /// `draw FILE` or `draw FILE TRACE`.
+    Draw {
+        file: &'a str,
+        trace: Option<&'a str>,
+    },
     /// `rounds FILE N`, with the words behind its `--source` options.
     Rounds {
         file: &'a str,
@@ -28,8 +33,24 @@ pub enum Request<'a> {
         trace: &'a str,
         steps: u64,
     },
+    /// `stats FILE TRACE`, with the most steps before an event, and the one table for other programs.
+    Stats {
+        file: &'a str,
+        trace: &'a str,
+        steps: u64,
+        tsv: Option<Tsv>,
+    },
     /// `--help`, `help` or `--version`, with the text that answers it.
     Help(Error),
+}
+
+/// A table that `kpn stats` writes for other programs.
+#[derive(Clone, Copy)]
+pub enum Tsv {
+    /// The figures of the channels.
+    Channels,
+    /// The figures of the processes.
+    Processes,
 }
 
 /// What `kpn run` is given, but for its workers.

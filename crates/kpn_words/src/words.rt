@@ -1,17 +1,17 @@
 //! The words of a command line, read by `clap`.
-ghost use Rattle.std.specs.Prelude.{◌≡◌, ℕ, List, [], None, Some, IfOk, MatchResult, map, codes};
+ghost use Rattle.std.specs.Prelude.{◌≡◌, ℕ, List, [], None, Some, IfOk, MatchResult, map, option_map, codes};
 ghost use Rattle.std.specs.String.{string_bytes};
 ghost use Rattle.clap.specs.Words.{kind_of, fault_of, found_of, rows_of, subcommand_of};
 ghost use Rattle.clap.specs.Words.{subcommand_rows_of};
 ghost use Rattle.kpn_words.specs.CommandLine.{command_line};
 ghost use Rattle.kpn_words.specs.Asked.{IsAsked, IsRefused, IsHelpOfKind, IsRefusalOfKind};
-ghost use Rattle.kpn_words.specs.Asked.{IsUsageIf, Names};
+ghost use Rattle.kpn_words.specs.Asked.{IsUsageIf, IsNoTable, Names, table_name};
 ghost use Rattle.kpn_words.specs.Asked.{text_for, texts_for};
 
 use crate::command_line::{
-    FILE, MAX_COMMITS, NAME, ROUNDS, SOURCE, STEPS, TAKE, TRACE, WORKERS, program,
+    FILE, MAX_COMMITS, NAME, ROUNDS, SOURCE, STEPS, TABLE, TAKE, TRACE, WORKERS, program,
 };
-use crate::request::{Request, RunWords, WordsFault};
+use crate::request::{Request, RunWords, Tsv, WordsFault};
 use clap::error::ErrorKind;
 use clap::{ArgMatches, Command, Error};
 use kpn_limits::USUAL_COUNT;
@@ -69,9 +69,11 @@ fn command_request<'a>(
         "alone" => Ok(Request::Alone(required(program, given, NAME)?)),
         "check" => Ok(Request::Check(required(program, given, FILE)?)),
         "print" => Ok(Request::Print(required(program, given, FILE)?)),
+        "draw" => draw_request(program, given),
         "rounds" => rounds_request(alloc, program, given),
         "run" => run_request(alloc, program, given),
         "audit" => audit_request(program, given),
+        "stats" => stats_request(program, given),
         _ => Err(without_command(program)),
     }
 }
@@ -98,6 +100,19 @@ fn required<'a>(
         Some(word) => Ok(word),
         None => Err(WordsFault::Usage(program.error(ErrorKind::MissingRequiredArgument, id)?)),
     }
+}
+
+// What `kpn draw` is asked for.
+fn draw_request<'a>(
+    program: &mut Command<'a>,
+    draw: &ArgMatches<'a>,
+) -> Result<Request<'a>, WordsFault>
+    ensures { (words : List (List ℕ)) → Names words (codes "draw") (rows_of (found_of draw.now))
+        → MatchResult result (IsAsked words) (IsRefused words) }
+{
+    let file = required(program, draw, FILE)?;
+    let trace = draw.get_str(TRACE);
+    Ok(Request::Draw { file, trace })
 }
 
 // What `kpn rounds` is asked for.
@@ -157,6 +172,49 @@ fn audit_request<'a>(
         trace: required(program, audit, TRACE)?,
         steps: audit.get_one::<u64>(STEPS).unwrap_or(USUAL_COUNT),
     })
+}
+
+// What `kpn stats` is asked for.
+fn stats_request<'a>(
+    program: &mut Command<'a>,
+    stats: &ArgMatches<'a>,
+) -> Result<Request<'a>, WordsFault>
+    ensures { (words : List (List ℕ)) → Names words (codes "stats") (rows_of (found_of stats.now))
+        → MatchResult result (IsAsked words) (IsRefused words) }
+{
+    Ok(Request::Stats {
+        file: required(program, stats, FILE)?,
+        trace: required(program, stats, TRACE)?,
+        steps: stats.get_one::<u64>(STEPS).unwrap_or(USUAL_COUNT),
+        tsv: table_of(program, stats)?,
+    })
+}
+
+// The table for other programs that is asked for, if any.
+fn table_of<'a>(
+    program: &mut Command<'a>,
+    stats: &ArgMatches<'a>,
+) -> Result<Option<Tsv>, WordsFault>
+    ensures { MatchResult result
+        (λ tsv. text_for (codes "TABLE") (rows_of (found_of stats.now)) ≡ option_map table_name tsv)
+        (IsUsageIf (IsNoTable (text_for (codes "TABLE") (rows_of (found_of stats.now))))) }
+{
+    let Some(table) = stats.get_str(TABLE) else {
+        return Ok(None);
+    };
+    match table {
+        "channels" => Ok(Some(Tsv::Channels)),
+        "processes" => Ok(Some(Tsv::Processes)),
+        _ => Err(no_table(program)),
+    }
+}
+
+// Why words that name no table are not carried out.
+fn no_table(program: &mut Command<'_>) -> WordsFault {
+    match program.error(ErrorKind::InvalidValue, "--tsv takes channels or processes") {
+        Ok(error) => WordsFault::Usage(error),
+        Err(_) => WordsFault::NoMemory,
+    }
 }
 
 // The words behind the `--source` options.

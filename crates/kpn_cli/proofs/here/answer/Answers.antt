@@ -8,8 +8,14 @@ use Rattle.kpn_words.specs.declared.request.RunWords.{RunWords}
 use Rattle.kpn_run_command.specs.declared.request.RunRequest.{RunRequest}
 use Rattle.kpn_answers.specs.declared.refusal.Refusal.{Refusal}
 use Rattle.kpn_answers.specs.declared.refusal.Refusal.TheVariants.{NoMemory}
+use Rattle.kpn_answers.specs.Answer.{Concludes}
+use Rattle.kpn_answers.specs.Shelf.{Loads}
 use Rattle.kpn_answers.proofs.Answers.{answers_given}
-use Rattle.kpn_cli.specs.Command.{alone, check, print, rounds, run, audit, clap, help, AsksForRunWithin, run_of}
+use Rattle.kpn_audit_command.specs.Answers.{IsRefusalOfAudit}
+use Rattle.kpn_stats_command.specs.declared.stats_text.StatsTables.{StatsTables}
+use Rattle.kpn_stats_command.specs.Answers.{AreStats}
+use Rattle.kpn_cli.specs.Command.{alone, check, print, draw, rounds, run, audit, stats, clap, help}
+use Rattle.kpn_cli.specs.Command.{AsksForRunWithin, run_of}
 use Rattle.kpn_cli.proofs.here.answer.Goals as goal
 
 pub returns-in-Alone : goal.returns-in-Alone
@@ -26,6 +32,11 @@ pub returns-in-Print : goal.returns-in-Print
 returns-in-Print g c =
     print _ (subst (IsAsked (map string_bytes c.args.words.now)) c.in-Print.is c.requires) refl refl
     c.print_command.ensures
+
+pub returns-in-Draw : goal.returns-in-Draw
+returns-in-Draw g c =
+    draw _ _ (subst (IsAsked (map string_bytes c.args.words.now)) c.in-Draw.is c.requires) refl refl
+    c.draw_command.ensures
 
 -- the words behind `--source` are handed on as a slice
 sources_handed : (asked : List (List ℕ)) (file : List ℕ) (n : ℕ) (sources slice : List (Bor (List ℕ)))
@@ -71,6 +82,24 @@ pub returns-in-Audit : goal.returns-in-Audit
 returns-in-Audit g c =
     audit _ _ _ (subst (IsAsked (map string_bytes c.args.words.now)) c.in-Audit.is c.requires) refl refl
     c.audit_command.ensures
+
+-- the tables that are written are those that are asked for
+of_tables : {O E : Type 0} (contents : O → Option (List ℕ)) (may_give : Loads) (file trace : List ℕ) (steps : ℕ)
+    (tables asked : StatsTables) (out written : O) (err told : E) (status : ℕ) → tables ≡ asked
+    → Concludes contents (AreStats may_give file trace steps tables) (IsRefusalOfAudit may_give file trace) out written
+    err told status
+    → Concludes contents (AreStats may_give file trace steps asked) (IsRefusalOfAudit may_give file trace) out written
+    err told status
+of_tables contents may_give file trace steps tables asked out written err told status same concludes =
+    subst (λ (t : StatsTables). Concludes contents (AreStats may_give file trace steps t)
+    (IsRefusalOfAudit may_give file trace) out written err told status) same concludes
+
+pub returns-in-Stats : goal.returns-in-Stats
+returns-in-Stats g c =
+    stats _ _ _ _ (subst (IsAsked (map string_bytes c.args.words.now)) c.in-Stats.is c.requires) refl refl
+    (of_tables g.O.Write.contents (g.S.Shelf.may_give c.args.shelf.now) _ _ _ c.tables_of-tables.result _ c.args.out.now
+    c.stats_command.new.out c.args.err.now c.stats_command.new.err c.stats_command.result c.tables_of-tables.ensures
+    c.stats_command.ensures)
 
 any_text : {A E : Type 0} (r : Result A E) → IfOk r (λ _. ⊤)
 any_text (Ok text) = tt

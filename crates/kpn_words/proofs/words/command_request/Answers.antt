@@ -19,7 +19,9 @@ returns-in_default c = λ words names.
       c.in_default.not-alone,
       c.in_default.not-check,
       c.in_default.not-print,
+      c.in_default.not-draw,
       c.in_default.not-rounds,
       c.in_default.not-run,
       c.in_default.not-audit,
+      c.in_default.not-stats,
     ))

@@ -1,0 +1,119 @@
+"""What `kpn draw` and `kpn stats` write of a network and of a trace, computed by another program than the proved one:
+from what an audit keeps of channels and processes (histories.py), and from the events of the trace.
+"""
+import histories
+
+CHANNEL_HEADING = 'channel put read left most cap_first cap_last growths waits_empty waits_full'.split()
+PROCESS_HEADING = 'process gets puts waits_empty waits_full end'.split()
+HEAD = '''digraph network {
+  rankdir=LR;
+  node [fontname="sans-serif", shape=box];
+  edge [fontname="sans-serif", fontsize=11];
+'''
+
+
+def replay(network, trace):
+    """An audit behind the last event of a legal trace, and the most items that lay unread on each channel."""
+    audit = histories.Audit(network, histories.MOST_STEPS, trace.policy, trace.growth)
+    most = [0] * len(network.channels)
+    for event in trace.history:
+        audit.accept(audit.told(event) if trace.version == 1 else event)
+        most = [max(so_far, len(audit.unread(c))) for c, so_far in enumerate(most)]
+    return audit, most
+
+
+def standing(audit, p):
+    """How process p has ended, or what it waits for; nothing where it can go on."""
+    if audit.has_ended(p):
+        return audit.last_of[p][-1]
+    wait = audit.blocked(p)
+    if wait is None:
+        return ''
+    return f'waits {audit.network.channels[wait[1]]}' + (' full' if wait[0] == 'full' else '')
+
+
+# ---- the tables
+
+def count(history, word, place, number):
+    """How many events of this word have the number at this place."""
+    return sum(event[0] == word and event[place] == number for event in history)
+
+
+def channel_row(audit, history, most, c):
+    network = audit.network
+    put, read = len(audit.written[c]), audit.read_count[c]
+    capacities = ['-' if cap is None else cap for cap in (network.capacities[c], audit.capacities[c])]
+    events = [count(history, word, 2, c) for word in ('grow', 'wait-empty', 'wait-full')]
+    return [network.channels[c], put, read, put - read, most[c], *capacities, *events]
+
+
+def process_row(audit, history, p):
+    events = [count(history, word, 1, p) for word in ('get', 'put', 'wait-empty', 'wait-full')]
+    return [audit.network.instances[p], *events, standing(audit, p) or '-']
+
+
+def advice(audit, history, most, c):
+    if audit.capacities[c] is None:
+        return ''
+    name = audit.network.channels[c]
+    if count(history, 'wait-full', 2, c):
+        return f'{name}: more than {audit.capacities[c]}, since its writer waited for room\n'
+    return f'{name}: {max(most[c], 1)} would have been enough for these events\n'
+
+
+def aligned(rows):
+    """A table for people: names to the left, all else to the right."""
+    widths = [max(len(str(row[i])) for row in rows) for i in range(len(rows[0]))]
+    return ''.join('  '.join([row[0].ljust(widths[0]), *(str(cell).rjust(width) for cell, width in
+                                                        zip(row[1:], widths[1:]))]) + '\n' for row in rows)
+
+
+def tabbed(rows):
+    return ''.join('\t'.join(map(str, row)) + '\n' for row in rows)
+
+
+def stats_text(network, trace, tsv=None):
+    audit, most = replay(network, trace)
+    channels, processes = range(len(network.channels)), range(len(network.instances))
+    of_channels = [CHANNEL_HEADING, *(channel_row(audit, trace.history, most, c) for c in channels)]
+    of_processes = [PROCESS_HEADING, *(process_row(audit, trace.history, p) for p in processes)]
+    if tsv:
+        return tabbed(of_channels if tsv == 'channels' else of_processes)
+    said = ''.join(advice(audit, trace.history, most, c) for c in channels)
+    return f'{aligned(of_channels)}\n{aligned(of_processes)}\n{said}'
+
+
+# ---- the drawing
+
+def box(network, audit, p):
+    label, style = f'{network.instances[p]}: {network.given[p][0]}', ''
+    state = standing(audit, p) if audit else ''
+    if state:
+        colour = {'done': 'grey'}.get(state, 'yellow' if state.startswith('waits') else 'pink')
+        label, style = fr'{label}\n{state}', f', style=filled, fillcolor=light{colour}'
+    return f'  p{p} [label="{label}"{style}];\n'
+
+
+def outside(network, c):
+    shapes = {'source': 'shape=ellipse', 'sink': 'shape=ellipse, peripheries=2'}
+    kind = network.kinds[c]
+    return f'  c{c} [label="{kind}", {shapes[kind]}];\n' if kind in shapes else ''
+
+
+def edge(network, audit, c):
+    writer, reader = (f'c{c}' if p is None else f'p{p}' for p in (network.writers[c], network.readers[c]))
+    first, label, style = network.capacities[c], network.channels[c], ''
+    if first is not None:
+        label += f' ({first})'
+    if audit:
+        label += fr'\n{len(audit.written[c])} put, {len(audit.unread(c))} unread'
+        if audit.capacities[c] != first:
+            label, style = f'{label}, grown to {audit.capacities[c]}', ', style=bold'
+    return f'  {writer} -> {reader} [label="{label}"{style}];\n'
+
+
+def drawing(network, trace=None):
+    audit = replay(network, trace)[0] if trace else None
+    boxes = ''.join(box(network, audit, p) for p in range(len(network.instances)))
+    edges = ''.join(outside(network, c) + edge(network, audit, c) for c in range(len(network.channels)))
+    return HEAD + boxes + edges + '}\n'
