@@ -12,7 +12,8 @@ use Rattle.kpn_words.specs.declared.request.Request.{Request}
 use Rattle.kpn_words.specs.declared.request.Request.TheVariants.{Alone, Check, Print, Draw, Rounds, Run, RunByWorkers}
 use Rattle.kpn_words.specs.declared.request.Request.TheVariants.{Audit, Stats, Help}
 use Rattle.kpn_words.specs.CommandLine.{command_line}
-use Rattle.kpn_words.specs.Asked.{AsksForHelp, AskForNothing, IsAsked, IsNoTable, Names, text_for, number_for, table_name}
+use Rattle.kpn_words.specs.Asked.{AsksForHelp, AskForNothing, IsAsked, IsNoTable, Names}
+use Rattle.kpn_words.specs.Asked.{text_for, number_for, table_name}
 
 differ : (a b : List ℕ) → bytes_eq a a ≡ true → bytes_eq a b ≡ false → a ≡ b → ⊥
 differ a b same other e = true≢false (sym same ∙ (ap (bytes_eq a) e ∙ other))
