@@ -1,8 +1,7 @@
 //! Why a worker ends, and what is seen then.
 ghost use Rattle.std.specs.Prelude.{◌≡◌};
 
-use crate::networks::{spinning, two_readers};
-use crate::working::both_work;
+use crate::networks::spinning;
 use commit_gates::Always;
 use kpn_net::Network;
 use kpn_pool::{Gate, Go, Job, Opened, Shared, View, Why, work};
@@ -11,7 +10,6 @@ use std::marker::Brand;
 use std::sync::Wait;
 use std::sync::ledger::Blank;
 use std::test::Fail;
-use std::thread::Threads;
 use std::time::Clock;
 
 /// Why a lone worker ends, halted beforehand or not, and a snapshot then.
@@ -74,38 +72,5 @@ fn a_worker_tells_why_it_ends(rt: HostRuntime) -> Result<(), Fail> {
         )?;
         assert!(rt; why == Some(wanted) && is_ready(&view), "{wanted:?}");
     }
-    Ok(())
-}
-
-/// Why two workers of a network end, which work at once.
-fn both_end<J: Job + Send + Sync, R: Threads + Wait + Clock + Sync>(
-    rt: &R,
-    alloc: Global,
-    blank: Blank,
-    network: &Network,
-) -> Result<(Option<Why>, Option<Why>), AllocError>
-    requires ledger { (blank.name ≡ J.name) × (blank.parts ≡ J.parts) }
-    requires network { network.now ≡ J.network }
-    requires two { J.parts ≡ 2 }
-{
-    let opened: Opened<'_, J> = Shared::new(alloc, blank, network, 2, u64::MAX)?;
-    let Opened {
-        shared,
-        mut workers,
-        sources: _,
-        sinks: _,
-    } = opened;
-    let (Some(second), Some(first)) = (workers.pop(), workers.pop()) else {
-        return Ok((None, None));
-    };
-    let (first, second) = both_work(rt, &shared, &Always(Go::On), first, second);
-    Ok((first.why(), second.why()))
-}
-
-#[test]
-fn two_workers_settle(rt: HostRuntime) -> Result<(), Fail> {
-    let network = two_readers(rt.alloc())?;
-    let whys = both_end::<Brand, HostRuntime>(&rt, rt.alloc(), Blank::new(2), &network)?;
-    assert_eq!(rt; whys, (Some(Why::Settled), Some(Why::Settled)));
     Ok(())
 }

@@ -7,9 +7,9 @@ mod batching;
 #[cfg(test)]
 mod endings;
 #[cfg(test)]
-mod evaluating;
-#[cfg(test)]
 mod gates;
+#[cfg(test)]
+mod locking;
 #[cfg(test)]
 mod looking;
 #[cfg(test)]
@@ -22,8 +22,6 @@ mod outside;
 mod refusals;
 #[cfg(test)]
 mod resting;
-#[cfg(test)]
-mod stepping;
 #[cfg(test)]
 mod waking;
 #[cfg(test)]

@@ -1,7 +1,7 @@
 //! Two workers that are at work at once: a gate holds one of them until the other comes with another process.
 ghost use Rattle.std.specs.Prelude.{◌≡◌};
 
-use crate::networks::two_sevens;
+use crate::networks::{two_readers, two_sevens};
 use crate::working::both_work;
 use commit_gates::{Held, Holding, MOST_TURNS};
 use kpn_net::Network;
@@ -44,11 +44,13 @@ fn work_till_met<J: Job + Send + Sync, R: Threads + Wait + Clock + Sync>(
     rt: &R,
     alloc: Global,
     shared: &Shared<'_, J>,
-    held: Held,
     first: WorkerSeat<J>,
     second: WorkerSeat<J>,
 ) -> (WorkerSeat<J>, WorkerSeat<J>, bool) {
-    let holding = &Holding::new(held);
+    let holding = &Holding::new(Held {
+        process: None,
+        until: 1,
+    });
     let gate = Meeting {
         alloc,
         shared,
@@ -58,72 +60,54 @@ fn work_till_met<J: Job + Send + Sync, R: Threads + Wait + Clock + Sync>(
     (first, second, holding.have_met())
 }
 
-/// What came of two workers, which were allowed four commits.
-#[derive(Drop)]
-struct Met {
-    have_met: bool,
-    whys: (Option<Why>, Option<Why>),
-    /// The commits of the two seats, and those of the book.
-    commits: (u64, u64),
-}
+/// Whether two workers met, why they ended, and the commits of the two seats and of the book.
+type Met = (bool, (Option<Why>, Option<Why>), (u64, u64));
 
-impl Met {
-    /// Whether they met, and made four commits, two for each process.
-    fn is_whole(&self) -> bool {
-        self.have_met && self.whys == (Some(Why::Limit), Some(Why::Limit)) && self.commits == (4, 4)
-    }
-}
-
+/// What comes of two workers, which are allowed so many commits.
 fn meet<J: Job + Send + Sync, R: Threads + Wait + Clock + Sync>(
     rt: &R,
     alloc: Global,
     blank: Blank,
     network: &Network,
-    held: Held,
+    most: u64,
 ) -> Result<Option<Met>, AllocError>
     requires ledger { (blank.name ≡ J.name) × (blank.parts ≡ J.parts) }
     requires network { network.now ≡ J.network }
     requires two { J.parts ≡ 2 }
 {
-    let opened: Opened<'_, J> = Shared::new(alloc, blank, network, 2, 4)?;
+    let opened: Opened<'_, J> = Shared::new(alloc, blank, network, 2, most)?;
     let Opened {
         shared,
         mut workers,
-        sources: _,
-        sinks: _,
+        ..
     } = opened;
     let (Some(second), Some(first)) = (workers.pop(), workers.pop()) else {
         return Ok(None);
     };
-    let (first, second, have_met) = work_till_met(rt, alloc, &shared, held, first, second);
+    let (first, second, have_met) = work_till_met(rt, alloc, &shared, first, second);
     let whys = (first.why(), second.why());
     let sum = first.commits().saturating_add(second.commits());
     let book = gather(shared, vec![in alloc; first, second]?);
-    Ok(Some(Met {
-        have_met,
-        whys,
-        commits: (sum, book.commits()),
-    }))
+    Ok(Some((have_met, whys, (sum, book.commits()))))
 }
 
-/// Two workers at two processes that each write once and end.
-fn workers_meet<R: Threads + Wait + Clock + Sync>(
-    rt: &R,
-    alloc: Global,
-    held: Held,
-) -> Result<Option<Met>, Fail> {
-    let network = two_sevens(alloc)?;
-    Ok(meet::<Brand, R>(rt, alloc, Blank::new(2), &network, held)?)
-}
-
-/// Both are at work at once, with the lock free while the gate is asked.
+/// Both are at work at once, with the lock free while the gate is asked. Each of the two processes writes once and
+/// ends.
 #[test]
 fn refutes_one_worker_steps_everything(rt: HostRuntime) -> Result<(), Fail> {
-    let held = Held {
-        process: None,
-        until: 1,
-    };
-    let met = workers_meet(&rt, rt.alloc(), held)?;
-    assert!(rt; met.is_some_and(|met| met.is_whole()));
+    let network = two_sevens(rt.alloc())?;
+    let met = meet::<Brand, HostRuntime>(&rt, rt.alloc(), Blank::new(2), &network, 4)?;
+    let limit = Some(Why::Limit);
+    assert_eq!(rt; met, Some((true, (limit, limit), (4, 4))));
+    Ok(())
+}
+
+/// The same where each of the two processes waits for the other one.
+#[test]
+fn two_workers_settle(rt: HostRuntime) -> Result<(), Fail> {
+    let network = two_readers(rt.alloc())?;
+    let met = meet::<Brand, HostRuntime>(&rt, rt.alloc(), Blank::new(2), &network, 9)?;
+    let settled = Some(Why::Settled);
+    assert_eq!(rt; met, Some((true, (settled, settled), (2, 2))));
     Ok(())
 }

@@ -1,8 +1,7 @@
-//! A flag that a worker raises.
-use kpn_pool::{Gate, Go};
+//! A flag.
 use std::sync::atomic::{AtomicU64, Ordering};
 
-/// Is raised once by who comes to the gate, and never lowered.
+/// Is raised once, and never lowered.
 #[derive(Drop)]
 pub struct Flag {
     raised: AtomicU64,
@@ -21,13 +20,5 @@ impl Flag {
 
     pub fn is_raised(&self) -> bool {
         self.raised.load(Ordering::SeqCst) == 1
-    }
-}
-
-/// A worker that comes to it raises it, drops its steps and ends.
-impl Gate for Flag {
-    fn between(&self, _worker: usize, _process: usize) -> Go {
-        self.raise();
-        Go::Abandon
     }
 }

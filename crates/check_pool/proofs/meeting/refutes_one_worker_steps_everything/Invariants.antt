@@ -1,4 +1,4 @@
-use Rattle.check_pool.proofs.meeting.workers_meet.Given as goal
+use Rattle.check_pool.proofs.meeting.refutes_one_worker_steps_everything.Given as goal
 
 abbrev pub ghosts-meet-J-Job : goal.ghosts-meet-J-Job
 ghosts-meet-J-Job g a = record { network = a.network.now }
