@@ -20,7 +20,7 @@ const QUOTA: u32 = 100_000_000;
 /// No more commits are made: a snapshot takes the longer, the more items the journal has.
 const MOST_COMMITS: u64 = 200_000;
 
-/// So many snapshots are asked for now and then.
+/// So many snapshots are asked for, one after another.
 const LOOKS: u64 = 1_000;
 
 /// So many microseconds go by before each of these.
@@ -49,7 +49,7 @@ impl Gate for Door {
 enum Looks {
     /// Those that show a process that is held, before the worker has come to the door for the first time.
     Held,
-    /// Those that are not given, since the lock is taken. They are asked for now and then, so their part of all is that
+    /// Those that are not given, since the lock is taken. They are asked for with pauses, so their part of all is that
     /// of the time for which the worker has the lock.
     Taken,
 }
