@@ -1,4 +1,4 @@
--- Where the items of a list in chunks lie.
+-- Where the items of a list in chunks are.
 use Rattle.std.specs.Prelude.{◌≡◌, ℕ, zero, suc, ◌+◌, ◌-◌, ◌*◌, ◌/◌, ◌%◌, ◌<◌, ◌≤◌, ℤ, List, [], ◌∷◌, ◌++◌, length, take, drop, get_or, slice_get, Some, Vec, ◌^◌, refl}
 use Rattle.std.specs.List.{flat_map}
 use Rattle.std.proofs.Common.{arith, sym, ap, ◌∙◌, length-drop}
@@ -12,7 +12,7 @@ use Rattle.kpn_chan.specs.Ring.{IsLaidOut}
 use Rattle.circular_buffer.specs.Buffer.{Buffer}
 use Rattle.kpn_chan.specs.declared.chunks.TheConstants.{CHUNK}
 
--- the first item stays where others are put behind
+-- the first item stays if others are put behind it
 first_stays : (xs ys : List ℤ) → 0 < length xs → slice_get (xs ++ ys) 0 ≡ slice_get xs 0
 first_stays [] ys some = absurd omega (arith, some)
 first_stays (x ∷ xs) ys some = refl
@@ -21,7 +21,7 @@ first_stays (x ∷ xs) ys some = refl
 begins_with : (l piece rest : List ℤ) → l ≡ piece ++ rest → piece ≡ take (length piece) l
 begins_with l piece rest is = sym (ap (λ l. take (length piece) l) is ∙ take-append_seam piece rest)
 
--- how the item at a place is found, once it is known what lies from there on
+-- how the item at a place is found, if it is known what comes from some place on
 found_at : (l piece rest : List ℤ) (place o : ℕ) → o < length piece → drop place l ≡ drop o piece ++ rest
     → slice_get piece o ≡ slice_get l place
 found_at l piece rest place o within lies =
@@ -127,7 +127,7 @@ module _ {A : Type 0} where
       let piece = drop (place - length xs * CHUNK) ys in
       begins_with (drop place (all xs ++ ys)) piece [] (drop-last xs full place ys past ∙ sym (append-nil piece))
 
--- a list of the first items goes on with the first items of what lies from its end on
+-- a list of the first items, with the first items of what comes behind it, is again a list of the first items
 pub copied_more : (l xs piece : List ℤ) (m : ℕ) → xs ≡ take (length xs) l
     → piece ≡ take (length piece) (drop (length xs) l)
     → xs ++ take m piece ≡ take (length (xs ++ take m piece)) l
@@ -149,7 +149,7 @@ counted c is =
     let many = count_of c.full.items c.last.items is.full in
     record { full = is.full; count = omega (arith, many, is.few, is.last, c.last.ok) }
 
--- an item that the ring gives up is the next one of the journal
+-- an item that leaves the ring is the next one of the journal
 pub passed : {A : Type 0} (journal : Chunks A) (read : ℕ) (before after : Buffer ℤ) (item : ℤ)
     → IsLaidOut journal read (Some before) → slice_get before.items 0 ≡ Some item → after.items ≡ drop 1 before.items
     → IsLaidOut journal (read + 1) (Some after) × (read + 1 < 2 ^ 64)

@@ -1,6 +1,6 @@
--- A channel as contracts see it: a journal of every item that was put, of which the first ones were read. Whether the
--- next item is reserved stands apart from every change: only a put may end a reservation, and whether one comes about
--- is the storage's own business. So each change takes whether an item is reserved after it.
+-- A channel as contracts see it: a journal of every item that was put, of which the first ones were read. No change
+-- fixes whether the next item is reserved: only a put may end a reservation, and the storage decides whether one comes
+-- about. So each change takes, as an argument, whether an item is reserved after it.
 use Rattle.std.specs.Prelude.{ℕ, ◌+◌, ℤ, Bool, true, false, not, ◌&&◌, nat_le, if◌then◌else◌, List, [], ◌∷◌, ◌++◌, length, take, drop, Option, Some, None, slice_get, IsSomeAnd, ◌<◌, ◌≤◌}
 use Rattle.kpn_limits.specs.declared.TheConstants.{MAX_CAPACITY}
 
@@ -20,7 +20,7 @@ pub record ChannelState : Type 0 where
 abbrev pub already_read : ChannelState → List ℤ
 already_read c = take c.read c.journal
 
--- the items that wait for the reader, oldest first
+-- the unread items, oldest first
 abbrev pub unread : ChannelState → List ℤ
 unread c = drop c.read c.journal
 
@@ -33,11 +33,11 @@ fills count (Some capacity) = nat_le capacity count
 abbrev pub is_full : ChannelState → Bool
 is_full c = not c.is_retired && fills (length (unread c)) c.capacity
 
--- the item that a read gives: the oldest unread one, and none once the reader is gone
+-- the item that a read returns: the oldest unread one, and none once the reader is gone
 abbrev pub next_item : ChannelState → Option ℤ
 next_item c = if c.is_retired then None else slice_get (unread c) 0
 
--- a channel on which nothing happened yet
+-- a channel on which nothing has happened yet
 abbrev pub opened : Option ℕ → Bool → ChannelState
 opened capacity reserved =
     record { journal = []; read = 0; capacity = capacity; is_retired = false; is_reserved = reserved }
@@ -50,7 +50,7 @@ with_room c = record c { is_reserved = true }
 abbrev pub after_put : ℤ → Bool → ChannelState → ChannelState
 after_put item reserved c = record c { journal = c.journal ++ item ∷ []; is_reserved = reserved }
 
--- the channel after a read that gave this
+-- the channel after a read that returned this
 abbrev pub after_get : Option ℤ → Bool → ChannelState → ChannelState
 after_get None reserved c = record c { is_reserved = reserved }
 after_get (Some item) reserved c = record c { read = c.read + 1; is_reserved = reserved }
@@ -59,7 +59,7 @@ after_get (Some item) reserved c = record c { read = c.read + 1; is_reserved = r
 abbrev pub retired : Bool → ChannelState → ChannelState
 retired reserved c = record c { is_retired = true; is_reserved = reserved }
 
--- the channel has a capacity, which is below the greatest that there is
+-- the channel has a capacity, which is below the greatest possible one
 abbrev pub MayGrow : ChannelState → Type 0
 MayGrow c = IsSomeAnd c.capacity (λ capacity. capacity < MAX_CAPACITY)
 
@@ -71,7 +71,7 @@ one_more (Some capacity) = Some (capacity + 1)
 abbrev pub grown : Bool → ChannelState → ChannelState
 grown reserved c = record c { capacity = one_more c.capacity; is_reserved = reserved }
 
--- the channel has a capacity, which is below this one, and this one is not above the greatest that there is
+-- the channel has a capacity below this one, which is at most the greatest possible one
 abbrev pub MayGrowTo : (larger : ℕ) → ChannelState → Type 0
 MayGrowTo larger c = IsSomeAnd c.capacity (λ capacity. capacity < larger) × (larger ≤ MAX_CAPACITY)
 

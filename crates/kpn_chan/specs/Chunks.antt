@@ -1,4 +1,4 @@
--- A list of items that lies in chunks: some full ones, and a last one, which may be shorter.
+-- A list of items in chunks: some full ones, and a last one, which may be shorter.
 use Rattle.std.specs.Prelude.{◌≡◌, ◌≤◌, ◌<◌, ◌^◌, ℤ, Bool, nat_lt, List, ◌++◌, length, vec_len, vec_capacity, Vec}
 use Rattle.std.specs.List.{All, flat_map}
 use Rattle.kpn_chan.specs.declared.chunks.Chunks.{Chunks}
@@ -17,7 +17,7 @@ module _ {A : Type 0} where
   abbrev pub AreFull : List (Vec ℤ A) → Type 0
   AreFull chunks = All (λ v. length v.items ≡ CHUNK) chunks
 
-  -- what holds of the chunks of a channel: the last one never has more places than a full one
+  -- what holds of a channel's chunks: each but the last is full, and the last never has more places than a full one
   pub record IsChunks (c : Chunks A) : Type 0 where
     pub full : AreFull c.full.items
     pub few : vec_len c.full ≤ MAX_CHUNKS

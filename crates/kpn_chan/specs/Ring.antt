@@ -1,10 +1,10 @@
--- The ring of a channel: the items that wait for the reader, in places of which some are free.
+-- The ring of a channel: the unread items, in places of which some are free.
 use Rattle.std.specs.Prelude.{◌≡◌, ℕ, ◌≤◌, ℤ, Bool, true, nat_lt, length, drop, Option, Some, None, ⊤}
 use Rattle.circular_buffer.specs.Buffer.{Buffer}
 use Rattle.kpn_chan.specs.declared.chunks.Chunks.{Chunks}
 use Rattle.kpn_chan.specs.Chunks.{items_of, IsChunks}
 
--- one more item fits, as it does where there is no ring
+-- one more item fits, as it always does if there is no ring
 abbrev pub has_place : Option (Buffer ℤ) → Bool
 has_place None = true
 has_place (Some ring) = nat_lt (length ring.items) ring.capacity

@@ -1,5 +1,5 @@
-//! A channel: the journal of all items that were put, in chunks, and a ring of those that wait for the reader, so that
-//! a read looks into no chunk.
+//! A channel: the journal of all items that were put, in chunks, and a ring of the unread ones, so that a read looks
+//! into no chunk.
 ghost use Rattle.std.specs.Prelude.{◌≡◌, ◌<◌, ◌≤◌, ◌^◌, length, [], ◌↔◌, IsTrue, true, IsOk, IfOk, is_ok, if◌then◌else◌, slice_get, take, nat_lt};
 ghost use Rattle.kpn_chan.specs.Channel.{unread, is_full, next_item, opened, with_room, after_put, after_get, retired, MayGrow, grown, MayGrowTo, grown_to};
 
@@ -46,9 +46,9 @@ impl<A: Allocator + Copy> Channel<A> {
     /// The most places that a ring begins with, and that of a source has.
     const FIRST_PLACES: usize = 64;
 
-    /// An empty channel of this capacity; a source has none. The allocator is kept for its items.
+    /// An empty channel of this capacity; a source has none. It keeps the allocator for its items.
     ///
-    /// Whether its first item is reserved is not said. The error is that memory ran out.
+    /// The contract leaves open whether its first item is reserved. The error is that memory ran out.
     pub fn new(alloc: A, cap: Option<u32>) -> Result<Self, AllocError>
         ensures { IfOk result (λ channel. channel ≡ opened cap channel.is_reserved) }
     {
@@ -64,8 +64,8 @@ impl<A: Allocator + Copy> Channel<A> {
         })
     }
 
-    /// Makes room for one more item, so that the next `put` takes no memory, and a `grow` before it neither. If an item
-    /// is reserved already, it stays so and nothing is taken.
+    /// Makes room for one more item, so that neither the next `put` nor a `grow` before it takes memory. If an item is
+    /// reserved already, it stays reserved and the call takes nothing.
     ///
     /// The error is that memory ran out; the channel is then as before.
     #[inline(always)]
@@ -97,8 +97,8 @@ impl<A: Allocator + Copy> Channel<A> {
     /// Makes the capacity larger: it becomes `cap`, which is above it and at most `MAX_CAPACITY`. The ring gets a free
     /// place if it has none.
     ///
-    /// The error is that memory ran out; the channel is then as before. If an item is reserved, no memory is taken.
-    /// What was reserved stays so.
+    /// The error is that memory ran out; the channel is then as before. If an item is reserved, the call takes no
+    /// memory. A reserved item stays reserved.
     pub fn grow_to(&mut self, cap: u32) -> Result<(), AllocError>
         requires { MayGrowTo cap self.old }
         ensures after { self.new
@@ -125,7 +125,7 @@ impl<A: Allocator> Channel<A> {
         }
     }
 
-    /// Makes the capacity larger where an item is reserved, so that the ring has a free place: it takes no memory. The
+    /// Makes the capacity larger if an item is reserved. It takes no memory, since the ring then has a free place. The
     /// capacity becomes `cap`, which is above it and at most `MAX_CAPACITY`.
     pub fn grow_reserved_to(&mut self, cap: u32)
         requires capacity { MayGrowTo cap self.old }
@@ -137,7 +137,7 @@ impl<A: Allocator> Channel<A> {
 
     /// Puts an item at the end of the journal, in the room that is reserved. It takes no memory.
     ///
-    /// Whether a further item is reserved is not said.
+    /// The contract leaves open whether a further item is reserved.
     pub fn put(&mut self, item: i64)
         requires { IsTrue self.old.is_reserved }
         ensures { self.new ≡ after_put item self.new.is_reserved self.old }
@@ -148,10 +148,10 @@ impl<A: Allocator> Channel<A> {
         }
     }
 
-    /// The oldest unread item, which is then read. `None` where nothing is unread or the channel is
-    /// retired; the channel is then as before.
+    /// The oldest unread item, which is then read. If nothing is unread or the channel is retired, it returns `None`
+    /// and leaves the channel as it was.
     ///
-    /// What was reserved stays so. Whether an item is reserved that was not is not said.
+    /// A reserved item stays reserved. If none was, the contract leaves open whether one is now.
     pub fn get(&mut self) -> Option<i64>
         ensures item { result ≡ next_item self.old }
         ensures after { self.new ≡ after_get result self.new.is_reserved self.old }
@@ -165,7 +165,7 @@ impl<A: Allocator> Channel<A> {
         Some(item)
     }
 
-    /// The oldest unread item, which stays unread. `None` where nothing is unread or the channel is retired.
+    /// The oldest unread item, which stays unread. `None` if nothing is unread or the channel is retired.
     pub fn peek(&self) -> Option<i64>
         ensures { result ≡ next_item self.now }
     {
@@ -234,8 +234,8 @@ impl<A: Allocator> Channel<A> {
         self.journal.begins_with(items)
     }
 
-    /// Marks that the reader is gone: from now on nothing is read, and the channel is never full. The
-    /// journal, the read count and the capacity stay, and what was reserved stays so. The ring is given up.
+    /// Marks that the reader is gone: from now on nothing is read, and the channel is never full. The journal, the read
+    /// count and the capacity stay, and a reserved item stays reserved. The ring's memory is freed.
     pub fn retire(&mut self)
         ensures after { self.new ≡ retired self.new.is_reserved self.old }
         ensures reserved { IsTrue self.old.is_reserved → IsTrue self.new.is_reserved }
@@ -267,8 +267,8 @@ impl<A: Allocator> Channel<A> {
         Journal { chunks: journal }
     }
 
-    /// Does nothing. It tells a caller's proof what holds of every channel: no more items were read
-    /// than were put, and their number is one of the machine's.
+    /// Does nothing. A caller's proof learns from it what holds of every channel: no more items were read than were
+    /// put, and their number fits a `usize`.
     #[tactic(auto, using(crate::proofs::Places::counted))]
     pub fn known(&self)
         ensures read { self.now.read ≤ length self.now.journal }
@@ -278,7 +278,7 @@ impl<A: Allocator> Channel<A> {
     }
 }
 
-/// Makes a free place in a ring that has none, by giving it twice as many. The error is that memory ran out.
+/// Makes a free place in a ring that has none: the ring gets twice as many places. The error is that memory ran out.
 #[inline(always)]
 fn reserve_place<A: Allocator + Copy>(
     ring: &mut HeapCircularBuffer<i64, A>,

@@ -1,4 +1,4 @@
-//! A list that lies in chunks, so that an item stays where it is once its chunk is full: all that was put on a channel.
+//! A list in chunks, so that an item never moves once its chunk is full. It has all that was put on a channel.
 ghost use Rattle.std.specs.Prelude.{◌≡◌, ◌↔◌, Some, ◌<◌, ◌≤◌, [], length, take, drop, is_ok, IsOk, IfOk, IsTrue, slice_get, vec_len, vec_capacity};
 ghost use Rattle.kpn_chan.specs.Chunks.{items_of, has_room, IsChunks, IsCounted};
 
@@ -14,8 +14,8 @@ pub const MAX_CHUNKS: usize = 1 << 48;
 /// How many places the first chunk begins with.
 const FIRST_PLACES: usize = 4;
 
-/// The items in order: those of the full chunks, which are never moved, and those of the last one, which doubles until
-/// it is as long as a full one.
+/// The items in order: those of the full chunks, which never move, and those of the last one. That one doubles until it
+/// is as long as a full one.
 #[derive(Debug, Drop)]
 pub struct Chunks<A: Allocator> {
     pub(crate) full: Vec<Vec<i64, A>, A>,
@@ -23,7 +23,7 @@ pub struct Chunks<A: Allocator> {
 }
 
 impl<A: Allocator + Copy> Chunks<A> {
-    /// No items. It takes no memory. The allocator is kept for the chunks.
+    /// No items. It takes no memory. It keeps the allocator for the chunks.
     pub(crate) fn new(alloc: A) -> Self
         ensures items { items_of result ≡ [] }
         ensures chunks { IsChunks result }
@@ -49,7 +49,7 @@ impl<A: Allocator + Copy> Chunks<A> {
         self.extend()
     }
 
-    /// Makes room for one more item, where there is none.
+    /// Makes room for one more item if there is none.
     #[cold]
     #[inline(never)]
     fn extend(&mut self) -> Result<(), AllocError>
@@ -117,7 +117,7 @@ impl<A: Allocator> Chunks<A> {
         true
     }
 
-    /// Whether this item stands at a place.
+    /// Whether this item is at a place.
     fn has_at(&self, place: usize, item: &i64) -> bool
         requires { IsCounted self.now }
         ensures { IsTrue result ↔ (slice_get (items_of self.now) place ≡ Some item.now) }
@@ -125,7 +125,7 @@ impl<A: Allocator> Chunks<A> {
         self.at(place) == Some(*item)
     }
 
-    /// The items from a place on that lie side by side: at least one, unless the place is the end.
+    /// The items from a place on that are side by side in memory: at least one, unless the place is the end.
     pub(crate) fn piece_at(&self, place: usize) -> &[i64]
         requires chunks { IsCounted self.now }
         requires place { place ≤ length (items_of self.now) }

@@ -6,7 +6,7 @@ use crate::chunks::Chunks;
 use std::alloc::{AllocError, Allocator, Global};
 use std::marker::Model;
 
-/// A list of items, oldest first, in pieces of memory that are handed on and not copied. Contracts see the list.
+/// A list of items, oldest first, in pieces of memory that move to a new owner without a copy. Contracts see the list.
 #[derive(Debug, Drop)]
 pub struct Journal<A: Allocator = Global> {
     pub(crate) chunks: Chunks<A>,
@@ -59,7 +59,7 @@ impl<A: Allocator> Journal<A> {
         self.chunks.len() == items.len() && self.chunks.begins_with(items)
     }
 
-    /// The items from a place on that lie side by side in memory: at least one, unless the place is the end.
+    /// The items from a place on that are side by side in memory: at least one, unless the place is the end.
     pub fn piece_at(&self, place: usize) -> &[i64]
         requires { place ≤ length self.now }
         ensures items { result.now ≡ take (length result.now) (drop place self.now) }

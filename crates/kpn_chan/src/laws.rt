@@ -1,14 +1,14 @@
-//! What holds of every channel, as the contracts of functions with nothing to do: the layers above cite them.
+//! What holds of every channel, as contracts of functions that do nothing. The layers above cite them.
 ghost use Rattle.std.specs.Prelude.{◌≡◌, ℕ, ◌≤◌, ℤ, Bool, true, false, ◌⊎◌, ◌↔◌, IsTrue, [], ◌∷◌, ◌++◌, length, Some, None};
 ghost use Rattle.kpn_chan.specs.Channel.{ChannelState, already_read, unread, is_full, next_item, after_put, after_get, retired, grown};
 
-/// The journal is what was read followed by what waits to be read.
+/// The journal is what was read followed by what is unread.
 pub fn journal_is_read_then_unread()
     ensures { (c : ChannelState) → c.journal ≡ already_read c ++ unread c }
 {}
 
-/// Items are read in the order in which they were put: a put stands behind all that is unread, and a
-/// read takes the first of it and puts it behind what was read.
+/// Items are read in the order in which they were put: a put adds its item behind all that is unread. A read takes the
+/// first unread item, which then comes last of what was read.
 pub fn first_in_first_out()
     ensures put { (c : ChannelState) (item : ℤ) (reserved : Bool) → c.read ≤ length c.journal
         → unread (after_put item reserved c) ≡ unread c ++ item ∷ [] }
@@ -20,13 +20,13 @@ pub fn first_in_first_out()
         → already_read (after_get (Some item) reserved c) ≡ already_read c ++ item ∷ [] }
 {}
 
-/// A read gives nothing exactly where the reader is gone or nothing is unread.
+/// A read returns nothing if and only if the reader is gone or nothing is unread.
 pub fn gives_nothing()
     ensures { (c : ChannelState)
         → ((next_item c ≡ None) ↔ (IsTrue c.is_retired ⊎ (unread c ≡ []))) }
 {}
 
-/// A channel is full exactly where its reader is there and its unread items have reached its capacity.
+/// A channel is full if and only if its reader is there and its unread items have reached its capacity.
 pub fn full_at_capacity()
     ensures { (c : ChannelState) → (IsTrue (is_full c)
         ↔ ((c.is_retired ≡ false)

@@ -1,5 +1,5 @@
-//! Channels of a Kahn process network: each a queue of whole numbers from one writer to one reader that
-//! remembers all that was ever put.
+//! Channels of a Kahn process network. Each is a queue of whole numbers from one writer to one reader, and remembers
+//! all that was ever put.
 #![tactic(auto)]
 
 mod channel;

@@ -22,7 +22,7 @@ longer g c =
     ∙ length-append xs (take c.min-more.result piece)
     ∙ ap (λ n. length xs + n) (length-take-le c.min-more.result piece few)
 
--- where the piece of a turn lies, and that it has an item
+-- where the piece of a turn is, and that it has an item
 piece : (g : _) (c : goal.In_ok-extend_from_slice g) → let xs = c.loop-items.items.items in
     let piece = c.piece_at-piece.result.now in
     (piece ≡ take (length piece) (drop (length xs) (items_of c.args.self.now))) × (0 < length piece)
