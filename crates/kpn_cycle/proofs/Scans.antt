@@ -1,4 +1,4 @@
--- What a scan of all processes makes of what is found of the cycles through them.
+-- What a scan of all processes finds, from what a search finds of the cycle through each.
 use Rattle.std.proofs.Common.{◌≡◌, ◌↔◌, ℕ, ◌+◌, ◌<◌, ◌≤◌, List, ◌∷◌, length, ap, subst, inl, inr, arith}
 use Rattle.std.specs.Prelude.{Contains}
 use Rattle.std.proofs.lemmas.Bool.{cases_lt}

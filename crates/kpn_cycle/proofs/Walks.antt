@@ -1,4 +1,4 @@
--- The walk from a process along the waits: it goes the way of the cycle through the process, if there is one.
+-- The walk from a process along the waits. If there is a cycle through the process, the walk goes along it.
 use Rattle.std.proofs.Common.{◌≡◌, ◌≢◌, ℕ, ◌+◌, ◌≤◌, List, [], ◌∷◌, ◌++◌, length, Option, Some, None, refl, sym, ap, ◌∙◌, subst, inl, inr, arith, length-append, append_assoc}
 use Rattle.std.specs.Prelude.{Contains}
 use Rattle.std.specs.Option.{option_to_list}
@@ -14,14 +14,14 @@ use Rattle.kpn_net.specs.Finding.{Finds}
 use Rattle.kpn_cycle.specs.WalkSoFar.{found_on}
 use Rattle.kpn_net.proofs.Cycles.{Contains-none, Contains-cases, cycle_from, cycle_short, waits_for_one}
 
--- the way of a cycle, where a walk from p is at a process: the cycle is what was walked, this process, and a rest from
--- which it comes to p
+-- the cycle through p, while a walk from p is at a process: it is what was walked, this process, and a rest that leads
+-- back to p
 pub record IsAhead (t : Tables) (waits : List Wait) (p : ℕ) (others before : List ℕ) (at : ℕ) : Type 0 where
   pub rest : List ℕ
   pub is : p ∷ others ≡ before ++ at ∷ rest
   pub turn : WaitInTurn t waits at rest p
 
--- the cycle that closes, where it comes from here to p by this rest
+-- the cycle that closes if this rest leads from here to p
 pub record IsClosed (t : Tables) (waits : List Wait) (p : ℕ) (before : List ℕ) (at : ℕ) (rest : List ℕ) : Type 0 where
   pub others : List ℕ
   pub is : p ∷ others ≡ before ++ at ∷ rest

@@ -5,7 +5,7 @@ use Rattle.kpn_net.specs.declared.wait.Wait.TheVariants as wait
 use Rattle.kpn_net.specs.declared.found.Found.{Found}
 use Rattle.kpn_net.specs.declared.found.Found.TheVariants.{AllEmpty, Full}
 
--- what is found on a cycle with this smallest full channel
+-- what a search finds on a cycle with this smallest full channel
 abbrev pub found_on : Option ℕ → Found
 found_on None = AllEmpty
 found_on (Some c) = Full c

@@ -1,5 +1,5 @@
-//! What holds of the cycles of waiting processes in every network, as the contracts of functions with
-//! nothing to do: the layers above cite them.
+//! What holds of the cycles of waiting processes in every network, as contracts of functions that do nothing. The
+//! layers above cite them.
 ghost use Rattle.std.specs.Prelude.{◌≡◌, ◌↔◌, ℕ, ◌<◌, ◌≤◌, false, List, ◌∷◌, length, replicate, slice_set, Contains};
 ghost use Rattle.std.specs.List.Sorted.{IsPermutation};
 ghost use Rattle.kpn_net.specs.declared.wait.Wait.{Wait};
@@ -11,18 +11,18 @@ ghost use Rattle.kpn_net.specs.Waits.{AreWaits, IsOwnWait};
 ghost use Rattle.kpn_net.specs.Finding.{Finds, IsSmallestOfCycle};
 ghost use Rattle.kpn_cycle.specs.Scan.{ScanFinds};
 
-/// A table in which each process waits for nobody may be asked about.
+/// A table in which each process waits for nobody is a table of waits of the network, so the searches accept it.
 pub fn nobody_waits()
     ensures { (t : Tables) → AreWaits t (replicate (length t.instances) Nobody) }
 {}
 
-/// So may one in which a process has another wait, on a channel of its own.
+/// It stays one if a process comes to another wait, on a channel of its own.
 pub fn wait_is_set()
     ensures { (t : Tables) (waits : List Wait) (p : ℕ) (wait : Wait) → AreWaits t waits
         → IsOwnWait t p wait → AreWaits t (slice_set waits p wait) }
 {}
 
-/// So may one in which a process that waited is woken: from then on it waits for nobody.
+/// It stays one if a process that waited is woken, and waits for nobody from then on.
 pub fn waiter_is_woken()
     ensures { (t : Tables) (waits : List Wait) (p : ℕ) → AreWaits t waits
         → AreWaits t (slice_set waits p Nobody) }
@@ -55,27 +55,27 @@ pub fn smallest_is_unique()
         → IsSmallest cap channels c → IsSmallest cap channels d → c ≡ d }
 {}
 
-/// The smallest of channels is that of the same channels in another order.
+/// The smallest of some channels is the smallest of the same channels in another order.
 pub fn smallest_in_any_order()
     ensures { (cap : ℕ → ℕ) (channels others : List ℕ) (c : ℕ)
         → IsPermutation channels others → IsSmallest cap channels c → IsSmallest cap others c }
 {}
 
-/// Of the cycle through a process one thing is found.
+/// A search finds only one thing of the cycle through a process.
 pub fn finding_is_unique()
     ensures { (t : Tables) (waits : List Wait) (cap : ℕ → ℕ) (p : ℕ) (found other : Found)
         → Finds t waits cap p found → Finds t waits cap p other → found ≡ other }
 {}
 
-/// What is found depends on the capacities of those channels alone that are no sources.
+/// What a search finds depends only on the capacities of channels that are no sources.
 pub fn finding_looks_at_no_source()
     ensures { (t : Tables) (waits : List Wait) → AreWaits t waits → (cap other : ℕ → ℕ)
         → ((c : ℕ) → is_source (channel_at t c) ≡ false → cap c ≡ other c)
         → (p : ℕ) (found : Found) → Finds t waits cap p found → Finds t waits other p found }
 {}
 
-/// Where no cycle but the one through `p` has a full channel below the limit, a scan finds a channel
-/// exactly where the search from `p` finds it and it is below the limit.
+/// If no cycle but the one through `p` has a full channel below the limit, a scan finds a channel if and only if the
+/// search from `p` finds it and it is below the limit.
 pub fn scan_is_search()
     ensures { (t : Tables) (waits : List Wait) (cap : ℕ → ℕ) (p : ℕ) → p < length t.instances
         → ((q : ℕ) (others : List ℕ) (d : ℕ) → IsCycle t waits q others
@@ -85,7 +85,7 @@ pub fn scan_is_search()
         → (found ≡ Found.Full c) ↔ (IsSmallestOfCycle t waits cap p c × (cap c < t.limit)) }
 {}
 
-/// Where a scan finds none, each full channel of each cycle is at the limit.
+/// If a scan finds none, each full channel of each cycle is at the limit.
 pub fn scan_misses_no_cycle()
     ensures { (t : Tables) (waits : List Wait) (cap : ℕ → ℕ) → ScanFinds t waits cap Found.NoCycle
         → (p : ℕ) (others : List ℕ) (d : ℕ) → IsCycle t waits p others

@@ -23,7 +23,7 @@ impl<A: Allocator> Model for Waits<A> {
 }
 
 impl<A: Allocator> Waits<A> {
-    /// The table of `n` processes that wait for nobody. The error comes where memory ran out.
+    /// The table of `n` processes that wait for nobody. The error is that memory ran out.
     pub fn new(alloc: A, n: usize) -> Result<Self, AllocError>
         ensures { IfOk result (λ waits. waits ≡ replicate n Nobody) }
     {

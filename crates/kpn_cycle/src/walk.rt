@@ -10,11 +10,11 @@ use crate::waits::Waits;
 use kpn_net::{End, Found, Network, Wait};
 use std::alloc::Allocator;
 
-/// The cycle of waiting processes in which process `p` waits for the next and the last for `p`, and its
-/// smallest full channel, whether below the limit or not.
+/// The cycle of waiting processes in which process `p` waits for the next and the last for `p`, and its smallest full
+/// channel, whether below the limit or not.
 ///
-/// `caps` has the capacity of each channel; the entry of a source is not looked at. The walk makes at most
-/// as many steps as there are processes.
+/// `caps` has the capacity of each channel; it ignores the entry of a source. The walk makes at most as many steps as
+/// there are processes.
 pub fn cycle_through<A: Allocator>(
     network: &Network,
     waits: &Waits<A>,
@@ -46,8 +46,7 @@ pub fn cycle_through<A: Allocator>(
 
 /// The first `Full` of a cycle through process 0, 1, .. whose channel is below the limit, else `NoCycle`.
 ///
-/// `caps` has the capacity of each channel; the entry of a source is not looked at. It makes a walk from
-/// each process.
+/// `caps` has the capacity of each channel; it ignores the entry of a source. It makes a walk from each process.
 pub fn scan_all<A: Allocator>(network: &Network, waits: &Waits<A>, caps: &[u32]) -> Found
     requires waits { AreWaits network.now waits.now }
     requires caps { length caps.now ≡ length network.now.channels }
@@ -63,10 +62,10 @@ pub fn scan_all<A: Allocator>(network: &Network, waits: &Waits<A>, caps: &[u32])
     Found::NoCycle
 }
 
-/// Among the channels on which a process waits as full, the one of least capacity, on a tie of least number. `None`
-/// where nobody waits so.
+/// Among the channels on which a process waits as full, the one of least capacity, on a tie the one of least number.
+/// `None` if nobody waits so.
 ///
-/// `caps` has the capacity of each channel; the entry of a source is not looked at. It looks at each process once.
+/// `caps` has the capacity of each channel; it ignores the entry of a source. It looks at each process once.
 pub fn smallest_waited<A: Allocator>(
     network: &Network,
     waits: &Waits<A>,
@@ -85,7 +84,7 @@ pub fn smallest_waited<A: Allocator>(
     smallest
 }
 
-/// What is found on a cycle with this smallest full channel.
+/// What a search finds on a cycle with this smallest full channel.
 fn on_cycle(smallest: Option<usize>) -> Found
     ensures { result ≡ found_on smallest }
 {
@@ -95,8 +94,8 @@ fn on_cycle(smallest: Option<usize>) -> Found
     }
 }
 
-/// The process that is waited for: on an empty channel its writer, on a full one its reader. It is `None`
-/// where that is the outside.
+/// The process that this wait is for: on an empty channel its writer, on a full one its reader. It is `None` if that is
+/// the outside.
 fn awaited(network: &Network, wait: Wait) -> Option<usize>
     requires { IsOnChannelBelow (length network.now.channels) wait }
     ensures { result ≡ awaited network.now wait }
@@ -112,7 +111,7 @@ fn awaited(network: &Network, wait: Wait) -> Option<usize>
     }
 }
 
-/// The smallest full channel, where one wait more has been met.
+/// The smallest full channel so far, with one wait more.
 fn smallest_with(caps: &[u32], smallest: Option<usize>, wait: Wait) -> Option<usize>
     requires wait { IsOnChannelBelow (length caps.now) wait }
     requires smallest { IfSome smallest (λ c. c < length caps.now) }
