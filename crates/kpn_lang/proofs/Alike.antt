@@ -1,5 +1,5 @@
--- What a run says is got from its lists, and depends on nothing else: each law is kept by whatever puts runs together,
--- so it is kept by the run of a tree.
+-- A run says only what it got from its lists, and depends on nothing else. Whatever puts runs together keeps each law,
+-- so the run of a tree keeps it.
 use Rattle.std.proofs.Common.{◌≡◌, ℕ, zero, suc, ℤ, cond, Bool, true, false, Result, Ok, Err, List, [], ◌∷◌, ◌++◌, set, refl, sym, ap, ◌∙◌, inl, inr, eq-eqb}
 use Rattle.std.proofs.lemmas.Bool.{cases_eq, ne_eqb}
 use Rattle.kpn_lang.specs.declared.value.Fault.{Fault}
@@ -131,7 +131,7 @@ Accounts-run (While e body rest) n next h =
 
 -- ---- the same is said wherever the same is got
 
--- what the one says the other says too, where its lists begin with the items got
+-- what the one says the other says too, if its lists begin with the items got
 pub record SaysAlike (others : Lists) (ran other : Ran) : Type 0 where
   pub says_too : (talk : List Said) → IsPrefix talk ran.talk → BeginsWithGot talk others → IsPrefix talk other.talk
 
@@ -139,7 +139,7 @@ pub record LocalNext (next : Next) : Type 0 where
   pub local : (variables : List ℤ) (lists others : Lists) →
       SaysAlike others (next variables lists) (next variables others)
 
--- who said nothing
+-- a run that said nothing
 pub SaysAlike-silent : (ending : Ending) (variables : List ℤ) (lists others : Lists) (other : Ran) →
     SaysAlike others (ends ending variables lists) other
 SaysAlike-silent ending variables lists others other = record { says_too = silent }

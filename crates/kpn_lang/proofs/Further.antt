@@ -1,5 +1,5 @@
--- With longer lists and more turns a run goes further, and with more turns alone one that was not cut stays the same:
--- each law is kept by whatever puts runs together, so it is kept by the run of a tree.
+-- With longer lists and more turns a run goes further. With only more turns, one that was not cut stays the same.
+-- Whatever puts runs together keeps each law, so the run of a tree keeps it.
 use Rattle.std.proofs.Common.{◌≡◌, ◌≢◌, ℕ, zero, suc, ◌≤◌, ℤ, cond, Bool, true, false, Result, Ok, Err, List, [], ◌∷◌, ◌++◌, set, refl, ap, arith}
 use Rattle.kpn_lang.specs.declared.value.Fault.{Fault}
 use Rattle.kpn_lang.specs.declared.talk.Said.{Said}

@@ -17,7 +17,7 @@ use Rattle.kpn_lang.proofs.Following.{LeadsTo-refl, LeadsTo-trans, LeadsTo-next,
 
 -- ---- measures
 
--- how many block numbers stand from those inside a statement on
+-- how many block numbers there are from those inside a statement on
 abbrev pub blocks_inside : ℕ → Statement → ℕ
 blocks_inside n (Assign x e) = 0
 blocks_inside n (Read i x) = 0

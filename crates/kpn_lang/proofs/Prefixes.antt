@@ -22,7 +22,7 @@ IsPrefix-antisym [] (y ∷ ys) p q = absurd q
 IsPrefix-antisym (x ∷ xs) [] p q = absurd p
 IsPrefix-antisym (x ∷ xs) (y ∷ ys) p q = let e = p.0 in let r = IsPrefix-antisym xs ys p.1 q.1 in cc
 
--- what has no items begins with nothing but itself
+-- an empty list has no beginning but itself
 pub nil_from_prefix : {A : Type 0} (xs : List A) → IsPrefix xs [] → xs ≡ []
 nil_from_prefix [] p = refl
 nil_from_prefix (x ∷ xs) p = absurd p
@@ -36,7 +36,7 @@ pub IsPrefix-append : {A : Type 0} (xs rest : List A) → IsPrefix xs (xs ++ res
 IsPrefix-append [] rest = tt
 IsPrefix-append (x ∷ xs) rest = (refl, IsPrefix-append xs rest)
 
--- the rest that makes the one from the other
+-- the rest that, behind the one, makes the other
 pub rest_of_prefix : {A : Type 0} (xs ys : List A) → IsPrefix xs ys → (rest : List A) × (xs ++ rest ≡ ys)
 rest_of_prefix [] ys p = (ys, refl)
 rest_of_prefix (x ∷ xs) [] p = absurd p
@@ -45,7 +45,7 @@ rest_of_prefix (x ∷ xs) (y ∷ ys) p = let r = rest_of_prefix xs ys p.1 in (r.
 pub IsPrefix-from_rest : {A : Type 0} (xs rest ys : List A) → xs ++ rest ≡ ys → IsPrefix xs ys
 IsPrefix-from_rest xs rest ys e = rw (← e) (IsPrefix-append xs rest)
 
--- the same items before both change nothing
+-- the same items in front of both change nothing
 pub IsPrefix-after : {A : Type 0} (front xs ys : List A) → IsPrefix xs ys → IsPrefix (front ++ xs) (front ++ ys)
 IsPrefix-after [] xs ys p = p
 IsPrefix-after (x ∷ front) xs ys p = (refl, IsPrefix-after front xs ys p)

@@ -136,7 +136,7 @@ module _ (process : Process) (sequential : IsSequential process) where
   ComesTo-faulted lists longer fault talk p h =
       ComesTo-grows (added lists longer p) lists longer (Faulted fault) talk (Grows-from_prefixes lists longer p) tt h
 
-  -- starved where its own list stays
+  -- starved, if its own list stays
   pub ComesTo-starved : (lists longer : Lists) (port : ℕ) (talk : List Said) → ArePrefixes lists longer →
       list_at longer port ≡ list_at lists port → ComesTo process lists (Starved port) talk →
       ComesTo process longer (Starved port) talk

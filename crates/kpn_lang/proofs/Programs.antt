@@ -1,4 +1,4 @@
--- What a program's keeping the rules says of its blocks and statements, for the layers above.
+-- What it means for the blocks and statements of a program that it keeps the rules, for the layers above.
 use Rattle.std.proofs.Common.{◌≡◌, ℕ, zero, suc, ◌+◌, ◌<◌, ◌≤◌, Bool, true, false, not, ◌&&◌, ◌||◌, cond, List, [], ◌∷◌, ◌++◌, length, Option, Some, None, refl, sym, ◌∙◌, ap, subst, arith, inl, inr, eqb}
 use Rattle.std.specs.Prelude.{nat_lt, nat_le, slice_index_or, slice_get}
 use Rattle.std.specs.List.{list_any, list_all, flat_map, range_with_len, AllByRecursion as Each}
@@ -73,7 +73,7 @@ any_at test [] i x h e = absurd (cc)
 any_at test (y ∷ ys) zero x h e = subst (λ z. test z ≡ false) (same_Some y x e) (neither (test y) _ h).0
 any_at test (y ∷ ys) (suc i) x h e = any_at test ys i x (neither (test y) _ h).1 e
 
--- what holds of each block holds of what stands for one that is not there
+-- what holds of each block, and of no statements at all, holds of a block that may not be there
 all_blocks : (test : List Statement → Bool) (blocks : List (List Statement)) (b : ℕ) → list_all test blocks ≡ true →
     test [] ≡ true → test (block_at blocks b) ≡ true
 all_blocks test [] b h empty = empty

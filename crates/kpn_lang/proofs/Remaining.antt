@@ -50,7 +50,7 @@ module _ (lists : Lists) (places : List ℕ) (port : ℕ) (items : List ℤ) (ev
   first_there : next_at (remaining lists places) port ≡ slice_get items (get_or places port 0)
   first_there = ap (λ xs. slice_get xs 0) left_there ∙ slice_get-drop items (get_or places port 0)
 
-  -- where the place is at the end nothing is read
+  -- at the end of a list nothing is read
   pub no_next : length items ≤ get_or places port 0 → None ≡ next_at (remaining lists places) port
   no_next past = sym (first_there ∙ slice_get_past items (get_or places port 0) past)
 
@@ -63,7 +63,7 @@ module _ (lists : Lists) (places : List ℕ) (port : ℕ) (items : List ℤ) (ev
       ∙ ap (λ xs. set (remaining lists places) port xs) (sym nothing)
       ∙ set-get_or (remaining lists places) port [])
 
-  -- where it is not, the item there is read
+  -- before the end the item there is read
   pub next_is : (v : ℤ) → get_or places port 0 < length items → v ≡ get_or items (get_or places port 0) v →
       Some v ≡ next_at (remaining lists places) port
   next_is v within at = sym (first_there ∙ slice_get_read items (length items) (get_or places port 0) v refl within at)
@@ -81,7 +81,7 @@ pub remaining-start : (lists : Lists) → remaining lists (replicate (length lis
 remaining-start [] = refl
 remaining-start (items ∷ lists) = ap (λ rest. items ∷ rest) (remaining-start lists)
 
--- two that stand alike
+-- two places in a run are the same if their parts are
 pub Standing-same : (variables variables' : List ℤ) (lists lists' : Lists) (talk talk' : List Said) →
     variables ≡ variables' → lists ≡ lists' → talk ≡ talk' →
     ◌≡◌ {A = Standing} (record { variables = variables; lists = lists; talk = talk })

@@ -142,7 +142,7 @@ ends_past (b ∷ bs) a m h =
     elim (nat_eq b a) as (λ t. ends_at m (cond t (count_through bs (a + 1)) None) ≡ false)
     [ true ↦ ends_past bs (a + 1) m (omega arith) | false ↦ refl ]
 
--- a list is a, a + 1, .., a + k - 1 exactly where its count from a comes to a + k
+-- a list is a, a + 1, .., a + k - 1 if and only if its count from a comes to a + k
 pub in_order : (bs : List ℕ) (a k : ℕ) → ends_at (a + k) (count_through bs a) ≡ pointwise nat_eq bs (range_with_len a k)
 in_order [] a zero = grind (arith, nat_tests)
 in_order [] a (suc k) = grind (arith, nat_tests)
@@ -168,7 +168,7 @@ order_read parts count o same e =
 
 -- ---- levels
 
--- where the blocks are within their levels, the expressions decide
+-- if the blocks are within their levels, the expressions decide
 pub too_deep : (within all : Bool) → within ≡ true → not all ≡ (not within || not all)
 too_deep true all h = refl
 too_deep false all h = absurd (cc)

@@ -10,7 +10,7 @@ use Rattle.kpn_lang.specs.Tree.{tree_of}
 use Rattle.kpn_lang.specs.Run.{Ran, Lists, run, ends}
 use Rattle.kpn_lang.specs.Prefix.{IsPrefix}
 
--- a process: what it does on lists, where each loop that is entered has n turns
+-- a process: what it does on lists, if each loop that it enters has n turns
 abbrev pub Process : Type 0
 Process = (n : ℕ) → Lists → Ran
 

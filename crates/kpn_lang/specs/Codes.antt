@@ -70,7 +70,7 @@ of_kind (suc (suc (suc zero))) n a b = Neg a
 of_kind (suc (suc (suc (suc zero)))) n a b = Not a
 of_kind (suc (suc (suc (suc (suc kind))))) n a b = Bin (operator_at n) a b
 
--- the term that is stored so; what stands for no term gives any
+-- the term that is stored so; a value that stores no term stands for an arbitrary one
 abbrev term_at : Gv → Term
 term_at (gcons (gnum kind) (gcons (gnum n) (gcons left right))) = of_kind kind n (term_at left) (term_at right)
 term_at _ = Var 0

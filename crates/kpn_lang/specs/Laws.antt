@@ -1,5 +1,5 @@
--- What holds of each process, whatever its program: it is a monotone function of what comes in, it says no more than it
--- is asked to, and what it says depends on the items that it got alone (Kahn 1974).
+-- What holds of each process, whatever its program. It is a monotone function of what comes in. It gets no more items
+-- than its lists have. What it says depends only on the items that it got (Kahn 1974).
 use Rattle.std.specs.Prelude.{◌≡◌, ◌≢◌, ℕ, ◌≤◌, ℤ, List, [], ◌++◌}
 use Rattle.kpn_lang.specs.declared.talk.Said.{Said}
 use Rattle.kpn_lang.specs.declared.talk.Ending.{Ending}
@@ -12,21 +12,21 @@ use Rattle.kpn_lang.specs.Alone.{Process, got_at}
 pub record Grows (more : ℕ → List ℤ) (lists longer : Lists) : Type 0 where
   pub each : (port : ℕ) → list_at longer port ≡ list_at lists port ++ more port
 
--- an end that is not changed by items behind the lists: it starved, if at all, where none were added
+-- an end that items behind the lists do not change: if it starved, its own list got none
 abbrev pub IsFinal : (ℕ → List ℤ) → Ending → Type 0
 IsFinal more Done = Unit {0}
 IsFinal more (Faulted fault) = Unit {0}
 IsFinal more (Starved port) = more port ≡ []
 IsFinal more Cut = ⊥
 
--- the same end with the same variables after the same talk, where as much more remains
+-- the same end with the same variables after the same talk, and as much more remains
 pub record EndsAlike (more : ℕ → List ℤ) (ran further : Ran) : Type 0 where
   pub ending : further.ending ≡ ran.ending
   pub variables : further.variables ≡ ran.variables
   pub talk : further.talk ≡ ran.talk
   pub rest : Grows more ran.rest further.rest
 
--- a run that goes further: the talk is only extended, and an end that is final stays
+-- a run that goes further: it only adds to the talk, and a final end stays
 pub record GoesOn (more : ℕ → List ℤ) (ran further : Ran) : Type 0 where
   pub talk : IsPrefix ran.talk further.talk
   pub final : IsFinal more ran.ending → EndsAlike more ran further

@@ -12,6 +12,6 @@ remaining (items ∷ lists) (place ∷ places) = drop place items ∷ remaining 
 abbrev pub next_at : Lists → (port : ℕ) → Option ℤ
 next_at lists port = slice_get (list_at lists port) 0
 
--- the lists once it is read; the same where there is none
+-- the lists once it is read; the same lists if there is none
 abbrev pub without_next : Lists → (port : ℕ) → Lists
 without_next lists port = slice_set lists port (drop 1 (list_at lists port))

@@ -55,9 +55,9 @@ is_too_large p =
     nat_lt MAX_VARIABLES p.vars || nat_lt MAX_PORTS p.ins || nat_lt MAX_PORTS p.outs
     || nat_lt MAX_NODES (sum_by (sum_by statement_nodes) p.blocks)
 
--- ---- 2: there is no body, or a block is named that is not there
+-- ---- 2: there is no body, or a statement names a block that is not there
 
--- a block of this number or above is named
+-- a statement names a block of this number or above
 abbrev pub names_from : ℕ → Statement → Bool
 names_from count s = list_any (nat_le count) (inner_blocks s)
 
@@ -75,7 +75,7 @@ order_to blocks (suc levels) b = b ∷ flat_map (order_to blocks levels) (childr
 abbrev pub is_in_order : Parts → Bool
 is_in_order p = pointwise nat_eq (order_to p.blocks (length p.blocks) 0) (range_with_len 0 (length p.blocks))
 
--- ---- 4: a variable is named that is not there
+-- ---- 4: a statement names a variable that is not there
 
 abbrev pub names_variables_below : ℕ → Statement → Bool
 names_variables_below n (Assign x e) = nat_lt x n && names_below n e
@@ -84,7 +84,7 @@ names_variables_below n (Write o e) = names_below n e
 names_variables_below n (If e a b) = names_below n e
 names_variables_below n (While e b) = names_below n e
 
--- ---- 5: a port is named that is not there
+-- ---- 5: a statement names a port that is not there
 
 abbrev pub names_ports_below : (ins outs : ℕ) → Statement → Bool
 names_ports_below ins outs (Assign x e) = true

@@ -1,5 +1,5 @@
--- Scaffolding: where the plain program stands in a run, and what a part of it has done there. The contracts of private
--- functions speak of it, and nobody needs it to read what a run is.
+-- Scaffolding: where the plain program is in a run, and what a part of it has done there. Only contracts of private
+-- functions use it. To read what a run is, nobody needs it.
 use Rattle.std.specs.Prelude.{◌≡◌, ℤ, List, ◌++◌, length, Option, Some, None, Result, Ok, Err, Bool, not}
 use Rattle.kpn_lang.specs.declared.value.Fault.{Fault}
 use Rattle.kpn_lang.specs.declared.talk.Said.{Said}
@@ -19,11 +19,11 @@ abbrev pub said_before : List Said → Ran → Ran
 said_before talk ran =
     record { ending = ran.ending; variables = ran.variables; rest = ran.rest; talk = talk ++ ran.talk }
 
--- what was said so far and what a run from here on gives
+-- what was said so far, and what a run from here on comes to
 abbrev pub run_from : Standing → Next → Ran
 run_from here next = said_before here.talk (next here.variables here.lists)
 
--- what follows where a part came to its end, or ended the run
+-- what follows a part that came to its end, or ended the run
 abbrev pub goes_on : Option Ending → Next → Next
 goes_on None next = next
 goes_on (Some ending) next = ends ending

@@ -1,6 +1,6 @@
 -- The run of a process on whole lists of items, by the structure of its tree, in the style of a denotational semantics
--- with continuations (Strachey and Wadsworth 1974). A loop that is entered has a number of turns, so that each run
--- ends; what a run does with ever more turns is what the process does (Kahn 1974).
+-- with continuations (Strachey and Wadsworth 1974). Each loop that the run enters has a number of turns, so that each
+-- run ends. What a run does with ever more turns is what the process does (Kahn 1974).
 use Rattle.std.specs.Prelude.{ℕ, zero, suc, ℤ, Result, Ok, Err, List, [], ◌∷◌, slice_index_or, slice_set, if◌then◌else◌}
 use Rattle.kpn_lang.specs.declared.value.Fault.{Fault}
 use Rattle.kpn_lang.specs.declared.talk.Said.{Said}
@@ -15,7 +15,7 @@ use Rattle.kpn_lang.specs.Tree.{Tree, End, Assign, Read, Write, If, While}
 abbrev pub Lists : Type 0
 Lists = List (List ℤ)
 
--- what a run gave: how it ended, the variables and what remained of the lists then, and what was said, in order
+-- what a run came to: how it ended, the variables and what remained of the lists then, and what was said, in order
 pub record Ran : Type 0 where
   pub ending : Ending
   pub variables : List ℤ
@@ -43,17 +43,17 @@ with_value (Err fault) variables lists go = ends (Faulted fault) variables lists
 abbrev pub list_at : Lists → ℕ → List ℤ
 list_at lists port = slice_index_or lists port []
 
--- goes on with the first item and those after it, or ends where there is none
+-- goes on with the first item and those after it, or ends if there is none
 abbrev pub with_item : List ℤ → (port : ℕ) → List ℤ → Lists → (ℤ → List ℤ → Ran) → Ran
 with_item [] port variables lists go = ends (Starved port) variables lists
 with_item (v ∷ items) port variables lists go = go v items
 
--- the first where the value is not 0, else the second
+-- the first if the value is not 0, else the second
 abbrev pub choose : ℤ → Ran → Ran → Ran
 choose v first second = if is_zero v then second else first
 
--- a loop that may go round this many times more, each a turn: its test is evaluated once more, and it is cut only where
--- it would go on
+-- a loop that may go round this many times more, each a turn; after the last it evaluates its test once more, and is
+-- cut only if it would go on
 abbrev pub turns : ℕ → Term → (Next → Next) → Next → Next
 turns zero test body next variables lists =
     with_value (value test variables) variables lists (λ v. choose v (ends Cut variables lists) (next variables lists))
@@ -61,7 +61,7 @@ turns (suc more) test body next variables lists =
     with_value (value test variables) variables lists
     (λ v. choose v (body (turns more test body next) variables lists) (next variables lists))
 
--- the run of a tree, where each loop that is entered has n turns, and of what follows it
+-- the run of a tree and of what follows it, if each loop that the run enters has n turns
 abbrev pub run : Tree → ℕ → Next → Next
 run End n next variables lists = next variables lists
 run (Assign x e rest) n next variables lists =

@@ -1,5 +1,5 @@
--- The syntax of processes as plain trees, without the places in memory of the code's own: what an expression and a
--- statement are, where two that are written alike are equal.
+-- The syntax of processes as plain trees: what an expression and a statement are. Unlike the code's values they have no
+-- places in memory, so two that are written alike are equal.
 use Rattle.std.specs.Prelude.{ℕ, ℤ, Bool, true, ◌&&◌, nat_lt}
 use Rattle.kpn_lang.specs.declared.syntax.Op.{Op}
 use Rattle.kpn_lang.specs.declared.syntax.Expr.{Expr}

@@ -21,7 +21,7 @@ tree_over inner (syntax.Write o e ∷ rest) = Write o e (tree_over inner rest)
 tree_over inner (syntax.If e a b ∷ rest) = If e (inner a) (inner b) (tree_over inner rest)
 tree_over inner (syntax.While e b ∷ rest) = While e (inner b) (tree_over inner rest)
 
--- the statements of a block; none where there is no such block
+-- the statements of a block; none if there is no such block
 abbrev pub block_at : List (List Statement) → ℕ → List Statement
 block_at blocks b = slice_index_or blocks b []
 

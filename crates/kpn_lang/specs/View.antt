@@ -14,7 +14,7 @@ statements_of block = map statement_of block
 abbrev pub blocks_of : List (Vec Stmt) → List (List Statement)
 blocks_of blocks = map (λ block. statements_of block.items) blocks
 
--- the parts that are handed in
+-- the parts that a caller passes in
 abbrev pub parts_with : (ins outs pars vars : ℕ) → List (Vec Stmt) → Parts
 parts_with ins outs pars vars blocks =
     record { ins = ins; outs = outs; pars = pars; vars = vars; blocks = blocks_of blocks }

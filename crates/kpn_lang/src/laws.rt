@@ -1,4 +1,4 @@
-//! What holds of every process, as the contracts of functions with nothing to do: the layers above cite them.
+//! What holds of every process, as contracts of functions that do nothing. The layers above cite them.
 ghost use Rattle.std.specs.Prelude.{◌≡◌, ◌≢◌, ◌⊎◌, ◌↔◌, ℕ, ◌≤◌, ℤ, List, ◌++◌};
 ghost use Rattle.kpn_lang.specs.declared.value.Fault.{Fault};
 ghost use Rattle.kpn_lang.specs.declared.talk.Said.{Said};
@@ -10,8 +10,8 @@ ghost use Rattle.kpn_lang.specs.Prefix.{IsPrefix, ArePrefixes};
 ghost use Rattle.kpn_lang.specs.Alone.{Process, alone, CanSay, ComesTo};
 ghost use Rattle.kpn_lang.specs.Laws.{Grows, EndsAlike, BeginsWithGot, IsSequential};
 
-/// A program alone is a sequential process: with more turns and longer lists it only says more, and what
-/// it says depends on the items that it got alone.
+/// A program alone is a sequential process: with more turns and longer lists it only says more, and what it says
+/// depends only on the items that it got.
 pub fn alone_is_sequential()
     ensures { (parts : Parts) (pars : List ℤ) → IsSequential (alone parts pars) }
 {}
@@ -24,8 +24,8 @@ pub fn more_turns()
         → (lists : Lists) → (process n lists).ending ≢ Cut → process m lists ≡ process n lists }
 {}
 
-/// On longer lists a process says more. A run that was done or faulted ends alike, and as much more
-/// remains; so does one that starved at a port whose own list stayed.
+/// On longer lists a process says more. A run that was done or faulted ends alike, and as much more remains. So does a
+/// run that starved, if the list of its port stayed.
 pub fn longer_lists()
     ensures talk { (process : Process) → IsSequential process → (n m : ℕ) → n ≤ m
         → (lists longer : Lists) → ArePrefixes lists longer
@@ -44,7 +44,7 @@ pub fn longer_lists()
         → EndsAlike more (process n lists) (process m longer) }
 {}
 
-/// Lists that begin with others are those with some items behind them.
+/// A family of lists begins with another if and only if it is the other with some items behind each list.
 pub fn lists_that_grow()
     ensures added { (lists longer : Lists) → ArePrefixes lists longer
         → ((more : ℕ → List ℤ) × Grows more lists longer) }
@@ -52,8 +52,9 @@ pub fn lists_that_grow()
         → ArePrefixes lists longer }
 {}
 
-/// What a process can say: each beginning of it, on longer lists too, and on all lists that begin with the
-/// items that it got; these it got from the lists. Of two things that it can say one begins the other.
+/// What a process can say. It can also say each beginning of it. It can say it on longer lists too, and on all lists
+/// that begin with the items that it got; these it got from the lists. Of two things that it can say, one begins the
+/// other.
 pub fn can_say()
     ensures prefix { (process : Process) → IsSequential process
         → (lists : Lists) (talk longer : List Said) → IsPrefix talk longer
@@ -86,8 +87,8 @@ pub fn comes_to_one_end()
         → ComesTo process lists ending talk → (CanSay process lists said ↔ IsPrefix said talk) }
 {}
 
-/// Where a process came to be done or faulted, it comes to the same on longer lists; where it starved,
-/// on longer lists of the other ports.
+/// If a process came to be done or faulted, it comes to the same on longer lists. If it starved, it comes to the same
+/// when only the lists of other ports are longer.
 pub fn comes_to_the_same()
     ensures done { (process : Process) → IsSequential process
         → (lists longer : Lists) (talk : List Said) → ArePrefixes lists longer

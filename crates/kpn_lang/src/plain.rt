@@ -18,8 +18,8 @@ use crate::value::{Fault, eval};
 use std::alloc::{AllocError, Global};
 use std::marker::Model;
 
-/// What a run gave: how it ended, the variables and what remained of the lists then, and what the
-/// process said, in order.
+/// What a run came to: how it ended, the variables then, what remained of the lists, and what the process said, in
+/// order.
 #[derive(Debug, Drop)]
 pub struct Run {
     ending: Ending,
@@ -67,8 +67,8 @@ impl Run {
     }
 }
 
-/// Runs a program alone with these parameters on these lists, one for each in port. Each loop that is
-/// entered has this many turns, and the run is cut where it would begin one more.
+/// Runs a program alone with these parameters on these lists, one for each in port. Each loop that the run enters has
+/// this many turns. If a loop would begin one more, the run is cut.
 pub fn run_alone(
     alloc: Global,
     program: &Program,
@@ -86,7 +86,7 @@ pub fn run_alone(
     state.end(alloc, answer.unwrap_or(Ending::Done))
 }
 
-/// A program, and how many turns each loop has that is entered.
+/// A program, and how many turns each loop has that a run enters.
 #[derive(Clone, Copy)]
 struct Interpreter<'a> {
     program: &'a Program,
@@ -94,7 +94,7 @@ struct Interpreter<'a> {
 }
 
 impl Interpreter<'_> {
-    // Runs a block: `None` where it came to its end, else the ending of the whole run.
+    // Runs a block. `None` if it came to its end, else the ending of the whole run.
     #[cycle(interpreter)]
     fn block(&self, state: &mut State<'_>, block: BlockId) -> Result<Option<Ending>, AllocError>
         requires { MayRun self.now.program.now state.old }
@@ -162,7 +162,7 @@ impl Interpreter<'_> {
         }
     }
 
-    // Runs a loop that is entered now.
+    // Runs a loop that the run enters now.
     #[cycle(interpreter)]
     fn repeat(
         &self,
@@ -195,7 +195,7 @@ impl Interpreter<'_> {
     }
 }
 
-/// Where a run stands: the place of the next item in each list, the variables and the talk so far.
+/// Where a run is: the place of the next item in each list, the variables and the talk so far.
 #[derive(Drop)]
 struct State<'a> {
     lists: &'a [Sequence<i64>],

@@ -20,7 +20,7 @@ impl<T, A: Allocator> Model for Sequence<T, A> {
     ghost view = { λ s. s.items.items };
 }
 
-/// Lists are equal where they are as long and each pair of items is equal.
+/// Lists are equal if they are as long and each pair of items is equal.
 impl<T: PartialEq, A: Allocator> PartialEq for Sequence<T, A> {
     ghost eq = { pointwise T.eq };
 
@@ -36,7 +36,7 @@ impl<T: Eq, A: Allocator> Eq for Sequence<T, A> {
 }
 
 impl<T, A: Allocator> Sequence<T, A> {
-    /// The empty list, which takes no memory yet. The allocator is kept for its items.
+    /// The empty list, which takes no memory yet. It keeps the allocator for its items.
     pub fn new(alloc: A) -> Self
         ensures { result ≡ [] }
     {
@@ -59,8 +59,7 @@ impl<T, A: Allocator> Sequence<T, A> {
         self.items.as_slice()
     }
 
-    /// Puts an item at the end. The error gives the item back where memory ran out; the list is then
-    /// as before.
+    /// Puts an item at the end. If memory ran out, the error returns the item, and the list is as before.
     pub fn push(&mut self, item: T) -> Result<(), AllocFailed<T>>
         ensures items { self.new ≡ (if is_ok result then self.old ++ item ∷ [] else self.old) }
         ensures value_returned { IfErr result (λ failed. failed.value ≡ item) }

@@ -27,7 +27,7 @@ pub enum Expr {
     Var(usize),
     /// The number with its sign turned.
     Neg(Box<Expr>),
-    /// 1 where the operand is 0, else 0.
+    /// 1 if the operand is 0, else 0.
     Not(Box<Expr>),
     /// An operator between its left and its right side.
     Bin(Op, Box<Expr>, Box<Expr>),
@@ -36,7 +36,7 @@ pub enum Expr {
 /// The number of a block of statements in its program. Block 0 is the body of the process.
 pub type BlockId = usize;
 
-/// A statement. A block inside it is named by its number.
+/// A statement. It names the blocks inside it by number.
 #[derive(Debug, Drop)]
 pub enum Stmt {
     /// Sets a variable to the value of an expression.

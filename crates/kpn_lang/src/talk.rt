@@ -16,7 +16,7 @@ pub enum Ending {
     Done,
     /// An expression had no value.
     Faulted(Fault),
-    /// It would read at this in port, whose list is used up.
+    /// It would read at this in port, whose list is empty by then.
     Starved(usize),
     /// A loop would begin one turn more than the run allows.
     Cut,

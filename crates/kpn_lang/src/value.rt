@@ -84,8 +84,8 @@ pub(crate) fn apply(op: Op, left: i64, right: i64) -> Result<i64, Fault>
     }
 }
 
-/// The value of an expression where the variables have these values. The left side comes first, and
-/// the first fault is the fault; `&&` and `||` leave out a right side that cannot matter.
+/// The value of an expression if the variables have these values. The left side comes first, and the first fault is the
+/// fault; `&&` and `||` leave out a right side that cannot matter.
 pub fn eval(expr: &Expr, variables: &[i64]) -> Result<i64, Fault>
     requires { IsTrue (names_below (length variables.now) (term_of expr.now)) }
     ensures { result ≡ value (term_of expr.now) variables.now }

@@ -1,4 +1,4 @@
-//! Equality of the blocks of programs by value: where they lie in memory does not count.
+//! Equality of the blocks of programs by value, wherever they are in memory.
 ghost use Rattle.std.specs.Prelude.{◌≡◌, ◌↔◌, IsTrue};
 ghost use Rattle.kpn_lang.specs.Syntax.{term_of, statement_of};
 ghost use Rattle.kpn_lang.specs.View.{blocks_of, statements_of};

@@ -1,5 +1,4 @@
-//! The parts of a program before they are known to keep the rules of the language, with a test for
-//! each rule.
+//! The parts of a program before anything is known of the rules, with a test for each rule.
 ghost use Rattle.std.specs.Prelude.{◌≡◌, ◌<◌, length, nat_le, sum_by, false};
 ghost use Rattle.std.specs.List.{list_all, flat_map};
 ghost use Rattle.kpn_lang.specs.Syntax.{term_of, statement_of, names_below};
@@ -53,7 +52,7 @@ impl Parts {
             || budget_after_blocks(&self.blocks, MAX_NODES).is_none()
     }
 
-    /// 2: there is no body, or a block is named that is not there.
+    /// 2: there is no body, or a statement names a block that is not there.
     fn lacks_a_block(&self) -> bool
         ensures { result ≡ lacks_a_block (parts_of self.now) }
     {
@@ -78,7 +77,7 @@ impl Parts {
         }
     }
 
-    /// 4 is kept: each variable that is named is there.
+    /// 4 is kept: each variable that a statement names is there.
     fn names_its_variables(&self) -> bool
         ensures { let parts = parts_of self.now in
             result ≡ each_statement (names_variables_below parts.vars) parts.blocks }
@@ -89,7 +88,7 @@ impl Parts {
             .all(|stmt| names_variables_below(self.vars, stmt))
     }
 
-    /// 5 is kept: each port that is named is there.
+    /// 5 is kept: each port that a statement names is there.
     fn names_its_ports(&self) -> bool
         ensures { let parts = parts_of self.now in
             result ≡ each_statement (names_ports_below parts.ins parts.outs) parts.blocks }
@@ -113,8 +112,8 @@ impl Parts {
                 .all(|stmt| is_shallow(MAX_LEVELS, stmt))
     }
 
-    /// The number after those of a block and of the blocks inside it, where they count up from `next`
-    /// in the order of their opening braces, down to a number of levels.
+    /// Counts a block and the blocks inside it, down to a number of levels. If their numbers count up from `next` in
+    /// the order of their opening braces, it returns the number after the last.
     #[cycle(count)]
     fn count_block(&self, levels: usize, block: BlockId, next: usize) -> Option<usize>
         requires there { lacks_a_block (parts_of self.now) ≡ false }
@@ -189,8 +188,8 @@ impl Parts {
     }
 }
 
-/// What remains of a budget after the nodes of an expression; `None` where it has more. The budget
-/// also bounds how deep this recurses.
+/// What remains of a budget after the nodes of an expression; `None` if it has more. The budget also bounds how deep
+/// this recurses.
 #[tactic(auto, using(crate::proofs::Rules::some_node))]
 fn budget_after_expr(expr: &Expr, budget: usize) -> Option<usize>
     ensures { result ≡ budget_after budget (nodes (term_of expr.now)) }

@@ -1,4 +1,4 @@
--- Blocks of one length are equal where each pair of statements is.
+-- Blocks of one length are equal if each pair of statements is.
 use Rattle.std.proofs.Common.{rules, tests}
 use Rattle.std.proofs.lemmas.Iterator.{YieldsList-from_slice, YieldsList-from_zip, cases_from_all}
 use Rattle.kpn_lang.specs.Syntax.{statement_of}

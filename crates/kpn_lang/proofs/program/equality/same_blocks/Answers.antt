@@ -1,4 +1,4 @@
--- As many blocks are equal where each pair is.
+-- As many blocks are equal if each pair is.
 use Rattle.std.proofs.Common.{rules, tests, List}
 use Rattle.std.specs.Global.{Vec}
 use Rattle.std.proofs.lemmas.Iterator.{YieldsList-from_slice, YieldsList-from_zip, cases_from_all}

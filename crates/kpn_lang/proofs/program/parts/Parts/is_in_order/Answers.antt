@@ -1,4 +1,4 @@
--- The blocks are in order where the count from the body on comes to their number.
+-- The blocks are in order if the count from the body on comes to their number.
 use Rattle.std.proofs.Common.{◌≡◌, sym, ◌∙◌, ap, length}
 use Rattle.std.proofs.lemmas.List.{length-map}
 use Rattle.kpn_lang.specs.View.{parts_of, blocks_of}
