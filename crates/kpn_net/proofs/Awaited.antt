@@ -18,7 +18,7 @@ in_range a (suc n) p h =
       | inr later ↦ let b = in_range (a + 1) n p later in let low = b.0 in let high = b.1 in (omega arith, omega arith)
     ]
 
--- what comes of a number stands among what comes of all
+-- what comes of a number is among what comes of all
 given_among : (f : ℕ → Option ℕ) (a n p c : ℕ) → a ≤ p → p < a + n → f p ≡ Some c
     → Contains (filter_map f (range_with_len a n)) c
 given_among f a zero p c low high is = absurd (omega arith)

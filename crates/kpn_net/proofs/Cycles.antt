@@ -1,5 +1,6 @@
--- Cycles of waiting processes and their smallest full channels: there is at most one, it is one from each of its
--- members, and it has no more members than there are processes. All of this is of the definitions alone.
+-- Cycles of waiting processes and their smallest full channels. There is at most one cycle through a process, it is one
+-- from each of its members, and it has no more members than there are processes. All of this follows from the
+-- definitions only.
 use Rattle.std.proofs.Common.{◌≡◌, ℕ, zero, suc, ◌<◌, ◌≤◌, ◌⊎◌, false, eqb, List, [], ◌∷◌, ◌++◌, length, Option, Some, None, refl, sym, ap, ◌∙◌, subst, inl, inr, arith, length-append}
 use Rattle.std.specs.Prelude.{Contains}
 use Rattle.std.specs.List.{AllByRecursion, IsDistinct, cons_option}
@@ -48,7 +49,7 @@ apart_at (y ∷ xs) x h =
           record { before = y ∷ r.before; after = r.after; is = ap (λ zs. y ∷ zs) r.is }
     ]
 
--- of distinct numbers none stands at two places
+-- of distinct numbers none is at two places
 pub distinct_apart : (xs : List ℕ) (x : ℕ) (ys : List ℕ) → AreDistinct (xs ++ x ∷ ys) → ¬ Contains (xs ++ ys) x
 distinct_apart [] x ys d = d.0
 distinct_apart (y ∷ xs) x ys d = λ h.
@@ -131,7 +132,7 @@ smallest-push cap channels c d e s two =
       ];
     }
 
--- where there are channels, one is the smallest
+-- if there are channels, one is the smallest
 pub record HasSmallest (cap : ℕ → ℕ) (channels : List ℕ) : Type 0 where
   pub channel : ℕ
   pub is : IsSmallest cap channels channel
@@ -276,7 +277,7 @@ module _ (t : Tables) (waits : List Wait) where
     way_is_distinct x xs p a.1 (λ c. h (Contains-later x xs p c)),
   )
 
-  -- who waits in turn for itself, and comes first to itself then, is on a cycle
+  -- a process that waits in turn for itself, and comes first to itself then, is on a cycle
   pub cycle_from : (p : ℕ) (others : List ℕ) → WaitInTurn t waits p others p → ¬ Contains others p
       → IsCycle t waits p others
   cycle_from p others turn absent =
@@ -349,7 +350,7 @@ module _ (t : Tables) (waits : List Wait) where
   awaited_below (Empty c) q e = (Writes-writer_of t q c (process_below (writer_of t c) q e)).process
   awaited_below (Full c) q e = (Reads-reader_of t q c (process_below (reader_of t c) q e)).process
 
-  -- who is waited for is a process of the network
+  -- a process that another waits for is a process of the network
   pub member_below : (r : ℕ) (xs : List ℕ) (p : ℕ) → WaitInTurn t waits r xs p → (q : ℕ) → Contains xs q
       → q < length t.instances
   member_below r [] p a q h = absurd (Contains-none q h)

@@ -1,6 +1,6 @@
--- Kahn's iteration is monotone: what a process puts grows with its turns and with the lists that come in (Kahn 1974: a
--- process is a continuous and so monotone function), so each round grows with the rounds before it and with the lists
--- that are given.
+-- Kahn's iteration is monotone. What a process puts grows with its turns and with the lists that come in: in Kahn 1974
+-- a process is a continuous and so monotone function. So each round grows with the rounds before it and with the given
+-- lists.
 use Rattle.std.proofs.Common.{◌≡◌, ℕ, zero, suc, ◌≤◌, cond, Bool, true, false, List, [], ◌∷◌, map, refl, sym, ap, arith}
 use Rattle.kpn_lang.specs.Prefix.{IsPrefix, ArePrefixes}
 use Rattle.kpn_lang.specs.Alone.{alone}

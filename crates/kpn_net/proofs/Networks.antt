@@ -205,7 +205,7 @@ IsAmong-first : (end other : End) (ends : List End) → get_or ends 0 other ≡ 
 IsAmong-first end other [] e differ = differ (sym e)
 IsAmong-first end other (x ∷ ends) e differ = inl (sym e)
 
--- where there is one end, it is the first
+-- if there is one end, it is the first
 one_end : (ends : List End) (other : End) → is_none ends ≡ false → are_several ends ≡ false
     → ends ≡ get_or ends 0 other ∷ []
 one_end [] other n s = absurd cc
@@ -236,7 +236,7 @@ one_reader t network c below =
 
 -- ---- the ends agree with the ports
 
--- a channel stands at a port
+-- a channel is at a port
 pub record StandsAt (ports : List ℕ) (c : ℕ) : Type 0 where
   pub port : ℕ
   pub there : port < length ports
@@ -354,7 +354,7 @@ IsAmong-port ports t p c below s =
     (subst (λ q. IsAmong (Process q) (places c q (ports (instance_at t p)))) (sym e)
     (IsAmong-places c p (ports (instance_at t p)) s.port s.there s.is)))
 
--- who has the channel at an out port is its writer
+-- a process that has the channel at an out port is its writer
 pub writer_of-Writes : (t : Tables) → IsNetwork t → (p c : ℕ) → Writes t p c → writer_of t c ≡ Process p
 writer_of-Writes t network p c w =
     IsAmong-one (Process p) (writers_of t c) (writer_of t c) (one_writer t network c (Writes-below t network p c w))
@@ -378,7 +378,7 @@ outside_sink true p (inl e) = absurd cc
 outside_sink true p (inr h) = h
 outside_sink false p h = h
 
--- the writer of a channel, where it is a process, has it at an out port
+-- the writer of a channel, if it is a process, has it at an out port
 pub Writes-writer_of : (t : Tables) (p c : ℕ) → writer_of t c ≡ Process p → Writes t p c
 Writes-writer_of t p c e =
     let among = IsAmong-first (Process p) Sink (writers_of t c) e (λ f. absurd cc) in
@@ -393,7 +393,7 @@ Writes-writer_of t p c e =
           }
     ]
 
--- the reader of a channel, where it is a process, has it at an in port
+-- the reader of a channel, if it is a process, has it at an in port
 pub Reads-reader_of : (t : Tables) (p c : ℕ) → reader_of t c ≡ Process p → Reads t p c
 Reads-reader_of t p c e =
     let among = IsAmong-first (Process p) Source (readers_of t c) e (λ f. absurd cc) in
@@ -426,7 +426,7 @@ no_process end h ports c p instances among =
     ends_from-HasPort end ports c p instances (record { program = 0; ins = []; outs = []; pars = [] }) among in
     h (p + r.number) r.is
 
--- where the outside is the writer the channel is a source
+-- if the outside is the writer, the channel is a source
 pub source-writer_of : (t : Tables) (c : ℕ) → writer_of t c ≡ Source → is_source (channel_at t c) ≡ true
 source-writer_of t c e =
     which (is_source (channel_at t c)) refl (IsAmong-first Source Sink (writers_of t c) e (λ f. absurd cc))
@@ -437,7 +437,7 @@ source-writer_of t c e =
     which true e h = e
     which false e h = absurd (no_process Source (λ p f. absurd cc) (λ i. i.outs) c 0 t.instances h)
 
--- where the outside is the reader the channel is a sink
+-- if the outside is the reader, the channel is a sink
 pub sink-reader_of : (t : Tables) (c : ℕ) → reader_of t c ≡ Sink → is_sink (channel_at t c) ≡ true
 sink-reader_of t c e =
     which (is_sink (channel_at t c)) refl (IsAmong-first Sink Source (readers_of t c) e (λ f. absurd cc))
@@ -558,7 +558,7 @@ larger_capacity_is_some t cap limit some = by_growth t.growth
     by_growth One = omega arith
     by_growth Double = omega arith
 
--- where it is not 0 it becomes larger, and does not pass the limit
+-- if it is not 0 it becomes larger, and does not pass the limit
 pub larger_capacity_in_range : (t : Tables) (cap : ℕ) → 0 < cap → cap < t.limit
     → (cap < larger_capacity t cap) × (larger_capacity t cap ≤ t.limit)
 larger_capacity_in_range t cap some below = by_growth t.growth

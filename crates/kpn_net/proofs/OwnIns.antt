@@ -1,5 +1,5 @@
--- What a process can say and what it comes to: it depends on its own in channels alone, and of two things that it can
--- say one begins the other.
+-- What a process can say and what it comes to: both depend only on its own in channels. Of two things that it can say,
+-- one begins the other.
 use Rattle.std.proofs.Common.{◌≡◌, ◌⊎◌, ℕ, ◌+◌, List, [], ◌∷◌, map, refl, sym, ap, ◌∙◌, subst, arith}
 use Rattle.std.specs.Prelude.{Contains}
 use Rattle.kpn_lang.specs.declared.talk.Said.{Said}

@@ -1,5 +1,5 @@
--- The channels at the ports of a process: each stands at one port, and the ports tell which channels the process reads
--- and writes.
+-- The channels at the ports of a process. Each is at one port, and from the ports follows which channels the process
+-- reads and writes.
 use Rattle.std.proofs.Common.{◌≡◌, ◌↔◌, ℕ, zero, suc, ◌+◌, ◌<◌, ◌≤◌, cond, Bool, true, false, eqb, eq-eqb, add-zero, List, [], ◌∷◌, length, get_or, refl, sym, ap, ◌∙◌, subst, inl, inr, arith, length-append}
 use Rattle.std.specs.Prelude.{Contains}
 use Rattle.std.proofs.lemmas.List.{get_or_default, get_or_past}
@@ -14,7 +14,7 @@ use Rattle.kpn_net.specs.Waits.{AreDistinct}
 use Rattle.kpn_net.proofs.Networks.{StandsAt, IsInstance-of, IsProgram-of, one_writer, one_reader, writer_of-Writes, reader_of-Reads, Writes-writer_of, Reads-reader_of, Writes-below, Reads-below}
 use Rattle.kpn_net.proofs.Cycles.{Contains-none, Contains-first, Contains-later, Contains-cases}
 
--- ---- what stands at a port
+-- ---- what is at a port
 
 StandsAt-contained : (ports : List ℕ) (c : ℕ) → Contains ports c → StandsAt ports c
 StandsAt-contained ports c (port, below, e) =
@@ -23,7 +23,7 @@ StandsAt-contained ports c (port, below, e) =
 contained-StandsAt : (ports : List ℕ) (c : ℕ) → StandsAt ports c → Contains ports c
 contained-StandsAt ports c s = (s.port, s.there, get_or_default ports s.port c 0 s.there ∙ s.is)
 
--- who has a channel at a port is an instance
+-- a process that has a channel at a port is an instance
 has_ports : (ports : Instance → List ℕ) → ports (record { program = 0; ins = []; outs = []; pars = [] }) ≡ []
     → (t : Tables) (p c : ℕ) → Contains (ports (instance_at t p)) c → p < length t.instances
 has_ports ports none t p c h =
@@ -66,7 +66,7 @@ pub out_is_there : (t : Tables) → IsNetwork t → (p c : ℕ) → Contains (in
 out_is_there t network p c h =
     Writes-below t network p c (Writes-writer_of t p c ((writes_its_outs t network p c).1 h))
 
--- ---- each channel stands at one port
+-- ---- each channel is at one port
 
 places-positive : (c p : ℕ) (ports : List ℕ) → Contains ports c → 0 < length (places c p ports)
 places-positive c p [] h = absurd (Contains-none c h)
@@ -143,7 +143,7 @@ outs_distinct t network p below =
     places-le_ends (λ i. i.outs) c 0 p t.instances (record { program = 0; ins = []; outs = []; pars = [] }) below in
     omega arith)
 
--- of distinct channels none stands at two ports
+-- of distinct channels none is at two ports
 pub one_port : (ports : List ℕ) → AreDistinct ports → (i j : ℕ) → i < length ports → j < length ports
     → get_or ports i 0 ≡ get_or ports j 0 → i ≡ j
 one_port [] d i j h k e = absurd (omega arith)

@@ -96,7 +96,7 @@ Keeps-joined sides ends ports i p side other k h below e =
 
 -- ---- the outside's ends
 
--- the tables with the first instances alone
+-- the tables with only the first instances
 abbrev pub first_instances : ℕ → Tables → Tables
 first_instances p t = record t { instances = take p t.instances }
 

@@ -24,7 +24,7 @@ is_too_large t =
 abbrev pub lacks_its_program : Tables → Instance → Bool
 lacks_its_program t i = nat_le (length t.programs) i.program
 
--- ---- 12: an instance has not as many ports or parameters as its program
+-- ---- 12: an instance has other numbers of ports or parameters than its program
 
 abbrev pub matches_program : Instance → Parts → Bool
 matches_program i parts =
@@ -63,7 +63,7 @@ has_no_such_capacity limit (channel.Inner cap) = exceeds limit cap
 has_no_such_capacity limit channel.Source = false
 has_no_such_capacity limit (channel.Sink cap) = exceeds limit cap
 
--- the first channel with such a capacity; the number of channels where the limit itself is 0 or above the greatest
+-- the first channel with such a capacity; the number of channels if the limit itself is 0 or above the greatest
 -- capacity
 abbrev pub wrong_capacity : Tables → Option ℕ
 wrong_capacity t =
@@ -72,7 +72,7 @@ wrong_capacity t =
 
 -- ---- the rules together
 
--- the fault at the least number where there is one, else what comes after
+-- the fault at the least number if there is one, else what comes after
 abbrev pub first_at : Option ℕ → (ℕ → NetFault) → Option NetFault → Option NetFault
 first_at None fault after = after
 first_at (Some number) fault after = Some (fault number)
@@ -99,7 +99,7 @@ channels_fault t =
     first_at (position are_several (map (readers_of t) (channel_numbers t))) TwoReaders (
     first_at (wrong_capacity t) Capacity None))))
 
--- the first rule that the tables break: each is looked for in the whole network before the next
+-- the first rule that the tables break: each is tested on the whole network before the next
 abbrev pub first_fault : Tables → Option NetFault
 first_fault t = or_else (instances_fault t) (channels_fault t)
 

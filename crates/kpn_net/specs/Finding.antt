@@ -18,7 +18,7 @@ pub record IsSmallestOfCycle (t : Tables) (waits : List Wait) (cap : ℕ → ℕ
   pub cycle : IsCycle t waits p others
   pub smallest : IsSmallest cap (full_channels waits (p ∷ others)) c
 
--- what is found of the cycle through p
+-- what a search finds of the cycle through p
 abbrev pub Finds : Tables → List Wait → (cap : ℕ → ℕ) → (p : ℕ) → Found → Type 0
 Finds t waits cap p NoCycle = (others : List ℕ) → ¬ IsCycle t waits p others
 Finds t waits cap p AllEmpty = IsCycleWithoutFull t waits p

@@ -1,5 +1,5 @@
--- Kahn's iteration and the least solution of a network (Kahn 1974: the streams of a network are the least solution of
--- its processes' equations, which is the limit of repeated rounds from empty streams).
+-- Kahn's iteration and the least solution of a network. In Kahn 1974 the streams of a network are the least solution of
+-- its processes' equations. It is the limit of repeated rounds from empty streams.
 use Rattle.std.specs.Prelude.{◌≡◌, ℕ, zero, suc, true, false, if◌then◌else◌, nat_eq, ℤ, List, [], ◌∷◌, map, take, count_by, slice_index, slice_index_or, slice_get, Some, ◌<◌}
 use Rattle.kpn_lang.specs.declared.talk.Said.{Said}
 use Rattle.kpn_lang.specs.declared.talk.Said.TheVariants.{Got, Put}
@@ -10,7 +10,7 @@ use Rattle.kpn_net.specs.Tables.{Tables, channel_at, is_source, writer_of}
 use Rattle.kpn_net.specs.Faults.{channel_numbers}
 use Rattle.kpn_net.specs.Process.{Family, out_of}
 
--- what an end writes on a channel where the processes run on a family: a process puts its items, the outside none
+-- what an end writes on a channel when the processes run on a family: a process puts its items, the outside none
 abbrev pub written_by : Tables → (n : ℕ) → Family → (c : ℕ) → End → List ℤ
 written_by t n X c (Process p) = out_of t p n X c
 written_by t n X c Source = []
@@ -28,7 +28,7 @@ first_round t given = given_or t given (λ c. [])
 abbrev pub next_round : Tables → Family → (n : ℕ) → Family → Family
 next_round t given n X = given_or t given (λ c. written_by t n X c (writer_of t c))
 
--- round k, where each loop that is entered has n turns
+-- round k, if each loop that a process enters has n turns
 abbrev pub round : Tables → Family → (n k : ℕ) → Family
 round t given n zero = first_round t given
 round t given n (suc k) = next_round t given n (round t given n k)
@@ -37,7 +37,7 @@ round t given n (suc k) = next_round t given n (round t given n k)
 abbrev pub iterate : Tables → Family → (n : ℕ) → Family
 iterate t given n = round t given n n
 
--- each list that is given on a source is a prefix of the other that is
+-- on each source, the given list is a prefix of the other given list
 pub record IsPrefixOnSources (t : Tables) (given more : Family) : Type 0 where
   pub each : (c : ℕ) → is_source (channel_at t c) ≡ true → IsPrefix (given c) (more c)
 
@@ -57,7 +57,7 @@ pub record IsLeast (t : Tables) (given : Family) (c : ℕ) (xs : List ℤ) : Typ
   pub below : IsBelowLeast t given c xs
   pub above : (n : ℕ) → IsPrefix (iterate t given n c) xs
 
--- the family has the given lists on the sources, and contains on each other channel what its writer puts there on the
+-- the family has the given lists on the sources; on each other channel it contains what its writer puts there on the
 -- family itself, with any number of turns
 pub record IsClosed (t : Tables) (given : Family) (X : Family) : Type 0 where
   pub fed : (c : ℕ) → is_source (channel_at t c) ≡ true → X c ≡ given c
@@ -69,8 +69,8 @@ pub record IsClosed (t : Tables) (given : Family) (X : Family) : Type 0 where
 abbrev pub sources : Tables → ℕ
 sources t = count_by is_source t.channels
 
--- a list for each source, in order of channel number, as a family: that of a source has as many lists before it as
--- there are sources before
+-- a list for each source, in order of channel number, as a family; before the list of a source come as many lists as
+-- there are sources before it
 abbrev pub given_by : Tables → List (List ℤ) → Family
 given_by t lists c = slice_index_or lists (count_by is_source (take c t.channels)) []
 
@@ -80,7 +80,7 @@ lists_of t X = map X (channel_numbers t)
 
 -- ---- scaffolding: what the code's loop over a talk keeps
 
--- the items that a talk puts on a channel, where these are the channels at its out ports
+-- the items that a talk puts on a channel, if these are the channels at its out ports
 abbrev pub put_on : (outs : List ℕ) → List Said → (c : ℕ) → List ℤ
 put_on outs [] c = []
 put_on outs (Got port v ∷ talk) c = put_on outs talk c

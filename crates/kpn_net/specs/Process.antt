@@ -22,7 +22,7 @@ IsFamilyPrefix X Y = (c : ℕ) → IsPrefix (X c) (Y c)
 pub record AgreeOnIns (t : Tables) (p : ℕ) (X Y : Family) : Type 0 where
   pub each : (c : ℕ) → Contains (instance_at t p).ins c → X c ≡ Y c
 
--- what is said at a port is said of the channel at that port
+-- what is said at a port, as said of the channel at that port
 abbrev pub at_channel : Instance → Said → Said
 at_channel i (Got port v) = Got (slice_index i.ins port) v
 at_channel i (Put port v) = Put (slice_index i.outs port) v
@@ -37,11 +37,11 @@ ends_at_channel i Cut = Cut
 abbrev pub ran_on : Tables → (p n : ℕ) → Family → Ran
 ran_on t p n X = alone (program_of t p) (instance_at t p).pars n (map X (instance_at t p).ins)
 
--- what it says, of channels in place of ports
+-- what it says, with channels in place of ports
 abbrev pub talk_on : Tables → (p n : ℕ) → Family → List Said
 talk_on t p n X = map (at_channel (instance_at t p)) (ran_on t p n X).talk
 
--- how it ends, at a channel in place of a port
+-- how it ends, with a channel in place of a port
 abbrev pub ending_on : Tables → (p n : ℕ) → Family → Ending
 ending_on t p n X = ends_at_channel (instance_at t p) (ran_on t p n X).ending
 

@@ -1,18 +1,18 @@
--- Scaffolding: what the code's tables keep of the ends at one side of a channel: which it is if there is one. The
--- contracts of private functions speak of it.
+-- Scaffolding: what the code's tables keep of the ends at one side of a channel: the end itself if there is only one.
+-- Only contracts of private functions use it.
 use Rattle.std.specs.Prelude.{◌≡◌, ℕ, Bool, true, false, List, [], ◌∷◌, length, map}
 use Rattle.std.specs.List.{range_with_len}
 use Rattle.kpn_net.specs.declared.tables.End.{End}
 use Rattle.kpn_net.specs.declared.network.sides.Side.{Side}
 use Rattle.kpn_net.specs.declared.network.sides.Side.TheVariants.{Nobody, One, Several}
 
--- what is kept of these ends
+-- what the tables keep of these ends
 abbrev pub side_of : List End → Side
 side_of [] = Nobody
 side_of (end ∷ []) = One end
 side_of (end ∷ other ∷ ends) = Several
 
--- what is kept with one end more
+-- what they keep with one end more
 abbrev pub joined : Side → End → Side
 joined Nobody end = One end
 joined (One other) end = Several
@@ -28,7 +28,7 @@ is_several Nobody = false
 is_several (One end) = false
 is_several Several = true
 
--- the end where there is one, else the other one
+-- the end if there is one, else the other one
 abbrev pub end_or : End → Side → End
 end_or other Nobody = other
 end_or other (One end) = end

@@ -1,5 +1,5 @@
--- The tables of a network, and the ends of its channels (Kahn 1974: sequential processes joined by one-way channels,
--- each with one writer and one reader; Parks 1995: a channel has a capacity).
+-- The tables of a network, and the ends of its channels. As in Kahn 1974, one-way channels, each with one writer and
+-- one reader, join sequential processes. As in Parks 1995, a channel has a capacity.
 use Rattle.std.specs.Prelude.{ℕ, suc, ◌+◌, ◌*◌, min, Bool, true, false, nat_eq, if◌then◌else◌, List, [], ◌∷◌, ◌++◌, slice_index_or, Option, Some, None}
 use Rattle.kpn_lang.specs.Parts.{Parts}
 use Rattle.kpn_net.specs.declared.tables.ChannelSpec.{ChannelSpec}
@@ -11,7 +11,7 @@ use Rattle.kpn_net.specs.declared.tables.Policy.{Policy}
 use Rattle.kpn_net.specs.declared.tables.Growth.{Growth}
 use Rattle.kpn_net.specs.declared.tables.Growth.TheVariants.{One, Double}
 
--- the programs, the instances of them, which are the processes, the channels, the limit of each capacity, which
+-- the programs, the instances of them, which are the processes, and the channels; the limit of each capacity, which
 -- channels grow, and how large a channel becomes then
 pub record Tables : Type 0 where
   pub programs : List Parts
@@ -57,13 +57,13 @@ is_sink (channel.Inner cap) = false
 is_sink channel.Source = false
 is_sink (channel.Sink cap) = true
 
--- how many items may lie unread on it; a source has no such bound
+-- how many items may be unread on it; a source has no such bound
 abbrev pub capacity : ChannelSpec → Option ℕ
 capacity (channel.Inner cap) = Some cap
 capacity channel.Source = None
 capacity (channel.Sink cap) = Some cap
 
--- the capacity after one growth: 1 larger, or twice as large where that is not above the limit
+-- the capacity after one growth: 1 larger, or twice as large, but at most the limit
 abbrev pub grown : Growth → (limit cap : ℕ) → ℕ
 grown One limit cap = cap + 1
 grown Double limit cap = min (2 * cap) limit
@@ -77,7 +77,7 @@ abbrev pub places : (c p : ℕ) → (ports : List ℕ) → List End
 places c p [] = []
 places c p (d ∷ ports) = if nat_eq d c then Process p ∷ places c p ports else places c p ports
 
--- the same for the ports of each instance, where the first has the number p
+-- the same for the ports of each instance, if the first has the number p
 abbrev pub ends_from : (Instance → List ℕ) → (c p : ℕ) → List Instance → List End
 ends_from ports c p [] = []
 ends_from ports c p (instance ∷ instances) = places c p (ports instance) ++ ends_from ports c (suc p) instances
@@ -90,10 +90,10 @@ writers_of t c = (if is_source (channel_at t c) then Source ∷ [] else []) ++ e
 abbrev pub readers_of : Tables → ℕ → List End
 readers_of t c = (if is_sink (channel_at t c) then Sink ∷ [] else []) ++ ends_from (λ i. i.ins) c 0 t.instances
 
--- the writer of a channel: in a network it has one. Where there is none it is the sink, which writes nothing
+-- the writer of a channel: in a network it has one. If there is none it is the sink, which writes nothing
 abbrev pub writer_of : Tables → ℕ → End
 writer_of t c = slice_index_or (writers_of t c) 0 Sink
 
--- the reader of a channel: in a network it has one. Where there is none it is the source, which reads nothing
+-- the reader of a channel: in a network it has one. If there is none it is the source, which reads nothing
 abbrev pub reader_of : Tables → ℕ → End
 reader_of t c = slice_index_or (readers_of t c) 0 Source

@@ -10,7 +10,7 @@ use Rattle.kpn_net.specs.declared.network.parts.Parts as held
 use Rattle.kpn_net.specs.Tables.{Tables, writer_of, reader_of}
 use Rattle.kpn_net.specs.Faults.{IsNetwork, channel_numbers}
 
--- the tables of the parts that are handed in
+-- the tables of the parts that a caller passes in
 abbrev pub tables_with : List Parts → List Instance → List ChannelSpec → (limit : ℕ) → Policy → Growth → Tables
 tables_with programs instances channels limit policy growth =
     record {

@@ -1,5 +1,5 @@
--- What processes wait for, and cycles of waiting processes (this project's rule, after Geilen and Basten 2003: each
--- process waits on one channel, which has one other end, so it waits for at most one process).
+-- What processes wait for, and cycles of waiting processes. This is this project's rule, after Geilen and Basten 2003:
+-- each process waits on one channel, which has one other end, so it waits for at most one process.
 use Rattle.std.specs.Prelude.{◌≡◌, ℕ, ◌<◌, ◌≤◌, ◌⊎◌, List, [], ◌∷◌, length, Option, Some, None, Contains, slice_index_or}
 use Rattle.std.specs.List.{filter_map, range_with_len}
 use Rattle.kpn_net.specs.declared.wait.Wait.{Wait}
@@ -25,19 +25,19 @@ pub record AreWaits (t : Tables) (waits : List Wait) : Type 0 where
 
 -- ---- cycles of waiting processes
 
--- the process at an end of a channel, where it is one
+-- the process at an end of a channel, if there is one
 abbrev pub process_at : End → Option ℕ
 process_at (Process p) = Some p
 process_at Source = None
 process_at Sink = None
 
--- the process that is waited for: on an empty channel its writer, on a full one its reader, where that is a process
+-- the process that a wait is for: on an empty channel its writer, on a full one its reader, if that is a process
 abbrev pub awaited : Tables → Wait → Option ℕ
 awaited t Nobody = None
 awaited t (Empty c) = process_at (writer_of t c)
 awaited t (Full c) = process_at (reader_of t c)
 
--- the channel that is waited on as full
+-- the channel that the process waits on as full
 abbrev pub full_channel : Wait → Option ℕ
 full_channel Nobody = None
 full_channel (Empty c) = None
@@ -76,7 +76,7 @@ pub record IsSmallest (cap : ℕ → ℕ) (channels : List ℕ) (c : ℕ) : Type
   pub among : Contains channels c
   pub least : (d : ℕ) → Contains channels d → (cap c < cap d) ⊎ ((cap c ≡ cap d) × (c ≤ d))
 
--- a search for the smallest of these channels finds this: it, or none where there are none
+-- a search for the smallest of these channels finds this: the smallest, or none if there are no channels
 abbrev pub FindsSmallest : (cap : ℕ → ℕ) → (channels : List ℕ) → Option ℕ → Type 0
 FindsSmallest cap channels None = channels ≡ []
 FindsSmallest cap channels (Some c) = IsSmallest cap channels c

@@ -11,7 +11,7 @@ pub enum NetFault {
     TooMany,
     /// 11: this instance names a program that is not there.
     NoSuchProgram(usize),
-    /// 12: this instance has not as many in ports, out ports or parameters as its program.
+    /// 12: the numbers of in ports, out ports and parameters of this instance are not those of its program.
     PortCount(usize),
     /// 19: this instance names a channel that is not there.
     NoSuchChannel(usize),
@@ -23,8 +23,8 @@ pub enum NetFault {
     NoReader(usize),
     /// 16: more than one end reads this channel.
     TwoReaders(usize),
-    /// 17: the capacity of this channel is 0 or above the limit; the number of channels where the limit
-    /// itself is 0 or above `MAX_CAPACITY`.
+    /// 17: the capacity of this channel is 0 or above the limit. If the limit itself is 0 or above `MAX_CAPACITY`, the
+    /// fault has the number of channels instead.
     Capacity(usize),
     /// 18: memory ran out.
     NoMemory,

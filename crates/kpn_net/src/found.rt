@@ -7,7 +7,7 @@ pub enum Found {
     NoCycle,
     /// There is a cycle, and each of its members waits on an empty channel.
     AllEmpty,
-    /// There is a cycle, and this is the smallest of the channels on which its members wait as full:
-    /// that of least capacity, on a tie that of least number.
+    /// There is a cycle, and this is the smallest of the channels on which its members wait as full: the one of least
+    /// capacity, on a tie the one of least number.
     Full(usize),
 }

@@ -1,4 +1,4 @@
-//! Kahn's iteration on whole lists: each process is run alone, round after round.
+//! Kahn's iteration on whole lists: it runs each process alone, round after round.
 ghost use Rattle.std.specs.Prelude.{◌≡◌, ℕ, ◌<◌, ℤ, List, [], ◌++◌, length, map, slice_index_or, IfOk, All};
 ghost use Rattle.kpn_net.specs.Process.{Family, ran_on, out_of};
 ghost use Rattle.kpn_net.specs.Iteration.{first_round, next_round, iterate, sources, given_by, put_on, lists_of, NamesOutsBelow};
@@ -10,9 +10,8 @@ use crate::tables::End;
 use kpn_lang::{Run, Said, Sequence, run_alone};
 use std::alloc::{AllocError, Global};
 
-/// The `n`-th iterate of Kahn's iteration: round `n`, where each loop that a process enters has `n` turns.
-/// It has a list for each channel, in order of number. `given` has a list for each source, in order of
-/// channel number.
+/// The `n`-th iterate of Kahn's iteration: round `n`, if each loop that a process enters has `n` turns. It has a list
+/// for each channel, in order of number. `given` has a list for each source, in order of channel number.
 pub fn rounds(
     alloc: Global,
     network: &Network,
@@ -59,7 +58,7 @@ fn first(
     Ok(lists)
 }
 
-/// The round after this one, where each loop that a process enters has this many turns.
+/// The round after this one, if each loop that a process enters has this many turns.
 fn next(
     alloc: Global,
     network: &Network,
@@ -81,7 +80,7 @@ fn next(
     Ok(lists)
 }
 
-/// Appends what process `p` puts on each channel, where the processes run on the lists of the round before.
+/// Appends what process `p` puts on each channel when it runs on the lists of the round before.
 fn put_out(
     alloc: Global,
     network: &Network,
@@ -122,8 +121,7 @@ fn run_on(
     run_alone(alloc, network.program(p), network.pars(p), &ins, turns)
 }
 
-/// Appends to the list of each channel the items that a talk puts there, where `outs` are the channels at
-/// the out ports.
+/// Appends to the list of each channel the items that a talk puts there. `outs` are the channels at the out ports.
 fn append(talk: &[Said], outs: &[usize], lists: &mut [Sequence<i64>]) -> Result<(), AllocError>
     requires ports { NamesOutsBelow (length outs.now) talk.now }
     requires channels { All (λ c. c < length lists.old) outs.now }

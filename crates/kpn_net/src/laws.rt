@@ -1,5 +1,5 @@
-//! What holds of every network, of its processes and of Kahn's iteration on it, as the contracts of
-//! functions with nothing to do: the layers above cite them.
+//! What holds of every network, of its processes and of Kahn's iteration on it, as contracts of functions that do
+//! nothing. The layers above cite them.
 ghost use Rattle.std.specs.Prelude.{◌≡◌, ◌≢◌, ◌↔◌, ℕ, ◌<◌, ◌≤◌, ◌⊎◌, List, [], ◌∷◌, length, IsTrue, Contains};
 ghost use Rattle.kpn_lang.specs.declared.talk.Said.{Said};
 ghost use Rattle.kpn_lang.specs.declared.talk.Ending.{Ending};
@@ -90,8 +90,8 @@ pub fn each_port_has_its_channel()
         → length (instance_at t p).outs ≤ MAX_PORTS }
 {}
 
-/// What a process can say: each beginning of it, the same on longer lists, and the same on lists that agree
-/// on its own in channels. Of two things that it can say on the same lists one begins with the other.
+/// What a process can say: each beginning of it, the same on longer lists, and the same on lists that agree on its own
+/// in channels. Of two things that it can say on the same lists, one begins the other.
 pub fn can_say()
     ensures beginning { (t : Tables) (p : ℕ) (lists : Family) (talk longer : List Said)
         → IsPrefix talk longer → CanSay t p lists longer → CanSay t p lists talk }
@@ -104,7 +104,7 @@ pub fn can_say()
         → (IsPrefix talk other ⊎ IsPrefix other talk) }
 {}
 
-/// What a process comes to depends on the lists of its own in channels alone.
+/// What a process comes to depends only on the lists of its own in channels.
 pub fn comes_to_by_its_ins()
     ensures { (t : Tables) (p : ℕ) (lists others : Family) → AgreeOnIns t p lists others
         → (ending : Ending) (talk : List Said)
@@ -117,13 +117,13 @@ pub fn iterate_grows()
         → IsFamilyPrefix (iterate t given n) (iterate t given m) }
 {}
 
-/// Where more is given on the sources, each iterate only adds items.
+/// If more is given on the sources, each iterate only adds items.
 pub fn iterate_grows_with_sources()
     ensures { (t : Tables) (given more : Family) → IsPrefixOnSources t given more → (n : ℕ)
         → IsFamilyPrefix (iterate t given n) (iterate t more n) }
 {}
 
-/// Each iterate depends on the lists that are given on the sources, and on no others.
+/// Each iterate depends only on the lists that are given on the sources.
 pub fn iterate_depends_on_sources()
     ensures { (t : Tables) (given other : Family) → AgreeOnSources t given other → (n c : ℕ)
         → iterate t given n c ≡ iterate t other n c }

@@ -49,10 +49,10 @@ impl Model for Network {
 impl Network {
     /// The network of these tables.
     ///
-    /// `limit` bounds each capacity and is 1 to `MAX_CAPACITY`. `policy` says which channels grow,
-    /// `growth` how large. The fault is that of the first rule that the tables break, each looked for in the
-    /// whole network before the next, at the least number. The order is that of `NetFault`. Memory is asked
-    /// for last. The work grows no faster than the network's size.
+    /// `limit` bounds each capacity and is 1 to `MAX_CAPACITY`. `policy` says which channels grow, `growth` how large.
+    /// The fault is that of the first rule that the tables break, in the order of `NetFault`, at the least number. It
+    /// tests each rule on the whole network before the next. It asks for memory last. The work grows no faster than the
+    /// network's size.
     pub fn new(
         alloc: Global,
         programs: Vec<Program>,
@@ -185,14 +185,14 @@ impl Network {
         self.readers[c]
     }
 
-    /// Whether channel `c` is a source, which the outside writes. A channel that is not there is none.
+    /// Whether channel `c` is a source, which the outside writes. A channel that is not there is no source.
     pub fn is_source(&self, c: usize) -> bool
         ensures { result ≡ is_source (channel_at self.now c) }
     {
         matches!(self.parts.channels.get(c), Some(ChannelSpec::Source))
     }
 
-    /// Whether channel `c` is a sink, which the outside reads. A channel that is not there is none.
+    /// Whether channel `c` is a sink, which the outside reads. A channel that is not there is no sink.
     pub fn is_sink(&self, c: usize) -> bool
         ensures { result ≡ is_sink (channel_at self.now c) }
     {
@@ -235,7 +235,7 @@ impl Network {
         self.parts.policy
     }
 
-    /// How large a channel becomes where it grows.
+    /// How large a channel becomes when it grows.
     pub fn growth(&self) -> Growth
         ensures { result ≡ self.now.growth }
     {
@@ -278,7 +278,7 @@ impl Network {
         }
     }
 
-    /// Nothing: it tells a caller's proof that the network keeps the rules.
+    /// Does nothing. A caller's proof learns from it that the network keeps the rules.
     pub fn known(&self)
         ensures { IsNetwork self.now }
     {

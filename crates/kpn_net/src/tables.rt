@@ -1,7 +1,7 @@
 //! What the tables of a network are made of.
 use kpn_lang::Sequence;
 
-/// A channel of a network, by what stands at its outer end.
+/// A channel of a network, by what is at its outer end.
 #[derive(Clone, Copy, Debug, PartialEq, Eq)]
 pub enum ChannelSpec {
     /// From process to process, with this capacity.
@@ -21,12 +21,12 @@ pub enum Policy {
     All,
 }
 
-/// How large a channel becomes where it grows.
+/// How large a channel becomes when it grows.
 #[derive(Clone, Copy, Debug, PartialEq, Eq)]
 pub enum Growth {
     /// Its capacity becomes 1 larger.
     One,
-    /// Its capacity becomes twice as large, or the limit where that is less.
+    /// Its capacity becomes twice as large, or the limit if that is less.
     Double,
 }
 

@@ -7,6 +7,6 @@ pub enum Wait {
     Nobody,
     /// For an item on this empty channel.
     Empty(usize),
-    /// Until this full channel is full no more.
+    /// Until this full channel is not full any more.
     Full(usize),
 }

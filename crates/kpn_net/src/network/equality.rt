@@ -1,4 +1,4 @@
-//! Equality of the parts of networks by value: places in memory do not count.
+//! Equality of the parts of networks by value, wherever they are in memory.
 ghost use Rattle.std.specs.Prelude.{◌≡◌, ◌↔◌, IsTrue};
 
 use crate::network::parts::Parts;

@@ -1,4 +1,4 @@
-//! The parts of a network before they are known to keep the rules, with a test for each rule.
+//! The parts of a network before anything is known of the rules, with a test for each rule.
 ghost use Rattle.std.specs.Prelude.{◌≡◌, ℕ, ◌∷◌, [], length, position, None, All, if◌then◌else◌, nat_le};
 ghost use Rattle.std.specs.List.{list_any};
 ghost use Rattle.kpn_lang.specs.Parts.{IsProgram};
@@ -82,7 +82,7 @@ impl Parts {
         None
     }
 
-    /// The first rule that the channels break, where these are their sides.
+    /// The first rule that the channels break, if these are their sides.
     pub fn channels_fault(&self, writers: &[Side], readers: &[Side]) -> Option<NetFault>
         requires writers_len { length writers.now ≡ length self.now.channels.items }
         requires readers_len { length readers.now ≡ length self.now.channels.items }
@@ -170,7 +170,7 @@ impl Parts {
         first_wrong_capacity(self.limit, &self.channels)
     }
 
-    /// Nothing: it tells a caller's proof that each program keeps the rules.
+    /// Does nothing. A caller's proof learns from it that each program keeps the rules.
     pub fn known_programs(&self)
         ensures { All IsProgram self.now.programs.items }
     {

@@ -1,5 +1,5 @@
-//! How many ends each channel has at its writing and at its reading side. The counts stand in arrays, so
-//! that the rules on channels are tested before any memory is asked for.
+//! How many ends each channel has at its writing and at its reading side. The counts are in arrays, so that the rules
+//! on channels are tested before the code asks for memory.
 ghost use Rattle.std.specs.Prelude.{◌≡◌, ℕ, ◌+◌, ◌<◌, ◌≤◌, List, ◌++◌, length, position, map, All, IfOk, take};
 ghost use Rattle.std.specs.List.{range_with_len};
 ghost use Rattle.kpn_net.specs.declared.tables.End.{End};
@@ -9,12 +9,12 @@ ghost use Rattle.kpn_net.specs.Sides.{side_of, joined, is_nobody, is_several, en
 use crate::tables::{ChannelSpec, End, Instance};
 use std::alloc::{AllocError, Global};
 
-/// What was found at one side of a channel.
+/// What is at one side of a channel.
 #[derive(Clone, Copy, Debug)]
 pub enum Side {
     /// Nothing.
     Nobody,
-    /// This end alone.
+    /// Only this end.
     One(End),
     /// More than one end.
     Several,
@@ -65,7 +65,7 @@ pub fn first_several(sides: &[Side]) -> Option<usize>
     sides.iter().position(|side| matches!(side, Side::Several))
 }
 
-/// The end at this side of each channel, and `other` where there is none or more than one.
+/// The end at this side of each channel, and `other` if there is none or more than one.
 pub fn ends(alloc: Global, sides: &[Side], other: End) -> Result<Vec<End>, AllocError>
     ensures { IfOk result (λ ends. ends.items ≡ map (end_or other) sides.now) }
 {

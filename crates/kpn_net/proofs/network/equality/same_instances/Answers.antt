@@ -1,4 +1,4 @@
--- As many are equal where each pair is.
+-- As many are equal if each pair is.
 use Rattle.std.proofs.Common.{rules, tests}
 use Rattle.std.proofs.lemmas.Iterator.{YieldsList-from_slice, YieldsList-from_zip, cases_from_all}
 use Rattle.kpn_lang.proofs.Pairs.{Alike, Differ}
