@@ -44,7 +44,7 @@ pub record IsBelowIterate (t : Tables) (given : Family) (H : List Event) : Type 
   pub below : IsFamilyPrefix (written_on H) (iterate t given turns)
 
 module _ (t : Tables) (network : IsNetwork t) (given : Family) where
-  -- an event that writes on sources alone
+  -- an event that writes only on sources
   keeps : (B : List Event) (e : Event) → IsPrefixOnSources t (written_on (B ++ e ∷ [])) given
       → ((c : ℕ) → is_source (channel_at t c) ≡ false → written_in c e ≡ []) → IsBelowIterate t given B
       → IsBelowIterate t given (B ++ e ∷ [])

@@ -122,9 +122,9 @@ capacity_of_growth t B p d n cap is =
     ∙ ap (option_map (larger_if t (eqb d d))) is
     ∙ ap (λ b. Some (larger_if t b cap)) (eq-eqb d d refl)
 
--- ---- capacities lie from 1 to the limit
+-- ---- capacities are from 1 to the limit
 
--- the capacity of a channel of the network, where it has one, is from 1 to the limit
+-- the capacity of a channel of the network, if it has one, is from 1 to the limit
 pub record IsInLimit (t : Tables) (H : List Event) : Type 0 where
   pub each : (c cap : ℕ) → c < length t.channels → capacity_after t H c ≡ Some cap → (0 < cap) × (cap ≤ t.limit)
 

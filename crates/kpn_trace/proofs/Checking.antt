@@ -1,4 +1,4 @@
--- The way from a process to the next that it waits for, in a history: where it comes round it is a blocked cycle.
+-- The way from a process to the next that it waits for, in a history. If it comes round, it is a blocked cycle.
 use Rattle.std.proofs.Common.{◌≡◌, ℕ, suc, Bool, true, false, List, [], length, arith}
 use Rattle.kpn_net.specs.declared.wait.Wait.{Wait}
 use Rattle.kpn_net.specs.declared.wait.Wait.TheVariants.{Nobody, Empty, Full}

@@ -1,5 +1,5 @@
--- An event makes nobody blocked but the process whose wait it is: after any other event, who is blocked was blocked on
--- the same channel before. So a blocked cycle without that process stood before.
+-- An event makes nobody blocked but the process whose wait it is. After any other event, a blocked process was blocked
+-- on the same channel before. So a blocked cycle without that process was there before.
 use Rattle.std.specs.Prelude.{Contains}
 use Rattle.std.proofs.Common.{◌≡◌, ◌≢◌, ℕ, ◌<◌, Bool, true, false, cond, zero-add, List, [], ◌∷◌, ◌++◌, length, Some, None, refl, sym, ap, ◌∙◌, subst, inl, inr}
 use Rattle.std.specs.List.{cons_option}
@@ -20,7 +20,7 @@ use Rattle.kpn_trace.specs.WaitsAfter.{wait_made, wait_kept}
 use Rattle.kpn_trace.specs.Legal.{waiter, Legal}
 use Rattle.kpn_trace.proofs.WaitsAfter.{wait_of-more}
 
--- ---- who is blocked was blocked before
+-- ---- a blocked process was blocked before
 
 -- an event of a process that makes it wait is its wait
 its_wait : (p : ℕ) (e : Event) → is_of p e ≡ true → wait_made e ≢ Nobody → waiter e ≡ Some p

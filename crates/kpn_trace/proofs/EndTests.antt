@@ -1,4 +1,4 @@
--- Plain tests of how a history may end, and what a yes of each tells: quiet, settled, and each verdict.
+-- Plain tests of how a history may end, and what follows from a yes of each: quiet, settled, and each verdict.
 use Rattle.std.specs.Prelude.{Contains}
 use Rattle.std.proofs.Common.{◌≡◌, ℕ, ◌<◌, ◌⊎◌, inl, inr, Bool, true, false, not, ◌&&◌, ◌||◌, List, [], ◌∷◌, length, Some, refl, subst}
 use Rattle.std.proofs.lemmas.Bool.{and_parts, or_cases, not-true, not-false, not_from_false, both_ways, cases_Bool}

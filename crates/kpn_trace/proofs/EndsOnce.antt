@@ -1,4 +1,4 @@
--- A process has ended where some end of it is among the events; in a legal history that is one event.
+-- A process has ended if some end of it is among the events. In a legal history that is one event.
 use Rattle.std.specs.Prelude.{Contains, slice_get}
 use Rattle.std.proofs.Common.{◌≡◌, ◌↔◌, ◌⊎◌, ℕ, zero, suc, true, eq-eqb, List, [], ◌∷◌, ◌++◌, length, Option, Some, refl, sym, ap, ◌∙◌, subst, inl, inr}
 use Rattle.std.proofs.lemmas.Bool.{both_ways, eqb-true, false≢true, or_cases, or_left, or_right}

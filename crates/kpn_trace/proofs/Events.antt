@@ -25,7 +25,7 @@ pub flat_map-grows : {X A : Type 0} (f : X → List A) (xs : List X) (x : X)
     → IsPrefix (flat_map f xs) (flat_map f (xs ++ x ∷ []))
 flat_map-grows f xs x = rw (flat_map-push f xs x) (IsPrefix-append (flat_map f xs) (f x))
 
--- where the event adds nothing
+-- if the event adds nothing
 pub flat_map-same : {X A : Type 0} (f : X → List A) (xs : List X) (x : X) → f x ≡ []
     → flat_map f (xs ++ x ∷ []) ≡ flat_map f xs
 flat_map-same f xs x e = flat_map-push f xs x ∙ ap (λ ys. flat_map f xs ++ ys) e ∙ append-nil (flat_map f xs)

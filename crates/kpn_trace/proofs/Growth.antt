@@ -1,5 +1,5 @@
--- A blocked cycle with a full channel below the limit has the process whose wait is the last event as a member, in
--- every legal history. So the growth of its smallest full channel is owed, and where none is owed there is no such
+-- In every legal history, the process whose wait is the last event is a member of each blocked cycle with a full
+-- channel below the limit. So the growth of its smallest full channel is owed, and if none is owed there is no such
 -- cycle.
 use Rattle.std.specs.Prelude.{Contains}
 use Rattle.std.specs.List.{last_or}
@@ -181,7 +181,7 @@ full_of Nobody c e = absurd cc
 full_of (Empty d) c e = absurd cc
 full_of (Full d) c e = ap Full (Some-number d c e)
 
--- who waits on a channel as full in the table is blocked on it
+-- a process that waits on a channel as full in the table is blocked on it
 pub blocked_in_table : (t : Tables) (H : List Event) (p c : ℕ) → p < length t.instances
     → full_channel (wait_at (waits_of t H) p) ≡ Some c → wait_of t H p ≡ Full c
 blocked_in_table t H p c below is = sym (wait_at-waits_of t H p below) ∙ full_of _ c is
@@ -273,7 +273,7 @@ are_waiters t network =
     by_events t (AreWaiters t) (λ g. absurd (no_cycle_at_first t g))
     (λ B e legal waiters g. by_waiter t network B e legal waiters g (waiter e) refl)
 
--- where no growth is owed no cycle can grow
+-- if no growth is owed, no cycle can grow
 pub nothing_can_grow : (t : Tables) → IsNetwork t → (H : List Event) → Legal t H → OwesNothing t H → ¬ CanGrow t H
 nothing_can_grow t network H legal nothing g =
     let owed = grows_of t H g (are_waiters t network H legal g) in nothing owed.process owed.channel (inl owed.owed)

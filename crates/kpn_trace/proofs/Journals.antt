@@ -146,7 +146,7 @@ prefix_and_rest [] ys p = refl
 prefix_and_rest (x ∷ xs) [] p = absurd p
 prefix_and_rest (x ∷ xs) (y ∷ ys) p = let e = p.0 in let r = prefix_and_rest xs ys p.1 in cc
 
--- the journal is what was read and then what lies unread
+-- the journal is what was read and then what is unread
 pub read_then_unread : (t : Tables) (H : List Event) → Legal t H → (c : ℕ)
     → read_on H c ++ unread_on H c ≡ written_on H c
 read_then_unread t H legal c = prefix_and_rest (read_on H c) (written_on H c) (reads_begin_writes t H legal c)

@@ -24,7 +24,7 @@ take-prefix xs ys p k h =
     sym (take-append-le k xs r.0 h) ∙ ap (take k) r.1
 
 module _ (t : Tables) (network : IsNetwork t) where
-  -- all journals are below one iterate for given lists that what was fed begins
+  -- all journals are below one iterate for given lists that begin with what was fed
   pub below_one_iterate : (H : List Event) → Legal t H → (given : Family) → IsPrefixOnSources t (fed t H) given
       → IsBelowIterate t given H
   below_one_iterate H legal given s = journals_below t network given H legal (fed_on_sources t H given s)

@@ -7,7 +7,7 @@ use Rattle.kpn_net.specs.Tables.{Tables}
 use Rattle.kpn_trace.specs.declared.event.Event.{Event}
 use Rattle.kpn_trace.specs.Legal.{IsConsistent, MayFollow, Legal}
 
--- what has the last event of all also stands behind others
+-- a list that ends with one more event is no beginning of the empty list
 push_is_no_prefix_of_nil : (B : List Event) (e : Event) → IsPrefix (B ++ e ∷ []) [] → ⊥
 push_is_no_prefix_of_nil [] e p = p
 push_is_no_prefix_of_nil (x ∷ B) e p = p

@@ -1,4 +1,4 @@
--- What one more event changes, and that a legal history with it is legal exactly where that stands.
+-- What one more event changes, and that a legal history with it is legal if and only if these facts hold.
 use Rattle.std.proofs.Common.{◌≡◌, ◌↔◌, ℕ, suc, ◌+◌, ◌-◌, ◌<◌, ◌≤◌, Bool, true, false, not, ◌||◌, ℤ, cond, eqb, eq-eqb, List, [], ◌∷◌, ◌++◌, length, drop, count_by, Option, Some, None, refl, sym, ap, ◌∙◌, subst, inl, inr, arith, length-drop, length-append, option_map}
 use Rattle.std.proofs.lemmas.List.Folds.{list_any-append}
 use Rattle.std.proofs.lemmas.Bool.{cases_eq, both_ways, false_from_ne_true, false≢true, not-true, and_parts, and_cases, leb-true, leb-false, ne_eqb, or_parts, not_from_false}
@@ -58,7 +58,7 @@ CanSay-grows t p X Y talk b h =
           (talk_on-grows t p h.turns h.turns (omega arith) X Y b);
     }
 
--- ---- who lives, and capacities
+-- ---- which ends live, and capacities
 
 has_ended-before : (B : List Event) (e : Event) (p : ℕ) → has_ended (B ++ e ∷ []) p ≡ false → has_ended B p ≡ false
 has_ended-before B e p h = (or_parts (has_ended B p) _ (sym (list_any-append (is_end_of p) B (e ∷ [])) ∙ h)).0
@@ -76,7 +76,7 @@ pub reader_lives-before : (t : Tables) (B : List Event) (e : Event) (c : ℕ) �
     → reader_lives t B c ≡ true
 reader_lives-before t B e c h = lives-before B e c (reader_of t c) h
 
--- ---- what lies unread
+-- ---- what is unread
 
 pub unread_length : (H : List Event) (c : ℕ) → length (unread_on H c) ≡ length (written_on H c) - length (read_on H c)
 unread_length H c = length-drop (length (read_on H c)) (written_on H c)

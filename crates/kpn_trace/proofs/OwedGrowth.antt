@@ -1,5 +1,5 @@
--- The growth that is owed is what a search for the cycle through the last waiter finds, where that is below the limit;
--- its channel has a writer that waits on it as full.
+-- The growth that is owed is what a search for the cycle through the last waiter finds, if that is below the limit. Its
+-- channel has a writer that waits on it as full.
 use Rattle.std.specs.Option.{unwrap_or}
 use Rattle.std.proofs.Common.{◌≡◌, ◌↔◌, ℕ, ◌<◌, ◌≤◌, Bool, true, false, eq-eqb, List, [], ◌∷◌, ◌++◌, length, Some, refl, sym, ap, ◌∙◌, subst, inl, inr, arith}
 use Rattle.std.proofs.lemmas.Bool.{both_ways, cases_lt, false≢true}
@@ -207,7 +207,7 @@ pub no_stop_owed_after : (t : Tables) → IsNetwork t → (B : List Event) (e : 
     → goes_on e ≡ true → OwesNoStopGrowth t (B ++ e ∷ [])
 no_stop_owed_after t network B e legal goes p d owed = unsettled_after t network B e legal goes owed.settled
 
--- where nothing is owed at a stop under `all`, each channel on which a process waits as full is at the limit
+-- if nothing is owed at a stop under `all`, each channel on which a process waits as full is at the limit
 pub no_wait_left : (t : Tables) → IsNetwork t → (H : List Event) → Legal t H → OwesNothing t H → t.policy ≡ All
     → IsSettled t H → (p c : ℕ) → p < length t.instances → wait_of t H p ≡ wait.Full c
     → capacity_after t H c ≡ Some t.limit

@@ -1,4 +1,4 @@
--- The channel of each event of a legal history belongs to who made the event.
+-- The channel of each event of a legal history belongs to whatever made the event.
 use Rattle.std.proofs.Common.{◌≡◌, ℕ, ◌<◌, true, cond, eqb, eq-eqb, List, [], ◌∷◌, ◌++◌, length, refl, ap, ◌∙◌, subst}
 use Rattle.kpn_lang.specs.declared.talk.Said.{Said}
 use Rattle.kpn_lang.specs.declared.talk.Said.TheVariants as said
@@ -16,8 +16,8 @@ use Rattle.kpn_trace.proofs.Events.{talk_of-push}
 use Rattle.kpn_trace.proofs.Legality.{Legal-last, Legal-consistent}
 use Rattle.kpn_trace.proofs.Running.{CanSay-reads, CanSay-writes, ComesTo-reads}
 
--- a process reads the channels that it gets from and waits on as empty, and writes those that it puts on and waits on
--- as full; the outside feeds and closes sources, and takes from sinks and leaves them
+-- a process reads the channels that it gets from and waits on as empty. It writes those that it puts on and waits on as
+-- full. The outside feeds and closes sources, and takes from sinks and leaves them
 abbrev pub Owns : Tables → Event → Type 0
 Owns t (Get p c v) = Reads t p c
 Owns t (Put p c v) = Writes t p c

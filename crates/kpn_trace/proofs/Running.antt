@@ -1,5 +1,5 @@
--- A process alone on families of lists: what it says last names a channel of its own, and where it has come to an end
--- it says no more on longer lists.
+-- A process alone on families of lists. What it says last names a channel of its own. If it has come to an end, it says
+-- no more on longer lists.
 use Rattle.std.proofs.Common.{◌≡◌, ℕ, ◌<◌, max, ℤ, List, [], ◌∷◌, ◌++◌, length, get_or, map, refl, sym, ap, ◌∙◌, subst, arith}
 use Rattle.std.proofs.lemmas.List.{get_or-map}
 use Rattle.kpn_lang.specs.declared.talk.Said.{Said}
@@ -23,7 +23,7 @@ use Rattle.kpn_net.proofs.Ports.{SaidNames, TalkNames, EndingNames, RanNames, al
 
 -- ---- what a process says names its channels
 
--- a process's run names its ports alone
+-- a process's run names only its ports
 pub ran_on-names : (t : Tables) → IsNetwork t → (p : ℕ) → p < length t.instances → (n : ℕ) (X : Family)
     → RanNames (length (instance_at t p).ins) (length (instance_at t p).outs) (ran_on t p n X)
 ran_on-names t network p below n X =
@@ -33,7 +33,7 @@ ran_on-names t network p below n X =
     (subst (λ outs. RanNames (program_of t p).ins outs (ran_on t p n X)) (sym instance.outs)
     (alone-names (program_of t p) (IsProgram-of t network p below) i.pars n (map X i.ins)))
 
--- the channel of what is said stands at a port
+-- the channel of what is said is at a port
 abbrev pub SaidStands : Instance → Said → Type 0
 SaidStands i (Got c v) = StandsAt i.ins c
 SaidStands i (Put c v) = StandsAt i.outs c
@@ -101,7 +101,7 @@ ComesTo-reads t network p below X c talk h =
     let at = ComesTo-starved_at t network p below X c talk h in
     record { process = below; place = record { port = at.port; there = at.there; is = at.is } }
 
--- ---- where a process came to an end it says no more
+-- ---- a process that came to an end says no more
 
 -- done or faulted
 abbrev pub IsLast : Ending → Type 0
@@ -148,7 +148,7 @@ talk_settled-last t p X Y b ending talk last h n =
     talk_settled t p X Y b ending talk h
     (final_if_last (instance_at t p) (ran_on t p h.turns X).ending ending h.ended last (more_for t p X Y b)) n
 
--- a process that starved stays so where the list of that channel stays
+-- a process that starved stays so if the list of that channel stays
 pub talk_settled-starved : (t : Tables) → IsNetwork t → (p : ℕ) → p < length t.instances → (X Y : Family)
     → IsFamilyPrefix X Y → (c : ℕ) → Y c ≡ X c → (talk : List Said) → ComesTo t p X (Starved c) talk → (n : ℕ)
     → IsPrefix (talk_on t p n Y) talk

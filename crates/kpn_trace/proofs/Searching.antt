@@ -1,5 +1,5 @@
--- Plain tests, and what a yes of each tells: all numbers below one, members, and the way from one process to the next
--- that it waits for.
+-- Plain tests, and what follows from a yes of each: all numbers below one, members, and the way from one process to the
+-- next that it waits for.
 use Rattle.std.specs.Prelude.{nat_eq, Contains}
 use Rattle.std.proofs.Common.{◌≡◌, ℕ, zero, suc, ◌<◌, ◌+◌, inl, inr, Bool, true, false, ◌&&◌, List, [], ◌∷◌, length, Option, Some, None, refl, sym, ap, subst, ◌∙◌, arith}
 use Rattle.std.specs.List.{list_any, AllByRecursion, IsDistinct}
@@ -131,7 +131,7 @@ module _ (t : Tables) (waits : List Wait) (p : ℕ) where
   round_from seen q others next onwards (Some r) is e =
       round_by q others r (next r) is (onwards r) (nat_eq r p) refl (member r seen) e
 
-  -- who waits in turn for itself by a way is on a cycle
+  -- a process that waits in turn for itself by a way is on a cycle
   pub way-round : (steps : ℕ) (seen : List ℕ) (q : ℕ) (others : List ℕ) → way t waits p steps seen q ≡ Round others
       → ComesRound t waits p q others
   way-round zero seen q others e = absurd cc

@@ -1,5 +1,4 @@
--- The state of a process: it has stopped where its process has ended or is blocked, and it is one but for ready and
--- held.
+-- The state of a process. It has stopped if its process has ended or is blocked, and it is one but for ready and held.
 use Rattle.std.proofs.Common.{◌≡◌, ◌↔◌, ◌⊎◌, ℕ, zero, suc, ◌<◌, true, false, cond, List, [], ◌∷◌, length, get_or, count_by, refl, sym, ap, ◌∙◌, inl, inr, arith}
 use Rattle.std.proofs.lemmas.Bool.{both_ways, false≢true}
 use Rattle.std.proofs.lemmas.List.Sums.{sum_by-cons}
@@ -101,7 +100,7 @@ stopped_counts t H view agrees =
 
 -- ---- one state
 
--- of a process that lives: what it waits for tells its state
+-- of a process that lives: its state follows from what it waits for
 module _ (t : Tables) (H : List Event) (legal : Legal t H) (p : ℕ) where
   abbrev AreOne : State → State → Type 0
   AreOne s r = (s ≡ r) ⊎ ((is_stopped s ≡ false) × (is_stopped r ≡ false))

@@ -1,6 +1,6 @@
--- What each process is blocked on after one more event of a legal history: nobody becomes blocked again but by a wait
--- of its own, since only the process itself reads the channel that it waits on as empty, and only it writes the one
--- that it waits on as full.
+-- What each process is blocked on after one more event of a legal history. Only a wait of its own blocks a process
+-- again, since only the process itself reads the channel that it waits on as empty, and only it writes the one that it
+-- waits on as full.
 use Rattle.std.proofs.Common.{◌≡◌, ℕ, Bool, true, false, cond, ◌&&◌, ◌||◌, eqb, eq-eqb, List, [], ◌∷◌, ◌++◌, length, Option, Some, None, refl, sym, ap, ◌∙◌, subst, inl, inr, arith, drop}
 use Rattle.std.proofs.lemmas.Bool.{cases_Bool, both_ways, false_from_ne_true, and_parts, and_from, or_cases, cond_both, eqb-true, leb-true, le-leb, false≢true}
 use Rattle.kpn_net.specs.declared.wait.Wait.{Wait}
@@ -78,7 +78,7 @@ is_full-same t B e c writes reads grows stays =
     (capacity_after-same t B e c grows)
     ∙ ap (λ xs. reader_lives t B c && reaches (capacity_after t B c) (length xs)) (unread_on-same B e c writes reads)
 
--- where nothing is read, what is empty after was empty before
+-- if nothing is read, what is empty after was empty before
 empty_before : (B : List Event) (e : Event) (c : ℕ) → read_in c e ≡ [] → is_empty (B ++ e ∷ []) c ≡ true
     → is_empty B c ≡ true
 empty_before B e c none empty =
@@ -88,7 +88,7 @@ empty_before B e c none empty =
     let unread = ap length none in
     eq-eqb (length (unread_on B c)) 0 (omega arith)
 
--- what reaches the capacity after also reached it before, where nothing is written
+-- what reaches the capacity after also reached it before, if nothing is written
 reached_before : (t : Tables) (B : List Event) (e : Event) → MayFollow t B e → (c : ℕ) → written_in c e ≡ []
     → reaches (capacity_after t (B ++ e ∷ []) c) (length (unread_on (B ++ e ∷ []) c)) ≡ true
     → reaches (capacity_after t B c) (length (unread_on B c)) ≡ true

@@ -1,6 +1,6 @@
 -- Which events wake which waits, and what each process waits for after one more event of a legal history. A wait on an
--- empty channel ends with an item there. On a full channel whose reader lives exactly as many items are unread as its
--- capacity, so that one item less, or a capacity of one more, ends a wait there.
+-- empty channel ends with an item there. On a full channel whose reader lives, exactly as many items are unread as its
+-- capacity. So one item less, or a capacity of one more, ends a wait there.
 use Rattle.std.proofs.Common.{◌≡◌, ◌↔◌, ℕ, suc, ℤ, ◌<◌, Bool, true, false, not, ◌&&◌, cond, eqb, eq-eqb, List, [], ◌∷◌, ◌++◌, length, refl, sym, ap, ◌∙◌, subst, inl, inr, arith}
 use Rattle.std.proofs.lemmas.Bool.{cases_eq, false_from_ne_true, and_parts, false≢true, eqb-true, ne_eqb}
 use Rattle.kpn_lang.proofs.Prefixes.{length_of_prefix}
@@ -63,7 +63,7 @@ stays_full : (t : Tables) (B : List Event) (e : Event) (c : ℕ) → is_full t B
     → read_in c e ≡ [] → is_growth_of c e ≡ false → takes_reader t c e ≡ false → is_full t (B ++ e ∷ []) c ≡ true
 stays_full t B e c full writes reads grows stays = is_full-same t B e c writes reads grows stays ∙ full
 
--- where the reader is taken away the channel is not full
+-- if the event takes the reader away, the channel is not full
 not_full_without : (t : Tables) (B : List Event) (e : Event) (c : ℕ) → takes_reader t c e ≡ true
     → is_full t (B ++ e ∷ []) c ≡ false
 not_full_without t B e c gone =
@@ -74,7 +74,7 @@ not_full_without t B e c gone =
     and-false true = refl
     and-false false = refl
 
--- where an item is read the channel is not full
+-- if an item is read, the channel is not full
 not_full_read : (t : Tables) (B : List Event) (e : Event) (c : ℕ) (v : ℤ) → IsConsistent t B → c < length t.channels
     → is_full t B c ≡ true → written_in c e ≡ [] → read_in c e ≡ v ∷ [] → is_growth_of c e ≡ false → IsOldest B c v
     → is_full t (B ++ e ∷ []) c ≡ false

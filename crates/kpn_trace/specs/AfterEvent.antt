@@ -1,5 +1,5 @@
--- What is left of a channel and its ends after one more event, by cases of the event. What it writes and reads, and
--- what a process says in it, stand with the lists that these make up.
+-- What is left of a channel and its ends after one more event, by cases of the event. What the event writes and reads,
+-- and what a process says in it, is defined beside the lists that these make up.
 use Rattle.std.specs.Prelude.{ℕ, Bool, false, nat_eq, if◌then◌else◌, Option}
 use Rattle.std.specs.Option.{option_map}
 use Rattle.kpn_net.specs.declared.tables.End.{End}

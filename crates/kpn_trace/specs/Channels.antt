@@ -1,5 +1,5 @@
--- The lists of each channel in a history (Kahn 1974: what was written on a channel is the history of its items; Parks
--- 1995: a channel has a capacity, and a write to a full one waits).
+-- The lists of each channel in a history. As in Kahn 1974, what was written on a channel is the history of its items.
+-- As in Parks 1995, a channel has a capacity, and a write to a full one waits.
 use Rattle.std.specs.Prelude.{ℕ, zero, suc, Bool, false, not, ◌&&◌, nat_eq, nat_le, if◌then◌else◌, ℤ, List, [], ◌∷◌, length, drop, count_by, Option, Some, None}
 use Rattle.std.specs.List.{flat_map, list_any}
 use Rattle.std.specs.Option.{option_map, unwrap_or}
@@ -41,7 +41,7 @@ unread_on H c = drop (length (read_on H c)) (written_on H c)
 abbrev pub fed : Tables → List Event → Family
 fed t H c = if is_source (channel_at t c) then written_on H c else []
 
--- ---- who is there
+-- ---- which ends are there
 
 -- the outside closes a source
 abbrev pub is_close_of : (c : ℕ) → Event → Bool
@@ -59,7 +59,7 @@ is_closed H c = list_any (is_close_of c) H
 abbrev pub is_left : List Event → (c : ℕ) → Bool
 is_left H c = list_any (is_leave_of c) H
 
--- the end of a channel lives: a process that has not ended, or the outside where it has not left the sink
+-- the end of a channel lives: a process that has not ended, or the outside if it has not left the sink
 abbrev pub lives : List Event → (c : ℕ) → End → Bool
 lives H c (Process p) = not (has_ended H p)
 lives H c Source = false
@@ -85,7 +85,7 @@ after_growths t (suc times) cap = larger_capacity t (after_growths t times cap)
 abbrev pub capacity_after : Tables → List Event → (c : ℕ) → Option ℕ
 capacity_after t H c = option_map (after_growths t (count_by (is_growth_of c) H)) (capacity (channel_at t c))
 
--- the capacity as a number, which is 0 where there is none
+-- the capacity as a number, which is 0 if there is none
 abbrev pub capacity_or_zero : Tables → List Event → (c : ℕ) → ℕ
 capacity_or_zero t H c = unwrap_or (capacity_after t H c) 0
 
@@ -93,11 +93,11 @@ capacity_or_zero t H c = unwrap_or (capacity_after t H c) 0
 abbrev pub is_empty : List Event → (c : ℕ) → Bool
 is_empty H c = nat_eq (length (unread_on H c)) 0
 
--- as many items as the capacity, where there is one
+-- as many items as the capacity, if there is one
 abbrev pub reaches : Option ℕ → (items : ℕ) → Bool
 reaches None items = false
 reaches (Some cap) items = nat_le cap items
 
--- the channel is no source, its reader lives and as many items as its capacity are unread
+-- the channel is no source, its reader lives, and as many items as its capacity are unread
 abbrev pub is_full : Tables → List Event → (c : ℕ) → Bool
 is_full t H c = reader_lives t H c && reaches (capacity_after t H c) (length (unread_on H c))

@@ -1,5 +1,5 @@
--- How a history may end: quiet, settled, and the verdict on a settled one (Parks 1995: where all processes wait on
--- empty channels or have ended the run is over; where one waits on a full channel the stop is artificial).
+-- How a history may end: quiet, settled, and the verdict on a settled one. As in Parks 1995, a run is over if all
+-- processes wait on empty channels or have ended. If a process waits on a full channel, the stop is artificial.
 use Rattle.std.specs.Prelude.{◌≡◌, ℕ, ◌<◌, true, ◌⊎◌, List, length, Option, Some, None}
 use Rattle.kpn_net.specs.declared.wait.Wait.TheVariants.{Empty, Full}
 use Rattle.kpn_net.specs.Tables.{Tables, channel_at, is_source, is_sink}
@@ -45,8 +45,8 @@ pub record HasFullWait (t : Tables) (H : List Event) : Type 0 where
   pub there : process < length t.instances
   pub waits : WaitsOnFull t H process
 
--- the verdict on a history: none unless it is settled; jammed where some blocked cycle has a full channel, else
--- clogged where some process is blocked on a full channel, else ended
+-- the verdict on a history: none unless it is settled; jammed if some blocked cycle has a full channel, else clogged if
+-- some process is blocked on a full channel, else ended
 abbrev pub IsVerdict : Tables → List Event → Option Verdict → Type 0
 IsVerdict t H None = ¬ IsSettled t H
 IsVerdict t H (Some Jammed) = IsSettled t H × HasFullCycle t H

@@ -1,5 +1,5 @@
--- Legal histories: what a run of a network may bring, whatever the order in which its processes go. One more event is
--- judged by the history before it, and the history with it has to be consistent.
+-- Legal histories: what a run of a network may bring, whatever the order in which its processes go. The history before
+-- an event decides whether the event may follow, and the history with it has to be consistent.
 use Rattle.std.specs.Prelude.{◌≡◌, ℕ, ◌<◌, ◌≤◌, ◌⊎◌, true, false, ℤ, List, [], ◌∷◌, ◌++◌, length, Option, Some, None}
 use Rattle.std.specs.List.{last_or}
 use Rattle.kpn_lang.specs.declared.value.Fault.TheVariants as fault
@@ -53,7 +53,7 @@ pub record OwesCycleGrowth (t : Tables) (B : List Event) (p d : ℕ) : Type 0 wh
   pub below_limit : capacity_or_zero t B d < t.limit
 
 -- a growth of d is owed for a stop under the policy `all`: the history is settled, no growth is owed for a cycle, and
--- d, the smallest of the channels on which processes wait as full, is below the limit; p waits on it
+-- d, the smallest of the channels on which processes wait as full, is below the limit. p waits on d
 pub record OwesStopGrowth (t : Tables) (B : List Event) (p d : ℕ) : Type 0 where
   pub policy : t.policy ≡ All
   pub settled : IsSettled t B
@@ -91,7 +91,7 @@ pub record CanGo (t : Tables) (B : List Event) (p : ℕ) : Type 0 where
   pub lives : has_ended B p ≡ false
   pub free : wait_of t B p ≡ Nobody
 
--- the end of a run that an end of a process is
+-- how a process ends, as the ending of a run
 abbrev pub ending_of : How → Ending
 ending_of how.Done = ending.Done
 ending_of how.Overflow = ending.Faulted fault.Overflow
@@ -118,9 +118,8 @@ pub record MayTake (t : Tables) (B : List Event) (c : ℕ) : Type 0 where
   pub sink : is_sink (channel_at t c) ≡ true
   pub not_left : is_left B c ≡ false
 
--- what an event of this kind needs of the history before it. What a get and a put need besides follows from the
--- history with them being consistent: the process can say it, the item is the oldest unread one, and the channel is
--- not full
+-- what an event of this kind needs of the history before it. A get and a put need more, which follows if the history
+-- with them is consistent: the process can say it, the item is the oldest unread one, and the channel is not full
 abbrev pub IsDue : Tables → List Event → Event → Type 0
 IsDue t B (Get p c v) = CanGo t B p
 IsDue t B (Put p c v) = CanGo t B p
@@ -133,8 +132,8 @@ IsDue t B (Take c v) = MayTake t B c
 IsDue t B (Leave c) = MayTake t B c
 IsDue t B (Grow p d n) = OwesGrowth t B p d
 
--- an event may follow: its numbers are there, it is due, and where a growth is owed it is that growth, which tells the
--- capacity that its channel has then
+-- an event may follow: its numbers are there, and it is due. If a growth is owed, the event is that growth and has the
+-- capacity that its channel then gets
 pub record MayFollow (t : Tables) (B : List Event) (event : Event) : Type 0 where
   pub numbers : HasNumbers t event
   pub due : IsDue t B event

@@ -1,4 +1,5 @@
--- What one more event changes: beside what it needs before it, these facts make a legal history with it legal.
+-- What one more event changes. These facts, and what the event needs before it, make a legal history legal with the
+-- event.
 use Rattle.std.specs.Prelude.{◌≡◌, ℕ, ◌<◌, true, false, ℤ, List, [], ◌∷◌, ◌++◌, length}
 use Rattle.kpn_lang.specs.declared.talk.Said.TheVariants as said
 use Rattle.kpn_net.specs.declared.tables.End.TheVariants.{Process}
@@ -22,9 +23,9 @@ KeepsConsistent t B (Put p c v) = (is_full t B c ≡ false) × CanSay t p (read_
 KeepsConsistent t B (Take c v) = IsOldest B c v
 KeepsConsistent t B event = Unit {0}
 
--- the channel of an event belongs to who made the event: a process is the reader of what it gets from or waits on as
--- empty, and the writer of what it puts on or waits on as full; the outside feeds and closes sources, and takes from
--- sinks and leaves them
+-- the channel of an event belongs to whatever made the event. A process is the reader of a channel that it gets from or
+-- waits on as empty, and the writer of one that it puts on or waits on as full. The outside feeds and closes sources,
+-- and takes from sinks and leaves them
 abbrev pub IsOwn : Tables → Event → Type 0
 IsOwn t (Get p c v) = reader_of t c ≡ Process p
 IsOwn t (Put p c v) = writer_of t c ≡ Process p

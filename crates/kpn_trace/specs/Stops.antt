@@ -1,5 +1,6 @@
--- What growth leaves behind, and what a stop rests on (Parks 1995: an artificial deadlock is a cycle of blocked
--- processes with a full channel, which a larger capacity resolves; Geilen and Basten 2003: such a cycle may be local).
+-- What growth leaves behind, and what a stop depends on. As in Parks 1995, an artificial deadlock is a cycle of blocked
+-- processes with a full channel, which a larger capacity resolves. As in Geilen and Basten 2003, such a cycle may be
+-- local.
 use Rattle.std.specs.Prelude.{◌≡◌, ◌≢◌, ℕ, ◌<◌, Bool, true, false, List, Some, Contains, length}
 use Rattle.kpn_net.specs.declared.wait.Wait.TheVariants.{Nobody, Full}
 use Rattle.kpn_net.specs.declared.tables.End.TheVariants.{Process}

@@ -29,11 +29,11 @@ is_of_process event = false
 abbrev pub process_events : List Event → ℕ
 process_events H = count_by is_of_process H
 
--- the last event of a process, where it has one
+-- the last event of a process, if it has one
 abbrev pub last_event : List Event → (p : ℕ) → Option Event
 last_event H p = last_or None (filter (is_of p) H)
 
--- what a process says in an event, of the channel
+-- what a process says in an event, with the channel in place of the port
 abbrev pub said_in : (p : ℕ) → Event → List Said
 said_in p (Get q c v) = if nat_eq q p then said.Got c v ∷ [] else []
 said_in p (Put q c v) = if nat_eq q p then said.Put c v ∷ [] else []

@@ -1,5 +1,5 @@
--- What processes wait for after a history (Parks 1995: a process blocks on a read from an empty channel or a write to
--- a full one), and the cycles of blocked processes (Geilen and Basten 2003).
+-- What processes wait for after a history, and the cycles of blocked processes (Geilen and Basten 2003). As in Parks
+-- 1995, a process blocks on a read from an empty channel or a write to a full one.
 use Rattle.std.specs.Prelude.{ℕ, if◌then◌else◌, List, length, map, Option, Some, None, Contains, ◌∷◌}
 use Rattle.std.specs.List.{range_with_len}
 use Rattle.kpn_net.specs.declared.wait.Wait.{Wait}
@@ -21,8 +21,8 @@ abbrev pub wait_of_last : Tables → List Event → Option Event → Wait
 wait_of_last t H None = Nobody
 wait_of_last t H (Some event) = wait_in t H event
 
--- what a process is blocked on: the channel of its last event where that is a wait and the channel is still empty, or
--- still full. It is blocked where this is not Nobody
+-- what a process is blocked on: the channel of its last event, if that is a wait and the channel is still empty, or
+-- still full. It is blocked if this is not Nobody
 abbrev pub wait_of : Tables → List Event → (p : ℕ) → Wait
 wait_of t H p = wait_of_last t H (last_event H p)
 

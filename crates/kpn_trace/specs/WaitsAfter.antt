@@ -20,7 +20,8 @@ wait_kept t H Nobody = Nobody
 wait_kept t H (Empty c) = if is_empty H c then Empty c else Nobody
 wait_kept t H (Full c) = if is_full t H c then Full c else Nobody
 
--- after an event of its own what that made, after one of others its wait as far as that is kept
+-- what a process is blocked on after an event: after one of its own what the event made it wait on, after one of others
+-- what is kept of its wait
 abbrev pub wait_after : Tables → (before : List Event) → Event → (p : ℕ) → Wait → Wait
 wait_after t before event p wait =
     if is_of p event then wait_made event else wait_kept t (before ++ event ∷ []) wait

@@ -1,5 +1,6 @@
--- Which events wake which waits, free of the history: an item that comes to a channel wakes who waits on it as empty;
--- an item that is taken from it, a larger capacity or the loss of its reader wakes who waits on it as full.
+-- Which events wake which waits, whatever the history. An item that comes to a channel wakes a process that waits on it
+-- as empty. An item that is taken from it, a larger capacity or the loss of its reader wakes a process that waits on it
+-- as full.
 use Rattle.std.specs.Prelude.{◌≡◌, ℕ, ◌<◌, Bool, true, false, nat_eq, if◌then◌else◌, List, length}
 use Rattle.kpn_net.specs.declared.wait.Wait.{Wait}
 use Rattle.kpn_net.specs.declared.wait.Wait.TheVariants.{Nobody, Empty, Full}
@@ -20,13 +21,13 @@ is_process p (Process q) = nat_eq p q
 is_process p Source = false
 is_process p Sink = false
 
--- the event wakes the reader of the channel, where it waits on it as empty
+-- the event wakes the reader of the channel, if it waits on it as empty
 abbrev pub wakes_reader : (c : ℕ) → Event → Bool
 wakes_reader c (Put p d v) = nat_eq d c
 wakes_reader c (Feed d v) = nat_eq d c
 wakes_reader c event = false
 
--- the event wakes the writer of the channel, where it waits on it as full
+-- the event wakes the writer of the channel, if it waits on it as full
 abbrev pub wakes_writer : Tables → (c : ℕ) → Event → Bool
 wakes_writer t c (Get p d v) = nat_eq d c
 wakes_writer t c (Ended p how) = is_process p (reader_of t c)
@@ -35,20 +36,20 @@ wakes_writer t c (Leave d) = nat_eq d c
 wakes_writer t c (Grow p d n) = nat_eq d c
 wakes_writer t c event = false
 
--- the event wakes who has this wait
+-- the event wakes a process that has this wait
 abbrev pub wakes : Tables → Event → Wait → Bool
 wakes t event Nobody = false
 wakes t event (Empty c) = wakes_reader c event
 wakes t event (Full c) = wakes_writer t c event
 
--- what a process waits for after an event, by what it waited for before: after an event of its own what that made,
--- nobody if the event wakes it, else the same
+-- what a process waits for after an event, by what it waited for before: after an event of its own what this made it
+-- wait on, nobody if the event wakes it, else the same
 abbrev pub wait_then : Tables → Event → (p : ℕ) → Wait → Wait
 wait_then t event p wait =
     if is_of p event then wait_made event else
     if wakes t event wait then Nobody else wait
 
--- ---- whom an event wakes
+-- ---- which processes an event wakes
 
 -- process p waits as full on a channel that process q reads
 pub record WaitsAsFullFor (t : Tables) (q p : ℕ) (wait : Wait) : Type 0 where
@@ -57,9 +58,9 @@ pub record WaitsAsFullFor (t : Tables) (q p : ℕ) (wait : Wait) : Type 0 where
   pub read : reader_of t channel ≡ Process q
   pub written : writer_of t channel ≡ Process p
 
--- the event wakes process p, which has this wait: a put or a feed wakes the reader of its channel, where that waits on
--- it as empty; a get, a take, a leave or a growth the writer of its channel, where that waits on it as full; the end of
--- a process each writer that waits as full on a channel which it reads
+-- the event wakes process p, which has this wait. A put or a feed wakes the reader of its channel, if that waits on it
+-- as empty. A get, a take, a leave or a growth wakes the writer of its channel, if that waits on it as full. The end of
+-- a process wakes each writer that waits as full on a channel that the process reads
 abbrev pub IsWoken : Tables → Event → (p : ℕ) → Wait → Type 0
 IsWoken t (Get q c v) p wait = (wait ≡ Full c) × (writer_of t c ≡ Process p)
 IsWoken t (Put q c v) p wait = (wait ≡ Empty c) × (reader_of t c ≡ Process p)
@@ -75,7 +76,7 @@ abbrev pub EndsNobody : Event → Type 0
 EndsNobody (Ended p how) = ⊥
 EndsNobody event = Unit {0}
 
--- ---- on what a process may wait
+-- ---- which channels a process may wait on
 
 -- process p may wait on c as empty: c is a channel that it reads, and is empty
 pub record MayWaitOnEmpty (t : Tables) (H : List Event) (p c : ℕ) : Type 0 where

@@ -22,8 +22,8 @@ pub enum Event {
     Take(u16, i64),
     /// `Leave(channel)`: the outside left a sink.
     Leave(u16),
-    /// `Grow(process, channel, capacity)`: the capacity of the channel became larger, since the process waits. This is
-    /// the new one.
+    /// `Grow(process, channel, capacity)`: the capacity of the channel became larger, since the process waits.
+    /// `capacity` is the new one.
     Grow(u16, u16, u32),
 }
 
@@ -32,7 +32,7 @@ pub enum Event {
 pub enum How {
     /// Its body came to its end.
     Done,
-    /// A value lay outside of -2^63 to 2^63 - 1.
+    /// A value was outside of -2^63 to 2^63 - 1.
     Overflow,
     /// A divisor was 0.
     ZeroDivisor,

@@ -1,5 +1,5 @@
-//! What one more event does to a history, by cases of the event, as the contracts of functions with nothing to do:
-//! the layers above compute with them.
+//! What one more event does to a history, by cases of the event, as contracts of functions that do nothing. The layers
+//! above compute with them.
 ghost use Rattle.std.specs.Prelude.{◌≡◌, ◌↔◌, ℕ, ◌+◌, true, not, ◌&&◌, ◌||◌, if◌then◌else◌, List, [], ◌∷◌, ◌++◌, Some, slice_get, Contains};
 ghost use Rattle.kpn_net.specs.Tables.{Tables};
 ghost use Rattle.kpn_trace.specs.declared.event.How.{How};
@@ -46,7 +46,7 @@ pub fn events_of_processes()
         ↔ ((p : ℕ) × (is_of p event ≡ true)) }
 {}
 
-/// A process has ended where an end of it is among the events. In a legal history it ends once, in one way.
+/// A process has ended if and only if an end of it is among the events. In a legal history it ends once, in one way.
 pub fn a_process_ends_once()
     ensures among { (H : List Event) (p : ℕ)
         → ((has_ended H p ≡ true) ↔ ((how : How) × Contains H (Ended p how))) }

@@ -1,5 +1,5 @@
-//! What growth leaves behind and what a stop rests on, as the contracts of functions with nothing to do: the layers
-//! above cite them.
+//! What growth leaves behind and what a stop depends on, as contracts of functions that do nothing. The layers above
+//! cite them.
 ghost use Rattle.std.specs.Prelude.{◌≡◌, ◌↔◌, ℕ, ◌<◌, ◌≤◌, List, [], ◌∷◌, ◌++◌, true, length, Option, Some, None};
 ghost use Rattle.kpn_net.specs.Tables.{Tables};
 ghost use Rattle.kpn_net.specs.Faults.{IsNetwork};
@@ -29,8 +29,8 @@ pub fn capacities_stay_within_the_limit()
         → capacity_after t H c ≡ Some cap → (0 < cap) × (cap ≤ t.limit) }
 {}
 
-/// At most one growth is owed: none at first, none for a cycle unless the last event is a wait, none for a stop after
-/// an event that moves an item or lets a channel grow, and none for a stop under the policy `cycles`.
+/// At most one growth is owed. None is owed at first. None is owed for a cycle unless the last event is a wait. None is
+/// owed for a stop after an event that moves an item or lets a channel grow, or under the policy `cycles`.
 pub fn one_growth_is_owed()
     ensures one { (t : Tables) → IsNetwork t → (H : List Event) → Legal t H → (p d q e : ℕ)
         → OwesGrowth t H p d → OwesGrowth t H q e → (p ≡ q) × (d ≡ e) }
@@ -43,8 +43,9 @@ pub fn one_growth_is_owed()
     ensures cycles { (t : Tables) (H : List Event) → t.policy ≡ Cycles → OwesNoStopGrowth t H }
 {}
 
-/// After a wait of `p` a growth is owed for a cycle exactly where a search finds that the cycle through `p` has a full
-/// channel and its smallest one is below the limit; it is the growth of that channel. Else nothing is owed.
+/// After a wait of `p` a growth is owed for a cycle if and only if a search finds this: the cycle through `p` has a
+/// full channel, and its smallest one is below the limit. The growth is that of this channel. Else none is owed for a
+/// cycle.
 pub fn growth_is_owed_by_the_cycle()
     ensures owed { (t : Tables) (B : List Event) (event : Event) (p : ℕ) → waiter event ≡ Some p
         → (found : Found)
@@ -76,7 +77,7 @@ pub fn no_cycle_is_left_to_grow()
         → ¬ CanGrow t H }
 {}
 
-/// Under the policy `all` a settled legal history that owes no growth has each channel on which a process waits as full
+/// Under the policy `all`, if a settled legal history owes no growth, each channel on which a process waits as full is
 /// at the limit.
 pub fn no_wait_is_left_to_grow()
     ensures { (t : Tables) → IsNetwork t → (H : List Event) → Legal t H → OwesNothing t H
@@ -94,19 +95,19 @@ pub fn one_verdict()
         → IsVerdict t H verdict → IsVerdict t H other → verdict ≡ other }
 {}
 
-/// Ended is quiet: each process has ended or waits on an empty channel.
+/// If the verdict is `Ended`, the history is quiet: each process has ended or waits on an empty channel.
 pub fn ended_is_quiet()
     ensures { (t : Tables) (H : List Event) → IsVerdict t H (Some Ended) → IsQuiet t H }
 {}
 
-/// Jammed: some blocked cycle has full channels, all of them at the limit.
+/// If the verdict is `Jammed`, some blocked cycle has full channels, all of them at the limit.
 pub fn jammed_is_at_the_limit()
     ensures { (t : Tables) → IsNetwork t → (H : List Event) → Legal t H → OwesNothing t H
         → IsVerdict t H (Some Jammed) → IsJammedAtLimit t H }
 {}
 
-/// Clogged: each process that is blocked on a full channel waits for a blocked process, no blocked cycle has
-/// a full channel, and no legal event but a leave can follow if no growth is owed.
+/// If the verdict is `Clogged`, each process that is blocked on a full channel waits for a blocked process, and no
+/// blocked cycle has a full channel. If no growth is owed, no legal event but a leave can follow.
 pub fn clogged_waits_for_the_blocked()
     ensures waits { (t : Tables) → IsNetwork t → (H : List Event) → Legal t H
         → IsVerdict t H (Some Clogged)
@@ -117,7 +118,7 @@ pub fn clogged_waits_for_the_blocked()
         → (event : Event) → Legal t (H ++ event ∷ []) → ((c : ℕ) × (event ≡ Leave c)) }
 {}
 
-/// After a settled history that owes no growth no legal event but a leave can follow.
+/// After a settled history that owes no growth, no legal event but a leave can follow.
 pub fn a_stop_is_final()
     ensures { (t : Tables) (H : List Event) → IsSettled t H → OwesNothing t H
         → (event : Event) → Legal t (H ++ event ∷ []) → ((c : ℕ) × (event ≡ Leave c)) }

@@ -1,4 +1,4 @@
-//! A history as a list of events for which memory is reserved first, so that a push asks for none.
+//! A history as a list of events. Memory is reserved first, so that a push asks for none.
 ghost use Rattle.std.specs.Prelude.{◌≡◌, ℕ, ◌+◌, ◌<◌, ◌≤◌, [], ◌∷◌, ◌++◌, length, slice_get, OnOk, OnErr};
 ghost use Rattle.std.specs.List.{last_or};
 
@@ -28,7 +28,7 @@ impl<A: Allocator> Model for History<A> {
 }
 
 impl<A: Allocator> History<A> {
-    /// The history without events. It takes no memory and has no room. The allocator is kept for its events.
+    /// The history without events. It takes no memory and has no room. It keeps the allocator for its events.
     pub fn new(alloc: A) -> Self
         ensures events { result.events ≡ [] }
         ensures room { result.room ≡ 0 }
@@ -38,8 +38,8 @@ impl<A: Allocator> History<A> {
         }
     }
 
-    /// Reserves memory, so that there is room for `n` events or more. The events stay. It is refused only
-    /// where there was less room and the memory for more was refused, and the history is then as before.
+    /// Reserves memory, so that there is room for `n` events or more. The events stay. It fails only if there was less
+    /// room and memory ran out, and the history is then as before.
     pub fn reserve(&mut self, n: usize) -> Result<(), AllocError>
         ensures events { self.new.events ≡ self.old.events }
         ensures ok { OnOk result (n ≤ self.new.room) }
@@ -73,14 +73,14 @@ impl<A: Allocator> History<A> {
         self.events.len()
     }
 
-    /// Event `k`, counted from 0; none where there are no more than `k` events.
+    /// Event `k`, counted from 0; none if there are no more than `k` events.
     pub fn at(&self, k: usize) -> Option<Event>
         ensures { result ≡ slice_get self.now.events k }
     {
         self.events.get(k).copied()
     }
 
-    /// The newest event; none where there is none.
+    /// The newest event; none if there are no events.
     pub fn last(&self) -> Option<Event>
         ensures { result ≡ last_or None self.now.events }
     {

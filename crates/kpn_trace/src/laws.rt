@@ -1,5 +1,5 @@
-//! Legal histories made event by event, and Kahn's theorem over all of them, as the contracts of functions with
-//! nothing to do: the layers above cite them.
+//! Legal histories made event by event, and Kahn's theorem over all of them, as contracts of functions that do nothing.
+//! The layers above cite them.
 ghost use Rattle.std.specs.Prelude.{◌≡◌, ◌↔◌, ◌⊎◌, ℕ, ◌≤◌, true, List, [], ◌∷◌, ◌++◌, length, take};
 ghost use Rattle.kpn_lang.specs.Prefix.{IsPrefix};
 ghost use Rattle.kpn_lang.specs.Alone.{got_at, put_at};
@@ -26,8 +26,8 @@ pub fn beginnings_are_legal()
     ensures prefix { (t : Tables) (B H : List Event) → IsPrefix B H → Legal t H → Legal t B }
 {}
 
-/// A history with one more event is legal exactly where the history before it is, the event may follow, and it
-/// keeps the history consistent; or where the history with it is known to be consistent.
+/// A history with one more event is legal if and only if the history before it is, the event may follow, and it keeps
+/// the history consistent. Instead of the last, it is enough that the history with the event is consistent.
 pub fn one_more_event()
     ensures exact { (t : Tables) (B : List Event) (event : Event)
         → (Legal t (B ++ event ∷ [])
@@ -37,14 +37,14 @@ pub fn one_more_event()
         → Legal t (B ++ event ∷ []) }
 {}
 
-/// The channel of each event belongs to who made the event.
+/// The channel of each event belongs to whatever made the event.
 pub fn channels_belong_to_events()
     ensures { (t : Tables) → IsNetwork t → (B : List Event) (event : Event)
         → Legal t (B ++ event ∷ []) → IsOwn t event }
 {}
 
-/// The journal of a channel is what its writer put there, and what was read is what its reader got. The
-/// journal is what was read and then what lies unread.
+/// The journal of a channel is what its writer put there, and what was read is what its reader got. The journal is what
+/// was read and then what is unread.
 pub fn journals_are_talks()
     ensures written { (t : Tables) → IsNetwork t → (H : List Event) → Legal t H → (c p : ℕ)
         → writer_of t c ≡ Process p → written_on H c ≡ put_at (talk_of H p) c }
@@ -56,8 +56,8 @@ pub fn journals_are_talks()
         → (c : ℕ) → read_on H c ++ unread_on H c ≡ written_on H c }
 {}
 
-/// What each process is blocked on after one more event: after an event of its own what that made, after one
-/// of others what is left of its wait. A process that has ended is not blocked.
+/// What each process is blocked on after one more event. After an event of its own that is what this event made it wait
+/// on, and after an event of others what is left of its wait. A process that has ended is not blocked.
 pub fn waits_after_one_event()
     ensures ended { (t : Tables) → IsNetwork t → (p : ℕ) (H : List Event) → Legal t H
         → has_ended H p ≡ true → wait_of t H p ≡ Nobody }
@@ -68,8 +68,8 @@ pub fn waits_after_one_event()
 
 // ---- Kahn's theorem
 
-/// In every legal history each journal is a prefix of the least solution for what was fed, and for all lists
-/// that what was fed begins.
+/// In every legal history each journal is a prefix of the least solution for what was fed. It is also one for all lists
+/// that begin with what was fed.
 pub fn journals_are_below()
     ensures fed { (t : Tables) → IsNetwork t → (H : List Event) → Legal t H
         → (c : ℕ) → IsBelowLeast t (fed t H) c (written_on H c) }
@@ -78,8 +78,8 @@ pub fn journals_are_below()
         → (c : ℕ) → IsBelowLeast t given c (written_on H c) }
 {}
 
-/// Of two legal histories that are fed from the same lists, whatever their schedules, one journal of each
-/// channel begins the other, and the first items that are read from it are the same.
+/// Take two legal histories that are fed from the same lists, whatever their schedules. One journal of each channel
+/// begins the other, and the first items read from the channel are the same.
 pub fn schedules_agree()
     ensures journals { (t : Tables) → IsNetwork t → (G H : List Event) → Legal t G → Legal t H
         → (given : Family) → IsPrefixOnSources t (fed t G) given

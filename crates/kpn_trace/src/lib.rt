@@ -1,5 +1,5 @@
-//! Histories of a network: the events of a run in the order in which they came, what one may contain, and Kahn's
-//! theorem over all of them.
+//! Histories of a network: the events of a run in their order, which histories are legal, and Kahn's theorem over all
+//! of them.
 #![tactic(auto)]
 
 mod event;

@@ -1,10 +1,10 @@
-//! What can be seen of a run at one moment.
+//! What a run shows at one moment.
 use crate::event::How;
 use kpn_chan::Journal;
 use kpn_lang::Sequence;
 use std::alloc::{Allocator, Global};
 
-/// Where a process stands in a run.
+/// The state of a process in a run.
 #[derive(Clone, Copy, Debug, PartialEq, Eq)]
 pub enum State {
     /// It can be stepped, and nobody steps it.
@@ -13,7 +13,7 @@ pub enum State {
     Held,
     /// It waits for an item on this empty channel.
     WaitsEmpty(usize),
-    /// It waits until this full channel is full no more.
+    /// It waits until this full channel is not full any more.
     WaitsFull(usize),
     /// It has ended.
     Ended(How),
@@ -31,7 +31,7 @@ pub struct Counts {
     pub ended: usize,
 }
 
-/// A run as it is seen at one moment: the first four lists have an entry for each channel, `states` has one for each
+/// What a run shows at one moment. The first four lists have an entry for each channel, `states` has one for each
 /// process.
 #[derive(Debug, Drop)]
 pub struct View<A: Allocator = Global> {
@@ -39,16 +39,17 @@ pub struct View<A: Allocator = Global> {
     pub journals: Sequence<Journal<A>, A>,
     /// How many of them were read.
     pub read: Sequence<usize, A>,
-    /// How many may lie unread; None for a source.
+    /// How many may be unread; `None` for a source.
     pub caps: Sequence<Option<u32>, A>,
     /// Whether the reader has ended or left.
     pub retired: Sequence<bool, A>,
-    /// Where each process stands.
+    /// The state of each process.
     pub states: Sequence<State, A>,
     pub counts: Counts,
 }
 
-/// How a run has come to a stop, once no growth is owed and nothing more can happen but that the outside leaves a sink.
+/// How a run has come to a stop, once no growth is owed and nothing more can happen except that the outside leaves a
+/// sink.
 #[derive(Clone, Copy, Debug, PartialEq, Eq)]
 pub enum Verdict {
     /// Each process has ended or waits on an empty channel.

@@ -1,4 +1,5 @@
-//! What the states of the processes say, as the contracts of functions with nothing to do: the layers above cite them.
+//! What follows from the states of the processes, as contracts of functions that do nothing. The layers above cite
+//! them.
 ghost use Rattle.std.specs.Prelude.{◌≡◌, ◌↔◌, ◌⊎◌, ℕ, ◌<◌, true, false, List, length, slice_index_or};
 ghost use Rattle.kpn_net.specs.Tables.{Tables};
 ghost use Rattle.kpn_trace.specs.declared.event.Event.{Event};
@@ -11,8 +12,9 @@ ghost use Rattle.kpn_trace.specs.Views.{IsStateOf, is_stopped, Agrees};
 
 use std::alloc::Allocator;
 
-/// A process has ended or is blocked exactly where its state says that it has ended or waits. Of a view that agrees
-/// with the history: all have, exactly where all of its states say so, and where none is counted as ready or held.
+/// A process has ended or is blocked if and only if its state says that it has ended or waits. In a view that agrees
+/// with the history, all have stopped if and only if all states say so, and if and only if the counts of ready and held
+/// processes are 0.
 pub fn stopped_processes<A: Allocator>()
     ensures one { (t : Tables) (H : List Event) (p : ℕ) (state : State) → IsStateOf t H p state
         → ((is_stopped state ≡ true) ↔ HasStopped t H p) }
@@ -23,7 +25,7 @@ pub fn stopped_processes<A: Allocator>()
         → (HaveStopped t H ↔ ((view.counts.ready ≡ 0) × (view.counts.held ≡ 0))) }
 {}
 
-/// In a legal history the state of a process is one, but that it may be ready or held.
+/// In a legal history a process has one state, except that ready and held are not told apart.
 pub fn a_process_has_one_state()
     ensures { (t : Tables) (H : List Event) → Legal t H → (p : ℕ) (state other : State)
         → IsStateOf t H p state → IsStateOf t H p other

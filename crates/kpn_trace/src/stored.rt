@@ -1,4 +1,4 @@
-//! What is kept of a run: its events, and by which rules its channels grew.
+//! What a trace keeps of a run: its events, and by which rules its channels grew.
 use crate::event::Event;
 use kpn_lang::Sequence;
 use kpn_net::{Growth, Policy};
@@ -7,9 +7,9 @@ use std::alloc::{Allocator, Global};
 /// The version of the text of a trace.
 #[derive(Clone, Copy, Debug, PartialEq, Eq)]
 pub enum Version {
-    /// A growth does not tell the new capacity. Channels grow under the policy `cycles` and by one.
+    /// A growth does not state the new capacity. Channels grow under the policy `cycles` and by one.
     One,
-    /// The text names its policy and its growth, and each growth tells the new capacity.
+    /// The text names its policy and its growth, and each growth states the new capacity.
     Two,
 }
 

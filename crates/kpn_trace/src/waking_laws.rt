@@ -1,5 +1,5 @@
-//! What processes wait for in a legal history, and which events wake them, as the contracts of functions with nothing
-//! to do: the layers above cite them.
+//! What processes wait for in a legal history, and which events wake them, as contracts of functions that do nothing.
+//! The layers above cite them.
 ghost use Rattle.std.specs.Prelude.{◌≡◌, ◌↔◌, ℕ, ◌<◌, true, List, [], ◌∷◌, ◌++◌, length};
 ghost use Rattle.kpn_net.specs.declared.wait.Wait.{Wait};
 ghost use Rattle.kpn_net.specs.declared.wait.Wait.TheVariants.{Empty, Full};
@@ -11,8 +11,8 @@ ghost use Rattle.kpn_trace.specs.Waiting.{wait_of, waits_of};
 ghost use Rattle.kpn_trace.specs.Waking.{wakes, wait_then, IsWoken, EndsNobody, MayWaitOnEmpty, MayWaitOnFull};
 ghost use Rattle.kpn_trace.specs.Legal.{Legal};
 
-/// Each process waits on a channel of its own: as empty on one that it reads and that is empty, as full on one that
-/// it writes and that is full. So a search for cycles may be asked about the wait table of a legal history.
+/// Each process waits on a channel of its own: as empty on one that it reads and that is empty, as full on one that it
+/// writes and that is full. So the searches for cycles accept the wait table of a legal history.
 pub fn waits_are_own()
     ensures table { (t : Tables) → IsNetwork t → (H : List Event) → Legal t H
         → AreWaits t (waits_of t H) }
@@ -24,16 +24,16 @@ pub fn waits_are_own()
         → wait_of t H p ≡ Full c → MayWaitOnFull t H p c }
 {}
 
-/// What each process waits for after one more event is told by the event and what it waited for before: after an
-/// event of its own what that made, nobody if the event wakes it, else the same.
+/// What each process waits for after one more event depends only on the event and on what it waited for before. After
+/// an event of its own it is what this made it wait on, nobody if the event wakes it, else the same.
 pub fn events_wake_waits()
     ensures { (t : Tables) → IsNetwork t → (B : List Event) (event : Event)
         → Legal t (B ++ event ∷ [])
         → (p : ℕ) → wait_of t (B ++ event ∷ []) p ≡ wait_then t event p (wait_of t B p) }
 {}
 
-/// Whom an event wakes of those that wait on channels of their own. But for the end of a process it wakes one at
-/// most.
+/// Which processes an event wakes, of those that wait on channels of their own. Every event but the end of a process
+/// wakes one at most.
 pub fn who_is_woken()
     ensures exact { (t : Tables) (event : Event) (p : ℕ) (wait : Wait) → IsOwnWait t p wait
         → ((wakes t event wait ≡ true) ↔ IsWoken t event p wait) }
