@@ -25,7 +25,7 @@ pub fn stopped_processes<A: Allocator>()
         → (HaveStopped t H ↔ ((view.counts.ready ≡ 0) × (view.counts.held ≡ 0))) }
 {}
 
-/// In a legal history a process has one state, except that ready and held are not told apart.
+/// In a legal history a process has one state, except that a history does not distinguish ready from held.
 pub fn a_process_has_one_state()
     ensures { (t : Tables) (H : List Event) → Legal t H → (p : ℕ) (state other : State)
         → IsStateOf t H p state → IsStateOf t H p other
