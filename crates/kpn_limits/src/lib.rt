@@ -32,18 +32,18 @@ pub const MAX_TEXT_BYTES: usize = 1_048_576;
 /// The most bytes of a file or an input that the program reads.
 pub const MAX_INPUT_BYTES: usize = 268_435_456;
 
-/// The most digits that a number or an item is written with, leading zeros included: 2^63 has nineteen, and a number of
-/// nineteen digits is below 2^64.
+/// The most digits of a number or an item, leading zeros included: 2^63 has nineteen, and a number of nineteen digits
+/// is below 2^64.
 pub const MAX_DIGITS: usize = 19;
 
-/// The most threads that a run is given.
+/// The most threads that a run uses.
 pub const MAX_WORKERS: usize = 16;
 
-/// The most rounds of Kahn's iteration that may be asked for.
+/// The most rounds of Kahn's iteration that a user may ask for.
 pub const MAX_ROUNDS: u32 = 1_000;
 
-/// The most items of each sink, commits of a run, or steps before an event that may be asked for.
+/// The most items of each sink, commits of a run, or steps before an event that a user may ask for.
 pub const MAX_COUNT: u64 = 1_000_000_000;
 
-/// The most commits of a run, and the most steps before an event, where nothing else is asked for.
+/// The most commits of a run, and the most steps before an event, if the user asks for nothing else.
 pub const USUAL_COUNT: u64 = 10_000_000;
