@@ -69,7 +69,7 @@ excludes_spelling bytes m bad = (
 
 -- ---- what is written is read back
 
--- digits and a minus stand above the two bytes that end lines
+-- digits and a minus are above the two bytes that end lines
 pub digits-high : (ds : List ℕ) → AllDigits 10 ds → All (λ b. 45 ≤ b) ds
 digits-high [] all = All-nil (λ b. 45 ≤ b)
 digits-high (d ∷ ds) all =
@@ -91,7 +91,7 @@ no_return (b ∷ bs) high =
     let at = high (length (b ∷ bs) - 1) 0 (omega arith) in
     cond-false _ _ _ (ne_eqb (get_or (b ∷ bs) (length (b ∷ bs) - 1) 0) 13 (λ e. omega arith))
 
--- digits alone spell their number
+-- digits without a minus spell their number
 spells_digits : (ds : List ℕ) (n : ℕ) → IsNumeral 10 ds → length ds ≤ MAX_DIGITS → digits_value 10 ds ≡ n
     → FitsSigned w64 (pos n) → SpellsItem ds (pos n)
 spells_digits ds n numeral short value fits =

@@ -1,4 +1,4 @@
--- A text's first line taken off: what stands before the first line feed, or all where there is none.
+-- A text's first line taken off: what comes before the first line feed, or all if there is none.
 use Rattle.std.proofs.Common.{◌≡◌, ℕ, ◌+◌, ◌<◌, ◌≤◌, Bool, false, cond, eqb, List, [], ◌∷◌, ◌++◌, length, get_or, take, drop, length-take, Some, None, refl, ap, ◌∙◌, arith}
 use Rattle.std.specs.List.{All, slice_split, position, position_or_len}
 use Rattle.std.specs.Str.Lines.{lines, lines_of_parts, strip_carriage_return}
@@ -36,7 +36,7 @@ pub split-at_feed : (bytes : List ℕ) (i : ℕ) → i < length bytes → get_or
     ∷ drop (i + 1) bytes
 split-at_feed bytes i inside at = grind (arith, common_steps)
 
--- the first line, where there is a line feed
+-- the first line, if there is a line feed
 pub lines-found : (bytes : List ℕ) (i : ℕ) → position is_feed bytes ≡ Some i
     → lines bytes ≡ strip_carriage_return (take i bytes) ∷ lines (drop (i + 1) bytes)
 lines-found bytes i found =
@@ -46,11 +46,11 @@ lines-found bytes i found =
     grind (arith, common_steps) in
     ap lines (split-at_feed bytes i at.0 (eqb-true _ 10 at.1)) ∙ lines-feed (take i bytes) (drop (i + 1) bytes) before
 
--- no line feed is found only where there is none
+-- a search finds no line feed only if there is none
 nowhere : (bytes : List ℕ) → position is_feed bytes ≡ None → length bytes ≤ position_or_len is_feed bytes
 nowhere bytes none = grind (arith, nat_tests)
 
--- the first line, where there is none
+-- the first line, if there is none
 pub lines-none : (bytes : List ℕ) → 0 < length bytes → position is_feed bytes ≡ None → lines bytes ≡ bytes ∷ []
 lines-none bytes some none =
     lines-last bytes some (λ k d inside. fails_before_first is_feed bytes k d (omega (arith, nowhere bytes none)))

@@ -1,4 +1,4 @@
--- What reading all of a reader does to it, and why it fails.
+-- What it does to a reader to read all of it, and why that fails.
 use Rattle.std.specs.Prelude.{ℕ, List, ⊤}
 use Rattle.std.specs.declared.option.Option.{Option}
 use Rattle.std.specs.Io.KnownBytes.{Consumes, IsAtEnd}
@@ -9,7 +9,7 @@ use Rattle.kpn_items.specs.declared.fault.ItemFault.TheVariants.{Read, BadItem, 
 abbrev pub LosesItsFront : Option (List ℕ) → Option (List ℕ) → Type 0
 LosesItsFront old new = (front : List ℕ) × Consumes old new front
 
--- the fault is of the device or of memory, and of no line
+-- the fault comes from the device or from memory, and from no line
 abbrev pub NamesNoLine : ItemFault → Type 0
 NamesNoLine Read = ⊤
 NamesNoLine (BadItem line) = ⊥

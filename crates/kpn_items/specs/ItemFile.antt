@@ -1,6 +1,6 @@
--- What the bytes of an item file spell, and the text that its items are written as. `lines` is std's word for the lines
--- of a text. A line ends at a line feed, and one carriage return before that is dropped. The last line may lack its
--- line feed, and then keeps a carriage return at its end. An empty text has no line.
+-- What the bytes of an item file spell, and the text in which its items are written. `lines` is std's word for the
+-- lines of a text. A line ends at a line feed. One carriage return before that is not part of the line. The last line
+-- may lack its line feed, and then keeps a carriage return at its end. An empty text has no line.
 use Rattle.std.specs.Prelude.{◌≡◌, ℕ, ◌+◌, List, [], ◌∷◌, ◌++◌, length, ℤ, ⊤}
 use Rattle.std.specs.List.{AllZip, flat_map}
 use Rattle.std.specs.Str.Lines.{lines}

@@ -12,7 +12,7 @@ ReadsBack = (items : List ℤ) → All (FitsSigned w64) items → Spells (item_t
 abbrev pub IsUnambiguous : Type 0
 IsUnambiguous = (bytes : List ℕ) (xs ys : List ℤ) → Spells bytes xs → Spells bytes ys → xs ≡ ys
 
--- bytes with a first bad line spell no items, and have that first bad line alone
+-- bytes with a first bad line spell no items, and have no other first bad line
 abbrev pub ExcludesSpelling : Type 0
 ExcludesSpelling = (bytes : List ℕ) (m : ℕ) → IsFirstBad bytes m
     → ((items : List ℤ) → ¬ Spells bytes items) × ((n : ℕ) → IsFirstBad bytes n → n ≡ m)

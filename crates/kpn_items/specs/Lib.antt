@@ -1,4 +1,4 @@
--- What the contracts of this crate speak of: lines and their items, whole files, readers, laws.
+-- What the contracts of this crate cite: lines and their items, whole files, readers, laws.
 pub mod ItemLine
 pub mod ItemFile
 pub mod Input

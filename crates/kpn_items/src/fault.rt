@@ -12,7 +12,7 @@ pub enum ItemFault {
     /// This line, counted from 1, is the first that spells no item. It is printed as fault 25.
     #[error("line {0} spells no item")]
     BadItem(usize),
-    /// Memory was refused. It is printed as fault 28.
+    /// Memory ran out. It is printed as fault 28.
     #[error("out of memory")]
     NoMemory,
 }
@@ -20,10 +20,10 @@ pub enum ItemFault {
 /// Why a text could not be written.
 #[derive(Debug, Drop, PartialEq, Eq, Error)]
 pub enum WriteFault {
-    /// A write failed, and how much went out is not known. It is printed as fault 27.
+    /// A write failed. Nobody knows how much went out. It is printed as fault 27.
     #[error("the output could not be written")]
     Write,
-    /// Memory was refused for what is to be stored. It is printed as fault 42.
+    /// Memory for what is to be stored ran out. It is printed as fault 42.
     #[error("out of memory")]
     NoMemory,
 }

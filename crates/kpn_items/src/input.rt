@@ -13,12 +13,12 @@ use std::io::{ErrorKind, Read};
 /// How many bytes one read asks for.
 const CHUNK: usize = 8192;
 
-/// All that the reader gives, up to its end.
+/// All bytes of the reader, up to its end.
 ///
-/// It fails with `ItemFault::Read` where a read fails, or where more than `MAX_INPUT_BYTES` bytes
-/// come, so that it ends on a reader that has no end; and with `ItemFault::NoMemory` where memory for
-/// the bytes was refused. A read that a signal interrupted is made again. No clause can say that a
-/// read fails only where it must: a reader may fail at any time.
+/// It fails with `ItemFault::Read` if a read fails, or if more than `MAX_INPUT_BYTES` bytes come, so that it also ends
+/// on a reader that has no end. It fails with `ItemFault::NoMemory` if memory for the bytes ran out. If a signal
+/// interrupts a read, it reads again. No clause can say that a read fails only if it must: a reader may fail at any
+/// time.
 pub fn read_all<R: Read>(alloc: Global, reader: &mut R) -> Result<Vec<u8>, ItemFault>
     ensures within { IfOk result (λ bytes. vec_len bytes ≤ MAX_INPUT_BYTES) }
     ensures whole { IfOk result (λ bytes.
@@ -61,7 +61,7 @@ pub fn read_up_to<R: Read>(
     }
 }
 
-// One read, made again as long as a signal interrupts it.
+// One read. As long as a signal interrupts it, it reads again.
 fn read_some<R: Read>(reader: &mut R, buf: &mut [u8]) -> Result<usize, ItemFault>
     ensures bound { ReadsAtMost result buf.new }
     ensures bytes { ReadConsumes (R.remaining reader.old) (R.remaining reader.new) result buf.new }

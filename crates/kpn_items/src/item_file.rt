@@ -16,7 +16,7 @@ use std::io::{Read, Write};
 /// The items that the bytes of an item file spell, one on each line.
 ///
 /// It fails with `ItemFault::BadItem` at the first line that spells none, counted from 1, and with
-/// `ItemFault::NoMemory` where memory for the items was refused.
+/// `ItemFault::NoMemory` if memory for the items ran out.
 pub fn items_of(alloc: Global, bytes: &[u8]) -> Result<Vec<i64>, ItemFault>
     ensures ok { IfOk result (λ items. Spells bytes.now items.items) }
     ensures bad_item { IfErr result (TellsFirstBadLine bytes.now) }
@@ -35,23 +35,23 @@ pub fn items_of(alloc: Global, bytes: &[u8]) -> Result<Vec<i64>, ItemFault>
     Ok(items)
 }
 
-/// The items that a reader's bytes spell. All is read before the first line is looked at, so the
-/// faults of `read_all` come before those of `items_of`.
+/// The items that a reader's bytes spell. It reads all before it looks at the first line, so the faults of `read_all`
+/// come before those of `items_of`.
 pub fn read_items<R: Read>(alloc: Global, reader: &mut R) -> Result<Vec<i64>, ItemFault>
-    // Where the reader's bytes are known, they are what the answer speaks of.
+    // If the reader's bytes are known, the answer is about them.
     ensures ok { IfOk result (λ items.
         IfSome (R.remaining reader.old) (λ bytes. Spells bytes items.items)) }
     ensures bad_item { IfErr result (λ fault.
         IfSome (R.remaining reader.old) (λ bytes. TellsFirstBadLine bytes fault)) }
 
-    // More of them than the limit are refused whatever they spell.
+    // If they are more than the limit, the call fails whatever they spell.
     ensures too_long { IfSome (R.remaining reader.old) (λ bytes.
         MAX_INPUT_BYTES < length bytes → IsErrAnd result NamesNoLine) }
 
     // There are no more items than bytes.
     ensures few { IfOk result (λ items. vec_len items ≤ MAX_INPUT_BYTES) }
 
-    // Items and lines are told only once all was read, and no byte is lost but those read.
+    // It returns items or names a line only once it has read all. The reader loses no bytes but those read.
     ensures at_end { OnOk result (IsAtEnd (R.remaining reader.new)) }
     ensures bad_at_end { IfErr result (TellsLineAtEnd (R.remaining reader.new)) }
     ensures rest { LosesItsFront (R.remaining reader.old) (R.remaining reader.new) }
@@ -62,7 +62,7 @@ pub fn read_items<R: Read>(alloc: Global, reader: &mut R) -> Result<Vec<i64>, It
 
 /// Writes the items, each as its canonical line: no leading zeros, no `-0`, a line feed at the end.
 ///
-/// It takes no memory. After `WriteFault::Write` it is not said how much went out.
+/// It takes no memory. After `WriteFault::Write` nobody knows how much went out.
 pub fn write_items<W: Write>(writer: &mut W, items: &[i64]) -> Result<(), WriteFault>
     ensures { OnOk result
         (Appends (W.contents writer.old) (W.contents writer.new) (item_text items.now)) }

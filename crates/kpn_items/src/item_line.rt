@@ -7,7 +7,7 @@ ghost use Rattle.kpn_items.specs.ItemLine.{IsShortNumeral, SpellsItem};
 
 use kpn_limits::MAX_DIGITS;
 
-/// The item that a line without its line end spells, or `None` where it spells none.
+/// The item that a line without its line end spells, or `None` if it spells none.
 pub fn item_of_line(line: &[u8]) -> Option<i64>
     ensures { MatchOption result ((item : ℤ) → ¬ SpellsItem line.now item) (SpellsItem line.now) }
 {

@@ -1,4 +1,4 @@
-//! Laws of item files: facts on the definitions alone, each the contract of a function that does nothing.
+//! Laws of item files: facts about the definitions only, each the contract of a function that does nothing.
 
 ghost use Rattle.kpn_items.specs.Laws.{ReadsBack, IsUnambiguous, ExcludesSpelling};
 

@@ -1,4 +1,4 @@
--- The first line ends at the first line feed, and is all where there is none.
+-- The first line ends at the first line feed, and is all if there is none.
 use Rattle.std.proofs.Common.{◌+◌, ◌∷◌, length, ap, sym, ◌∙◌}
 use Rattle.std.specs.Str.Lines.{lines}
 use Rattle.std.proofs.lemmas.List.{take_rest}
