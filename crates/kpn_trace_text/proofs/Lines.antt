@@ -1,4 +1,4 @@
--- The line of an event: its kind stands before the first space, it has no line feed, and it has no other line.
+-- The line of an event: its kind comes before the first space, it has no line feed, and the event has no other line.
 use Rattle.std.proofs.Common.{◌≡◌, ℕ, ◌^◌, ◌<◌, List, [], ◌∷◌, ◌++◌, Bool, true, Option, Some, None, refl, sym, ap, ◌∙◌, subst, arith}
 use Rattle.std.specs.Prelude.{ℤ, FitsSigned, MatchOption}
 use Rattle.std.specs.Int.{w64}
@@ -94,7 +94,7 @@ line_is n (Leave c) = refl
 line_is One (Grow p c m) = refl
 line_is Two (Grow p c m) = refl
 
--- the kind and the parts of the event that a line spells, where the line has this first word
+-- the kind and the parts of the event that a line spells, if the line has this first word
 pub kind_and_parts : (n : Version) (line word parts : List ℕ) (event : Event) → line ≡ word ++ 32 ∷ parts
     → LacksByte 32 word
     → SpellsEvent n line event → (kind_word (kind_of event) ≡ word) × (parts ≡ spaced (arguments_of n event))
@@ -201,7 +201,7 @@ line_spells_one n line a b spells also =
     (kind_lacks (kind_of b)).0 spells in
     same_parts n a b (same_kind (kind_of a) (kind_of b) found.0) spells.in_range also.in_range (sym found.1)
 
--- ---- no line feed stands in a line
+-- ---- no line feed is in a line
 
 with_space : (xs ys : List ℕ) → LacksByte 10 xs → LacksByte 10 ys → LacksByte 10 (xs ++ 32 ∷ ys)
 with_space xs ys lacks also = LacksByte-append 10 xs (32 ∷ ys) lacks also

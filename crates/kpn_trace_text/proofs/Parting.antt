@@ -1,4 +1,4 @@
--- Words: what stands before the first byte that parts them, and which bytes numbers and words lack.
+-- Words: what comes before the first byte that parts them, and which bytes numbers and words lack.
 use Rattle.std.proofs.Common.{◌≡◌, ℕ, zero, suc, ◌+◌, ◌-◌, ◌^◌, ◌<◌, ◌≤◌, Bool, true, false, eqb, List, [], ◌∷◌, ◌++◌, length, get_or, take, drop, Some, None, refl, sym, ap, ◌∙◌, subst, arith}
 use Rattle.std.specs.Prelude.{ℤ, pos, negsuc, FitsSigned, ◌||◌}
 use Rattle.std.specs.Int.{w64}
@@ -48,12 +48,12 @@ LacksByte-append s (x ∷ xs) ys lacks also =
     let parts = either (eqb x s) (list_any (λ b. eqb b s) xs) lacks in
     both (eqb x s) (list_any (λ b. eqb b s) (xs ++ ys)) parts.0 (LacksByte-append s xs ys parts.1 also)
 
--- bytes where one stands do not lack it
+-- bytes among which one is do not lack it
 pub is_there : (s : ℕ) (xs ys : List ℕ) → LacksByte s (xs ++ s ∷ ys) → ⊥
 is_there s [] ys lacks = lacks_first s s ys lacks refl
 is_there s (x ∷ xs) ys lacks = is_there s xs ys (lacks_rest s x (xs ++ s ∷ ys) lacks)
 
--- what stands before the first such byte, and what behind it
+-- what comes before the first such byte, and what behind it
 pub cut : (s : ℕ) (w v a b : List ℕ) → LacksByte s w → LacksByte s v → w ++ s ∷ a ≡ v ++ s ∷ b → (w ≡ v) × (a ≡ b)
 cut s [] [] a b lacks also e = (refl, cc)
 cut s [] (y ∷ v) a b lacks also e =
@@ -103,7 +103,7 @@ parted_at s xs i found =
 
 -- ---- numbers
 
--- digits and a minus stand above spaces and line feeds
+-- digits and a minus are above spaces and line feeds
 digits_lack : (s : ℕ) (ds : List ℕ) → s < 45 → AllDigits 10 ds → LacksByte s ds
 digits_lack s [] low all = refl
 digits_lack s (d ∷ ds) low all =

@@ -1,5 +1,5 @@
 -- The line of an event in a trace of each version, without its line feed: words with one space between them. The first
--- word tells the kind of the event, the others its process, channel, item or ending.
+-- word is the kind of the event, the others are its process, channel, item or ending.
 use Rattle.std.specs.Prelude.{◌≡◌, ◌==◌, ℕ, ◌^◌, ◌<◌, ◌≤◌, false, List, [], ◌∷◌, ◌++◌, codes, FitsSigned, Option}
 use Rattle.std.specs.List.{find, list_any}
 use Rattle.std.specs.Int.{w64}
@@ -61,7 +61,7 @@ kind_of (Take c v) = kind.Take
 kind_of (Leave c) = kind.Leave
 kind_of (Grow p c n) = kind.Grow
 
--- the words of a growth: from version 2 on it tells the new capacity
+-- the words of a growth: from version 2 on they include the new capacity
 abbrev pub growth_words : Version → (p c n : ℕ) → List (List ℕ)
 growth_words One p c n = decimal p ∷ decimal c ∷ []
 growth_words Two p c n = decimal p ∷ decimal c ∷ decimal n ∷ []
@@ -95,7 +95,7 @@ line_of version event = spaced (kind_word (kind_of event) ∷ arguments_of versi
 abbrev pub LacksByte : (byte : ℕ) → (bytes : List ℕ) → Type 0
 LacksByte byte bytes = list_any (λ b. b == byte) bytes ≡ false
 
--- the new capacity: from 1 to the largest one where it is told, else 0
+-- the new capacity: from 1 to the largest one if the line states it, else 0
 abbrev pub IsTold : Version → ℕ → Type 0
 IsTold One n = n ≡ 0
 IsTold Two n = (0 < n) × (n ≤ MAX_CAPACITY)

@@ -24,7 +24,7 @@ pub record AreSameTrace {A : Type 0} (x y : Trace A) : Type 0 where
 abbrev pub TraceSpellsOne : (A : Type 0) → Type 0
 TraceSpellsOne A = (bytes : List ℕ) (x y : Trace A) → Spells bytes x → Spells bytes y → AreSameTrace x y
 
--- bytes that spell a trace are refused only for want of memory
+-- bytes that spell a trace are refused only if memory runs out
 abbrev pub SpelledIsRead : (A : Type 0) → Type 0
 SpelledIsRead A = (bytes : List ℕ) (trace : Trace A) → Spells bytes trace → (fault : TraceFault)
     → Refuses bytes fault → fault ≡ NoMemory

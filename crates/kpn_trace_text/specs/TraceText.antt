@@ -1,4 +1,4 @@
--- Whole traces: the first lines, and then the line of each event. Every line ends in a line feed, the last too.
+-- Whole traces: the first lines, and then the line of each event. Every line ends with a line feed, the last too.
 use Rattle.std.specs.Prelude.{◌≡◌, ◌≢◌, ℕ, ◌+◌, List, [], ◌∷◌, ◌++◌, length, codes, ⊤}
 use Rattle.std.specs.List.{All, flat_map}
 use Rattle.kpn_net.specs.declared.tables.Policy.{Policy}
@@ -37,7 +37,7 @@ abbrev pub IsHead : Version → Policy → Growth → Type 0
 IsHead One p g = (p ≡ policies.Cycles) × (g ≡ growths.One)
 IsHead Two p g = Unit {0}
 
--- how many lines stand before those of the events
+-- how many lines come before those of the events
 abbrev pub head_lines : Version → ℕ
 head_lines One = 1
 head_lines Two = 2
@@ -67,8 +67,8 @@ abbrev pub HasBadHead : (bytes : List ℕ) → Type 0
 HasBadHead bytes = (version : Version) (p : Policy) (g : Growth) → IsHead version p g → (more : List ℕ)
     → bytes ≢ head_text version p g ++ more
 
--- behind the lines of some events something follows that does not begin with a line of an event; it stands on this
--- line, counted from 1
+-- behind the lines of some events comes something that does not begin with a line of an event; it begins on this line,
+-- counted from 1
 pub record HasBadLine (bytes : List ℕ) (line : ℕ) : Type 0 where
   pub version : Version
   pub policy : Policy

@@ -16,7 +16,7 @@ pub enum TraceFault {
     /// This line, counted from 1, is the first that spells no event. It is printed as fault 30.
     #[error("line {0} spells no event")]
     BadEvent(usize),
-    /// Memory was refused. It is printed as fault 32.
+    /// Memory ran out. It is printed as fault 32.
     #[error("out of memory")]
     NoMemory,
 }

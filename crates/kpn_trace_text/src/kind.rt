@@ -1,11 +1,11 @@
-//! The kinds of events, and the words that tell them.
+//! The kinds of events, and the word for each.
 ghost use Rattle.std.specs.Prelude.{◌≡◌, ◌≢◌, MatchOption};
 ghost use Rattle.kpn_trace.specs.declared.event.How.{How};
 ghost use Rattle.kpn_trace_text.specs.EventLine.{kind_word, kind_named, how_word};
 
 use kpn_trace::How;
 
-/// The kind of an event, which the first word of its line tells.
+/// The kind of an event: the first word of its line.
 #[derive(Clone, Copy, Debug, PartialEq, Eq)]
 pub enum Kind {
     Get,

@@ -1,4 +1,4 @@
-//! Laws of traces as texts: facts on the definitions alone, each the contract of a function that does nothing.
+//! Laws of traces as texts: facts about the definitions only, each the contract of a function that does nothing.
 ghost use Rattle.kpn_trace_text.specs.Laws.{LineSpellsOne, TraceSpellsOne, SpelledIsRead, OneBadLine};
 
 use std::alloc::Allocator;
@@ -8,8 +8,8 @@ pub fn a_line_spells_one_event()
     ensures { LineSpellsOne }
 {}
 
-/// Reading what was written gives the trace back: the text of a trace spells it by definition, it
-/// spells no other, and it is refused only for want of memory.
+/// If a written trace is read, the same trace comes back. The text of a trace spells it by definition, and spells no
+/// other. Reading it fails only if memory runs out.
 pub fn written_traces_read_back<A: Allocator>()
     ensures unique { TraceSpellsOne A }
     ensures read { SpelledIsRead A }

@@ -26,9 +26,9 @@ pub fn read_event(line: &[u8], version: Version) -> Result<Event, BadEvent>
 
 /// The trace that the bytes spell, in either version. Its events may hold any numbers from 0 to 65535.
 ///
-/// It fails with `TraceFault::BadHead` where the bytes do not begin with the first lines of a trace,
-/// with `TraceFault::BadEvent` at the first line that spells no event or lacks its line feed, and
-/// with `TraceFault::NoMemory` where memory for the events was refused.
+/// It fails with `TraceFault::BadHead` if the bytes do not begin with the first lines of a trace, with
+/// `TraceFault::BadEvent` at the first line that spells no event or lacks its line feed, and with
+/// `TraceFault::NoMemory` if memory for the events ran out.
 pub fn read_trace<A: Allocator>(alloc: A, bytes: &[u8]) -> Result<Trace<A>, TraceFault>
     ensures ok { IfOk result (Spells bytes.now) }
     ensures refused { IfErr result (Refuses bytes.now) }

@@ -8,7 +8,7 @@ use itoa::Buffer;
 use kpn_items::item_of_line;
 use kpn_limits::MAX_CAPACITY;
 
-/// What stands before the first such byte, and what stands behind it.
+/// What comes before the first such byte, and what comes behind it.
 pub fn parted(bytes: &[u8], byte: u8) -> Option<(&[u8], &[u8])>
     ensures { MatchOption result (LacksByte byte bytes.now) (λ parts.
         (bytes.now ≡ parts.0.now ++ byte ∷ parts.1.now) × LacksByte byte parts.0.now) }

@@ -11,8 +11,8 @@ use kpn_trace::{Event, History, Version};
 use std::alloc::Allocator;
 use std::io::{self, Write};
 
-/// Writes the line of an event in version 2, with its line feed. It takes no memory. After `WriteFault::Write` it
-/// is not said how much went out.
+/// Writes the line of an event in version 2, with its line feed. It takes no memory. After `WriteFault::Write` nobody
+/// knows how much went out.
 pub fn event_line<W: Write>(writer: &mut W, event: &Event) -> Result<(), WriteFault>
     ensures { OnOk result
         (Appends (W.contents writer.old) (W.contents writer.new) (event_text Version.Two event.now)) }
@@ -52,8 +52,8 @@ fn write_head<W: Write>(writer: &mut W, policy: Policy, growth: Growth) -> Resul
 }
 
 /// Writes the trace of a history in version 2: its first lines, which name the policy and the growth, and the line of
-/// each event. It takes no memory, and makes some small writes for each event: to a device it goes through a buffer, or
-/// through a text that is made in memory. After `WriteFault::Write` it is not said how much went out.
+/// each event. It takes no memory, and makes some small writes for each event. So for a device, write into a buffer or
+/// make the text in memory first. After `WriteFault::Write` nobody knows how much went out.
 pub fn write_trace<W: Write, A: Allocator>(
     writer: &mut W,
     policy: Policy,

@@ -1,4 +1,4 @@
--- What stands before the first space is no number.
+-- What comes before the first space is no number.
 use Rattle.std.proofs.Common.{sym, ◌∙◌, arith}
 use Rattle.std.specs.Fmt.{decimal}
 use Rattle.kpn_trace_text.proofs.Parting.{cut, decimal_lacks}
