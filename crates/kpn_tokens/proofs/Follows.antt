@@ -180,6 +180,6 @@ follows_below (suc n) place (b ∷ bs) short =
     follows_piece place (b ∷ bs) (piece_of b (b ∷ bs)) (record { some = omega arith; is = refl })
     (piece_rule place b bs) (λ q shorter less. follows_below n q shorter (omega arith))
 
--- what a scan gives the rules say
+-- what a scan returns is what the rules say
 pub scan_rules : (place : ℕ) (text : List ℕ) → Reads place text (scan 0 place text)
 scan_rules place text = follows_below (suc (length text)) place text (omega arith)

@@ -1,4 +1,4 @@
--- White space parts a text: what stands before it is read by itself.
+-- White space parts a text: what comes before it is read by itself.
 use Rattle.std.proofs.Common.{◌≡◌, ℕ, ◌+◌, ⊎_elim, inl, inr, Bool, true, false, not, List, [], ◌∷◌, ◌++◌, length, take, Result, Ok, Err, eqb, refl, sym, ◌∙◌, subst, append_assoc, arith, length-append}
 use Rattle.std.specs.Cmp.Lexicographic.{pointwise}
 use Rattle.std.specs.List.{list_all, starts_with}
@@ -81,7 +81,7 @@ nothing_before b bs w more e none = record {
   no_mark = λ m. not_begun (mark_bytes m) (b ∷ bs) w more e (mark_is_solid m) (none.no_mark m);
 }
 
--- what stands further on is parted too
+-- what comes further on is parted too
 separates_back : (w : ℕ) (front back : List ℕ) → Separates w (front ++ back) → Separates w back
 separates_back w front back parts =
     let test : ℕ → Bool = λ b. not (b == 35) in (
@@ -90,7 +90,7 @@ separates_back w front back parts =
           (sym (list_all-append test front back) ∙ plain)).1) parts.1,
     )
 
--- a comment is ended by a line feed alone, and stands in no text without `#`
+-- only a line feed ends a comment, and a text without `#` has none
 comment_stops_before : (w : ℕ) (said rest more : List ℕ) → Separates w ((35 ∷ said) ++ rest) → Stops class.Comment rest
     → Stops class.Comment (rest ++ w ∷ more)
 comment_stops_before w said rest more parts stops =

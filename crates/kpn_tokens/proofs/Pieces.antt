@@ -22,7 +22,7 @@ use Rattle.kpn_tokens.specs.declared.tokens.Token.TheVariants as token
 use Rattle.kpn_tokens.specs.Lexing.{is_white_space, begins_name, is_in, TakesWithin, run, word_token, word_piece, number_piece, marked, mark_piece, piece_of}
 use Rattle.kpn_tokens.specs.Spelling.{keyword_of, mark_at, mark_bytes, marks}
 
--- what find gives passes
+-- what find returns passes the test
 pub find_passes : {X : Type 0} (p : X → Bool) (xs : List X) (x : X) → find p xs ≡ Some x → p x ≡ true
 find_passes p [] x found = cc
 find_passes {X} p (y ∷ ys) x found =
@@ -42,7 +42,7 @@ pointwise_length (x ∷ xs) (y ∷ ys) e = ap suc (pointwise_length xs ys
 starts_within : (text p : List ℕ) → starts_with nat_eq text p ≡ true → length p ≤ length text
 starts_within text p e = omega (arith, pointwise_length p (take (length p) text) e, length-take (length p) text)
 
--- a run goes on where its class does
+-- a run goes on if the next byte is of its class
 pub run-cons : (c : Class) (b : ℕ) (bs : List ℕ) → is_in c b ≡ true → run c (b ∷ bs) ≡ b ∷ run c bs
 run-cons c b bs e = take_while-cons (is_in c) b bs ∙ cond-true (is_in c b) (b ∷ run c bs) [] e
 

@@ -1,4 +1,4 @@
--- What the tables of marks and of reserved words give, entry by entry.
+-- What the tables of marks and of reserved words return, entry by entry.
 use Rattle.std.proofs.Common.{◌≡◌, ℕ, ◌≤◌, Bool, true, false, cond, List, [], ◌∷◌, ◌++◌, length, get_or, Option, Some, None, refl, ◌∙◌, lit≤}
 use Rattle.std.specs.List.{find, list_all, starts_with}
 use Rattle.std.specs.Prelude.{nat_eq, codes, not}
@@ -162,7 +162,7 @@ mark_ends mark.And rest found = tt
 mark_ends mark.Or rest found = tt
 mark_ends mark.Not rest found = other_mark mark.NotEqual mark.Not (starts_with nat_eq rest (codes "=")) (λ e. cc) found
 
--- no white space stands in a mark
+-- no white space is in a mark
 pub mark_is_solid : (m : Mark) → list_all (λ b. not (is_white_space b)) (mark_bytes m) ≡ true
 mark_is_solid mark.LeftParen = refl
 mark_is_solid mark.RightParen = refl
@@ -201,7 +201,7 @@ find_none : {X : Type 0} (p : X → Bool) (xs : List X) → ((x : X) → p x ≡
 find_none p [] fails = refl
 find_none p (x ∷ xs) fails = cond-false (p x) (Some x) (find p xs) (fails x) ∙ find_none p xs fails
 
--- where no mark of the table is found, the text begins with none
+-- if no mark of the table is found, the text begins with none
 listed : (p : Mark → Bool) → NonePasses p marks → (m : Mark) → p m ≡ false
 listed p none mark.LeftParen = none.1.1.1.1.1.1.0
 listed p none mark.RightParen = none.1.1.1.1.1.1.1.0

@@ -201,7 +201,7 @@ long_name_begins word rest is stops long = record {
       (lt-ltb MAX_NAME_BYTES (length word) long));
 }
 
--- what the rules say is what a scan gives
+-- what the rules say is what a scan returns
 pub rules_scan : {place : ℕ} {text : List ℕ} {r : Result (List Lexeme) LexFault} → Reads place text r
     → scan 0 place text ≡ r
 rules_scan done = refl

@@ -33,7 +33,7 @@ tokens_in-followed_by (Ok front) (Ok ls) = ap (λ ts. Some ts) (map-append (λ l
 tokens_in-followed_by (Ok front) (Err fault) = refl
 tokens_in-followed_by (Err fault) x = refl
 
--- a piece gives the same tokens at each place
+-- a piece has the same tokens at each place
 after_kind : (p : Piece) (i j : ℕ) (f g : ℕ → Result (List Lexeme) LexFault)
     → ((k : ℕ) → tokens_in (f k) ≡ tokens_in (g k)) → tokens_in (after p i f) ≡ tokens_in (after p j g)
 after_kind (piece.Gap n) i j f g same = same (n - 1)

@@ -1,5 +1,5 @@
--- The laws of the tokens, which the layers above stand on: what a scan reads is what the rules say, and how the parts
--- of a printed text are read.
+-- The laws of the tokens, on which the layers above depend: a scan reads what the rules say, and how the parts of a
+-- printed text are read.
 use Rattle.std.specs.Prelude.{◌≡◌, ℕ, ◌+◌, ◌<◌, ◌≤◌, ◌^◌, ◌⊎◌, ◌↔◌, true, not, ◌==◌, List, [], ◌∷◌, ◌++◌, length, map, Option, Some, None, Result, Ok, Err}
 use Rattle.std.specs.Fmt.{decimal}
 use Rattle.std.specs.List.{AllByRecursion, list_all}
@@ -11,7 +11,7 @@ use Rattle.kpn_tokens.specs.declared.tokens.Token.TheVariants as token
 use Rattle.kpn_tokens.specs.Lexing.{is_white_space, lexemes_of, scan}
 use Rattle.kpn_tokens.specs.Rules.{EndsBefore, IsSpelled, Reads}
 
--- A scan gives what the rules say, and they say no more than one thing.
+-- A scan returns what the rules say, and they allow only one result.
 abbrev pub ScanFollowsTheRules : Type 0
 ScanFollowsTheRules = (place : ℕ) (text : List ℕ) (r : Result (List Lexeme) LexFault)
     → (scan 0 place text ≡ r) ↔ Reads place text r
@@ -26,21 +26,21 @@ followed_by (Ok front) (Ok ls) = Ok (front ++ ls)
 followed_by (Ok front) (Err fault) = Err fault
 followed_by (Err fault) r = Err fault
 
--- A byte of white space ends what stands before it, where that is no comment; a line feed ends a comment too.
+-- A byte of white space ends what comes before it, if that is no comment; a line feed ends a comment too.
 abbrev pub Separates : ℕ → List ℕ → Type 0
 Separates w before = (is_white_space w ≡ true) × ((w ≡ 10) ⊎ (list_all (λ b. not (b == 35)) before ≡ true))
 
--- What stands before such a byte is read by itself, and then what stands after it.
+-- What comes before such a byte is read by itself, and then what comes after it.
 abbrev pub WhiteSpaceSeparates : Type 0
 WhiteSpaceSeparates = (place w : ℕ) (before rest : List ℕ) → Separates w before
     → scan 0 place (before ++ w ∷ rest) ≡ followed_by (scan 0 place before) (scan 0 (place + length before + 1) rest)
 
--- the tokens without their places; nothing where there is a fault
+-- the tokens without their places; nothing if there is a fault
 abbrev pub tokens_in : Result (List Lexeme) LexFault → Option (List Token)
 tokens_in (Ok ls) = Some (map (λ l. l.token) ls)
 tokens_in (Err fault) = None
 
--- the tokens of a text without their places; nothing where it has a fault
+-- the tokens of a text without their places; nothing if it has a fault
 unfoldable pub tokens_of : List ℕ → Option (List Token)
 tokens_of text = tokens_in (scan 0 0 text)
 
@@ -55,7 +55,7 @@ append_tokens (Some front) (Some ts) = Some (front ++ ts)
 append_tokens (Some front) None = None
 append_tokens None ts = None
 
--- Where a text begins changes no token.
+-- The place of a text changes no token.
 abbrev pub TokensKeepTheirKind : Type 0
 TokensKeepTheirKind = (place : ℕ) (text : List ℕ) → tokens_in (scan 0 place text) ≡ tokens_of text
 
@@ -63,7 +63,7 @@ TokensKeepTheirKind = (place : ℕ) (text : List ℕ) → tokens_in (scan 0 plac
 abbrev pub EmptyTextHasNoTokens : Type 0
 EmptyTextHasNoTokens = tokens_of [] ≡ Some []
 
--- A spelled token that what follows does not go on with is read as that token.
+-- A spelled token is read as that token, if what follows does not go on with it.
 abbrev pub SpelledTokenIsRead : Type 0
 SpelledTokenIsRead = (t : Token) (bytes rest : List ℕ) → IsSpelled t bytes → EndsBefore t rest
     → tokens_of (bytes ++ rest) ≡ cons_token t (tokens_of rest)

@@ -1,5 +1,5 @@
 -- The tokens of a text, and its first fault. Read from the front, a text is a row of pieces: white space, comments and
--- tokens, each the longest that can stand there.
+-- tokens, each the longest that can be there.
 use Rattle.std.specs.Prelude.{ℕ, zero, suc, ◌-◌, ◌≤◌, Bool, not, ◌&&◌, ◌||◌, ◌==◌, nat_lt, nat_le, if◌then◌else◌, List, [], ◌∷◌, length, Option, Some, None, Result, Ok, Err, Vec, ◌≡◌}
 use Rattle.std.specs.Char.{is_ascii_digit, is_ascii_alphabetic}
 use Rattle.std.specs.List.{take_while}
@@ -62,7 +62,7 @@ marked None = piece.NoToken
 abbrev pub mark_piece : List ℕ → Piece
 mark_piece text = marked (mark_at text)
 
--- what stands at the front of a text, whose first byte is b
+-- what is at the front of a text, whose first byte is b
 unfoldable pub piece_of : ℕ → List ℕ → Piece
 piece_of b text =
     if is_white_space b then piece.Gap 1
@@ -78,12 +78,12 @@ TakesWithin (piece.Token token n) available = (1 ≤ n) × (n ≤ available)
 TakesWithin piece.NoToken available = Unit {0}
 TakesWithin piece.LongName available = Unit {0}
 
--- a lexeme before those that follow, where there is no fault among them
+-- a lexeme before those that follow, if there is no fault among them
 abbrev pub cons_lexeme : Lexeme → Result (List Lexeme) LexFault → Result (List Lexeme) LexFault
 cons_lexeme l (Ok ls) = Ok (l ∷ ls)
 cons_lexeme l (Err fault) = Err fault
 
--- what a piece at a place gives, and then what follows once its further bytes are passed over
+-- what comes of a piece at a place, and of what follows behind its further bytes
 abbrev pub after : Piece → ℕ → (ℕ → Result (List Lexeme) LexFault) → Result (List Lexeme) LexFault
 after (piece.Gap n) place follow = follow (n - 1)
 after (piece.Token token n) place follow = cons_lexeme (record { token = token; start = place }) (follow (n - 1))

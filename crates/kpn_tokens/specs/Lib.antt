@@ -1,5 +1,5 @@
--- The definitions that contracts cite: steps that can fail, how tokens are spelled, what a scan gives, the rules of the
--- format, and the laws.
+-- The definitions that contracts cite: steps that can fail, how tokens are spelled, what a scan returns, the rules of
+-- the format, and the laws.
 pub mod Laws
 pub mod Lexing
 pub mod Results

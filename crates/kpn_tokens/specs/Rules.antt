@@ -1,5 +1,5 @@
--- The rules by which a text is read, as the format states them: how each token is spelled, what may follow it, and
--- what is a fault. They say nothing of how a scan goes.
+-- The rules by which a text is read, as the format states them: how each token is spelled, what may follow it, and what
+-- is a fault. They say nothing about how a scan works.
 use Rattle.std.specs.Prelude.{◌≡◌, ℕ, ◌+◌, ◌<◌, ◌≤◌, ◌⊎◌, true, false, ◌==◌, List, [], ◌∷◌, ◌++◌, length, slice_index, codes, None, Result, Ok, Err, nat_eq}
 use Rattle.std.specs.Char.{is_ascii_digit}
 use Rattle.std.specs.List.{list_all, starts_with}

@@ -14,7 +14,7 @@ ghost use Rattle.kpn_tokens.specs.Laws.{
   WhiteSpaceSeparatesTokens,
 };
 
-/// A scan of a text gives what the rules of the format say, and they say no more than one thing.
+/// A scan of a text returns what the rules of the format say, and they allow only one result.
 pub fn scan_follows_the_rules()
     ensures { ScanFollowsTheRules }
 {}
@@ -24,13 +24,13 @@ pub fn short_text_is_scanned()
     ensures { ShortTextIsScanned }
 {}
 
-/// A text that white space parts is read as its parts are, one after the other.
+/// If white space parts a text, the text is read as its parts are, one after the other.
 pub fn white_space_separates()
     ensures lexemes { WhiteSpaceSeparates }
     ensures tokens { WhiteSpaceSeparatesTokens }
 {}
 
-/// Where a text begins changes the places of its tokens and nothing else.
+/// The place of a text changes the places of its tokens and nothing else.
 pub fn tokens_keep_their_kind()
     ensures { TokensKeepTheirKind }
 {}
@@ -40,7 +40,7 @@ pub fn empty_text_has_no_tokens()
     ensures { EmptyTextHasNoTokens }
 {}
 
-/// A spelled token that what follows does not go on with is read as that token.
+/// A spelled token is read as that token, if what follows does not go on with it.
 pub fn spelled_token_is_read()
     ensures { SpelledTokenIsRead }
 {}

@@ -39,14 +39,14 @@ impl<T: Drop> From<AllocFailed<T>> for LexFault {
 /// The kinds of bytes that runs are made of.
 #[derive(Clone, Copy, Debug)]
 enum Class {
-    /// What may stand in a comment: all but a line feed.
+    /// What may be in a comment: all but a line feed.
     Comment,
     /// What a name goes on with.
     Word,
     Digit,
 }
 
-/// What stands at the front of a text, and how many bytes it takes.
+/// What is at the front of a text, and how many bytes it takes.
 #[derive(Drop)]
 enum Piece<'a> {
     /// White space or a comment.
@@ -143,7 +143,7 @@ fn mark_piece<'a>(text: &[u8]) -> Piece<'a>
     }
 }
 
-/// What stands at the front of a text.
+/// What is at the front of a text.
 #[tactic(auto, unfolding(crate::specs::Lexing::piece_of))]
 fn first_piece(text: &[u8]) -> Piece<'_>
     requires { 0 < length text.now }
@@ -166,17 +166,20 @@ fn first_piece(text: &[u8]) -> Piece<'_>
 
 /// The tokens of a text, each with the byte at which it begins; or its first fault.
 ///
-/// White space (space, tab, carriage return, line feed) and comments (from `#` up to the next line
-/// feed, with any bytes in them) stand between tokens and are dropped. The longest token is taken
-/// each time, so `12abc` is a number and a name, and `<=` is one mark.
+/// White space (space, tab, carriage return, line feed) and comments (from `#` up to the next line feed, with any bytes
+/// in them) may come between tokens and are dropped. The longest token counts each time, so `12abc` is a number and a
+/// name, and `<=` is one mark.
 ///
 /// # Errors
 ///
-/// [`LexFault::TooLong`] at [`MAX_TEXT_BYTES`] where the text is longer than that, before anything
-/// else; then the first in the text of these, at its first byte: [`LexFault::Token`] where no token
-/// begins, or where a run of digits has more than [`MAX_DIGITS`] or a value above [`MAX_NUMBER`];
-/// [`LexFault::TooLong`] at a name of more than [`MAX_NAME_BYTES`]. [`LexFault::NoMemory`] only where
-/// an allocation was refused.
+/// If the text is longer than [`MAX_TEXT_BYTES`], the error is [`LexFault::TooLong`] at that byte, before anything
+/// else. Else it is the first of these in the text, at its first byte:
+///
+/// - [`LexFault::Token`] if no token begins there, or if a run of digits has more than [`MAX_DIGITS`] or a value above
+///   [`MAX_NUMBER`];
+/// - [`LexFault::TooLong`] at a name of more than [`MAX_NAME_BYTES`].
+///
+/// [`LexFault::NoMemory`] comes only if memory ran out.
 pub fn lexemes(alloc: Global, text: &[u8]) -> Result<Vec<Lexeme<'_>>, LexFault>
     ensures { spec.Gives result (spec.lexemes_of text.now) }
 {

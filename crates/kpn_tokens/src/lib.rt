@@ -1,9 +1,9 @@
 //! The tokens of a network description.
 //!
-//! A description is a text: names, numbers, marks and reserved words, with white space and comments
-//! between them. This crate cuts the text into its tokens, or tells the first byte at which that
-//! fails; what the tokens say together is for the grammar above. `tokens` says what a token is and
-//! how it is spelled, `lexer` cuts a text, and `laws` states what layers above rely on.
+//! A description is a text: names, numbers, marks and reserved words, with white space and comments between them. This
+//! crate cuts the text into its tokens, or returns the first byte at which that fails. What the tokens mean together is
+//! a matter for the grammar above. `tokens` says what a token is and how it is spelled, `lexer` cuts a text, and `laws`
+//! states what layers above rely on.
 #![tactic(auto)]
 
 mod laws;

@@ -1,5 +1,5 @@
-//! What a token is: a name, a number, a mark or a reserved word, and how each mark and each
-//! reserved word is spelled. The spellings are tables, which the lexer reads and a printer writes.
+//! What a token is: a name, a number, a mark or a reserved word, and how each mark and each reserved word is spelled.
+//! The lexer and a printer use the same tables of spellings.
 
 ghost use Rattle.std.specs.Prelude.{◌≡◌, ◌<◌, ◌^◌, pos};
 ghost use Rattle.std.proofs.Common.{rules};
@@ -13,9 +13,9 @@ use std::marker::Model;
 pub const MAX_NUMBER: u64 = i64::MAX as u64;
 
 /// A name of the text: a letter or `_`, then letters, digits and `_`, in ASCII, at most
-/// [`MAX_NAME_BYTES`](kpn_limits::MAX_NAME_BYTES) long, and no reserved word. It borrows its bytes
-/// from the text, and contracts see those bytes; that they are such a name wherever
-/// [`crate::lexemes`] made it is the law [`crate::read_tokens_are_spelled`].
+/// [`MAX_NAME_BYTES`](kpn_limits::MAX_NAME_BYTES) long, and no reserved word. It borrows its bytes from the text, and
+/// contracts see those bytes. If [`crate::lexemes`] made it, they are such a name by the law
+/// [`crate::read_tokens_are_spelled`].
 #[derive(Debug, Drop)]
 pub struct Name<'a> {
     bytes: &'a [u8],
@@ -37,7 +37,7 @@ impl<'a> Name<'a> {
         Name { bytes }
     }
 
-    /// The bytes of the name, which the text still holds.
+    /// The bytes of the name, which remain in the text.
     pub fn bytes(&self) -> &'a [u8]
         ensures { result.now ≡ self.now }
     {

@@ -1,4 +1,4 @@
--- By the rules that read what stands before.
+-- By the rules that read what comes before.
 use Rattle.kpn_tokens.proofs.WithoutPlaces.{white_separates}
 use Rattle.kpn_tokens.proofs.Parting.{white_space_separates}
 use Rattle.kpn_tokens.proofs.laws.white_space_separates.Goals as goal

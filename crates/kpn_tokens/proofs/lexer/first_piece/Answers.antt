@@ -1,4 +1,4 @@
--- A run of digits is made of digits, and a mark lies within the text.
+-- A run of digits is made of digits, and a mark is within the text.
 use Rattle.kpn_tokens.proofs.Pieces.{mark_takes, run_of_digits}
 use Rattle.kpn_tokens.proofs.lexer.first_piece.Goals as goal
 

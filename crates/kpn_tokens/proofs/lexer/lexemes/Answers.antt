@@ -1,4 +1,4 @@
--- A turn moves what the piece at the front gives from the rest to what was found.
+-- A turn moves the lexeme of the piece at the front, if it has one, from the rest to what was found.
 use Rattle.std.proofs.Common.{◌<◌, length, ◌∙◌, arith}
 use Rattle.kpn_tokens.proofs.Scanning.{Advances, gap_advances, token_advances}
 use Rattle.kpn_tokens.proofs.lexer.lexemes.Goals as goal

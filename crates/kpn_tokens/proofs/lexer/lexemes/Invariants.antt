@@ -1,4 +1,4 @@
--- What was found, and what the rest gives, are what the whole text gives.
+-- The lexemes found so far, and then those of the rest, are those of the whole text.
 use Rattle.std.proofs.Common.{◌≡◌, ◌+◌, length}
 use Rattle.kpn_tokens.specs.Lexing.{scan}
 use Rattle.kpn_tokens.proofs.Scanning.{with_front}
