@@ -1,4 +1,4 @@
--- A whole description: it is read exactly where the tokens spell it within the limits, and tokens spell one at most.
+-- A whole description: it is read if and only if the tokens spell it within the limits, and tokens spell one at most.
 use Rattle.std.proofs.Common.{◌≡◌, false, List, [], ◌∷◌, length, map, Ok, refl, sym, ap, subst, ◌∙◌, arith}
 use Rattle.std.specs.List.{AllByRecursion}
 use Rattle.kpn_tokens.specs.declared.tokens.Lexeme.{Lexeme}

@@ -92,13 +92,13 @@ optional_names_again s ls (x ∷ xs) more no_name ends h =
 abbrev pub semicolon : Token → Bool
 semicolon = is_mark mark_.Semicolon
 
--- what stands behind out ports that were read
+-- what comes behind out ports that were read
 record TakesAfterOuts (ins outs : List Name) (tokens : List Token) (p : HeadParts) (rest : List Lexeme) : Type 0 where
   same_ins : p.ins ≡ ins
   same_outs : p.outs ≡ outs
   spelled : tokens ≡ spell_later_part keyword_.Par p.pars (kinds rest)
 
--- what stands behind in ports, and is not empty
+-- what comes behind in ports, and is not empty
 record TakesOuts (ins : List Name) (tokens : List Token) (p : HeadParts) (rest : List Lexeme) : Type 0 where
   same_ins : p.ins ≡ ins
   some : 0 < length p.outs + length p.pars
@@ -141,7 +141,7 @@ spell_ins (x ∷ xs) outs pars more some = refl
 abbrev of_parts : (ins outs pars : List Name) → HeadParts
 of_parts ins outs pars = record { ins = ins; outs = outs; pars = pars }
 
--- behind a semicolon: the parameters, or what stands behind in ports
+-- behind a semicolon: the parameters, or what comes behind in ports
 abbrev pars_read : Scope → (ins outs : List Name) → List Lexeme → Read HeadParts
 pars_read s ins outs ls =
     and_then (mark s mark_.Semicolon ls) (λ after. and_then (keyword s keyword_.Par after)
@@ -251,7 +251,7 @@ parts_takes s ls p rest h =
 
 -- ---- again
 
--- what stands behind the parts of a head, and of a call
+-- what comes behind the parts of a head, and of a call
 abbrev pub close : List Token → List Token
 close more = token.Mark mark_.RightParen ∷ more
 

@@ -1,4 +1,4 @@
--- A round of a loop that reads one thing after another: what was read before stands before what is still read.
+-- A round of a loop that reads one thing after another: what was read before comes before what is still read.
 use Rattle.std.proofs.Common.{◌≡◌, ℕ, zero, suc, ◌+◌, ◌-◌, ◌<◌, ◌≤◌, Bool, true, false, List, [], ◌∷◌, ◌++◌, length, drop, map, Ok, Err, refl, sym, ap, ◌∙◌, append_assoc, arith, length-drop}
 use Rattle.std.proofs.lemmas.List.{append-nil, map-append, length-append}
 use Rattle.kpn_tokens.specs.declared.tokens.Lexeme.{Lexeme}
@@ -18,8 +18,8 @@ unfolding and_then
 regroup {A} front x (Ok xs) = ap (λ (ys : List A). Ok (ys, xs.1)) (sym (append_assoc front (x ∷ []) xs.0))
 regroup front x (Err f) = refl
 
--- Where a loop stands: the things read so far, before those from number i on, of which there are at most n, are all of
--- them.
+-- How far a loop is: the things read so far come before those from number i on, of which there are at most n. Together
+-- they are all of them.
 pub record StandsAt {A : Type 0} (goes : Token → Bool) (one : ℕ → List Lexeme → Read A) (front : List A) (i : ℕ)
     (ls : List Lexeme) (total : Read (List A)) : Type 0 where
   pub most : ℕ

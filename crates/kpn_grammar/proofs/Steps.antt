@@ -1,4 +1,4 @@
--- Steps of reading: what a chain of steps gives, and the laws of the parsers of one token.
+-- Steps of reading: what a chain of steps returns, and the laws of the parsers of one token.
 use Rattle.std.proofs.Common.{◌≡◌, ℕ, Bool, true, false, cond, List, [], ◌∷◌, Option, Some, None, Result, Ok, Err, IfOk, refl, sym, ap, subst, ◌∙◌}
 use Rattle.std.specs.Str.{bytes_eq}
 use Rattle.std.proofs.lemmas.Slice.Eq.{bytes_eq-Decides}
@@ -38,7 +38,7 @@ bind_ok (Err d) f y e = absurd cc
 pub ok_is : {A : Type 0} (x y : A) → ◌≡◌ {A = Result A GrammarFault} (Ok x) (Ok y) → x ≡ y
 ok_is x y e = cc
 
--- a fault that a call tells
+-- a fault that a call returns
 pub fails_with : {A : Type 0} (e : GrammarFault) (read : Result A GrammarFault) → read ≡ Err e → Fails e read
 fails_with fault.NoMemory read h = tt
 fails_with (fault.Grammar at) read h = h
@@ -63,7 +63,7 @@ moved P x y h holds = subst P (ok_is x y h) holds
 pub no_value : {A : Type 0} (d : GrammarFault) (y : A) → ◌≡◌ {A = Result A GrammarFault} (Err d) (Ok y) → ⊥
 no_value d y e = cc
 
--- ---- marks and reserved words are told apart
+-- ---- marks and reserved words are distinct
 
 same_mark_true : (n m : Mark) → same_mark n m ≡ true → n ≡ m
 same_mark_true n m h = same_true mark_type tt n m h
@@ -258,7 +258,7 @@ operator_again s ls o more h =
 
 -- ---- a name that stands for something
 
--- what a name stands for is spelled by that name alone
+-- only the name that stands for something spells it
 pub record Spells {A : Type 0} (meant : Name → Option A) (spelled : A → Name) : Type 0 where
   pub back : (n : Name) (x : A) → meant n ≡ Some x → n ≡ spelled x
   pub found : (x : A) → meant (spelled x) ≡ Some x
@@ -345,7 +345,7 @@ number_again s ls n more h =
     let f = front ls (token.Number n) more h in
     (f.rest, number_at s n ls f.lexeme f.rest f.whole f.kind, f.after)
 
--- ---- calls beside what reading gives
+-- ---- calls beside what reading returns
 
 -- what a call returned was read
 pub was_read : {A B : Type 0} (view : A → B) (P : A → Type 0) (r : Result A GrammarFault) (read : Result B GrammarFault)

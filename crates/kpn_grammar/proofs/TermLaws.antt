@@ -24,14 +24,14 @@ expression_at s (suc d) ls l rest some h =
     let less : suc d - 1 ≡ d = omega arith in
     rw (h, less) refl
 
--- where no level is left
+-- if no level is left
 pub expression_deep : (s : Scope) (d : ℕ) (ls : List Lexeme) (l : Lexeme) (rest : List Lexeme) → d ≡ 0
     → next s ls ≡ Ok (l, rest) → expression s d ls ≡ Err (level_fault s l)
 unfolding expression and_then
 expression_deep s zero ls l rest none h = rw h refl
 expression_deep s (suc d) ls l rest none h = absurd (omega arith)
 
--- where no token is left
+-- if no token is left
 pub expression_ends : (s : Scope) (d : ℕ) (ls : List Lexeme) (e : GrammarFault) → Fails e (next s ls)
     → Fails e (expression s d ls)
 unfolding expression and_then
@@ -42,7 +42,7 @@ expression_ends s (suc d) ls fault.NoMemory h = tt
 expression_ends s (suc d) ls (fault.Grammar at) h = rw h refl
 expression_ends s (suc d) ls (fault.TooDeep p) h = rw h refl
 
--- what was read as a term: its tokens stand at the front, and it has at most so many levels
+-- what was read as a term: its tokens are at the front, and it has at most so many levels
 pub record TakesTerm (d : ℕ) (tokens : List Token) (e : Term) (rest : List Lexeme) : Type 0 where
   pub spelled : tokens ≡ spell_term e (kinds rest)
   pub level : term_level e ≤ d

@@ -1,4 +1,4 @@
--- The laws of reading, which the layers above stand on: what is read is what is spelled, and it is one thing.
+-- The laws of reading, on which the layers above depend: reading returns what is spelled, and that is one thing.
 use Rattle.std.specs.Prelude.{◌≡◌, ◌↔◌, List, Ok}
 use Rattle.kpn_tokens.specs.declared.tokens.Lexeme.{Lexeme}
 use Rattle.kpn_tokens.specs.declared.tokens.Token.{Token}
@@ -7,7 +7,7 @@ use Rattle.kpn_grammar.specs.Syntax.{Description}
 use Rattle.kpn_grammar.specs.Spelling.{kinds, IsDescription}
 use Rattle.kpn_grammar.specs.Reading.{description}
 
--- Tokens are read as a description exactly where they spell it within the limits, wherever they stand in the text.
+-- Tokens are read as a description if and only if they spell it within the limits, wherever they are in the text.
 abbrev pub ReadWhereSpelled : Type 0
 ReadWhereSpelled = (s : Scope) (ls : List Lexeme) (d : Description)
     → (description s ls ≡ Ok d) ↔ IsDescription (kinds ls) d

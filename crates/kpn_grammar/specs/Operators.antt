@@ -1,5 +1,4 @@
--- The operators of the process language and the marks that stand for them: one table, for what is read and what is
--- printed.
+-- The operators of the process language and the marks that stand for them: one table, for reading and for printing.
 use Rattle.std.specs.Prelude.{List, [], ◌∷◌, Option}
 use Rattle.std.specs.List.{find}
 use Rattle.kpn_lang.specs.declared.syntax.Op.{Op}
@@ -29,6 +28,6 @@ abbrev pub operators : List Op
 operators =
     op.Add ∷ op.Sub ∷ op.Mul ∷ op.Div ∷ op.Rem ∷ op.Lt ∷ op.Le ∷ op.Gt ∷ op.Ge ∷ op.Eq ∷ op.Ne ∷ op.And ∷ op.Or ∷ []
 
--- the operator that a mark stands for, where it stands for one
+-- the operator that a mark stands for, if it stands for one
 unfoldable pub operator_of : Mark → Option Op
 operator_of m = find (λ o. same_mark (operator_mark o) m) operators

@@ -1,6 +1,6 @@
--- What reading gives: the tree at the front of the tokens and the tokens after it, or the first fault. A token that
--- cannot stand where it stands is a fault at its first byte, or at the text's length where the text ends too early; a
--- token that may stand there and opens a level too many is a fault of its process.
+-- What reading returns: the tree at the front of the tokens and the tokens after it, or the first fault. A token that
+-- may not be there is a fault at its first byte. If the text ends too early, the fault is at its length. A token that
+-- may be there and opens a level too many is a fault of its process.
 use Rattle.std.specs.Prelude.{◌≡◌, ℕ, zero, suc, ◌+◌, Bool, true, false, not, if◌then◌else◌, List, [], ◌∷◌, length, Option, Some, None, Result, Ok, Err}
 use Rattle.kpn_limits.specs.declared.TheConstants.{MAX_LEVELS}
 use Rattle.kpn_lang.specs.declared.syntax.Op.{Op}
@@ -32,7 +32,7 @@ Fails fault.NoMemory read = Unit {0}
 Fails (fault.Grammar at) read = read ≡ Err (fault.Grammar at)
 Fails (fault.TooDeep process) read = read ≡ Err (fault.TooDeep process)
 
--- What a call returned, seen by a view, is what reading gives, unless memory ran out.
+-- What a call returned, seen by a view, is what reading returns, unless memory ran out.
 abbrev pub Gives : {A B : Type 0} → (A → B) → Result A GrammarFault → Result B GrammarFault → Type 0
 Gives view (Ok x) read = read ≡ Ok (view x)
 Gives view (Err e) read = Fails e read
@@ -44,7 +44,7 @@ unfoldable pub next : Scope → List Lexeme → Read Lexeme
 next s [] = Err (fault.Grammar s.end)
 next s (l ∷ ls) = Ok (l, ls)
 
--- there is a token at the front, and it is such a one
+-- there is a token at the front, and it passes this test
 abbrev pub first_is : (Token → Bool) → List Lexeme → Bool
 first_is goes [] = false
 first_is goes (l ∷ ls) = goes l.token
@@ -81,7 +81,7 @@ number s ls = do
   x ← next s ls
   numbered x.0.token x.0.start x.1
 
--- the operator of a token, where it has one
+-- the operator of a token, if it has one
 abbrev pub token_operator : Token → Option Op
 token_operator (token.Mark m) = operator_of m
 token_operator _ = None
@@ -95,7 +95,7 @@ operator s ls = do
   x ← next s ls
   or_fault_at x.0.start x.1 (token_operator x.0.token)
 
--- what a token stands for, where it is a name that stands for something
+-- what a token stands for, if it is a name that stands for something
 abbrev pub token_word : {A : Type 0} → (Name → Option A) → Token → Option A
 token_word meant (token.Name x) = meant x
 token_word meant _ = None
@@ -108,7 +108,7 @@ word_of meant s ls = do
 
 -- ---- repetition
 
--- One after another, each with its number, from i on, as long as the token at the front is such a one. n is at least
+-- One after another, each with its number, from i on, as long as the token at the front passes the test. n is at least
 -- how many there are.
 unfoldable pub many : {A : Type 0} → (Token → Bool) → (ℕ → List Lexeme → Read A) → ℕ → ℕ → List Lexeme → Read (List A)
 many goes one i zero ls = Ok ([], ls)
@@ -132,7 +132,7 @@ separated s one ls = do
 unfoldable pub names : Scope → List Lexeme → Read (List Name)
 names s ls = separated s (name s) ls
 
--- the same, or none where no name stands at the front
+-- the same, or none if no name is at the front
 unfoldable pub optional_names : Scope → List Lexeme → Read (List Name)
 optional_names s ls = if first_is is_name ls then names s ls else Ok ([], ls)
 
@@ -146,7 +146,7 @@ begins_expression (token.Mark mark_.Not) = true
 begins_expression (token.Mark mark_.LeftParen) = true
 begins_expression _ = false
 
--- the fault of a token where no level is left: it opens one too many, if an expression can begin with it
+-- the fault of a token if no level is left: it opens one too many, if an expression can begin with it
 abbrev pub level_fault : Scope → Lexeme → GrammarFault
 level_fault s l = if begins_expression l.token then fault.TooDeep s.process else fault.Grammar l.start
 
@@ -175,7 +175,7 @@ expression s (suc d) ls = next s ls >>= λ x. operand s (expression s d) x.0.tok
 
 -- ---- statements, by a parser of the blocks one level deeper
 
--- behind the name that is set
+-- behind the name of the target
 unfoldable pub assignment_behind : Scope → Name → List Lexeme → Read Statement
 assignment_behind s x ls = do
   after ← mark s mark_.Assign ls
@@ -274,7 +274,7 @@ outs_or_pars s ins (token.Keyword keyword_.Par) start rest =
     names s rest >>= λ pars. Ok (record { ins = ins; outs = []; pars = pars.0 }, pars.1)
 outs_or_pars s ins _ start rest = Err (fault.Grammar start)
 
--- the same behind a semicolon, where one stands at the front
+-- the same behind a semicolon, if one is at the front
 unfoldable pub after_ins : Scope → List Name → List Lexeme → Read HeadParts
 after_ins s ins ls =
     if first_is (is_mark mark_.Semicolon) ls
@@ -359,7 +359,7 @@ literal s ls = next s ls >>= λ x. literal_behind s x.0.token x.0.start x.1
 unfoldable pub values : Scope → List Lexeme → Read (List Literal)
 values s ls = separated s (literal s) ls
 
--- the same behind a semicolon, or none where no semicolon stands at the front
+-- the same behind a semicolon, or none if no semicolon is at the front
 unfoldable pub optional_values : Scope → List Lexeme → Read (List Literal)
 optional_values s ls =
     if first_is (is_mark mark_.Semicolon) ls
@@ -401,7 +401,7 @@ item s i ls = next s ls >>= λ x. item_behind s x.0.token x.0.start x.1
 unfoldable pub items : Scope → List Lexeme → Read (List Item)
 items s ls = many goes_on (item s) 0 (length ls) ls
 
--- a setting and the semicolon behind its reserved word, where that stands at the front
+-- a setting and the semicolon behind its reserved word, if that is at the front
 unfoldable pub setting : {A : Type 0} → Keyword → (Scope → List Lexeme → Read A) → Scope → List Lexeme
     → Read (Option A)
 setting k one s ls =
@@ -413,15 +413,15 @@ setting k one s ls =
       Ok (Some x.0, rest))
     else Ok (None, ls)
 
--- the limit, where it is written
+-- the limit, if it is written
 unfoldable pub limit : Scope → List Lexeme → Read (Option ℕ)
 limit = setting keyword_.Limit number
 
--- the policy, where it is written
+-- the policy, if it is written
 unfoldable pub policy : Scope → List Lexeme → Read (Option Policy)
 policy = setting keyword_.Policy (word_of policy_spelled)
 
--- the growth, where it is written
+-- the growth, if it is written
 unfoldable pub growth : Scope → List Lexeme → Read (Option Growth)
 growth = setting keyword_.Grow (word_of growth_spelled)
 

@@ -1,5 +1,5 @@
 -- How a tree is spelled, token by token, how deep it nests, and what it is for tokens to be a description. Each
--- spelling stands before the tokens that follow it.
+-- spelling has behind it the tokens that follow.
 use Rattle.std.specs.Prelude.{◌≡◌, ◌≤◌, ℕ, suc, max, List, [], ◌∷◌, map, Option, Some, None}
 use Rattle.std.specs.List.{AllByRecursion}
 use Rattle.kpn_limits.specs.declared.TheConstants.{MAX_LEVELS}
@@ -31,7 +31,7 @@ spell_term (binary op a b) more =
     token.Mark mark.LeftParen ∷ spell_term a (token.Mark (operator_mark op)
     ∷ spell_term b (token.Mark mark.RightParen ∷ more))
 
--- a number or a name has one level, and what stands around an expression one more
+-- a number or a name has one level, and an operator one more than its deepest operand
 abbrev pub term_level : Term → ℕ
 term_level (numeral n) = 1
 term_level (variable x) = 1
@@ -68,7 +68,7 @@ abbrev pub spell_block : Statements → List Token → List Token
 spell_block b more = token.Mark mark.LeftBrace ∷ spell_statements b (token.Mark mark.RightBrace ∷ more)
 
 abbrev mutual
-  -- how many levels of blocks stand inside a statement
+  -- how many levels of blocks are inside a statement
   pub inner_levels : Statement → ℕ
   inner_levels (assign x e) = 0
   inner_levels (receive i x) = 0
@@ -81,7 +81,7 @@ abbrev mutual
   levels_within no_statements = 0
   levels_within (statement s ss) = max (inner_levels s) (levels_within ss)
 
--- a block has one level more than what stands in it
+-- a block has one level more than what is in it
 abbrev pub block_level : Statements → ℕ
 block_level b = suc (levels_within b)
 
@@ -99,7 +99,8 @@ abbrev mutual
   deepest_term_of_all no_statements = 0
   deepest_term_of_all (statement s ss) = max (deepest_term s) (deepest_term_of_all ss)
 
--- a block within the limits of depth: it nests at most so deep, itself a level, and its expressions at most 32 levels
+-- a block within the limits of depth: it has at most so many levels of blocks, itself among them, and its expressions
+-- have at most 32 levels
 pub record BlockIsWithin (depth : ℕ) (b : Statements) : Type 0 where
   pub blocks : block_level b ≤ depth
   pub terms : deepest_term_of_all b ≤ MAX_LEVELS
@@ -129,7 +130,7 @@ spell_names = spell_list spell_name
 
 -- ---- processes
 
--- a part of a head; nothing where it has no names
+-- a part of a head; nothing if it has no names
 abbrev pub spell_part : Keyword → List Name → List Token → List Token
 spell_part word [] more = more
 spell_part word (x ∷ xs) more = token.Keyword word ∷ spell_names (x ∷ xs) more
@@ -139,7 +140,7 @@ abbrev pub spell_later_part : Keyword → List Name → List Token → List Toke
 spell_later_part word [] more = more
 spell_later_part word (x ∷ xs) more = token.Mark mark.Semicolon ∷ token.Keyword word ∷ spell_names (x ∷ xs) more
 
--- in a, b; out c; par k, l  where a part without names is left out
+-- in a, b; out c; par k, l; a part without names is left out
 abbrev pub spell_parts : (ins outs pars : List Name) → List Token → List Token
 spell_parts (x ∷ xs) outs pars more = spell_part keyword.In (x ∷ xs)
     (spell_later_part keyword.Out outs (spell_later_part keyword.Par pars more))
@@ -159,7 +160,7 @@ abbrev pub spell_literal : Literal → List Token → List Token
 spell_literal (plain n) more = token.Number n ∷ more
 spell_literal (negated n) more = token.Mark mark.Minus ∷ token.Number n ∷ more
 
--- the values of an instance, behind its second semicolon; nothing where there are none
+-- the values of an instance, behind its second semicolon; nothing if there are none
 abbrev pub spell_values : List Literal → List Token → List Token
 spell_values [] more = more
 spell_values (v ∷ vs) more = token.Mark mark.Semicolon ∷ spell_list spell_literal (v ∷ vs) more
@@ -182,7 +183,7 @@ spell_item (sink c cap) more =
 spell_item (instance i) more = token.Name i.name ∷ token.Mark mark.Assign
     ∷ spell_call i (token.Mark mark.Semicolon ∷ more)
 
--- a setting behind its reserved word, up to the semicolon, where it is written
+-- a setting behind its reserved word, up to the semicolon, if it is written
 abbrev pub spell_setting : {A : Type 0} → Keyword → (A → List Token → List Token) → Option A → List Token → List Token
 spell_setting word spell None more = more
 spell_setting word spell (Some x) more = token.Keyword word ∷ spell x (token.Mark mark.Semicolon ∷ more)

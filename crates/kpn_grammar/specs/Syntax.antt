@@ -1,5 +1,5 @@
--- The tree of a description, apart from where its parts stand in the text and in memory. Names are as they are written:
--- what they mean is for the layer above.
+-- The tree of a description, without the places of its parts in the text and in memory. Names are as they are written:
+-- what they mean is a matter for the layer above.
 use Rattle.std.specs.Prelude.{ℕ, ℤ, pos, neg_ℤ, List, [], ◌∷◌, Option}
 use Rattle.kpn_lang.specs.declared.syntax.Op.{Op}
 use Rattle.kpn_net.specs.declared.tables.Growth.{Growth}
@@ -70,7 +70,7 @@ pub data Item : Type 0 where
   sink : Name → ℕ → Item
   instance : Instance → Item
 
--- a network: its limit, its policy and its growth, each where it is written, and its items in order
+-- a network: its limit, its policy and its growth, each if it is written, and its items in order
 pub record Network : Type 0 where
   pub limit : Option ℕ
   pub policy : Option Policy

@@ -1,4 +1,4 @@
--- Of what kind a token is: this mark, this reserved word, a name.
+-- Which kind of token a token is: this mark, this reserved word, a name.
 use Rattle.std.specs.Prelude.{Bool, true, false}
 use denote.Enum.Bare.{sameb}
 use Rattle.kpn_tokens.specs.declared.tokens.Token.{Token}
@@ -8,7 +8,7 @@ use Rattle.kpn_tokens.specs.contracts.tokens.Mark.{the_type as mark_type}
 use Rattle.kpn_tokens.specs.declared.tokens.Keyword.{Keyword}
 use Rattle.kpn_tokens.specs.contracts.tokens.Keyword.{the_type as keyword_type}
 
--- two marks, two reserved words are the same: what `==` says of them
+-- two marks, two reserved words are the same: what `==` returns for them
 abbrev pub same_mark : Mark → Mark → Bool
 same_mark = sameb mark_type
 

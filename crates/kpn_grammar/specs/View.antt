@@ -1,4 +1,4 @@
--- The trees that the code's trees stand for: where they lie in memory and where names stand in the text is left out.
+-- The trees that the code's trees stand for, without the places of names in the text and in memory.
 use Rattle.std.specs.Prelude.{ℕ, List, map, drop, Result}
 use Rattle.kpn_tokens.specs.declared.tokens.Lexeme.{Lexeme}
 use Rattle.kpn_grammar.specs.declared.parser.Source.{Source}
@@ -102,7 +102,7 @@ network_seen n = record { limit = n.limit; policy = n.policy; growth = n.growth;
 abbrev pub document : DescriptionCode → Description
 document d = record { processes = processes_seen d.processes.items; network = network_seen d.network }
 
--- ---- scaffolding: what the parsers give, all of which but `description` are private
+-- ---- scaffolding: what the parsers return; all of them but `description` are private
 
 -- ports and parameters
 abbrev pub parts_seen : HeadPartsCode → HeadParts
@@ -112,14 +112,14 @@ parts_seen p = record { ins = names_seen p.ins.items; outs = names_seen p.outs.i
 abbrev pub tokens_from : Source → ℕ → List Lexeme
 tokens_from s at = drop at s.tokens.now
 
--- What a parser gave at a place is what the rule gives for the tokens from there on: the same, seen by a view, and the
--- tokens after it; or the same fault; or memory ran out.
+-- What a parser returned at a place is what the rule returns for the tokens from there on. It is the same, seen by a
+-- view, with the tokens after it; or the same fault; or memory ran out.
 abbrev pub Parses : {A B : Type 0} → (A → B) → (Scope → List Lexeme → Read B) → Source → ℕ
     → Result (A × ℕ) GrammarFault → Type 0
 Parses view rule from at result =
     Gives (λ x. (view x.0, tokens_from from x.1)) result (rule from.scope (tokens_from from at))
 
--- The same of a parser that gives nothing but the place after it.
+-- The same of a parser that returns nothing but the place after it.
 abbrev pub Passes : (Scope → List Lexeme → Result (List Lexeme) GrammarFault) → Source → ℕ
     → Result ℕ GrammarFault → Type 0
 Passes rule from at result = Gives (λ after. tokens_from from after) result (rule from.scope (tokens_from from at))

@@ -1,5 +1,5 @@
--- The words that stand for settings of a network: one table, for what is read and what is printed. They are names
--- elsewhere.
+-- The words that stand for settings of a network: one table, for reading and for printing. Elsewhere these words are
+-- names.
 use Rattle.std.specs.Prelude.{List, [], ◌∷◌, codes, Option}
 use Rattle.std.specs.List.{find}
 use Rattle.std.specs.Str.{bytes_eq}
@@ -18,7 +18,7 @@ policy_word policy.All = codes "all"
 abbrev pub policies : List Policy
 policies = policy.Cycles ∷ policy.All ∷ []
 
--- the policy that a word stands for, where it stands for one
+-- the policy that a word stands for, if it stands for one
 unfoldable pub policy_spelled : Name → Option Policy
 policy_spelled word = find (λ q. bytes_eq (policy_word q) word) policies
 
@@ -31,6 +31,6 @@ growth_word growth.Double = codes "double"
 abbrev pub growths : List Growth
 growths = growth.One ∷ growth.Double ∷ []
 
--- the growth that a word stands for, where it stands for one
+-- the growth that a word stands for, if it stands for one
 unfoldable pub growth_spelled : Name → Option Growth
 growth_spelled word = find (λ g. bytes_eq (growth_word g) word) growths

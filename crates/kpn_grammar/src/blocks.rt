@@ -1,5 +1,5 @@
-//! Statements and blocks. The body of a process is a block of level 1, and each block inside another
-//! has one level more.
+//! Statements and blocks. The body of a process is a block of level 1, and each block has one level more than the block
+//! around it.
 
 ghost use Rattle.std.specs.Prelude.{◌≡◌};
 ghost use Rattle.kpn_grammar.specs.Reading as spec;

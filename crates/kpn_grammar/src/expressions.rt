@@ -22,8 +22,7 @@ fn begins_expression(token: &Token<'_>) -> bool
     }
 }
 
-/// The fault of a token where no level is left: it opens one too many, if an expression can begin
-/// with it.
+/// The fault of a token if no level is left: it opens one too many, if an expression can begin with it.
 fn level_fault(scope: Scope, first: &Lexeme<'_>) -> GrammarFault
     ensures { result ≡ spec.level_fault scope first.now }
 {

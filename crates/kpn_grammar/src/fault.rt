@@ -5,11 +5,10 @@ ghost use Rattle.std.specs.Prelude.{◌≡◌};
 use std::alloc::AllocFailed;
 use thiserror::Error;
 
-/// Why tokens cannot be read as the grammar has it, with the place.
+/// Why tokens do not follow the grammar, with the place.
 #[derive(Clone, Copy, Debug, PartialEq, Eq, Error)]
 pub enum GrammarFault {
-    /// The token that begins at this byte cannot stand there; or the text ends too early, at its
-    /// length.
+    /// The token that begins at this byte may not be there. Or the text ends too early, at its length.
     #[error("no such token can stand at byte {0}")]
     Grammar(usize),
     /// A block or an expression of the process with this number nests deeper than [`kpn_limits::MAX_LEVELS`].

@@ -3,7 +3,7 @@
 
 ghost use Rattle.kpn_grammar.specs.Laws.{ReadWhereSpelled, SpelledOnce};
 
-/// Tokens are read as a description exactly where they spell it and it nests within the limits.
+/// Tokens are read as a description if and only if they spell it and it nests within the limits.
 pub fn read_where_spelled()
     ensures { ReadWhereSpelled }
 {}

@@ -1,7 +1,7 @@
 //! The grammar of a network description.
 //!
-//! The tokens of a description are read as a tree, in which names still stand as they are written.
-//! What the names mean is for the layer above.
+//! This crate reads the tokens of a description as a tree, which has names as they are written. What the names mean is
+//! a matter for the layer above.
 #![tactic(auto)]
 
 mod blocks;

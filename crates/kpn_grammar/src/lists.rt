@@ -37,7 +37,7 @@ pub(crate) fn names<'a>(alloc: Global, source: Source<'a>, at: usize) -> Read<Na
     Ok((found, place))
 }
 
-/// Names, or none where no name stands at the place.
+/// Names, or none if no name is at the place.
 #[tactic(auto, unfolding(crate::specs::Reading::optional_names))]
 pub(crate) fn optional_names<'a>(alloc: Global, source: Source<'a>, at: usize) -> Read<Names<'a>>
     ensures { Parses (λ found. names_seen found.items) spec.optional_names source.entry at result }
@@ -91,7 +91,7 @@ fn values(alloc: Global, source: Source<'_>, at: usize) -> Read<Vec<Literal>>
     Ok((found, place))
 }
 
-/// Values behind a semicolon, or none where no semicolon stands at the place.
+/// Values behind a semicolon, or none if no semicolon is at the place.
 #[tactic(auto, unfolding(crate::specs::Reading::optional_values, kpn_tokens::specs::Results::and_then))]
 pub(crate) fn optional_values(alloc: Global, source: Source<'_>, at: usize) -> Read<Vec<Literal>>
     ensures { Parses (λ found. values_seen found.items)

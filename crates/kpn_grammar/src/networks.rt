@@ -131,7 +131,7 @@ fn items<'a>(alloc: Global, source: Source<'a>, at: usize) -> Read<Vec<Item<'a>>
     Ok((found, place))
 }
 
-/// The limit, where it is written.
+/// The limit, if it is written.
 #[tactic(auto, unfolding(crate::specs::Reading::limit, crate::specs::Reading::setting, kpn_tokens::specs::Results::and_then))]
 fn limit(source: Source<'_>, at: usize) -> Read<Option<Number>>
     ensures { Parses (λ n. n) spec.limit source.entry at result }
@@ -161,7 +161,7 @@ fn policy_word(source: Source<'_>, at: usize) -> Read<Policy>
     }
 }
 
-/// The policy, where it is written.
+/// The policy, if it is written.
 #[tactic(auto, unfolding(crate::specs::Reading::policy, crate::specs::Reading::setting, kpn_tokens::specs::Results::and_then))]
 fn policy(source: Source<'_>, at: usize) -> Read<Option<Policy>>
     ensures { Parses (λ q. q) spec.policy source.entry at result }
@@ -191,7 +191,7 @@ fn growth_word(source: Source<'_>, at: usize) -> Read<Growth>
     }
 }
 
-/// The growth, where it is written.
+/// The growth, if it is written.
 #[tactic(auto, unfolding(crate::specs::Reading::growth, crate::specs::Reading::setting, kpn_tokens::specs::Results::and_then))]
 fn growth(source: Source<'_>, at: usize) -> Read<Option<Growth>>
     ensures { Parses (λ g. g) spec.growth source.entry at result }

@@ -1,5 +1,4 @@
-//! The operators of the process language and the marks that stand for them: one table, by which descriptions are
-//! read and printed.
+//! The operators of the process language and the marks that stand for them: one table, for reading and for printing.
 
 ghost use Rattle.std.specs.Prelude.{◌≡◌};
 ghost use Rattle.kpn_grammar.specs.Operators.{operator_mark};

@@ -1,4 +1,4 @@
-//! The parsers of one token at a place, on which all others stand. Each gives what it read and the place after it.
+//! The parsers of one token at a place, on which all others depend. Each returns what it read and the place after it.
 //! Places count tokens; the tokens themselves stay where they are.
 
 ghost use Rattle.std.specs.Prelude.{◌≡◌};
@@ -12,12 +12,12 @@ use crate::tree::Identifier;
 use kpn_lang::Op;
 use kpn_tokens::{Keyword, Lexeme, Mark, Number, Token};
 
-/// What faults tell beside the tokens.
+/// What a fault needs besides the tokens.
 #[derive(Clone, Copy, Debug)]
 pub(crate) struct Scope {
-    /// The length of the text in bytes, where it ends too early.
+    /// The length of the text in bytes: the place of a fault if the text ends too early.
     pub end: usize,
-    /// The number of the process that is read.
+    /// The number of the process that the parser reads.
     pub process: usize,
 }
 
@@ -62,7 +62,7 @@ fn is_keyword(token: &Token<'_>, keyword: Keyword) -> bool
     }
 }
 
-/// Whether this mark stands at a place.
+/// Whether this mark is at a place.
 pub(crate) fn at_mark(source: Source<'_>, mark: Mark, at: usize) -> bool
     ensures { result ≡ spec.first_is (tests.is_mark mark) (tokens_from source.entry at) }
 {
@@ -72,7 +72,7 @@ pub(crate) fn at_mark(source: Source<'_>, mark: Mark, at: usize) -> bool
     }
 }
 
-/// Whether this reserved word stands at a place.
+/// Whether this reserved word is at a place.
 pub(crate) fn at_keyword(source: Source<'_>, keyword: Keyword, at: usize) -> bool
     ensures { result ≡ spec.first_is (tests.is_keyword keyword) (tokens_from source.entry at) }
 {
@@ -82,7 +82,7 @@ pub(crate) fn at_keyword(source: Source<'_>, keyword: Keyword, at: usize) -> boo
     }
 }
 
-/// Whether a name stands at a place.
+/// Whether a name is at a place.
 pub(crate) fn at_name(source: Source<'_>, at: usize) -> bool
     ensures { result ≡ spec.first_is tests.is_name (tokens_from source.entry at) }
 {
@@ -92,7 +92,7 @@ pub(crate) fn at_name(source: Source<'_>, at: usize) -> bool
     }
 }
 
-/// Whether a token other than a closing brace stands at a place.
+/// Whether a token other than a closing brace is at a place.
 pub(crate) fn goes_on(source: Source<'_>, at: usize) -> bool
     ensures { result ≡ spec.first_is spec.goes_on (tokens_from source.entry at) }
 {

@@ -13,7 +13,7 @@ use kpn_limits::MAX_LEVELS;
 use kpn_tokens::{Keyword, Lexeme, Mark, Token};
 use std::alloc::Global;
 
-/// The parts of a head behind the in ports and the out ports: parameters, where a semicolon stands.
+/// The parts of a head behind the in ports and the out ports: parameters, if a semicolon follows.
 #[tactic(auto, unfolding(crate::specs::Reading::after_outs, kpn_tokens::specs::Results::and_then))]
 fn after_outs<'a>(
     alloc: Global,
@@ -64,7 +64,7 @@ fn outs_or_pars<'a>(
     }
 }
 
-/// The parts of a head behind the in ports: more, where a semicolon stands.
+/// The parts of a head behind the in ports: more, if a semicolon follows.
 #[tactic(auto, unfolding(crate::specs::Reading::after_ins, kpn_tokens::specs::Results::and_then))]
 fn after_ins<'a>(
     alloc: Global,

@@ -1,5 +1,5 @@
-//! The syntax tree of a description. Its names are as written, each with the byte at which it
-//! begins, so that a later fault can be placed.
+//! The syntax tree of a description. Its names are as written, each with the byte at which it begins, so that a later
+//! fault has a place.
 
 ghost use Rattle.std.specs.Prelude.{◌≡◌};
 
@@ -10,7 +10,7 @@ use kpn_tokens::{Name, Number};
 /// A name as written.
 #[derive(Debug, Drop)]
 pub struct Identifier<'a> {
-    /// Its bytes, which the text still holds.
+    /// Its bytes, which remain in the text.
     pub bytes: &'a [u8],
     /// The byte at which it begins.
     pub start: usize,
@@ -109,7 +109,7 @@ pub enum Item<'a> {
     Instance(Instance<'a>),
 }
 
-/// The network: its limit, its policy and its growth, each where it is written, and its items in order.
+/// The network: its limit, its policy and its growth, each if it is written, and its items in order.
 #[derive(Debug, Drop)]
 pub struct Network<'a> {
     pub limit: Option<Number>,

@@ -15,7 +15,7 @@ use crate::tree::Description;
 use kpn_tokens::Lexeme;
 use std::alloc::Global;
 
-/// Nothing stands at the place.
+/// Nothing is at the place.
 #[tactic(auto, unfolding(crate::specs::Reading::at_end))]
 fn at_end(source: Source<'_>, at: usize) -> Result<(), GrammarFault>
     ensures { spec.Gives (λ x. tt) result (spec.at_end (tokens_from source.entry at)) }
@@ -42,18 +42,22 @@ fn whole<'a>(alloc: Global, source: Source<'a>) -> Result<Description<'a>, Gramm
 ///
 /// # Errors
 ///
-/// [`GrammarFault::Grammar`] at the first byte of the first token that cannot stand where it stands,
-/// or at `end` where the tokens end too early; [`GrammarFault::TooDeep`] of a process at a token that
-/// may stand there and opens a level too many, of blocks or of an expression: whichever comes first.
-/// [`GrammarFault::NoMemory`] only where an allocation was refused.
+/// The first of these in the text:
+///
+/// - [`GrammarFault::Grammar`] at the first byte of a token that may not be there, or at `end` if the tokens end too
+///   early;
+/// - [`GrammarFault::TooDeep`] of a process at a token that may be there and opens a level too many, of blocks or of an
+///   expression.
+///
+/// [`GrammarFault::NoMemory`] comes only if memory ran out.
 pub fn description<'a>(
     alloc: Global,
     tokens: &'a [Lexeme<'a>],
     end: usize,
 ) -> Result<Description<'a>, GrammarFault>
-    // What is returned is what the tokens spell, within the limits.
+    // What the call returns is what the tokens spell, within the limits.
     ensures found { IfOk result (λ d. IsDescription (kinds tokens.now) (document d)) }
-    // What the tokens spell within the limits is returned, unless memory runs out.
+    // It returns what the tokens spell within the limits, unless memory runs out.
     ensures only { (d : Document) → IsDescription (kinds tokens.now) d
         → OkOr GrammarFault.NoMemory result (λ x. document x ≡ d) }
     // Which fault it is.

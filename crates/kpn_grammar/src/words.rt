@@ -1,4 +1,4 @@
-//! The words that stand for settings of a network: one table, by which descriptions are read and printed.
+//! The words that stand for settings of a network: one table, for reading and for printing.
 
 ghost use Rattle.std.specs.Prelude.{◌≡◌};
 ghost use Rattle.kpn_grammar.specs.Words as table;

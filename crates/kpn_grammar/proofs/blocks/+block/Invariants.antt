@@ -1,4 +1,4 @@
--- A block is read by its statements, one level deeper each; what was read so far stands before what is still read.
+-- A block is read by its statements, one level deeper each; what was read so far comes before what is still read.
 use Rattle.std.proofs.Common.{◌+◌, ◌-◌, ◌*◌, length}
 use Rattle.kpn_grammar.specs.Reading.{goes_on, one_statement, block, statements_at}
 use Rattle.kpn_grammar.specs.View.{tokens_from, statements_seen}

@@ -1,4 +1,4 @@
--- What was read so far stands before what is still read.
+-- What was read so far comes before what is still read.
 use Rattle.std.proofs.Common.{◌-◌, length}
 use Rattle.kpn_tokens.specs.declared.tokens.Mark.TheVariants as mark_
 use Rattle.kpn_grammar.specs.TokenTests.{is_mark}
