@@ -1,4 +1,4 @@
--- Steps one after the other, where the first that finds something wrong decides.
+-- Steps one after the other: the first that finds something wrong decides.
 use Rattle.std.proofs.Common.{◌≡◌, Result, Ok, Err, refl, ap}
 use Rattle.kpn_tokens.specs.Results.{and_then}
 

@@ -1,4 +1,4 @@
--- The head of a process, name by name, is its names where they are distinct.
+-- The head of a process, name by name, is its names if they are distinct.
 use Rattle.std.proofs.Common.{◌≡◌, Bool, true, false, cond, not, ◌&&◌, ◌||◌, List, [], ◌∷◌, ◌++◌, Result, Ok, Err, refl, sym, ap, ◌∙◌, append_assoc, append-nil}
 use Rattle.std.proofs.lemmas.List.Folds.{list_any-append}
 use Rattle.std.specs.Str.{bytes_eq}
@@ -36,11 +36,11 @@ are_new-append before (x ∷ xs) ys =
     (append_assoc before (x ∷ []) xs)
     ∙ sym (and_assoc (not (has before x)) (are_new (before ++ x ∷ []) xs) (are_new (before ++ x ∷ xs) ys))
 
--- the names with one more, where it is not taken
+-- the names with one more, if it is not taken
 abbrev if_taken : Bool → Scope → Result Scope NameError
 if_taken b s = cond b (Err double) (Ok s)
 
--- ---- a part of the head: `at` says where the names go, and `before` what stands before them
+-- ---- a part of the head: `at` says where the names go, and `before` what comes before them
 
 module _ (part : Part) (before : List Name) (at : List Name → Scope)
     (taken : (names : List Name) (x : Name) → is_taken (at names) x ≡ has (before ++ names) x)

@@ -1,4 +1,4 @@
--- Tables of names: a name that is known stands at its number, and stays there as the table grows.
+-- Tables of names: a known name is at its number, and stays there as the table grows.
 use Rattle.std.proofs.Common.{◌≡◌, ℕ, suc, ◌+◌, ◌<◌, Bool, true, false, cond, not, ◌||◌, List, [], ◌∷◌, ◌++◌, length, map, Option, Some, None, Result, Ok, Err, refl, sym, ap, ◌∙◌, append_assoc, append-nil, length-append, arith}
 use Rattle.std.specs.List.{list_any, position_or_len}
 use Rattle.std.specs.Str.{bytes_eq}
@@ -37,7 +37,7 @@ known_named table x k e =
     let p = position-Some (bytes_eq x) table k [] (or_known (number_of table x) k e) in
     record { here = p.0; name = same_bytes x (name_at table k) p.1 }
 
--- a name that is put where it is new
+-- a name that is put at the end if it is new
 first_or_later : (b c : Bool) (y x : Name) (table : List Name) (k : ℕ) → (b ≡ true → y ≡ x)
     → IsNamed (cond c table (table ++ x ∷ [])) k x
     → IsNamed (cond (b || c) (y ∷ table) (y ∷ (table ++ x ∷ []))) (cond (not b) (1 + k) 0) x
@@ -71,13 +71,13 @@ longer_if false table x = record { more = x ∷ []; is = refl }
 pub with_name_longer : (table : List Name) (x : Name) → Longer table (with_name table x)
 with_name_longer table x = longer_if (has table x) table x
 
--- what is given only where a test is not passed
+-- what is there only if a test is not passed
 pub if_not : {A : Type 0} (b : Bool) (x y : A) → ◌≡◌ {A = Result A NameError} (cond b (Err double) (Ok x)) (Ok y)
     → (b ≡ false) × (x ≡ y)
 if_not true x y h = absurd (cc)
 if_not false x y h = (refl, ok_is x y h)
 
--- or only where it is passed
+-- or only if it is passed
 pub if_so : {A : Type 0} (b : Bool) (x y : A) → ◌≡◌ {A = Result A NameError} (cond b (Ok x) (Err double)) (Ok y)
     → (b ≡ true) × (x ≡ y)
 if_so true x y h = (refl, ok_is x y h)

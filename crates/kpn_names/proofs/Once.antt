@@ -1,4 +1,4 @@
--- No name stands twice in a table of names: each step adds a name that is new, or none.
+-- No name is twice in a table of names: each step adds a name that is new, or none.
 use Rattle.std.proofs.Common.{◌≡◌, ℕ, zero, suc, ◌<◌, Bool, true, false, cond, not, List, [], ◌∷◌, ◌++◌, length, map, Ok, refl, sym, ap, subst, ◌∙◌, append_assoc, append-nil, length-append, inl, inr, arith}
 use Rattle.std.specs.List.{All, position_or_len}
 use Rattle.std.specs.Str.{bytes_eq}
@@ -31,7 +31,7 @@ use Rattle.kpn_names.proofs.Counts.{programs_match}
 
 -- ---- one table
 
--- no name is one that stands before it
+-- no name is one that comes before it
 abbrev Apart : List Name → Type 0
 Apart table = (i j : ℕ) → i < j → j < length table → bytes_eq (name_at table j) (name_at table i) ≡ false
 

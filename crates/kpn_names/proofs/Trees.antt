@@ -9,12 +9,12 @@ use Rattle.kpn_names.proofs.Writing.{length-inner}
 abbrev Blocks : Type 0
 Blocks = List (List lang.Statement)
 
--- the block that stands after these
+-- the block that comes after these
 block_there : (all before after : Blocks) (block : List lang.Statement) (n : ℕ) → all ≡ before ++ (block ∷ after)
     → length before ≡ n → block_at all n ≡ block
 block_there all before after block n is at = rw (is, ← at) (get_or-append_seam before block after [])
 
--- what stands in a block and inside it, with what stands before and after that
+-- what is in a block and inside it, with what comes before and after that
 next_block : (before inside after : Blocks) (block : List lang.Statement)
     → before ++ ((block ∷ inside) ++ after) ≡ (before ++ block ∷ []) ++ (inside ++ after)
 next_block before inside after block = sym (append_assoc before (block ∷ []) (inside ++ after))

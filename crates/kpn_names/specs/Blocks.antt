@@ -1,5 +1,5 @@
--- The blocks of a tree, numbered in the order in which their opening braces stand in the text: first a block's own
--- statements, then the blocks inside it.
+-- The blocks of a tree, numbered in the order of their opening braces in the text: first a block's own statements, then
+-- the blocks inside it.
 use Rattle.std.specs.Prelude.{ℕ, suc, ◌+◌, List, [], ◌∷◌, ◌++◌, Result, Ok}
 use Rattle.kpn_lang.specs.Syntax as lang
 use Rattle.kpn_lang.specs.Tree.{Tree, End, Assign, Read, Write, If, While}
@@ -9,7 +9,7 @@ use Rattle.kpn_names.specs.Fault.{NameError}
 use Rattle.kpn_tokens.specs.Results.{◌>>=◌, and_then}
 use Rattle.kpn_names.specs.Body.{tree_in}
 
--- how many blocks stand inside, at any depth
+-- how many blocks are inside, at any depth
 abbrev pub blocks_in : Tree → ℕ
 blocks_in End = 0
 blocks_in (Assign x e rest) = blocks_in rest
@@ -18,7 +18,7 @@ blocks_in (Write o e rest) = blocks_in rest
 blocks_in (If e a b rest) = suc (blocks_in a) + (suc (blocks_in b) + blocks_in rest)
 blocks_in (While e a rest) = suc (blocks_in a) + blocks_in rest
 
--- the statements of a block, where the first block inside it has the number n
+-- the statements of a block, if the first block inside it has the number n
 abbrev pub own : (n : ℕ) → Tree → List lang.Statement
 own n End = []
 own n (Assign x e rest) = lang.Assign x e ∷ own n rest
@@ -50,6 +50,6 @@ pub record Written : Type 0 where
   pub scope : Scope
   pub blocks : List (List lang.Statement)
 
--- a body, where these names are known before it
+-- a body, if these names are known before it
 abbrev pub body_of : Scope → Statements → Result Written NameError
 body_of s b = tree_in s b >>= λ r. Ok (record { scope = r.0; blocks = blocks_of r.1 })

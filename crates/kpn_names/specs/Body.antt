@@ -1,5 +1,5 @@
 -- The body of a process with numbers in place of names: variables and ports by their numbers, read in the order of the
--- text. Each statement stands in front of the tree of what follows it.
+-- text. Each statement comes in front of the tree of what follows it.
 use Rattle.std.specs.Prelude.{pos, List, Result, Ok}
 use Rattle.kpn_lang.specs.Syntax as lang
 use Rattle.kpn_lang.specs.Tree.{Tree, End, Assign, Read, Write, If, While}
@@ -22,8 +22,8 @@ term_in vars (binary o e f) = do
   Ok (lang.Bin o a b)
 
 unfoldable mutual
-  -- a statement in front of what follows, with the names known from there on. The target of an assignment is known in
-  -- its expression; an in port is read, an out port is written
+  -- a statement in front of what follows, with the names known from there on. The expression of an assignment knows its
+  -- target. A read is from an in port, a write to an out port
   pub statement_in : Scope → Statement → Result (Scope × (Tree → Tree)) NameError
   statement_in s (assign x e) = do
     t ← target s x

@@ -1,10 +1,10 @@
--- What is wrong with a name, and steps of which the first that finds something wrong decides.
+-- What is wrong with a name, and chains of steps: the first step that finds something wrong decides.
 use Rattle.std.specs.Prelude.{◌≡◌, List, [], ◌∷◌, Result, Ok, Err}
 use Rattle.kpn_tokens.specs.Results.{and_then, ◌>>=◌}
 use Rattle.kpn_names.specs.declared.fault.NameFault.{NameFault}
 use Rattle.kpn_names.specs.declared.fault.NameFault.TheVariants as fault
 
--- a name is not known where it is used, or is given twice
+-- a name is not known at its use, or is already in its table
 pub data NameError : Type 0 where
   unknown : NameError
   double : NameError

@@ -7,10 +7,10 @@ use Rattle.kpn_names.specs.Named.{Named, resolve}
 use Rattle.kpn_names.specs.NetworkNames.{names_in}
 use Rattle.kpn_names.specs.Once.{EachStandsOnce}
 
--- The blocks of a tree, each where its number says, are that tree.
+-- The blocks of a tree, put together by their numbers, are that tree.
 abbrev pub BlocksAreTheTree : Type 0
 BlocksAreTheTree = (t : Tree) → tree_of (blocks_of t) 0 ≡ t
 
--- No name stands twice in a table of the names that a description gives.
+-- No name is twice in a table of the names of a description.
 abbrev pub NamesStandOnce : Type 0
 NamesStandOnce = (d : Description) (n : Named) → resolve d ≡ Ok n → EachStandsOnce (names_in n)

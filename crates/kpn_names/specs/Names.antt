@@ -6,15 +6,15 @@ use Rattle.kpn_grammar.specs.Syntax.{Name}
 use Rattle.kpn_names.specs.Fault.{NameError, unknown, double, each}
 use Rattle.kpn_tokens.specs.Results.{◌>>=◌, and_then}
 
--- the name with a number; no bytes where there is none
+-- the name with a number; no bytes if there is none
 abbrev pub name_at : List Name → ℕ → Name
 name_at table k = slice_index_or table k []
 
--- the name stands in the table
+-- the name is in the table
 abbrev pub has : List Name → Name → Bool
 has table x = list_any (bytes_eq x) table
 
--- the number of a name, where the table has it
+-- the number of a name, if the table has it
 abbrev pub number_of : List Name → Name → Option ℕ
 number_of table x = position (bytes_eq x) table
 
@@ -38,6 +38,6 @@ all_known table xs = each (with_number table) [] xs
 abbrev pub declared : List Name → Name → Result (List Name) NameError
 declared table x = if has table x then Err double else Ok (table ++ x ∷ [])
 
--- the table with a name, which may stand there already
+-- the table with a name, which may be there already
 abbrev pub with_name : List Name → Name → List Name
 with_name table x = if has table x then table else table ++ x ∷ []

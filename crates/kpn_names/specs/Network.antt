@@ -1,4 +1,4 @@
--- The items of a network with numbers in place of names. A channel may be named before it is declared.
+-- The items of a network with numbers in place of names. A text may name a channel before it declares it.
 use Rattle.std.specs.Prelude.{ℕ, min, List, [], ◌∷◌, ◌++◌, map, fold, Option, Some, None, Result, Ok}
 use Rattle.std.specs.Option.{option_map_or}
 use Rattle.kpn_limits.specs.declared.TheConstants.{MAX_CAPACITY}
@@ -15,21 +15,21 @@ use Rattle.kpn_names.specs.Fault.{NameError, each}
 use Rattle.kpn_tokens.specs.Results.{◌>>=◌, and_then}
 use Rattle.kpn_names.specs.Names.{known, all_known, declared, with_name}
 
--- a capacity, or a limit, as it is handed on: as far as 32 bits hold it
+-- a capacity, or a limit, as the tables have it: as far as 32 bits can hold it
 abbrev pub within_32_bits : ℕ → ℕ
 within_32_bits n = min n 4294967295
 
--- the limit that is handed on: the greatest where none is written
+-- the limit that the tables have: the greatest if none is written
 abbrev pub limit_of : Option ℕ → ℕ
 limit_of (Some n) = within_32_bits n
 limit_of None = MAX_CAPACITY
 
--- the policy that is handed on: by cycles alone where none is written
+-- the policy that the tables have: `cycles` if none is written
 abbrev pub policy_of : Option Policy → Policy
 policy_of (Some q) = q
 policy_of None = policy.Cycles
 
--- the growth that is handed on: by one where none is written
+-- the growth that the tables have: by one if none is written
 abbrev pub growth_of : Option Growth → Growth
 growth_of (Some g) = g
 growth_of None = growth.One
@@ -40,7 +40,7 @@ pub record Settings : Type 0 where
   pub policy : Policy
   pub growth : Growth
 
--- those that are handed on
+-- those that the tables have
 abbrev pub settings_of : grammar.Network → Settings
 settings_of n = record { limit = limit_of n.limit; policy = policy_of n.policy; growth = growth_of n.growth }
 
@@ -54,7 +54,7 @@ channel_name (instance i) = None
 abbrev pub with_channel_name : List Name → Item → List Name
 with_channel_name table i = option_map_or (with_name table) (channel_name i) table
 
--- the channels that are declared anywhere, each once, in the order of the text
+-- the channels that items declare, each once, in the order of the text
 abbrev pub all_channels : List Item → List Name
 all_channels items = fold with_channel_name [] items
 
@@ -90,8 +90,8 @@ with_item programs channels w (source x) = with_channel w x Source
 with_item programs channels w (sink x n) = with_channel w x (Sink (within_32_bits n))
 with_item programs channels w (instance i) = with_instance programs channels w i
 
--- the items in the order of the text, where these are the names of the processes. A name is looked up among all
--- channels, but is new where it is declared only beside those before it
+-- the items in the order of the text, if these are the names of the processes. A name is looked up among all channels.
+-- A declared name has to be new only beside those before it
 abbrev pub wiring : (programs : List Name) → List Item → Result Wiring NameError
 wiring programs items =
     each (with_item programs (all_channels items))

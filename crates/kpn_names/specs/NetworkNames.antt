@@ -21,7 +21,7 @@ paired f (a ∷ rest) (b ∷ bs) = f a b ∷ paired f rest bs
 abbrev pub process_names_in : Name → Scope → ProcessNames
 process_names_in x s = record { name = x; ins = s.ins; outs = s.outs; vars = s.vars }
 
--- the names that a description gives
+-- the names of a description
 abbrev pub names_in : Named → NetworkNames
 names_in n = record {
   processes = paired process_names_in n.processes n.scopes;

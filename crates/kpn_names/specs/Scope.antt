@@ -25,7 +25,7 @@ head p =
 abbrev pub is_port : Scope → Name → Bool
 is_port s x = has s.ins x || has s.outs x
 
--- a name that is set: no port, but a variable, which it makes where it is new. The names from there on, and its number
+-- a name that is set: no port, but a variable; a new name makes a new one. The names from there on, and its number
 abbrev pub target : Scope → Name → Result (Scope × ℕ) NameError
 target s x =
     if is_port s x then Err double else

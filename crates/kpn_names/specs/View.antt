@@ -1,4 +1,4 @@
--- What the code gives for a description: its programs with their names, and the tables of its network.
+-- What the code returns for a description: its programs with their names, and the tables of its network.
 use Rattle.std.specs.Prelude.{◌+◌, length, map}
 use Rattle.kpn_lang.specs.View.{blocks_of, parts_with}
 use Rattle.kpn_net.specs.View.{tables_with}
@@ -11,7 +11,7 @@ use Rattle.kpn_names.specs.Blocks.{Written}
 use Rattle.kpn_names.specs.Network.{Wiring}
 use Rattle.kpn_names.specs.Named.{NamedProgram, Programs, Named}
 
--- the parts are those that `Program::new` is handed
+-- the parts are those that `Program::new` gets
 abbrev pub program_seen : ProgramParts → NamedProgram
 program_seen p =
     record {
@@ -19,7 +19,7 @@ program_seen p =
       parts = parts_with (length p.scope.ins) (length p.scope.outs) p.pars (p.pars + p.locals) p.blocks.items;
     }
 
--- the tables are those that `Network::new` is handed
+-- the tables are those that `Network::new` gets
 abbrev pub named_seen : NamedCode → Named
 named_seen n = record {
   tables =
@@ -31,7 +31,7 @@ named_seen n = record {
   channels = n.channel_names;
 }
 
--- ---- scaffolding: what the code's values stand for while a description is read
+-- ---- scaffolding: what the code's values stand for while it reads a description
 
 abbrev pub written : Writer → Written
 written w = record { scope = w.scope; blocks = blocks_of w.blocks.items }

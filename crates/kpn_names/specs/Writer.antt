@@ -1,6 +1,6 @@
--- The body of a process as it is written down block by block: the names known so far, and the blocks so far. A block
--- takes its number at its opening brace; its statements are put there at its closing brace. Scaffolding: contracts of
--- private calls alone cite it, and resolve gives what Named says.
+-- The body of a process as the code writes it block by block: the names known so far, and the blocks so far. A block
+-- takes its number at its opening brace, and gets its statements at its closing brace. Scaffolding: only contracts of
+-- private calls cite it, and what resolve returns is in Named.
 use Rattle.std.specs.Prelude.{ℕ, Bool, ◌||◌, if◌then◌else◌, List, [], ◌∷◌, ◌++◌, length, slice_set, Result, Ok, Err}
 use Rattle.kpn_lang.specs.Syntax as lang
 use Rattle.kpn_grammar.specs.Syntax.{Name, Statement, assign, receive, send, choice, loop, Statements, no_statements, statement}
@@ -43,7 +43,7 @@ opened w = record w { blocks = w.blocks ++ [] ∷ [] }
 abbrev pub closed : Written → ℕ → List lang.Statement → Written
 closed w n statements = record w { blocks = slice_set w.blocks n statements }
 
--- a block that opens after w and is then as said, with its number
+-- a block that opens after w and then has this inside, with its number
 abbrev pub as_block : Written → Result (Written × List lang.Statement) NameError → Result (Written × ℕ) NameError
 as_block w inside = inside >>= λ r. Ok (closed r.0 (length w.blocks) r.1, length w.blocks)
 

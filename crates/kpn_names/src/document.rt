@@ -17,9 +17,9 @@ use kpn_net::{ChannelSpec, Growth, Instance, Policy};
 use kpn_tokens::Number;
 use std::alloc::Global;
 
-/// What a description names, by number: the parts of its programs, the tables of its network as
-/// `kpn_net::Network::new` takes them, and the names. Each table of names is in the order of
-/// declaration, and goes with the list of the same things.
+/// What a description names, by number: the parts of its programs, the tables of its network as `kpn_net::Network::new`
+/// takes them, and the names. Each table of names is in the order of declaration, and belongs to the list of the same
+/// things.
 #[derive(Debug, Drop)]
 pub struct Named<'a> {
     /// The names of the processes.
@@ -38,7 +38,7 @@ pub struct Named<'a> {
     pub limit: u32,
     /// Which channels grow.
     pub policy: Policy,
-    /// How large a channel becomes where it grows.
+    /// How large a channel becomes when it grows.
     pub growth: Growth,
 }
 
@@ -52,7 +52,7 @@ fn limit(written: Option<Number>) -> u32
     }
 }
 
-/// The policy as it is written, or by cycles alone.
+/// The policy as it is written, or `cycles`.
 fn policy(written: Option<Policy>) -> Policy
     ensures { result ≡ policy_of written }
 {
@@ -74,13 +74,13 @@ fn growth(written: Option<Growth>) -> Growth
 
 /// Looks up each name of a description.
 ///
-/// A capacity or a limit that 32 bits do not hold is handed on as the greatest number that they do.
+/// If 32 bits cannot hold a capacity or a limit, the result has the greatest number that they can.
 ///
 /// # Errors
 ///
-/// What is first wrong with a name, in the order of the text: [`NameFault::UnknownName`] at a name
-/// that is not known where it is used, [`NameFault::DoubleName`] at one that is given a second time in
-/// its table. [`NameFault::NoMemory`] only where an allocation was refused.
+/// What is first wrong with a name, in the order of the text: [`NameFault::UnknownName`] at a name that is not known at
+/// its use, [`NameFault::DoubleName`] at one that is already in its table. [`NameFault::NoMemory`] comes only if memory
+/// ran out.
 #[tactic(auto, unfolding(kpn_tokens::specs::Results::and_then))]
 pub fn resolve<'a>(alloc: Global, description: &Description<'a>) -> Result<Named<'a>, NameFault>
     ensures exact { Gives named_seen result (spec.resolve (document description.now)) }

@@ -8,10 +8,10 @@ use thiserror::Error;
 /// What is first wrong with a name, in the order of the text, with the byte at which the name begins.
 #[derive(Clone, Copy, Debug, PartialEq, Eq, Error)]
 pub enum NameFault {
-    /// The name is not known where it is used.
+    /// The name is not known at its use.
     #[error("unknown name at byte {0}")]
     UnknownName(usize),
-    /// The name is given a second time in one table.
+    /// The name is already in its table.
     #[error("name given twice at byte {0}")]
     DoubleName(usize),
     /// Memory ran out.

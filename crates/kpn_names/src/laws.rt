@@ -8,8 +8,7 @@ pub fn blocks_are_the_tree()
     ensures { BlocksAreTheTree }
 {}
 
-/// No name stands twice in a table of the names that a description gives: each is found at its own
-/// number.
+/// No name is twice in a table of the names of a description: a search finds each at its own number.
 pub fn names_stand_once()
     ensures { NamesStandOnce }
 {}

@@ -1,8 +1,8 @@
 //! The names of a description.
 //!
-//! The tree of a description names its processes, ports, variables, channels and instances. Here each
-//! name is looked up in its table, and the tree becomes the parts of the programs and the tables of
-//! the network, in which a number stands for each name.
+//! The tree of a description names its processes, ports, variables, channels and instances. This crate looks up each
+//! name in its table. The tree becomes the parts of the programs and the tables of the network, in which a number
+//! stands for each name.
 #![tactic(auto)]
 
 mod document;

@@ -1,4 +1,4 @@
-//! Tables of names: the number of a name is its place, in the order in which the names were given.
+//! Tables of names: the number of a name is its place, in the order in which the names came.
 
 ghost use Rattle.std.specs.Prelude.{◌≡◌, [], length, slice_get, option_copied, OnOk, IfOk, IfErr};
 ghost use Rattle.std.proofs.Common.{rules};
@@ -56,7 +56,7 @@ impl<'a> Hash for Word<'a> {
     }
 }
 
-/// A table of names, which borrows their bytes. No name stands in it twice.
+/// A table of names, which borrows their bytes. No name is in it twice.
 #[derive(Debug, Drop)]
 pub struct NameTable<'a> {
     words: IndexSet<Word<'a>>,
@@ -87,7 +87,7 @@ impl<'a> NameTable<'a> {
         self.words.len()
     }
 
-    /// The bytes of the name with this number, or `None` where there is none.
+    /// The bytes of the name with this number, or `None` if there is none.
     pub fn get(&self, number: usize) -> Option<&'a [u8]>
         ensures { option_copied result ≡ slice_get self.now number }
     {
@@ -95,7 +95,7 @@ impl<'a> NameTable<'a> {
         Some(word.bytes)
     }
 
-    /// The number of a name, where it is known.
+    /// The number of a name, if the table has it.
     pub(crate) fn find(&self, name: &'a [u8]) -> Option<usize>
         ensures { result ≡ spec.number_of self.now name.now }
     {
@@ -138,7 +138,7 @@ impl<'a> NameTable<'a> {
         Ok(numbers)
     }
 
-    /// The number of a name, which is put at the end where it is new.
+    /// The number of a name. A new name is put at the end.
     pub(crate) fn number(&mut self, name: &'a [u8]) -> Result<usize, NameFault>
         ensures table { OnOk result (self.new ≡ spec.with_name self.old name.now) }
         ensures number { IfOk result (λ k. k ≡ position_or_len (bytes_eq name.now) self.old) }
@@ -148,7 +148,7 @@ impl<'a> NameTable<'a> {
         Ok(number)
     }
 
-    /// Puts a name at the end that must be new.
+    /// Puts a name at the end. It must be new.
     pub(crate) fn declare(&mut self, name: &Identifier<'a>) -> Result<(), NameFault>
         ensures { Gives (λ _. self.new) result (spec.declared self.old name.now.bytes.now) }
     {

@@ -15,7 +15,7 @@ use kpn_net::{ChannelSpec, Instance};
 use kpn_tokens::Number;
 use std::alloc::{AllocError, Global};
 
-/// A capacity or a limit, as far as 32 bits hold it.
+/// A capacity or a limit, as far as 32 bits can hold it.
 pub(crate) fn within_32_bits(number: Number) -> u32
     ensures { result ≡ spec.within_32_bits number }
 {
@@ -27,7 +27,7 @@ pub(crate) fn within_32_bits(number: Number) -> u32
     }
 }
 
-/// The whole number that is written.
+/// The whole number that a literal writes.
 fn value(literal: Literal) -> i64
     ensures { result ≡ literal_value (literal_seen literal) }
 {
@@ -37,7 +37,7 @@ fn value(literal: Literal) -> i64
     }
 }
 
-/// The whole numbers that are written.
+/// The whole numbers that literals write.
 fn values(alloc: Global, literals: &[Literal]) -> Result<Sequence<i64>, AllocError>
     ensures { IfOk result (λ xs. xs ≡ map literal_value (map literal_seen literals.now)) }
 {
@@ -58,7 +58,7 @@ fn channel_name<'a>(item: &Item<'a>) -> Option<&'a [u8]>
     }
 }
 
-/// The channels that are declared anywhere, each once.
+/// The channels that items declare, each once.
 fn all_channels<'a>(alloc: Global, items: &[Item<'a>]) -> Result<NameTable<'a>, NameFault>
     ensures table { IfOk result (λ names. names ≡ spec.all_channels (map item_seen items.now)) }
     ensures only { IfErr result (λ fault. fault ≡ NameFault.NoMemory) }

@@ -24,7 +24,7 @@ pub struct ProgramParts<'a> {
     pub pars: usize,
     /// How many of the variables are locals.
     pub locals: usize,
-    /// The blocks, in the order in which their opening braces stand in the text.
+    /// The blocks, in the order of their opening braces in the text.
     pub blocks: Vec<Vec<Stmt>>,
 }
 

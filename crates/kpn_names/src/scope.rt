@@ -78,7 +78,7 @@ impl<'a> Scope<'a> {
         self.ins.contains(name) || self.outs.contains(name)
     }
 
-    /// The number of the variable that a name sets, which is made where the name is new.
+    /// The number of the variable that a name sets. A new name makes a new variable.
     pub(crate) fn target(&mut self, name: &Identifier<'a>) -> Result<usize, NameFault>
         ensures number { Gives (λ k. (self.new, k)) result
             (spec.target self.old name.now.bytes.now) }

@@ -16,8 +16,8 @@ use kpn_grammar::Statement;
 use kpn_lang::{BlockId, Stmt};
 use std::alloc::Global;
 
-/// The names known so far, and the blocks so far. A block takes its number where it opens, and its
-/// statements are put there where it closes.
+/// The names known so far, and the blocks so far. A block takes its number when it opens, and gets its statements when
+/// it closes.
 #[derive(Drop)]
 pub(crate) struct Writer<'a> {
     pub scope: Scope<'a>,
@@ -40,7 +40,7 @@ impl<'a> Writer<'a> {
         Ok(())
     }
 
-    /// Writes a block and the blocks inside it, and gives its number.
+    /// Writes a block and the blocks inside it, and returns its number.
     #[cycle(block)]
     #[tactic(auto, unfolding(kpn_tokens::specs::Results::and_then))]
     fn block(&mut self, alloc: Global, statements: &[Statement<'a>]) -> Result<BlockId, NameFault>
@@ -56,7 +56,7 @@ impl<'a> Writer<'a> {
         Ok(number)
     }
 
-    /// The statements of a block; the blocks inside it are written.
+    /// The statements of a block. It writes the blocks inside it.
     #[cycle(block)]
     fn statements(
         &mut self,
@@ -76,7 +76,7 @@ impl<'a> Writer<'a> {
         Ok(own)
     }
 
-    /// A statement; the blocks inside it are written.
+    /// A statement. It writes the blocks inside it.
     #[cycle(block)]
     #[tactic(auto, unfolding(crate::specs::Writer::statement_at, kpn_tokens::specs::Results::and_then))]
     fn statement(&mut self, alloc: Global, statement: &Statement<'a>) -> Result<Stmt, NameFault>

@@ -1,4 +1,4 @@
--- By the steps of reading, each of which adds new names alone.
+-- By the steps of reading, each of which adds only new names.
 use Rattle.kpn_names.proofs.Once.{names_stand_once}
 use Rattle.kpn_names.proofs.laws.names_stand_once.Goals as goal
 

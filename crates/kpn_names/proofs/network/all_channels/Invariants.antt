@@ -1,4 +1,4 @@
--- The items that remain, taken from here, give what all of them gave.
+-- The items that remain, taken from here, lead to the same as all of them.
 use Rattle.std.proofs.Common.{◌≡◌, drop, map, fold}
 use Rattle.kpn_grammar.specs.View.{item_seen}
 use Rattle.kpn_names.specs.Network.{with_channel_name, all_channels}

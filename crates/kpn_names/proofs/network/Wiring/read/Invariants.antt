@@ -1,4 +1,4 @@
--- The items that remain, taken from here, give what all of them give.
+-- The items that remain, taken from here, lead to the same as all of them.
 use Rattle.std.proofs.Common.{◌≡◌, drop, map}
 use Rattle.kpn_grammar.specs.View.{item_seen}
 use Rattle.kpn_names.specs.Fault.{each}

@@ -1,4 +1,4 @@
--- The processes that remain, taken from here, give what all of them gave.
+-- The processes that remain, taken from here, lead to the same as all of them.
 use Rattle.std.proofs.Common.{◌≡◌, drop, map}
 use Rattle.kpn_grammar.specs.View.{process_seen}
 use Rattle.kpn_names.specs.Fault.{each}

@@ -1,4 +1,4 @@
--- The names that remain, taken from here, give what all of them gave.
+-- The names that remain, taken from here, lead to the same as all of them.
 use Rattle.std.proofs.Common.{◌≡◌, drop}
 use Rattle.kpn_grammar.specs.View.{names_seen}
 use Rattle.kpn_names.specs.Fault.{each}

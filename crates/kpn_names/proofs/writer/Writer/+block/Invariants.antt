@@ -1,4 +1,5 @@
--- The statements that remain, written from here, give what all of them gave; blocks and variables only become more.
+-- The statements that remain, written from here, lead to the same as all of them; blocks and variables only become
+-- more.
 use Rattle.std.proofs.Common.{◌≡◌, ◌≤◌, [], drop, length}
 use Rattle.kpn_lang.specs.View.{statements_of}
 use Rattle.kpn_grammar.specs.View.{block_seen}
