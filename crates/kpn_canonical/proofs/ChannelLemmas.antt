@@ -27,7 +27,7 @@ ends_begin ports c p [] = λ e. absurd cc
 ends_begin ports c p (i ∷ instances) =
     places_begin c p (ports i) (ends_from ports c (suc p) instances) (ends_begin ports c (suc p) instances)
 
--- the reader of a channel, where these read it besides
+-- the reader of a channel, if these read it besides
 abbrev reader : ChannelSpec → List End → End
 reader spec ends = get_or (cond (is_sink spec) (Sink ∷ []) [] ++ ends) 0 Source
 

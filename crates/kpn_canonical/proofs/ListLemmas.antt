@@ -20,7 +20,7 @@ module _ {A : Type 0} (text : A → List ℕ → List ℕ) (spell : A → List T
   all_read [] more tokens all h = h
   all_read (x ∷ xs) more tokens all h = one x _ _ all.0 (all_read xs more tokens all.1 h)
 
--- words, which are read where no letter, digit or `_` follows them
+-- words, which are read if no letter, digit or `_` follows them
 module _ {A : Type 0} (text : A → List ℕ → List ℕ) (spell : A → List Token → List Token) (P : A → Type 0)
     (one : (x : A) (more : List ℕ) (tokens : List Token) → P x → EndsWord more → IsReadAs more tokens
     → IsReadAs (text x more) (spell x tokens)) where

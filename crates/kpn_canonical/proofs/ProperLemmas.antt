@@ -18,7 +18,7 @@ use Rattle.kpn_canonical.specs.Proper.{IsProperTerm, IsProperStatement, ArePrope
 abbrev AreSpelled : List Token → Type 0
 AreSpelled tokens = AllByRecursion HasSpelling tokens
 
--- what stands before tokens is proper, and the tokens can be spelled
+-- what comes before tokens is proper, and the tokens can be spelled
 record And (P : Type 0) (tokens : List Token) : Type 0 where
   is : P
   rest : AreSpelled tokens

@@ -23,7 +23,7 @@ use Rattle.kpn_canonical.specs.Proper.{IsProperTerm}
 use Rattle.kpn_canonical.specs.Text.{term_text}
 use Rattle.kpn_canonical.proofs.TokenLemmas.{IsReadAs, name_read, number_read, mark_read, space_read}
 
--- a space stands behind each operator
+-- a space comes behind each operator
 operator_ends : (op : Op) (more : List ℕ) → MarkEnds (operator_mark op) (codes " " ++ more)
 operator_ends operator.Add more = tt
 operator_ends operator.Sub more = tt

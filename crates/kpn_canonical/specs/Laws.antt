@@ -1,4 +1,4 @@
--- What the canonical text says: its tokens are the spelling of the tree.
+-- How the canonical text is read: its tokens are the spelling of the tree.
 use Rattle.std.specs.Prelude.{◌≡◌, ℕ, false, ◌||◌, List, [], ◌∷◌, Some}
 use Rattle.std.specs.Char.{is_ascii_digit}
 use Rattle.kpn_tokens.specs.declared.tokens.Token.{Token}
@@ -14,7 +14,7 @@ abbrev pub EndsWord : List ℕ → Type 0
 EndsWord [] = Unit {0}
 EndsWord (b ∷ bs) = (begins_name b || is_ascii_digit b) ≡ false
 
--- An expression, which no letter, digit or `_` follows, is read as its spelling, and then what follows it.
+-- An expression that no letter, digit or `_` follows is read as its spelling, and then what follows it.
 abbrev pub TermIsRead : Type 0
 TermIsRead =
     (e : Term) (more : List ℕ) (tokens : List Token) → IsProperTerm e → EndsWord more → tokens_of more ≡ Some tokens

@@ -1,4 +1,4 @@
--- The description that the tables of a network stand for: each number is replaced by its name.
+-- The description that the tables of a network stand for, with a name in place of each number.
 use Rattle.std.specs.Prelude.{ℕ, suc, ℤ, pos, negsuc, nat_lt, if◌then◌else◌, List, ◌++◌, map, take, Option, Some, None}
 use Rattle.kpn_lang.specs.Parts.{Parts}
 use Rattle.kpn_limits.specs.declared.TheConstants.{MAX_CAPACITY}
@@ -78,16 +78,16 @@ call_named names x i = record {
 abbrev pub instance_named : NetworkNames → Name → net.Instance → Item
 instance_named names x i = instance (call_named names x i)
 
--- the limit is written where it is below the one that holds where none is written
+-- the limit is written if it is below the one that holds without a line
 abbrev pub limit_named : ℕ → Option ℕ
 limit_named n = if nat_lt n MAX_CAPACITY then Some n else None
 
--- the policy is written where it is another than the one that holds where none is written
+-- the policy is written if it is another than the one that holds without a line
 abbrev pub policy_named : Policy → Option Policy
 policy_named policy.Cycles = None
 policy_named policy.All = Some policy.All
 
--- the growth is written where it is another than the one that holds where none is written
+-- the growth is written if it is another than the one that holds without a line
 abbrev pub growth_named : Growth → Option Growth
 growth_named growth.One = None
 growth_named growth.Double = Some growth.Double

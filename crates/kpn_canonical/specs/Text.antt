@@ -1,5 +1,5 @@
 -- The canonical text of a description, as bytes: two spaces for each level, one statement or item on each line, a line
--- feed after each line, numbers without leading zeros. Each text stands in front of the text that follows it.
+-- feed after each line, numbers without leading zeros. Each text comes in front of the text that follows it.
 use Rattle.std.specs.Prelude.{ℕ, zero, suc, List, [], ◌∷◌, ◌++◌, codes, Option, Some, None}
 use Rattle.std.specs.Fmt.{decimal}
 use Rattle.kpn_net.specs.declared.tables.Growth.{Growth}
@@ -81,12 +81,12 @@ names_text = list_text name_text
 
 -- ---- processes
 
--- a part of a head behind some bytes; nothing where it has no names
+-- a part of a head behind some bytes; nothing if it has no names
 abbrev pub part_text : (before : List ℕ) → Keyword → List Name → List ℕ → List ℕ
 part_text before word [] more = more
 part_text before word (x ∷ xs) more = before ++ (keyword_bytes word ++ (codes " " ++ names_text (x ∷ xs) more))
 
--- in a, b; out c; par k, l  where a part without names is left out
+-- in a, b; out c; par k, l; a part without names is left out
 abbrev pub parts_text : (ins outs pars : List Name) → List ℕ → List ℕ
 parts_text (x ∷ xs) outs pars more =
     part_text [] keyword.In (x ∷ xs)
@@ -109,12 +109,12 @@ abbrev pub literal_text : Literal → List ℕ → List ℕ
 literal_text (plain n) more = decimal n ++ more
 literal_text (negated n) more = codes "-" ++ (decimal n ++ more)
 
--- the out channels of an instance, behind a space; nothing where there are none
+-- the out channels of an instance, behind a space; nothing if there are none
 abbrev pub outs_text : List Name → List ℕ → List ℕ
 outs_text [] more = more
 outs_text (x ∷ xs) more = codes " " ++ names_text (x ∷ xs) more
 
--- the values of an instance, behind its second semicolon; nothing where there are none
+-- the values of an instance, behind its second semicolon; nothing if there are none
 abbrev pub values_text : List Literal → List ℕ → List ℕ
 values_text [] more = more
 values_text (v ∷ vs) more = codes "; " ++ list_text literal_text (v ∷ vs) more
@@ -133,17 +133,17 @@ item_text (source c) more = codes "  source " ++ (c ++ (codes ";\n" ++ more))
 item_text (sink c cap) more = codes "  sink " ++ (c ++ (codes " cap " ++ (decimal cap ++ (codes ";\n" ++ more))))
 item_text (instance i) more = codes "  " ++ (i.name ++ (codes " = " ++ call_text i (codes ";\n" ++ more)))
 
--- the limit on a line of its own, where there is one
+-- the limit on a line of its own, if there is one
 abbrev pub limit_text : Option ℕ → List ℕ → List ℕ
 limit_text None more = more
 limit_text (Some n) more = codes "  limit " ++ (decimal n ++ (codes ";\n" ++ more))
 
--- the policy on a line of its own, where there is one
+-- the policy on a line of its own, if there is one
 abbrev pub policy_text : Option Policy → List ℕ → List ℕ
 policy_text None more = more
 policy_text (Some q) more = codes "  policy " ++ (policy_word q ++ (codes ";\n" ++ more))
 
--- the growth on a line of its own, where there is one
+-- the growth on a line of its own, if there is one
 abbrev pub growth_text : Option Growth → List ℕ → List ℕ
 growth_text None more = more
 growth_text (Some g) more = codes "  grow " ++ (growth_word g ++ (codes ";\n" ++ more))

@@ -127,7 +127,7 @@ impl Body<'_> {
         bytes(out, b";\n")
     }
 
-    /// The test of a statement, up to the end of its line, where a block opens.
+    /// The test of a statement, up to the end of its line, which opens a block.
     fn test(&self, out: &mut Vec<u8>, test: &Expr) -> Result<(), AllocError>
         ensures { OnOk result (Writes out.old.items out.new.items
             (λ more.

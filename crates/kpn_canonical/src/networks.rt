@@ -21,7 +21,7 @@ use std::alloc::{AllocError, Global};
 
 /// The canonical text of a network with these names.
 ///
-/// It takes memory for the text alone, and the work grows with the length of the text.
+/// It takes memory only for the text, and the work grows with the length of the text.
 pub fn canonical_text(
     alloc: Global,
     network: &Network,
@@ -63,7 +63,7 @@ fn processes(out: &mut Vec<u8>, network: &Network, names: &[ProcessNames]) -> Re
     Ok(())
 }
 
-/// The lines of the settings that are not as they are where none is written.
+/// The lines of the settings that differ from what holds without a line.
 fn settings(out: &mut Vec<u8>, network: &Network) -> Result<(), AllocError>
     ensures { OnOk result (Writes out.old.items out.new.items (λ more.
         limit_text (limit_named network.now.limit)
@@ -75,7 +75,7 @@ fn settings(out: &mut Vec<u8>, network: &Network) -> Result<(), AllocError>
     growth(out, network.growth())
 }
 
-/// The line of the limit, where it is below the one that holds where none is written.
+/// The line of the limit, if it is below the one that holds without a line.
 fn limit(out: &mut Vec<u8>, limit: u32) -> Result<(), AllocError>
     ensures { OnOk result (Writes out.old.items out.new.items (limit_text (limit_named limit))) }
 {
@@ -87,7 +87,7 @@ fn limit(out: &mut Vec<u8>, limit: u32) -> Result<(), AllocError>
     bytes(out, b";\n")
 }
 
-/// The line of the policy, where it is another than the one that holds where none is written.
+/// The line of the policy, if it is another than the one that holds without a line.
 fn policy(out: &mut Vec<u8>, policy: Policy) -> Result<(), AllocError>
     ensures { OnOk result (Writes out.old.items out.new.items (policy_text (policy_named policy))) }
 {
@@ -106,7 +106,7 @@ fn policy_line(out: &mut Vec<u8>, policy: Policy) -> Result<(), AllocError>
     bytes(out, b";\n")
 }
 
-/// The line of the growth, where it is another than the one that holds where none is written.
+/// The line of the growth, if it is another than the one that holds without a line.
 fn growth(out: &mut Vec<u8>, growth: Growth) -> Result<(), AllocError>
     ensures { OnOk result (Writes out.old.items out.new.items (growth_text (growth_named growth))) }
 {
@@ -241,7 +241,7 @@ fn outs_and_values(
     bytes(out, b")")
 }
 
-/// The name of a process with a number, and nothing where there is none.
+/// The name of a process with a number, and nothing if there is none.
 fn process_name(
     out: &mut Vec<u8>,
     processes: &[ProcessNames],
@@ -274,7 +274,7 @@ fn numbered(out: &mut Vec<u8>, names: &[Sequence<u8>], numbers: &[usize]) -> Res
     Ok(())
 }
 
-/// The out channels of an instance, behind a space; nothing where there are none.
+/// The out channels of an instance, behind a space; nothing if there are none.
 fn outs(out: &mut Vec<u8>, names: &[Sequence<u8>], numbers: &[usize]) -> Result<(), AllocError>
     ensures { OnOk result
         (Writes out.old.items out.new.items
@@ -287,7 +287,7 @@ fn outs(out: &mut Vec<u8>, names: &[Sequence<u8>], numbers: &[usize]) -> Result<
     numbered(out, names, numbers)
 }
 
-/// The values of an instance, behind its second semicolon; nothing where there are none.
+/// The values of an instance, behind its second semicolon; nothing if there are none.
 fn values(out: &mut Vec<u8>, values: &[i64]) -> Result<(), AllocError>
     ensures { OnOk result
         (Writes out.old.items out.new.items (values_text (map literal_named values.now))) }

@@ -1,5 +1,5 @@
-//! The pieces of which a text is printed. Each is put behind the bytes so far; memory may be refused, and what
-//! was put by then is not said.
+//! The pieces of which a text is printed. Each goes behind the bytes so far. If memory runs out, the contracts leave
+//! open how much was put by then.
 
 ghost use Rattle.std.specs.Prelude.{◌++◌, OnOk};
 ghost use Rattle.kpn_names.specs.Names.{name_at};
@@ -19,7 +19,7 @@ pub(crate) fn bytes(out: &mut Vec<u8>, bytes: &[u8]) -> Result<(), AllocError>
     Ok(())
 }
 
-/// A number without leading zeros, behind a minus where it is below 0.
+/// A number without leading zeros, behind a minus if it is below 0.
 pub(crate) fn number(out: &mut Vec<u8>, number: &i64) -> Result<(), AllocError>
     ensures expression { OnOk result
         (Writes out.old.items out.new.items (term_text (number_named number.now))) }
@@ -30,7 +30,7 @@ pub(crate) fn number(out: &mut Vec<u8>, number: &i64) -> Result<(), AllocError>
     bytes(out, buffer.format(*number).as_bytes())
 }
 
-/// The name with a number, and nothing where there is none.
+/// The name with a number, and nothing if there is none.
 pub(crate) fn name(
     out: &mut Vec<u8>,
     names: &[Sequence<u8>],

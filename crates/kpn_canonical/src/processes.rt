@@ -28,7 +28,7 @@ pub(crate) fn process(
     bytes(out, b"}\n")
 }
 
-/// The head of a process with so many parameters, up to the end of its line, where the body opens.
+/// The head of a process with so many parameters, up to the end of its line, which opens the body.
 fn head(out: &mut Vec<u8>, names: &ProcessNames, pars: usize) -> Result<(), AllocError>
     ensures { OnOk result (Writes out.old.items out.new.items (λ more.
         codes "process " ++ (names.now.name ++ (codes "("
@@ -64,14 +64,14 @@ fn parts(
     )
 }
 
-/// What stands before a part: nothing before the first.
+/// What comes before a part: nothing before the first.
 fn separator(is_first: bool) -> &'static [u8]
     ensures { result.now ≡ (if is_first then [] else codes "; ") }
 {
     if is_first { b"" } else { b"; " }
 }
 
-/// A part of a head, behind these bytes; nothing where it has no names.
+/// A part of a head, behind these bytes; nothing if it has no names.
 fn part(
     out: &mut Vec<u8>,
     before: &[u8],

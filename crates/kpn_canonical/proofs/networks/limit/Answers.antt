@@ -1,4 +1,4 @@
--- By whether it is below the one that holds where none is written.
+-- By whether it is below the one that holds without a line.
 use Rattle.std.proofs.Common.{Some, sym, ap, arith}
 use Rattle.std.proofs.lemmas.Grind.{common_steps}
 use Rattle.kpn_canonical.specs.Text.{limit_text}
