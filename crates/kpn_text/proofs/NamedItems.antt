@@ -414,7 +414,7 @@ all-append : {X : Type 0} (P : X → Type 0) (xs ys : List X) → AllByRecursion
 all-append P [] ys h k = k
 all-append P (x ∷ xs) ys h k = (h.0, all-append P xs ys h.1 k)
 
--- what the items of a network give
+-- what comes of the items of a network
 pub record ItemsBack (names : NetworkNames) (programs : List Name) (items : List Item) (w : Wiring) : Type 0 where
   pub again : wiring programs (items_named names w) ≡ Ok w
   pub proper : AllByRecursion IsProperItem items → AllByRecursion IsProperItem (items_named names w)

@@ -107,7 +107,7 @@ added flat before (p ∷ processes) after h =
       names_back = λ i. p.name ∷ more.names_back i;
     }
 
--- what the processes of a description give
+-- what comes of the processes of a description
 pub record ProcessesBack (processes : List Process) (p : Programs) : Type 0 where
   pub back : processes_named p.names p.programs ≡ processes
   pub names_back : map (λ q. q.name) (paired process_names_in p.names (map (λ q. q.names) p.programs)) ≡ p.names

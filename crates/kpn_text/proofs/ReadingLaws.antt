@@ -1,4 +1,4 @@
--- What the phases give is what the text spells.
+-- What the phases return is what the text spells.
 use Rattle.std.proofs.Common.{◌≡◌, ℕ, suc, ◌≤◌, Bool, true, false, if◌then◌else◌, List, [], ◌∷◌, length, Option, Some, None, Result, Ok, Err, refl, sym, ap, ◌∙◌, subst, arith}
 use Rattle.std.specs.Prelude.{nat_lt, All}
 use Rattle.std.proofs.lemmas.Bool.Decides.{nat_tests}
@@ -174,7 +174,7 @@ read_spelled text ls tree n is keeps =
       keeps = keeps;
     }
 
--- ---- the phases give a document exactly where the text spells it
+-- ---- the phases return a document if and only if the text spells it
 
 programs_by : (i : ℕ) (p : Parts) (ps : List Parts) (fault : Option ProgramFault) → lang.first_fault p ≡ fault
     → program_or i fault (programs_cause (suc i) ps) ≡ None

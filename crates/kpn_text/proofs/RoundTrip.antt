@@ -1,4 +1,4 @@
--- A document that a text spells is spelled by its canonical text, where that is short enough.
+-- The canonical text of a document that a text spells also spells it, if it is short enough.
 use Rattle.std.proofs.Common.{◌≡◌, ℕ, ◌<◌, ◌≤◌, Bool, true, false, cond, List, length, Some, None, Result, Ok, Err, refl, sym, ap, subst, ◌∙◌, arith}
 use Rattle.std.specs.Prelude.{nat_lt, IfOk}
 use Rattle.std.specs.List.{AllByRecursion}

@@ -132,7 +132,7 @@ told_so number rule.NoSuchPort = inr refl
 told_so number rule.TooDeep = inr refl
 told_so number rule.NoMemory = inl refl
 
--- a program that was not made breaks a rule, and that is told, or memory ran out
+-- a program that was not made breaks a rule, and the fault states that, or memory ran out
 pub program_broken : (number : ℕ) (f : Option ProgramFault) (fault : ProgramFault) (told : TextFault)
     → IfSome f (λ found. ◌≡◌ {A = Result Parts ProgramFault} (Err fault) (Err found))
     → IfNone f (fault ≡ rule.NoMemory) → told ≡ program_told number fault
@@ -143,7 +143,7 @@ program_broken number (Some found) fault told e h t =
     let by : told ≡ program_told number found = t ∙ ap (program_told number) same in
     elim (told_so number found) [ inl m ↦ inl (by ∙ m) | inr m ↦ inr (by ∙ m) ]
 
--- no fault of a program is told: it keeps the rules
+-- no cause in a program: it keeps the rules
 pub program_keeps : (number : ℕ) (f : Option ProgramFault) → program_or number f None ≡ None → f ≡ None
 program_keeps number None e = refl
 program_keeps number (Some fault) e = absurd cc
@@ -197,7 +197,7 @@ pub made_network : {N : Type 0} (t : Tables) (P : N → Type 0) (n : N) → prog
 made_network t P n e f p =
     (ap (λ c. or_else c (network_cause (first_network_fault t))) e ∙ ap network_cause f, p)
 
--- the fault of the network is that of the tables where each program keeps the rules
+-- the fault of the network is that of the tables if each program keeps the rules
 pub network_then : (t : Tables) (fault : NetFault) (told : TextFault) → programs_cause 0 t.programs ≡ None
     → first_network_fault t ≡ Some fault → told ≡ net_fault fault → TellsCause (tables_cause t) told
 network_then t fault told e f h =

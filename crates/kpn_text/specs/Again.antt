@@ -4,7 +4,7 @@ use Rattle.kpn_limits.specs.declared.TheConstants.{MAX_TEXT_BYTES}
 use Rattle.kpn_text.specs.Document.{Document, canonical_text}
 use Rattle.kpn_text.specs.Spells.{Spells, IsSpelled}
 
--- A printed document is read again: its canonical text spells it, where that is within the limit of bytes.
+-- A printed document is read again: its canonical text spells it, if that is within the limit of bytes.
 abbrev pub PrintedTextSpells : Type 0
 PrintedTextSpells =
     (d : Document) → IsSpelled d → length (canonical_text d) ≤ MAX_TEXT_BYTES → Spells (canonical_text d) d

@@ -1,4 +1,4 @@
--- The fault of a text that a fault of a part becomes.
+-- Which fault of a text a fault of a part becomes.
 use Rattle.kpn_lang.specs.declared.program.ProgramFault.TheVariants as program
 use Rattle.kpn_net.specs.declared.fault.NetFault.{NetFault}
 use Rattle.kpn_net.specs.declared.fault.NetFault.TheVariants as net
@@ -27,7 +27,7 @@ name_fault (name.UnknownName at) = text.UnknownName at
 name_fault (name.DoubleName at) = text.DoubleName at
 name_fault name.NoMemory = text.NoMemory
 
--- want of memory is told alike, wherever it comes
+-- memory that ran out becomes the same fault, wherever it did
 abbrev pub net_fault : NetFault → TextFault
 net_fault net.NoMemory = text.NoMemory
 net_fault broken = text.Net broken

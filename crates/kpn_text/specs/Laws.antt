@@ -5,7 +5,7 @@ use Rattle.kpn_text.specs.Document.{Document}
 use Rattle.kpn_text.specs.Spells.{Spells, IsSpelled}
 use Rattle.kpn_text.specs.Phases.{document_of}
 
--- The phases give a document exactly where the text spells it.
+-- The phases return a document if and only if the text spells it.
 abbrev pub PhasesGiveWhatIsSpelled : Type 0
 PhasesGiveWhatIsSpelled = (text : List ℕ) (d : Document) → (document_of text ≡ Ok d) ↔ Spells text d
 
@@ -13,6 +13,6 @@ PhasesGiveWhatIsSpelled = (text : List ℕ) (d : Document) → (document_of text
 abbrev pub SpelledOnce : Type 0
 SpelledOnce = (text : List ℕ) (d e : Document) → Spells text d → Spells text e → d ≡ e
 
--- No name stands twice in a table of names of a document.
+-- No name is twice in a table of names of a document.
 abbrev pub NamesStandOnce : Type 0
 NamesStandOnce = (d : Document) → IsSpelled d → EachStandsOnce d.names

@@ -1,5 +1,5 @@
--- The definitions that contracts cite: documents, which text spells which, the phases of reading, and the faults that
--- tell what a phase finds.
+-- The definitions that contracts cite: documents, which text spells which, the phases of reading, and which fault
+-- states what a phase finds.
 pub mod Document
 pub mod Spells
 pub mod Fault

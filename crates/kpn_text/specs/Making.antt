@@ -1,4 +1,4 @@
--- What the calls of reading give. Scaffolding: contracts of private calls alone cite it, and read_network says what a
+-- What the calls of reading return. Scaffolding: only contracts of private calls cite it, and read_network says what a
 -- caller needs.
 use Rattle.std.specs.Prelude.{◌≡◌, ◌⊎◌, ℕ, List, Option, Some, None, Result, Ok, Err}
 use Rattle.kpn_lang.specs.declared.program.ProgramFault.{ProgramFault}
@@ -9,22 +9,22 @@ use Rattle.kpn_text.specs.Document.{Document}
 use Rattle.kpn_text.specs.Phases.{Cause, Tells, Refuses}
 use Rattle.kpn_text.specs.Spells.{Spells}
 
--- a cause was found, and the fault tells it
+-- a cause was found, and the fault states it
 abbrev pub TellsCause : Option Cause → TextFault → Type 0
 TellsCause (Some cause) f = Tells cause f
 TellsCause None f = ⊥
 
--- a value of which this holds, where there is no cause; else a fault that tells the cause, or memory ran out
+-- a value of which this holds, if there is no cause; else a fault that states the cause, or memory ran out
 abbrev pub Makes : {A : Type 0} → (A → Type 0) → Result A TextFault → Option Cause → Type 0
 Makes P (Ok x) cause = (cause ≡ None) × P x
 Makes P (Err f) cause = (f ≡ fault.NoMemory) ⊎ TellsCause cause f
 
--- how the fault of the program with this number is told
+-- the fault of the text that a fault of the program with this number becomes
 abbrev pub program_told : ℕ → ProgramFault → TextFault
 program_told number rule.NoMemory = fault.NoMemory
 program_told number other = fault.Program number other
 
--- the document that the text spells, or a fault with which it is refused
+-- the document that the text spells, or a fault by which it is refused
 abbrev pub Reads : List ℕ → Result Document TextFault → Type 0
 Reads text (Ok d) = Spells text d
 Reads text (Err f) = Refuses text f

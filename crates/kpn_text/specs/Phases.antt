@@ -1,5 +1,5 @@
--- The phases of reading: tokens, grammar, names, the programs in order, the network. Each goes on where the one before
--- it finds no fault, and the first that finds one is the cause of a refusal.
+-- The phases of reading: tokens, grammar, names, the programs in order, the network. Each goes on if the one before it
+-- finds no fault, and the first that finds one is the cause of a refusal.
 use Rattle.std.specs.Prelude.{◌≡◌, ◌⊎◌, ℕ, suc, List, [], ◌∷◌, length, Option, Some, None, Result, Ok, Err}
 use Rattle.kpn_lang.specs.declared.program.ProgramFault.{ProgramFault}
 use Rattle.kpn_lang.specs.Parts as lang
@@ -19,7 +19,7 @@ use Rattle.kpn_text.specs.declared.fault.TextFault.TheVariants as fault
 use Rattle.kpn_text.specs.Document.{Document, document_named}
 use Rattle.kpn_text.specs.Fault.{lex_fault, grammar_fault, net_fault}
 
--- what a phase finds. Where in the text a name stands is left out
+-- what a phase finds, without the place of a name in the text
 pub data Cause : Type 0 where
   in_tokens : LexFault → Cause
   in_grammar : GrammarFault → Cause
@@ -27,7 +27,7 @@ pub data Cause : Type 0 where
   in_program : ℕ → ProgramFault → Cause
   in_network : NetFault → Cause
 
--- what a phase gives, or the cause
+-- what a phase returns, or the cause
 abbrev pub phase : {A E : Type 0} → (E → Cause) → Result A E → Result A Cause
 phase cause (Ok x) = Ok x
 phase cause (Err e) = Err (cause e)
@@ -42,7 +42,7 @@ abbrev pub program_or : ℕ → Option ProgramFault → Option Cause → Option 
 program_or i (Some fault) after = Some (in_program i fault)
 program_or i None after = after
 
--- the first program that breaks a rule, where the first has the number i
+-- the first program that breaks a rule, if the first has the number i
 abbrev pub programs_cause : (i : ℕ) → List Parts → Option Cause
 programs_cause i [] = None
 programs_cause i (p ∷ ps) = program_or i (lang.first_fault p) (programs_cause (suc i) ps)
@@ -68,14 +68,14 @@ document_of text = do
   named ← phase in_names (resolve tree)
   unless (tables_cause named.tables) (document_named named)
 
--- ---- how a cause is told
+-- ---- how a fault states a cause
 
--- the fault tells what is wrong with a name, and some byte
+-- the fault states what is wrong with a name, and has some byte
 abbrev pub TellsName : NameError → TextFault → Type 0
 TellsName unknown f = (at : ℕ) × (f ≡ fault.UnknownName at)
 TellsName double f = (at : ℕ) × (f ≡ fault.DoubleName at)
 
--- the fault tells the cause: all of it, and of a name some byte
+-- the fault states the cause: all of it, but of a name any byte
 abbrev pub Tells : Cause → TextFault → Type 0
 Tells (in_tokens e) f = f ≡ lex_fault e
 Tells (in_grammar e) f = f ≡ grammar_fault e
@@ -83,11 +83,11 @@ Tells (in_names e) f = TellsName e f
 Tells (in_program i e) f = f ≡ fault.Program i e
 Tells (in_network e) f = f ≡ net_fault e
 
--- the phases find a cause, and the fault tells it
+-- the phases find a cause, and the fault states it
 abbrev pub TellsWhatIsFound : Result Document Cause → TextFault → Type 0
 TellsWhatIsFound (Ok d) f = ⊥
 TellsWhatIsFound (Err cause) f = Tells cause f
 
--- a text is refused with this fault: memory ran out, or it tells the cause that the first phase finds
+-- a text is refused with this fault: memory ran out, or it states the cause that the first phase finds
 abbrev pub Refuses : List ℕ → TextFault → Type 0
 Refuses text f = (f ≡ fault.NoMemory) ⊎ TellsWhatIsFound (document_of text) f

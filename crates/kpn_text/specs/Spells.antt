@@ -9,8 +9,8 @@ use Rattle.kpn_grammar.specs.Spelling.{IsDescription}
 use Rattle.kpn_names.specs.Named.{Named, resolve}
 use Rattle.kpn_text.specs.Document.{Document, document_named}
 
--- A text spells a document: it is within the limit of bytes, its tokens are those of a tree, what the tree names is
--- the document, and the document's tables keep the rules of programs and networks.
+-- A text spells a document: it is within the limit of bytes, its tokens are those of a tree, and what the tree names is
+-- the document. The document's tables keep the rules of programs and networks.
 pub record Spells (text : List ℕ) (d : Document) : Type 0 where
   pub within : length text ≤ MAX_TEXT_BYTES
   pub tokens : List Token

@@ -11,7 +11,7 @@ use kpn_net::Network;
 use std::marker::Model;
 
 /// A network with the names of its processes, instances and channels. Some text spells it: only
-/// [`read_network`](crate::read_network) makes one. Names are ASCII, and are given as bytes.
+/// [`read_network`](crate::read_network) makes one. Names are ASCII; the calls return their bytes.
 #[derive(Debug, Drop)]
 pub struct Document {
     network: Network,
@@ -49,7 +49,7 @@ impl Document {
         &self.network
     }
 
-    /// Nothing: it tells a caller's proof that some text spells the document.
+    /// Does nothing. A caller's proof learns from it that some text spells the document.
     pub fn known(&self)
         ensures { IsSpelled self.now }
     {
@@ -88,7 +88,7 @@ impl Document {
         self.names.channels.as_slice()[c].as_slice()
     }
 
-    /// The number of the channel with this name, or `None` where there is none.
+    /// The number of the channel with this name, or `None` if there is none.
     pub fn find_channel(&self, name: &str) -> Option<usize>
         ensures { result ≡ number_of self.now.names.channels name.now }
     {

@@ -17,13 +17,13 @@ pub enum TextFault {
     /// 20: no token begins at this byte, or the number there is out of range.
     #[error("Token at {0}")]
     Token(usize),
-    /// 21: the token at this byte cannot stand there; at the text's length, the text ends too early.
+    /// 21: the token at this byte may not be there. If the text ends too early, this is its length.
     #[error("Grammar at {0}")]
     Grammar(usize),
     /// 22: the name at this byte is not known there.
     #[error("UnknownName at {0}")]
     UnknownName(usize),
-    /// 23: the name at this byte is given a second time.
+    /// 23: the name at this byte is already in its table.
     #[error("DoubleName at {0}")]
     DoubleName(usize),
     /// 1 to 6: the process with this number is no program.

@@ -8,7 +8,7 @@ use kpn_canonical::{description_is_read, read_descriptions_are_proper};
 use kpn_names::blocks_are_the_tree;
 use kpn_net::laws::capacities_are_in_range;
 
-/// The phases give a document exactly where the text spells it.
+/// The phases return a document if and only if the text spells it.
 pub fn phases_give_what_is_spelled()
     ensures { PhasesGiveWhatIsSpelled }
 {}
@@ -28,7 +28,7 @@ pub fn read_again()
     read_descriptions_are_proper();
 }
 
-/// No name stands twice in a table of names of a document: each is found at its own number.
+/// No name is twice in a table of names of a document: a search finds each at its own number.
 pub fn names_stand_once()
     ensures { NamesStandOnce }
 {

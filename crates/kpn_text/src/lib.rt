@@ -1,9 +1,9 @@
 //! Descriptions of networks, read and printed.
 //!
-//! A description is a text. `read_network` gives the one document that it spells, a network with the
-//! names of its parts, or the fault of the first phase that finds one: the tokens, the grammar, the
-//! names, the programs in order, the network. `print_network` gives the canonical text of a document.
-//! Item files are read and written by calls of `kpn_items`, which this crate passes on.
+//! A description is a text. `read_network` returns the one document that it spells, a network with the names of its
+//! parts, or the fault of the first phase that finds one. The phases are the tokens, the grammar, the names, the
+//! programs in order, and the network. `print_network` returns the canonical text of a document. This crate also passes
+//! on the calls of `kpn_items` that read and write item files.
 #![tactic(auto)]
 
 mod document;

@@ -8,7 +8,7 @@ use kpn_lang::Sequence;
 use kpn_names::{NameTable, Named, NetworkNames, ProcessNames, ProgramParts, Scope};
 use std::alloc::{AllocError, Global};
 
-/// A name of its own.
+/// A copy of a name.
 fn copied(alloc: Global, name: &[u8]) -> Result<Sequence<u8>, AllocError>
     ensures { IfOk result (λ own. own ≡ name.now) }
 {
@@ -16,7 +16,7 @@ fn copied(alloc: Global, name: &[u8]) -> Result<Sequence<u8>, AllocError>
     Ok(Sequence::from_vec(bytes))
 }
 
-/// The names of a table, each of its own, by number.
+/// A copy of each name of a table, by number.
 fn table(alloc: Global, names: &NameTable<'_>) -> Result<Sequence<Sequence<u8>>, AllocError>
     ensures { IfOk result (λ own. own ≡ names.now) }
 {
@@ -66,7 +66,7 @@ fn of_processes(
     Ok(own)
 }
 
-/// The names that a description gives.
+/// The names of a description.
 pub(crate) fn names_of(alloc: Global, named: &Named<'_>) -> Result<NetworkNames, AllocError>
     ensures { IfOk result (λ own. own ≡ names_in (named_seen named.now)) }
 {

@@ -32,7 +32,7 @@ fn program(alloc: Global, number: usize, process: ProgramParts<'_>) -> Result<Pr
     }
 }
 
-/// How the fault of the program with this number is told.
+/// The fault of the text that a fault of the program with this number becomes.
 fn told(number: usize, fault: ProgramFault) -> TextFault
     ensures { result ≡ program_told number fault }
 {

@@ -33,16 +33,20 @@ fn read_text(alloc: Global, text: &[u8]) -> Result<Document, TextFault>
 ///
 /// # Errors
 ///
-/// The fault of the first phase that finds one. [`TextFault::TooLong`] where the text has more than
-/// [`MAX_TEXT_BYTES`](kpn_limits::MAX_TEXT_BYTES); then the first in the text of [`TextFault::Token`] and, at a name,
-/// [`TextFault::TooLong`]; then [`TextFault::Grammar`] or a process that nests too deep, whichever comes
-/// first; then the first in the text of [`TextFault::UnknownName`] and [`TextFault::DoubleName`]; then
-/// [`TextFault::Program`] of the first process that is no program; then [`TextFault::Net`].
-/// [`TextFault::NoMemory`] only where an allocation was refused. A refused call leaves nothing.
+/// The fault of the first phase that finds one:
+///
+/// - [`TextFault::TooLong`] if the text has more than [`MAX_TEXT_BYTES`](kpn_limits::MAX_TEXT_BYTES);
+/// - the first in the text of [`TextFault::Token`] and, at a name, [`TextFault::TooLong`];
+/// - [`TextFault::Grammar`] or a process that nests too deep, whichever comes first;
+/// - the first in the text of [`TextFault::UnknownName`] and [`TextFault::DoubleName`];
+/// - [`TextFault::Program`] of the first process that is no program;
+/// - [`TextFault::Net`].
+///
+/// [`TextFault::NoMemory`] comes only if memory ran out. A call that fails leaves nothing.
 pub fn read_network(alloc: Global, text: &[u8]) -> Result<Document, TextFault>
-    // What is returned is what the text spells.
+    // What the call returns is what the text spells.
     ensures found { IfOk result (λ d. Spells text.now d) }
-    // What the text spells is returned, unless memory runs out.
+    // It returns what the text spells, unless memory runs out.
     ensures only { (d : spec.Document) → Spells text.now d
         → OkOr TextFault.NoMemory result (λ found. found ≡ d) }
     // Which fault it is.

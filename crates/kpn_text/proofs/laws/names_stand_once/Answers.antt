@@ -1,4 +1,4 @@
--- A document has the names that a description gives.
+-- A document has the names of a description.
 use Rattle.std.proofs.Common.{subst}
 use Rattle.kpn_names.specs.Once.{EachStandsOnce}
 use Rattle.kpn_text.proofs.laws.names_stand_once.Goals as goal

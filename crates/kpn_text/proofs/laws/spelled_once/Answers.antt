@@ -1,4 +1,4 @@
--- The phases give one document at most.
+-- The phases return one document at most.
 use Rattle.kpn_text.proofs.ReadingLaws.{one_document}
 use Rattle.kpn_text.proofs.laws.spelled_once.Goals as goal
 
