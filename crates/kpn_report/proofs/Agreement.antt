@@ -1,4 +1,4 @@
--- Kahn's theorem on reports: they stand on legal histories alone.
+-- Kahn's theorem on reports: it depends only on legal histories.
 use Rattle.std.proofs.Common.{◌≡◌, ℕ, ◌<◌, ◌≤◌, ◌⊎◌, ℤ, List, [], length, take, get_or, Some, sym, ap, ◌∙◌, subst, inl, inr, arith}
 use Rattle.std.proofs.lemmas.Bool.{cases_lt}
 use Rattle.kpn_net.specs.declared.tables.Policy.TheVariants.{All}
@@ -40,7 +40,7 @@ module _ (t : Tables) (lists : List (List ℤ)) (limits : Limits) (report : Repo
             (is.fed.each c source);
       }
 
-  -- ---- where it has ended
+  -- ---- if it has ended
 
   pub ended_verdict : report.outcome ≡ Ended → IsVerdict t (events_of report) (Some verdict.Ended)
   ended_verdict e = (subst (λ o. IsOutcome t (events_of report) report.commits limits (Some o)) e is.outcome).1
@@ -53,7 +53,7 @@ module _ (t : Tables) (lists : List (List ℤ)) (limits : Limits) (report : Repo
       let all = is.all_fed verdict.Ended (ap verdict_of e) in
       record { each = λ c source. fed-source t (events_of report) c source ∙ all.each c source }
 
-  -- ---- where it has another outcome
+  -- ---- if it has another outcome
 
   pub enough_read : report.outcome ≡ Enough → (items : ℕ) → limits.take ≡ Some items
       → IsEnough t (events_of report) (Some items)

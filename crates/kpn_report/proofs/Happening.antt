@@ -28,7 +28,7 @@ module _ (e : Event) (before after : Book) (is : Happens e before after) where
   happens_prefix =
       subst (IsPrefix before.history) (sym happens_history) (IsPrefix-append before.history (e ∷ is.growth))
 
-  -- what does not see growths sees the event alone
+  -- what does not depend on growths depends only on the event
   happens_seen : {X : Type 0} (f : List Event → X) → ((B : List Event) (p d n : ℕ) → f (B ++ Grow p d n ∷ []) ≡ f B)
       → f after.history ≡ f (before.history ++ e ∷ [])
   happens_seen f skips = ap f happens_history ∙ by is.growth is.owed

@@ -1,4 +1,4 @@
--- Nobody is held after a call but who was held before it.
+-- Only a process that was held before a call is held after it.
 use Rattle.std.proofs.Common.{◌≡◌, ℕ, ◌+◌, ◌<◌, ◌⊎◌, Bool, true, false, cond, ℤ, List, [], ◌∷◌, ◌++◌, length, set, get_or, Option, Some, None, refl, sym, ap, ◌∙◌, subst, inl, inr, arith}
 use Rattle.std.specs.List.{Contains}
 use Rattle.std.proofs.lemmas.List.Elements.{Contains-append_cases}
@@ -40,7 +40,7 @@ use Rattle.kpn_book.specs.Stepping.{StepsNext}
 use Rattle.kpn_book.proofs.Woken.{only_one}
 use Rattle.kpn_book.proofs.Counting.{held_in, held_less, held_more, held_as_before}
 
--- ---- who waits is not held
+-- ---- a process that waits is not held
 
 not_held_by : (end : Option How) (wait : Wait) (x : State) → IsStateBy end wait x → (wait ≡ Nobody → ⊥)
     → is_held x ≡ false
@@ -50,7 +50,7 @@ not_held_by end wait (WaitsEmpty c) by some = refl
 not_held_by end wait (WaitsFull c) by some = refl
 not_held_by end wait (Ended how) by some = refl
 
--- who is set to a state that is not held is not held, and nobody else is who was not
+-- a process that is set to a state that is not held is not held, and no other that was not becomes held
 set_not_held : (xs : List State) (p q : ℕ) (y : State) → is_held y ≡ false → q < length xs
     → (q ≡ p) ⊎ (is_held (get_or xs q Ready) ≡ false) → is_held (get_or (set xs p y) q Ready) ≡ false
 set_not_held xs p q y new there which =
@@ -61,7 +61,7 @@ set_not_held xs p q y new there which =
           ∙ elim which [ inl same ↦ absurd (other same) | inr is ↦ is ]
     ]
 
--- ---- who is woken waits
+-- ---- a process that is woken waits
 
 waiting_some : (kind : Wait → Bool) (waits : List Wait) (end : End) (q : ℕ) → waiting_at kind waits end ≡ Some q
     → (end ≡ Process q) × (kind (wait_at waits q) ≡ true)
@@ -100,7 +100,7 @@ all_made_ready-append : (ps qs : List ℕ) (s : Schedule)
 all_made_ready-append [] qs s = refl
 all_made_ready-append (p ∷ ps) qs s = all_made_ready-append ps qs (made_ready p s)
 
--- who waits after an event that makes nobody wait who was free waited before it
+-- if an event makes no free process wait, a process that waits after it waited before it
 waited_before : (t : Tables) (e : Event) (s after : Configuration) (q : ℕ)
     → (q < length t.instances → wait_in after q ≡ wait_then t e q (wait_in s q)) → wait_then t e q Nobody ≡ Nobody
     → Waits t after.waits q → Waits t s.waits q
@@ -204,7 +204,7 @@ module _ (before : Book) (book : IsBook before) (p : ℕ) (between : Book) (clai
       (subst (λ x. IsStateBy (end_in before.configuration p) (wait_in before.configuration p) x)
       claimed.holds.was_ready (book.kept.in_step.states p there)).1
 
-  -- who waits is not held, also now that p is
+  -- a process that waits is not held, also now that p is
   abbrev NotHeld : ℕ → Type 0
   NotHeld q = (q < length between.schedule.states) × (is_held (state_at between.schedule.states q) ≡ false)
 

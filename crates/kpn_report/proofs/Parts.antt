@@ -14,7 +14,7 @@ use Rattle.kpn_report.specs.Reports.{sink_numbers, read_of_sinks}
 
 -- ---- lists
 
--- who is kept passes the test, and was there
+-- a number that is kept passes the test, and was there
 pub kept_member : (f : ℕ → Bool) (xs : List ℕ) (i d : ℕ) → i < length (filter f xs)
     → (f (get_or (filter f xs) i d) ≡ true) × Contains xs (get_or (filter f xs) i d)
 kept_member f [] i d below = absurd (omega arith)

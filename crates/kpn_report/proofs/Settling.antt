@@ -57,7 +57,7 @@ module _ (b : Book) (book : IsBook b) where
         inl (eq-eqb (length (unread_on b.history c)) 0 (omega arith));
   }
 
-  -- so there is somebody to be claimed where the run goes on
+  -- so there is somebody to claim if the run goes on
   pub somebody : b.commits + 1 < 2 ^ 64 → IsLeftToItself b → (IsSettled b.tables b.history → ⊥) → ClaimsNobody b → ⊥
   somebody countable to_itself unsettled nobody =
       elim nobody [

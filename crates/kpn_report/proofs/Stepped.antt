@@ -36,7 +36,7 @@ use Rattle.kpn_report.proofs.Turning.{nothing_lies, takes_nothing, takes_there, 
 
 -- ---- what was read
 
--- where as much was read, there is enough
+-- if as much was read, there is enough
 enough_same : (t : Tables) (G H : List Event)
     → ((c : ℕ) → is_sink (channel_at t c) ≡ true → length (read_on H c) ≡ length (read_on G c)) → (wanted : Option ℕ)
     → IsEnough t H wanted → IsEnough t G wanted
@@ -345,7 +345,7 @@ module _ (limits : Limits) (before now after : Book) (to_itself : IsLeftToItself
             omega arith
       ]
 
-  -- what lies in the sinks is the item that was put, and it is taken
+  -- what is unread on the sinks is the item that was put, and it is taken
   unread_now : unread (channel_in now.configuration c) ≡ unread_on now.history c
   unread_now =
       let holds = book.kept.in_step.run.leads.channels c (sink_there now.tables c takes.sink.sink) in

@@ -1,4 +1,4 @@
--- What is told of a run that was left to itself is what a report promises.
+-- The report of a run that was left to itself has what a report promises.
 use Rattle.std.proofs.Common.{◌≡◌, ℕ, ◌+◌, ◌<◌, ◌≤◌, max, ℤ, List, length, Some, refl, sym, ap, ◌∙◌, subst, arith, [], ◌∷◌, ◌++◌, take, map, get_or, zero, suc, slice_get, IfSome, None, Option, true, count_by}
 use Rattle.std.proofs.lemmas.List.{take_all}
 use Rattle.std.proofs.lemmas.List.FromFn.{length-map-range_with_len, get_or-map-range_with_len}
@@ -44,7 +44,7 @@ prefix_at [] k e is = absurd cc
 prefix_at (x ∷ H) zero e is = ([], (cc, tt))
 prefix_at (x ∷ H) (suc k) e is = let r = prefix_at H k e is in (x ∷ r.0, (refl, r.1))
 
--- an event that stands in a legal history has numbers of the network
+-- an event in a legal history has numbers of the network
 pub numbers_at : (t : Tables) (H : List Event) → Legal t H → (k : ℕ) (o : Option Event) → o ≡ slice_get H k
     → IfSome o (λ e. HasNumbers t e)
 numbers_at t H legal k None is = tt
@@ -89,8 +89,8 @@ module _ {A : Type 0} (t : Tables) (H : List Event) (legal : Legal t H) (view : 
 
 -- ---- all of it
 
--- what is told of a book in which nobody is held, and which has come to an outcome, is what a report promises, where
--- the sources were fed as it is promised
+-- take a book in which nobody is held and which has come to an outcome; if the sources were fed as promised, its report
+-- has what a report promises
 module _ (t : Tables) (b : Book) (tables : b.tables ≡ t) (book : IsBook b) (outcome : Outcome) (report : Report)
     (tells : IsWrittenFrom b outcome report) where
   same : b.history ≡ events_of report

@@ -69,7 +69,7 @@ supplies_one t given k items before between after source same fed closed =
     (subst (λ xs. AllHappen (map (Feed k) xs ++ Close k ∷ []) before after) same
     (join (map (Feed k) items) (Close k ∷ []) before between after fed (one (Close k) between after closed)))
 
--- ---- what lies in the sinks
+-- ---- what is unread on the sinks
 
 nowhere : {A : Type 0} (f : ℕ → List A) → ((d : ℕ) → f d ≡ []) → (xs : List ℕ) → flat_map f xs ≡ []
 nowhere f none [] = refl
@@ -101,7 +101,7 @@ nothing_lies t H c all = by (is_sink (channel_at t c)) refl
     by true e = ap (map (Take c)) (drop_all (length (read_on H c)) (written_on H c) (all e))
     by false e = refl
 
--- where nothing lies in any sink nothing is taken
+-- if nothing is unread on any sink, nothing is taken
 pub takes_nothing : (b : Book) → IsLeftToItself b → AllHappen (takes_from_sinks b.tables b.history) b b
 takes_nothing b to_itself =
     subst (λ es. AllHappen es b b)
@@ -110,7 +110,7 @@ takes_nothing b to_itself =
     (range_with_len 0 (length b.tables.channels))))
     refl
 
--- where something lies in one sink alone, that is taken
+-- if something is unread on only one sink, that is taken
 pub takes_there : (b after : Book) (c : ℕ) → c < length b.tables.channels → is_sink (channel_at b.tables c) ≡ true
     → ((d : ℕ) → (d ≡ c → ⊥) → takes_of b.tables b.history d ≡ []) → (items : List ℤ) → unread_on b.history c ≡ items
     → AllHappen (map (Take c) items) b after → AllHappen (takes_from_sinks b.tables b.history) b after

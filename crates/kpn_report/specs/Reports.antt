@@ -59,10 +59,10 @@ pub record AreSupplied (t : Tables) (lists : List (List ℤ)) (H : List Event) :
   pub whole : AgreeOnSources t (written_on H) (given_by t lists)
   pub closed : (c : ℕ) → is_source (channel_at t c) ≡ true → is_closed H c ≡ true
 
--- of a run of the network on these lists, one for each source in order of channel number: the history is legal and
--- owes no growth; the view is that of the history, and nobody is held; each source was fed what its list begins with,
--- and under a verdict all of it; what was taken is what was read of the sinks; each event of a process was committed;
--- and the outcome is that of the history under the limits
+-- a report of a run of the network on these lists, one for each source in order of channel number. The history is legal
+-- and owes no growth. The view is that of the history, and nobody is held. Each source was fed what its list begins
+-- with, and under a verdict all of it. What was taken is what was read of the sinks. Each event of a process was
+-- committed. The outcome is that of the history under the limits
 pub record IsReport (t : Tables) (lists : List (List ℤ)) (limits : Limits) (report : Report) : Type 0 where
   pub legal : Legal t (events_of report)
   pub nothing_owed : OwesNothing t (events_of report)

@@ -1,5 +1,5 @@
--- What a run on one thread is, apart from the code: the lists are fed and the sources closed; then turns of the front
--- of the queue and takes of what lies in the sinks, up to the outcome.
+-- What a run on one thread is, without its code. The sources are fed their lists and closed. Then the run makes turns
+-- of the front of the queue, each with the takes of all unread items of the sinks, up to the outcome.
 use Rattle.std.specs.Prelude.{◌≡◌, ℕ, ◌+◌, ◌<◌, max, if◌then◌else◌, ℤ, List, [], ◌∷◌, ◌++◌, length, map, Some, None}
 use Rattle.std.specs.List.{flat_map}
 use Rattle.kpn_net.specs.Tables.{Tables, channel_at, is_source, is_sink, instance_at, program_of}
@@ -33,18 +33,18 @@ supply_of t given c = if is_source (channel_at t c) then map (Feed c) (given c) 
 abbrev pub supplies : Tables → (given : Family) → List Event
 supplies t given = flat_map (supply_of t given) (channel_numbers t)
 
--- all that lies in channel c is taken, if it is a sink
+-- all that is unread on channel c is taken, if it is a sink
 abbrev pub takes_of : Tables → List Event → (c : ℕ) → List Event
 takes_of t H c = if is_sink (channel_at t c) then map (Take c) (unread_on H c) else []
 
--- all that lies in the sinks is taken, in order of number
+-- all that is unread on the sinks is taken, in order of number
 abbrev pub takes_from_sinks : Tables → List Event → List Event
 takes_from_sinks t H = flat_map (takes_of t H) (channel_numbers t)
 
 -- ---- the turns
 
 -- a turn: the first process of the queue is claimed, makes no more steps than the quota, of which 0 counts as 1, and is
--- committed; then all that lies in the sinks is taken
+-- committed; then all that is unread on the sinks is taken
 pub record IsTurn (quota : ℕ) (before after : Book) : Type 0 where
   pub answer : Done
   pub stepped : Book
@@ -60,8 +60,8 @@ pub data Turns (limits : Limits) (first : Book) : ℕ → Book → Type 0 where
 
 -- ---- the run
 
--- the book at the start: nothing has happened, each process stands at the start of its program, and all are ready, in
--- order of number
+-- the book at the start: nothing has happened, each process is at the start of its program, and all are ready, in order
+-- of number
 pub record IsFirst (t : Tables) (b : Book) : Type 0 where
   pub book : IsBook b
   pub tables : b.tables ≡ t
@@ -71,8 +71,8 @@ pub record IsFirst (t : Tables) (b : Book) : Type 0 where
   pub schedule : b.schedule ≡ all_ready (length t.instances)
   pub commits : b.commits ≡ 0
 
--- a run on one thread of so many turns: from the start each source is fed its list and closed; then the turns are
--- made, and they lead to the last book, which has come to the outcome
+-- a run on one thread of so many turns. From the start each source is fed its list and closed. Then come the turns, and
+-- they lead to the last book, which has come to the outcome
 pub record RunsHere (t : Tables) (lists : List (List ℤ)) (limits : Limits) (turns : ℕ) (outcome : Outcome) (last : Book)
     : Type 0 where
   pub first : Book

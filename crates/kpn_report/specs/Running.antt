@@ -1,4 +1,4 @@
--- What the code keeps while it runs a network by itself. A reader of the public contracts needs none of it.
+-- What the code keeps while it runs a network by itself. To read the public contracts, nobody needs it.
 use Rattle.std.specs.Prelude.{◌≡◌, ◌≢◌, ◌↔◌, ℕ, ◌+◌, ◌<◌, ◌≤◌, if◌then◌else◌, Bool, true, false, IsTrue, ℤ, List, [], ◌∷◌, ◌++◌, length, take, slice_index_or, Option, Some, None}
 use Rattle.kpn_lang.specs.Prefix.{IsPrefix}
 use Rattle.kpn_net.specs.Tables.{Tables, channel_at, is_source, is_sink}
@@ -18,7 +18,7 @@ use Rattle.kpn_report.specs.RunHere.{IsTurn, Turns}
 
 -- ---- the sources are fed
 
--- these items were fed to source c, and nothing else has happened but that it may be closed
+-- these items were fed to source c, and nothing else has happened except that it may be closed
 pub record IsSupplied (c : ℕ) (items : List ℤ) (before after : Book) : Type 0 where
   pub tables : after.tables ≡ before.tables
   pub held : held_count after ≡ held_count before

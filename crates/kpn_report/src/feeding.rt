@@ -1,4 +1,4 @@
-//! The sources of a network that is left to itself: each is fed its whole list and closed, in order of number.
+//! The sources of a network that is left to itself: each gets its whole list and is closed, in order of number.
 ghost use Rattle.std.specs.Prelude.{◌≡◌, ℕ, ◌+◌, ◌<◌, true, false, ℤ, List, length, map, take, count_by, IfOk};
 ghost use Rattle.kpn_net.specs.Tables.{is_source};
 ghost use Rattle.kpn_net.specs.Iteration.{sources, given_by};
@@ -34,8 +34,8 @@ pub(crate) fn feed_sources(
     Ok(())
 }
 
-/// Channel `c`, which has this many sources before it, is fed its list and closed, if it is a source. Returns how many
-/// sources there are up to it.
+/// If channel `c`, which has this many sources before it, is a source, feeds it its list and closes it. Returns how
+/// many sources there are up to it.
 fn supply_next(
     book: &mut Book<'_>,
     network: &Network,

@@ -1,4 +1,4 @@
-//! A run on the calling thread alone.
+//! A run only on the calling thread.
 ghost use Rattle.std.specs.Prelude.{◌≡◌, ◌≤◌, length, IfOk};
 ghost use Rattle.kpn_net.specs.Iteration.{sources};
 ghost use Rattle.kpn_report.specs.Reports.{events_of, AreSupplied, IsReport};
@@ -19,8 +19,8 @@ use std::alloc::{AllocError, Global};
 /// Runs a network on these lists, one for each source in order of channel number, until there is an outcome under the
 /// limits.
 ///
-/// Each source is fed its whole list and closed. Then the processes are stepped, one after the other, and what they put
-/// on the sinks is taken at once. The error is that memory ran out.
+/// It feeds each source its whole list and closes it. Then it steps the processes, one after the other, and takes at
+/// once what they put on the sinks. The error is that memory ran out.
 pub fn run_here(
     alloc: Global,
     network: &Network,

@@ -1,5 +1,5 @@
-//! What holds of every report, as the contracts of functions with nothing to do: Kahn's theorem on reports, whatever
-//! the schedules of the runs and the number of those who stepped the processes.
+//! What holds of every report, as contracts of functions that do nothing: Kahn's theorem on reports, whatever the
+//! schedules of the runs and however many workers stepped the processes.
 ghost use Rattle.std.specs.Prelude.{◌≡◌, ℕ, ◌<◌, ◌≤◌, ◌⊎◌, ℤ, List, length, take, Option, Some};
 ghost use Rattle.kpn_net.specs.declared.tables.Policy.TheVariants.{All};
 ghost use Rattle.kpn_net.specs.declared.wait.Wait.TheVariants.{Full};
@@ -21,7 +21,7 @@ ghost use Rattle.kpn_report.specs.RunHere.{IsReportHere};
 
 // ---- Kahn's theorem on reports
 
-/// Under every outcome each journal is a prefix of the least solution for the whole lists.
+/// Under every outcome, each journal is a prefix of the least solution for the whole lists.
 pub fn journals_are_below()
     ensures { (t : Tables) → IsNetwork t → (lists : List (List ℤ)) (limits : Limits)
         (report : Report) → IsReport t lists limits report
@@ -29,7 +29,7 @@ pub fn journals_are_below()
         → IsBelowLeast t (given_by t lists) c (journal_of report c) }
 {}
 
-/// Under Ended the journals are the least solution for the whole lists.
+/// Under `Ended` the journals are the least solution for the whole lists.
 pub fn ended_is_least()
     ensures { (t : Tables) → IsNetwork t → (lists : List (List ℤ)) (limits : Limits)
         (report : Report) → IsReport t lists limits report → report.outcome ≡ Ended
@@ -50,7 +50,7 @@ pub fn ended_reports_agree()
         × (other.view.journals ≡ lists_of t (iterate t (given_by t lists) n))) }
 {}
 
-/// The first items that two runs of the same network and lists have taken from a sink are the same. Where both have
+/// The first items that two runs of the same network and lists have taken from a sink are the same. If both have
 /// enough, by the same number of items, so many were taken from each sink, and these are the same.
 pub fn first_items_agree()
     ensures first { (t : Tables) → IsNetwork t → (lists : List (List ℤ)) (limits more : Limits)
@@ -78,9 +78,10 @@ pub fn one_outcome()
         → IsOutcome t H commits limits other → outcome ≡ other }
 {}
 
-/// Ended is quiet. Jammed: some blocked cycle has full channels, all at the limit. Clogged: each process that is
-/// blocked on a full channel waits for a blocked process, and no blocked cycle has a full channel. Under the policy
-/// `all` each channel on which a process waits as full is then at the limit.
+/// What each verdict means. `Ended`: the history is quiet. `Jammed`: some blocked cycle has full channels, all at the
+/// limit. `Clogged`: each process that is blocked on a full channel waits for a blocked process, and no blocked cycle
+/// has a full channel. Under the policy `all`, if the outcome is `Jammed` or `Clogged`, each channel on which a process
+/// waits as full is at the limit.
 pub fn what_an_outcome_means()
     ensures ended { (t : Tables) (lists : List (List ℤ)) (limits : Limits) (report : Report)
         → IsReport t lists limits report → report.outcome ≡ Ended → IsQuiet t (events_of report) }
@@ -102,7 +103,7 @@ pub fn what_an_outcome_means()
 
 // ---- on one thread
 
-/// A run on one thread makes no more turns than commits are allowed, and where it was stopped exactly as many.
+/// A run on one thread makes no more turns than its limit of commits. If it was stopped, it made exactly as many.
 pub fn turns_of_a_run_here()
     ensures within { (t : Tables) (lists : List (List ℤ)) (limits : Limits) (report : Report)
         → IsReportHere t lists limits report → report.commits ≤ limits.commits }

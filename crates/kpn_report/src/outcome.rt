@@ -4,15 +4,14 @@ ghost use Rattle.kpn_report.specs.Outcomes.{verdict_of};
 
 use kpn_trace::Verdict;
 
-/// When a run is stopped, and by how many steps a process is advanced at once.
+/// When a run stops, and how many steps a process makes at once.
 #[derive(Clone, Copy, Debug, PartialEq, Eq)]
 pub struct Limits {
-    /// After so many commits the run is stopped.
+    /// After so many commits the run stops.
     pub commits: u64,
-    /// Once so many items were read of each sink the run is stopped, where this is asked for: at once where there is no
-    /// sink.
+    /// If this is given, the run stops once so many items were read of each sink: at once if there is no sink.
     pub take: Option<u64>,
-    /// The most steps that a process makes before the next one is stepped. 0 counts as 1.
+    /// The most steps that a process makes before it is the turn of the next. 0 counts as 1.
     pub quota: u32,
 }
 

@@ -1,9 +1,9 @@
-//! What is told of a run once it has stopped.
+//! What the caller of a run gets once it has stopped.
 use crate::outcome::Outcome;
 use kpn_lang::Sequence;
 use kpn_trace::{History, View};
 
-/// A run, told once it has stopped.
+/// A run that has stopped, as its caller gets it.
 #[derive(Debug, Drop)]
 pub struct Report {
     pub outcome: Outcome,

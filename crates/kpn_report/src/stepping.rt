@@ -1,4 +1,4 @@
-//! A process of a network that is left to itself is stepped, and what it has put on a sink is taken.
+//! One turn of a network that is left to itself: a process makes steps, and what it has put on a sink is taken.
 ghost use Rattle.std.specs.Prelude.{◌≡◌, ℕ, ◌+◌, ◌<◌, ◌^◌, max, ℤ, IfOk, IfSome, List, [], ◌∷◌, ◌++◌, Option, Some, None};
 ghost use Rattle.kpn_trace.specs.declared.event.Event.{Event};
 ghost use Rattle.kpn_trace.specs.Legal.{HasNumbers};
@@ -16,7 +16,7 @@ use kpn_net::Network;
 use kpn_trace::Event;
 use std::alloc::AllocError;
 
-/// Steps the first process that is ready, by no more steps than the quota, and takes what it has put on a sink. Tells
+/// Steps the first process that is ready, by no more steps than the quota, and takes what it has put on a sink. Returns
 /// whether there is enough then.
 pub(crate) fn step(book: &mut Book<'_>, limits: &Limits, quota: u32) -> Result<bool, AllocError>
     requires quota { quota ≡ max limits.now.quota 1 }
@@ -31,7 +31,7 @@ pub(crate) fn step(book: &mut Book<'_>, limits: &Limits, quota: u32) -> Result<b
     take_what_was_put(book, limits)
 }
 
-/// Steps the first process that is ready. Tells whether it has put an item.
+/// Steps the first process that is ready. Returns whether it has put an item.
 fn step_first(book: &mut Book<'_>, quota: u32) -> Result<bool, AllocError>
     requires countable { book.old.commits + 1 < 2 ^ 64 }
     requires to_itself { IsLeftToItself book.old }
@@ -53,7 +53,7 @@ fn has_put(answer: Option<Done>) -> bool
     matches!(answer, Some(Done::Put))
 }
 
-/// Takes the item that was just put, if it was put on a sink. Tells whether there is enough then.
+/// Takes the item that was just put, if it was put on a sink. Returns whether there is enough then.
 fn take_what_was_put(book: &mut Book<'_>, limits: &Limits) -> Result<bool, AllocError>
     ensures { (before : Seen) → IsLeftToItself before
         → IsFrontStepped (max limits.now.quota 1) before book.old → IsCommitted before book.old

@@ -8,8 +8,8 @@ ghost use Rattle.kpn_report.specs.Running.{ReadsOneMore};
 use crate::outcome::{Limits, Outcome};
 use kpn_book::Book;
 
-/// What a run has come to under its limits, if it has: enough where what is wanted was read of each sink, else the
-/// verdict where there is one, else stopped where the commits have reached their limit.
+/// What a run has come to under its limits, if it has: enough if what is wanted was read of each sink, else the verdict
+/// if there is one, else stopped if the commits have reached their limit.
 pub fn outcome_of(book: &Book<'_>, limits: &Limits) -> Option<Outcome>
     ensures { IsOutcome book.now.tables book.now.history book.now.commits limits.now result }
 {
@@ -44,8 +44,8 @@ pub(crate) fn has_enough(book: &Book<'_>, wanted: Option<u64>) -> bool
     }
 }
 
-/// Whether there is enough after at most one more item was read of this sink. Before it there was not, so the other
-/// sinks are looked at only where this one has exactly as many as are wanted.
+/// Whether there is enough after at most one more item was read of this sink. Before it there was not enough. So the
+/// call looks at the other sinks only if this one has exactly as many as are wanted.
 pub(crate) fn has_enough_by(book: &Book<'_>, sink: usize, wanted: Option<u64>) -> bool
     requires { sink < length book.now.tables.channels }
     ensures { (before : List Event) → ReadsOneMore book.now.tables sink before book.now.history

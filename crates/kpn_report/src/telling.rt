@@ -1,4 +1,4 @@
-//! A report is written from a book.
+//! How a report is made from a book.
 ghost use Rattle.std.specs.Prelude.{◌≡◌, ℕ, ◌+◌, ◌<◌, List, length, IfOk};
 ghost use Rattle.kpn_trace.specs.declared.event.Event.{Event};
 ghost use Rattle.kpn_trace.specs.Legal.{Legal};
