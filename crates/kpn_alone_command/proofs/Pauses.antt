@@ -30,7 +30,7 @@ inside place variables =
       variables = variables;
     }
 
--- where a process can stand, and how many steps it makes from there to its next read
+-- where a process can be, and how many steps it makes from there to its next read
 data Stands : BuiltIn → Frame → ℕ → Type 0 where
   at_test : (process : BuiltIn) (variables : List ℤ) → Stands process (outside variables) 1
   at_read : (process : BuiltIn) (variables : List ℤ) → Stands process (inside 0 variables) 0
@@ -57,7 +57,7 @@ goes_with : (r : Result ℤ Fault) (go : ℤ → Frame) (g : Frame) → tested r
 goes_with (Ok v) go g e = (v, cc)
 goes_with (Err fault) go g e = absurd (cc)
 
--- where it stands after a step
+-- where it is after a step
 record StandsAfter (process : BuiltIn) (g : Frame) (before : ℕ) : Type 0 where
   steps : ℕ
   stands : Stands process g steps
@@ -94,7 +94,7 @@ steps_to process (suc k) f g before made stands =
     let rest = steps_to process k made.0 g first.steps made.2 first.stands in
     (rest.0, rest.1, omega (arith, first.fewer, rest.2))
 
--- where it stands after one thing is said, and what is left then
+-- where it is after one thing is said, and what is left then
 record StandsOn (process : BuiltIn) (g : Frame) (rest : Lists) (budget : ℕ) : Type 0 where
   items : List ℤ
   steps : ℕ
@@ -117,7 +117,7 @@ gets process vs items v g rest budget port variable left steps stands few at_por
       enough = omega arith;
     }
 
--- an item is put: it stands past the write
+-- an item is put: it is past the write
 puts : (process : BuiltIn) (vs items : List ℤ) (place : ℕ) (g : Frame) (rest : Lists) (steps : ℕ)
     → Stands process (inside place vs) steps → g ≡ inside place vs → rest ≡ items ∷ []
     → StandsOn process g rest (3 * length items + steps)

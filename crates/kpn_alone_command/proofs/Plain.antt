@@ -103,7 +103,7 @@ plain_run Double n items ran is whole =
 plain_run Sum n items ran is whole =
     rw is (loop_sum n n (pos 0) (pos 0) items (λ cut. whole (ap (λ r. r.ending) is ∙ cut)))
 
--- an end that a stop stands for tells the stop
+-- the stop that an end stands for is one
 stop_at : (stop other : AloneStop) → ending_of stop ≡ ending_of other → stop ≡ other
 stop_at Done Done e = refl
 stop_at Done (Faulted f) e = absurd (cc)

@@ -20,7 +20,7 @@ abbrev pub IsUnknown : List ℕ → Type 0
 IsUnknown name = (process : BuiltIn) → name_of process ≢ name
 
 -- the text is what `kpn alone NAME` makes of the bytes that came in: they spell items, the process of this name was
--- stepped alone on them, and the text tells what it put and how it faulted
+-- stepped alone on them, and the text states what it put and how it faulted
 pub record IsAloneText (name : List ℕ) (came_in : Option (List ℕ)) (text : List ℕ) : Type 0 where
   pub process : BuiltIn
   pub named : name_of process ≡ name
@@ -33,22 +33,22 @@ pub record IsAloneText (name : List ℕ) (came_in : Option (List ℕ)) (text : L
   -- which is plainly this
   pub plain : text ≡ plain_text process items
 
--- why there is no answer: a line that is named is the first that spells no item
+-- why there is no answer: a line that the fault names is the first that spells no item
 abbrev pub IsRefusalOfAlone : (name : List ℕ) (came_in : Option (List ℕ)) → Refusal → Type 0
 IsRefusalOfAlone name came_in UnknownProcess = IsUnknown name
 IsRefusalOfAlone name came_in (Input fault) = IfSome came_in (λ bytes. TellsFirstBadLine bytes fault)
 IsRefusalOfAlone name came_in other = WantsMemory other
 
--- what `kpn alone NAME` does with an input, an output and a place for faults, each given as it was and as it is after
--- it, and the status that it answers
+-- what `kpn alone NAME` does with an input, an output and a place for faults, each as it was and as it is after it, and
+-- the status that it returns
 pub record RunsAlone {I O E : Type 0} (remaining : I → Option (List ℕ)) (contents : O → Option (List ℕ))
     (name : List ℕ)
     (input read : I) (out written : O) (err told : E) (status : ℕ) : Type 0 where
   pub answers : Answers contents (IsAloneText name (remaining input)) (IsRefusalOfAlone name (remaining input)) out
       written err told status
-  -- an unknown name is refused before the input is read
+  -- with an unknown name it refuses before it reads the input
   pub unknown : IsUnknown name → status ≡ 2
   pub unread : IsUnknown name → read ≡ input
-  -- under success all of the input was read, and never more is gone of it than some bytes from its front
+  -- under success it read all of the input, and in any case the input loses only some bytes from its front
   pub whole : status ≡ 0 → IsAtEnd (remaining read)
   pub rest : LosesItsFront (remaining input) (remaining read)

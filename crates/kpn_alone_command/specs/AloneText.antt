@@ -9,7 +9,7 @@ use Rattle.kpn_trace.specs.declared.event.How.TheVariants as how
 use Rattle.kpn_items.specs.ItemFile.{item_text}
 use Rattle.kpn_answers.specs.Faulted.{faulted_line}
 
--- the line `fault NAME CAUSE` where the process faulted, and nothing where it did not
+-- the line `fault NAME CAUSE` if the process faulted, and nothing if it did not
 abbrev pub fault_text : (name : List ℕ) → AloneStop → List ℕ
 fault_text name (Faulted fault.Overflow) = faulted_line name how.Overflow
 fault_text name (Faulted fault.ZeroDivisor) = faulted_line name how.ZeroDivisor

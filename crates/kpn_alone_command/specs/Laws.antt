@@ -8,7 +8,7 @@ use Rattle.kpn_alone_command.specs.declared.built_in.BuiltIn.{BuiltIn}
 use Rattle.kpn_alone_command.specs.BuiltIn.{program_of}
 use Rattle.kpn_alone_command.specs.Plain.{TalksPlainly}
 
--- where it is not paused it puts the plain values and stops as plainly said
+-- if it is not paused, it puts the plain values and stops in the plain way
 abbrev pub PutsPlainly : Type 0
 PutsPlainly =
     (process : BuiltIn) (items : List ℤ) (quota : ℕ) (talk : List Said) (stop : AloneStop)

@@ -1,4 +1,4 @@
--- What the built-in processes make of a list of items, said plainly.
+-- What the built-in processes make of a list of items, in plain terms.
 use Rattle.std.specs.Prelude.{◌≡◌, ℕ, ℤ, pos, ◌+ℤ◌, ◌*ℤ◌, List, [], ◌∷◌, ◌++◌, Result, Ok, Err}
 use Rattle.kpn_lang.specs.declared.value.Fault.{Fault}
 use Rattle.kpn_lang.specs.declared.talk.Said.{Said}
@@ -12,7 +12,7 @@ use Rattle.kpn_alone_command.specs.declared.built_in.BuiltIn.TheVariants.{Copy, 
 use Rattle.kpn_alone_command.specs.BuiltIn.{name_of}
 use Rattle.kpn_alone_command.specs.AloneText.{fault_text}
 
--- what is put for an item, where this was put last (0 at first); out of range it is an overflow
+-- what the process puts for an item, if it put this last (0 at first); out of range it is an overflow
 abbrev pub next_value : BuiltIn → (last item : ℤ) → Result ℤ Fault
 next_value Copy last item = Ok item
 next_value Double last item = in_range (item *ℤ pos 2)

@@ -19,8 +19,7 @@ use kpn_step::{AloneRun, alone};
 use std::alloc::Global;
 use std::io::{Read, Write};
 
-/// The command `kpn alone NAME` over an input, an output and a place for faults. It answers the
-/// status that the program ends with.
+/// The command `kpn alone NAME` over an input, an output and a place for faults. It returns the exit status.
 pub fn alone_command<I: Read, O: Write, E: Write>(
     alloc: Global,
     name: &str,
@@ -34,7 +33,7 @@ pub fn alone_command<I: Read, O: Write, E: Write>(
     give(answer(alloc, name, input), out, err)
 }
 
-// The whole text that goes out. The name is looked at before the input is read.
+// The whole text that goes out. It checks the name before it reads the input.
 fn answer<I: Read>(alloc: Global, name: &str, input: &mut I) -> Result<Vec<u8>, Refusal>
     ensures ok { IfOk result (λ text. IsAloneText name.now (I.remaining input.old) text.items) }
     ensures refused { IfErr result (IsRefusalOfAlone name.now (I.remaining input.old)) }
@@ -52,7 +51,7 @@ fn answer<I: Read>(alloc: Global, name: &str, input: &mut I) -> Result<Vec<u8>, 
     Ok(text)
 }
 
-// The run of a process on these items, of which so few never pause it.
+// The run of a process on these items. They are too few to pause it.
 fn run_on(alloc: Global, process: BuiltIn, items: Vec<i64>) -> Result<AloneRun, Refusal>
     requires { vec_len items ≤ MAX_INPUT_BYTES }
     ensures alone { IfOk result (λ run.

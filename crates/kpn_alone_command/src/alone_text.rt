@@ -13,8 +13,7 @@ use std::alloc::{AllocError, Global};
 // The port whose items are written.
 const OUT: usize = 0;
 
-/// The items put on the one out port, each on a line of its own, and then `fault NAME CAUSE` where
-/// the process faulted.
+/// The items put on the one out port, each on a line of its own, and then `fault NAME CAUSE` if the process faulted.
 pub fn text_of(
     alloc: Global,
     name: &str,

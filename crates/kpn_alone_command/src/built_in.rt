@@ -53,11 +53,11 @@ impl BuiltIn {
         }
     }
 
-    /// Its program. A turn of its loop takes 2 steps, and 3 in `sum`: the test, what is assigned,
-    /// and the leaving of the finished block.
+    /// Its program. A turn of its loop takes 2 steps, and 3 in `sum`: the test, what is assigned, and the leaving of
+    /// the finished block.
     ///
-    /// Want of memory is 42 while its parts are made, and 28 in the program that is made of them, as in one of a
-    /// description.
+    /// If memory runs out, the refusal is 42 while the code makes the parts. In the program that is made of them it is
+    /// 28, as in a program of a description.
     pub fn program(self, alloc: Global) -> Result<Program, Refusal>
         ensures program { IfOk result (λ program. program ≡ program_of self) }
         ensures refused { IfErr result WantsMemory }

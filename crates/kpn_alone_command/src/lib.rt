@@ -1,5 +1,5 @@
-//! `kpn alone NAME`: a built-in process runs alone on the items of an input. What is written is tied
-//! by contracts to what was read.
+//! `kpn alone NAME`: a built-in process runs alone on the items of an input. Contracts tie what it writes to what it
+//! read.
 #![tactic(auto)]
 
 mod alone;

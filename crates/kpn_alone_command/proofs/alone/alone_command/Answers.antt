@@ -1,4 +1,4 @@
--- What is given is an answer; an unknown name is refused.
+-- What goes out is an answer; an unknown name is refused.
 use Rattle.std.proofs.Common.{◌≡◌, Err}
 use Rattle.std.specs.Io.KnownBytes.{IsAtEnd}
 use Rattle.kpn_answers.specs.declared.refusal.Refusal.TheVariants.{UnknownProcess}
