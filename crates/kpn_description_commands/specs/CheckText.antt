@@ -9,6 +9,6 @@ counts_text processes instances channels =
     codes "ok: " ++ decimal processes ++ codes " processes, " ++ decimal instances ++ codes " instances, "
     ++ decimal channels ++ codes " channels\n"
 
--- the texts of processes are counted, whether or not an instance runs them
+-- it counts the texts of processes, whether or not an instance runs them
 abbrev pub check_text : Document → List ℕ
 check_text d = counts_text (length d.tables.programs) (length d.tables.instances) (length d.tables.channels)

@@ -1,4 +1,4 @@
--- What `kpn rounds` answers.
+-- What `kpn rounds` writes.
 use Rattle.std.specs.Prelude.{◌≡◌, ℕ, ℤ, List}
 use Rattle.kpn_net.specs.Iteration.{given_by, iterate, lists_of}
 use Rattle.kpn_text.specs.Document.{Document}
@@ -6,8 +6,8 @@ use Rattle.kpn_answers.specs.Inputs.{AreInputs}
 use Rattle.kpn_description_commands.specs.RoundsText.{rounds_text}
 use Rattle.kpn_answers.specs.Shelf.{Loads}
 
--- the n-th iterate of the network of a document that the file spells, where each source has the items of the file
--- that one of these words gives it, and else none
+-- the n-th iterate of the network of a document that the file spells. Each source has the items of the file that one of
+-- these words names for it, and no items if no word does
 pub record IsRounds (may_give : Loads) (file : List ℕ) (n : ℕ) (words : List (List ℕ))
     (text : List ℕ) : Type 0 where
   pub document : Document

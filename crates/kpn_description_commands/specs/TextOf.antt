@@ -1,4 +1,4 @@
--- What a command answers that makes a text of a description.
+-- What a command writes that makes a text of a description.
 use Rattle.std.specs.Prelude.{◌≡◌, ℕ, List}
 use Rattle.kpn_text.specs.Document.{Document}
 use Rattle.kpn_answers.specs.Description.{IsDescribed}

@@ -1,4 +1,4 @@
-//! `kpn check FILE`: a description is read, and its parts are counted.
+//! `kpn check FILE` reads a description and counts its parts.
 ghost use Rattle.std.specs.Prelude.{IfOk, IfErr};
 ghost use Rattle.kpn_answers.specs.Answer.{Answers};
 ghost use Rattle.kpn_answers.specs.Description.{IsRefusalOfCommand};
@@ -13,8 +13,7 @@ use kpn_answers::shelf::Shelf;
 use std::alloc::Global;
 use std::io::Write;
 
-/// The command `kpn check FILE` over a shelf, an output and a place for faults. It answers the status
-/// that the program ends with.
+/// The command `kpn check FILE` over a shelf, an output and a place for faults. It returns the exit status.
 pub fn check_command<S: Shelf, O: Write, E: Write>(
     alloc: Global,
     file: &str,

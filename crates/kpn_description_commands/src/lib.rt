@@ -1,4 +1,5 @@
-//! `kpn check FILE`, `kpn print FILE` and `kpn rounds FILE N`: a description is read, and counted, printed or iterated.
+//! `kpn check FILE`, `kpn print FILE` and `kpn rounds FILE N`: each reads a description, and counts, prints or iterates
+//! it.
 #![tactic(auto)]
 
 mod check;

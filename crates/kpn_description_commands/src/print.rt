@@ -1,4 +1,4 @@
-//! `kpn print FILE`: a description is read, and its canonical text is written.
+//! `kpn print FILE` reads a description and writes its canonical text.
 ghost use Rattle.std.specs.Prelude.{IfOk, IfErr};
 ghost use Rattle.kpn_answers.specs.Answer.{Answers};
 ghost use Rattle.kpn_answers.specs.Description.{IsRefusalOfCommand};
@@ -13,8 +13,7 @@ use kpn_text::print_network;
 use std::alloc::Global;
 use std::io::Write;
 
-/// The command `kpn print FILE` over a shelf, an output and a place for faults. It answers the status
-/// that the program ends with.
+/// The command `kpn print FILE` over a shelf, an output and a place for faults. It returns the exit status.
 pub fn print_command<S: Shelf, O: Write, E: Write>(
     alloc: Global,
     file: &str,

@@ -1,4 +1,4 @@
-//! The command: a network and the lists of its sources are read, and the n-th iterate is written.
+//! The command reads a network and the lists of its sources, and writes the n-th iterate.
 ghost use Rattle.std.specs.Prelude.{map, IfOk, IfErr};
 ghost use Rattle.kpn_answers.specs.Answer.{Answers};
 ghost use Rattle.kpn_answers.specs.Inputs.{IsRefusalOfInputs};
@@ -13,8 +13,8 @@ use kpn_net::rounds;
 use std::alloc::Global;
 use std::io::Write;
 
-/// The command `kpn rounds FILE N` over a shelf, an output and a place for faults, where these words
-/// stand behind the `--source` options. It answers the status that the program ends with.
+/// The command `kpn rounds FILE N` over a shelf, an output and a place for faults. These words came behind the
+/// `--source` options. It returns the exit status.
 pub fn rounds_command<S: Shelf, O: Write, E: Write>(
     alloc: Global,
     file: &str,

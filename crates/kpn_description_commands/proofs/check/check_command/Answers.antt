@@ -1,4 +1,4 @@
--- What is given is an answer.
+-- What goes out is an answer.
 use Rattle.kpn_answers.specs.Description.{IsRefusalOfCommand}
 use Rattle.kpn_answers.proofs.Answers.{answers_given}
 use Rattle.kpn_description_commands.specs.CheckText.{check_text}

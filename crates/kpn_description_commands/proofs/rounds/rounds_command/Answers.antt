@@ -1,4 +1,4 @@
--- What is given is an answer.
+-- What goes out is an answer.
 use Rattle.std.proofs.Common.{map}
 use Rattle.kpn_answers.specs.Inputs.{IsRefusalOfInputs}
 use Rattle.kpn_answers.proofs.Answers.{answers_given}
