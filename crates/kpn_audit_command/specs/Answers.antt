@@ -1,4 +1,4 @@
--- What `kpn audit` answers, and why it gives no answer.
+-- What `kpn audit` writes, and why it gives no answer.
 use Rattle.std.specs.Prelude.{◌≡◌, ◌⊎◌, ℕ, true, List, length, codes, ⊤}
 use Rattle.kpn_net.specs.Tables.{Tables}
 use Rattle.kpn_text.specs.Document.{Document}
@@ -33,20 +33,20 @@ pub record IsFoundLegal (t : Tables) (trace : Trace Global) (steps : ℕ) (audit
   pub least : audit.exact ≡ true → AreLeast (tables_for t trace) (history_in t trace) audit
   pub within : AreWithinSteps (tables_for t trace) (history_in t trace) steps (length (history_in t trace))
 
--- the text and the status for a trace whose history is not found legal: the first event that is not legal, 1; or the
--- event that its process did not come to in so many steps, 5
+-- the text and the status for a trace whose history is not found legal. They state the first event that is not legal,
+-- 1; or the event that its process did not come to in so many steps, 5
 pub data IsNotLegal (t : Tables) (trace : Trace Global) (steps : ℕ) (text : List ℕ) (status : ℕ) : Type 0 where
   illegal : (k : ℕ) → IsRefusal t trace steps (Illegal k) → text ≡ finding_line (codes "illegal") k → status ≡ 1
       → IsNotLegal t trace steps text status
   budget : (k : ℕ) → IsRefusal t trace steps (Budget k) → text ≡ finding_line (codes "budget") k → status ≡ 5
       → IsNotLegal t trace steps text status
 
--- what an audit of a trace of the network's rules of growth finds. One case alone holds of a trace
+-- what an audit of a trace of the network's rules of growth finds. Only one case holds of a trace
 abbrev pub IsFinding : Tables → Trace Global → (steps : ℕ) → Audited → Type 0
 IsFinding t trace steps (Legal audit) = IsFoundLegal t trace steps audit
 IsFinding t trace steps (NotLegal conclusion) = IsNotLegal t trace steps conclusion.text.items conclusion.status
 
--- the text and the status for a trace: what stands after a legal history, 0, or what is wrong
+-- the text and the status for a trace: what a legal history leads to, 0, or what is wrong
 pub data IsConclusion (t : Tables) (names : List (List ℕ)) (trace : Trace Global) (steps : ℕ) (text : List ℕ)
     (status : ℕ) : Type 0 where
   legal : (audit : Audit Global) → IsFoundLegal t trace steps audit → text ≡ audit_text names audit → status ≡ 0
@@ -70,8 +70,8 @@ pub record IsOfOtherRules (may_give : Loads) (file trace : List ℕ) : Type 0 wh
   pub traced : IsTraced may_give trace stored
   pub differs : Differs document.tables stored
 
--- why there is nothing to tell: the description is read first, then the trace, whose rules of growth may be others, and
--- then memory may run out
+-- why there is no answer: the description is read first, then the trace, whose rules of growth may be others, and then
+-- memory may run out
 abbrev pub IsRefusalOfAudit : (may_give : Loads) (file trace : List ℕ) → Refusal → Type 0
 IsRefusalOfAudit may_give file trace (refusal.Input fault) =
     IsRefusalOfLoad may_give file fault

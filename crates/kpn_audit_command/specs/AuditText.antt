@@ -27,6 +27,6 @@ abbrev pub audit_text : {A : Type 0} → (names : List (List ℕ)) → Audit A �
 audit_text names audit =
     codes "legal\n" ++ exact_line audit.exact ++ lines_from (channel_line names audit.caps) 0 audit.journals
 
--- `WORD at K` of what was found at event K, and a line feed
+-- `WORD at K` of a finding at event K, and a line feed
 abbrev pub finding_line : (word : List ℕ) → ℕ → List ℕ
 finding_line word k = word ++ codes " at " ++ decimal k ++ codes "\n"

@@ -86,7 +86,7 @@ fn push_cap(text: &mut Vec<u8>, cap: Option<u32>) -> Result<(), AllocError>
     text.extend_from_slice(buffer.format(cap).as_bytes())
 }
 
-/// `WORD at K` of what was found at event K, and a line feed.
+/// `WORD at K` of a finding at event K, and a line feed.
 pub(crate) fn finding_text(alloc: Global, word: &str, k: usize) -> Result<Vec<u8>, AllocError>
     ensures { IfOk result (λ text. text.items ≡ finding_line word.now k) }
 {

@@ -1,4 +1,4 @@
-//! A trace read from a file and audited, for each command that looks at one.
+//! A trace read from a file and audited, for each command that reads one.
 ghost use Rattle.std.specs.Prelude.{IfOk, IfErr};
 ghost use Rattle.kpn_audit_command.specs.Answers.{IsTraced, IsRefusalOfTrace, IsFinding, IsNoFinding};
 
@@ -15,7 +15,7 @@ use std::alloc::Global;
 /// What an audit finds.
 #[derive(Drop)]
 pub enum Audited {
-    /// The history is legal, and this stands after it.
+    /// The history is legal, and leads to this.
     Legal(Audit),
     /// The history is not legal, or a process used up its steps. The text says at which event.
     NotLegal(Conclusion),

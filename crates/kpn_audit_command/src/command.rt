@@ -1,4 +1,4 @@
-//! The command: a network and a trace are read, and what an audit finds is written.
+//! The command reads a network and a trace, and writes what an audit finds.
 ghost use Rattle.std.specs.Prelude.{IfOk, IfErr};
 ghost use Rattle.kpn_answers.specs.Answer.{Concludes};
 ghost use Rattle.kpn_audit_command.specs.Answers.{IsAudited, IsRefusalOfAudit, IsConclusion, IsNoFinding};
@@ -14,9 +14,8 @@ use kpn_trace::Trace;
 use std::alloc::Global;
 use std::io::Write;
 
-/// The command `kpn audit FILE TRACE` over a shelf, an output and a place for faults, where each process may make
-/// `steps` steps before each of its events. It answers the status that the program ends with. The description
-/// is read first, then the trace.
+/// The command `kpn audit FILE TRACE` over a shelf, an output and a place for faults. Each process may make `steps`
+/// steps before each of its events. It reads the description first, then the trace. It returns the exit status.
 pub fn audit_command<S: Shelf, O: Write, E: Write>(
     alloc: Global,
     file: &str,
@@ -51,7 +50,7 @@ fn answer<S: Shelf>(
     conclusion(alloc, &document, &trace, steps)
 }
 
-// The text for what is found, and its status.
+// The text for a finding, and its status.
 fn conclusion(
     alloc: Global,
     document: &Document,

@@ -1,4 +1,4 @@
-//! `kpn audit FILE TRACE`: a trace is audited against the network of a description.
+//! `kpn audit FILE TRACE` audits a trace against the network of a description.
 #![tactic(auto)]
 
 mod audit_text;

@@ -4,7 +4,7 @@ use Rattle.std.proofs.lemmas.Grind.{flat_map-append}
 use Rattle.kpn_answers.specs.ListText.{spaced, spaced_item}
 use Rattle.kpn_audit_command.proofs.audit_text.push_journal.Goals as goal
 
--- what is written of the items from a place on: of a piece, and of what lies past it
+-- what is written of the items from a place on: of a piece, and of what comes past it
 piece_and_more : (journal piece : List ℤ) (place : ℕ) → piece ≡ take (length piece) (drop place journal)
     → spaced piece ++ spaced (drop (place + length piece) journal) ≡ spaced (drop place journal)
 piece_and_more journal piece place lies =

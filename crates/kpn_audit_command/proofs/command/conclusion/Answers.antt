@@ -1,4 +1,4 @@
--- Each finding gives its text under its status.
+-- Each finding has its text under its status.
 use Rattle.std.proofs.Common.{subst}
 use Rattle.kpn_audit_command.specs.Answers.{IsFinding, IsNoFinding}
 use Rattle.kpn_audit_command.proofs.Found.{journals_within, concludes_legal, concludes_other}
