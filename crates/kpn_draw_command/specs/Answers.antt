@@ -1,4 +1,4 @@
--- What `kpn draw` answers, and why it gives no answer.
+-- What `kpn draw` writes, and why it gives no answer.
 use Rattle.std.specs.Prelude.{◌≡◌, ℕ, List, Option, Some, None}
 use Rattle.std.specs.declared.alloc.Global.{Global}
 use Rattle.kpn_trace.specs.declared.stored.Trace.{Trace}
@@ -11,7 +11,7 @@ use Rattle.kpn_audit_command.specs.Answers.{IsTraced, IsFoundLegal, IsNotLegal, 
 use Rattle.kpn_draw_command.specs.DrawText.{drawing}
 
 -- the text and the status for a network and a trace: the network drawn after a legal history, 0; or what `kpn audit`
--- tells of one that is not legal
+-- writes for one that is not legal
 pub data IsConclusion (d : Document) (trace : Trace Global) (steps : ℕ) (text : List ℕ) (status : ℕ) : Type 0 where
   legal : (audit : Audit Global) → IsFoundLegal d.tables trace steps audit → text ≡ drawing d (Some audit) → status ≡ 0
       → IsConclusion d trace steps text status
@@ -39,7 +39,7 @@ abbrev pub IsDrawn : (may_give : Loads) (file : List ℕ) (trace : Option (List 
 IsDrawn may_give file None steps text status = IsDrawnAlone may_give file text status
 IsDrawn may_give file (Some trace) steps text status = IsDrawnAfter may_give file trace steps text status
 
--- why there is no drawing: with a trace it is why there is no audit
+-- why there is no drawing: with a trace, why there is no audit
 abbrev pub IsRefusalOfDrawing : (may_give : Loads) (file : List ℕ) (trace : Option (List ℕ)) → Refusal → Type 0
 IsRefusalOfDrawing may_give file None refusal = IsRefusalOfCommand may_give file refusal
 IsRefusalOfDrawing may_give file (Some trace) refusal = IsRefusalOfAudit may_give file trace refusal

@@ -1,6 +1,6 @@
 -- The drawing of a network that `kpn draw` writes: a directed graph in the language of Graphviz. A box is a process, an
--- ellipse the outside at a source or a sink, and an edge is a channel, from its writer to its reader. After a history
--- boxes and edges tell what stands then.
+-- ellipse the outside at a source or a sink, and an edge is a channel, from its writer to its reader. After a history,
+-- boxes and edges show what it leads to.
 use Rattle.std.specs.Prelude.{ℕ, zero, suc, if◌then◌else◌, List, [], ◌++◌, length, codes, Option, Some, None}
 use Rattle.std.specs.Fmt.{decimal}
 use Rattle.kpn_net.specs.declared.tables.ChannelSpec.{ChannelSpec}
@@ -73,7 +73,7 @@ abbrev pub growth_label : Option ℕ → List ℕ
 growth_label None = []
 growth_label (Some cap) = codes ", grown to " ++ decimal cap
 
--- a second line at an edge, where there is a history
+-- a second line at an edge, if there is a history
 abbrev pub flow_line : Option Flow → List ℕ
 flow_line None = []
 flow_line (Some flow) =
@@ -93,7 +93,7 @@ thickness (Some flow) = boldness flow.grown
 abbrev pub arrow : Tables → (c : ℕ) → List ℕ
 arrow t c = codes "  " ++ end_node c (writer_of t c) ++ codes " -> " ++ end_node c (reader_of t c)
 
--- `NAME (CAPACITY)`, and behind a history what went over the channel
+-- `NAME (CAPACITY)`, and after a history what went over the channel
 abbrev pub edge_label : Document → (c : ℕ) → Option Flow → List ℕ
 edge_label d c flow =
     name_at d.names.channels c ++ capacity_label (capacity (channel_at d.tables c)) ++ flow_line flow
@@ -118,7 +118,7 @@ head =
     codes "digraph network {\n  rankdir=LR;\n  node [fontname=\"sans-serif\", shape=box];\n"
     ++ codes "  edge [fontname=\"sans-serif\", fontsize=11];\n"
 
--- the network, and where there is an audit what stands after its history
+-- the network and, if there is an audit, what its history leads to
 abbrev pub drawing : {A : Type 0} → Document → Option (Audit A) → List ℕ
 drawing d audit =
     head

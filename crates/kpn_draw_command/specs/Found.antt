@@ -12,14 +12,14 @@ use Rattle.kpn_draw_command.specs.declared.found.Flow.{Flow}
 
 -- ---- processes
 
--- where a process stands that has ended in this way or not, and waits for this
+-- the state of a process that has ended in this way or not, and waits for this
 abbrev pub standing : Option How → Wait → State
 standing (Some how) wait = Ended how
 standing None (Empty c) = WaitsEmpty c
 standing None (Full c) = WaitsFull c
 standing None Nobody = Ready
 
--- where process p stands after the history; before any event it can be stepped
+-- the state of process p after the history; before any event it is ready
 abbrev pub state_of : {A : Type 0} → Option (Audit A) → (p : ℕ) → State
 state_of None p = Ready
 state_of (Some audit) p = standing (slice_index_or audit.ends p None) (wait_at audit.waits p)
@@ -39,7 +39,7 @@ flow_in t audit c = record {
   grown = grown_to (capacity (channel_at t c)) (slice_index_or audit.caps c None);
 }
 
--- the same, where there is a history
+-- the same, if there is a history
 abbrev pub flow_of : {A : Type 0} → Tables → Option (Audit A) → (c : ℕ) → Option Flow
 flow_of t None c = None
 flow_of t (Some audit) c = Some (flow_in t audit c)

@@ -1,4 +1,4 @@
-//! The command: a network is read, and a trace if there is one, and the drawing is written.
+//! The command reads a network, and a trace if there is one, and writes the drawing.
 ghost use Rattle.std.specs.Prelude.{IfOk, IfErr, option_map};
 ghost use Rattle.kpn_answers.specs.Answer.{Concludes};
 ghost use Rattle.kpn_answers.specs.Description.{IsRefusalOfCommand};
@@ -16,9 +16,9 @@ use kpn_trace::Trace;
 use std::alloc::Global;
 use std::io::Write;
 
-/// The command `kpn draw FILE` or `kpn draw FILE TRACE` over a shelf, an output and a place for faults, where each
-/// process may make `steps` steps before each of its events in the trace. It answers the status that the program
-/// ends with. The description is read first, then the trace. A trace that is not legal is answered as by `kpn audit`.
+/// The command `kpn draw FILE` or `kpn draw FILE TRACE` over a shelf, an output and a place for faults. Each process
+/// may make `steps` steps before each of its events in the trace. It reads the description first, then the trace. For a
+/// trace that is not legal it writes what `kpn audit` writes. It returns the exit status.
 pub fn draw_command<S: Shelf, O: Write, E: Write>(
     alloc: Global,
     file: &str,

@@ -13,7 +13,7 @@ use kpn_trace::{How, State};
 use kpn_trace_text::how_word;
 use std::alloc::{AllocError, Global};
 
-/// The network, and where there is an audit of it what stands after its history.
+/// The network and, if there is an audit of it, what its history leads to.
 pub(crate) fn text_of(
     alloc: Global,
     document: &Document,
@@ -162,7 +162,7 @@ fn push_outside(text: &mut Vec<u8>, network: &Network, c: usize) -> Result<(), A
     }
 }
 
-// The line of a channel, over which this went.
+// The line of a channel, with what went over it.
 fn push_edge(
     text: &mut Vec<u8>,
     document: &Document,

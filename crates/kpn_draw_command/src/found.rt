@@ -18,7 +18,7 @@ pub(crate) struct Flow {
     pub grown: Option<u32>,
 }
 
-/// Where process `p` stands after the history that was audited; ready where there is none.
+/// The state of process `p` after the history that was audited; ready if there is none.
 pub(crate) fn state_of(network: &Network, audit: Option<&Audit>, p: usize) -> State
     requires there { p < length network.now.instances }
     requires whole { IfSome (option_map (λ a. a.now) audit) (IsWhole network.now) }
@@ -30,7 +30,7 @@ pub(crate) fn state_of(network: &Network, audit: Option<&Audit>, p: usize) -> St
     }
 }
 
-// Where a process stands that has ended in this way or not, and waits for this.
+// The state of a process that has ended in this way or not, and waits for this.
 fn standing(end: Option<How>, wait: Wait) -> State
     ensures { result ≡ standing end wait }
 {
@@ -42,7 +42,7 @@ fn standing(end: Option<How>, wait: Wait) -> State
     }
 }
 
-/// What went over channel `c` in the history that was audited; none where there is none.
+/// What went over channel `c` in the history that was audited; none if there is none.
 pub(crate) fn flow_of(network: &Network, audit: Option<&Audit>, c: usize) -> Option<Flow>
     requires there { c < length network.now.channels }
     requires whole { IfSome (option_map (λ a. a.now) audit) (IsWhole network.now) }

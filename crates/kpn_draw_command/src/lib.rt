@@ -1,5 +1,5 @@
-//! `kpn draw FILE` and `kpn draw FILE TRACE`: a network is drawn in the language of Graphviz, also as it stands after a
-//! stored history.
+//! `kpn draw FILE` and `kpn draw FILE TRACE` draw a network in the language of Graphviz, at its start or after a stored
+//! history.
 #![tactic(auto)]
 
 mod command;

@@ -1,4 +1,4 @@
--- Each finding gives its text under its status.
+-- Each finding has its text under its status.
 use Rattle.std.proofs.Common.{subst}
 use Rattle.kpn_audit_command.specs.Answers.{IsFinding}
 use Rattle.kpn_draw_command.proofs.Whole.{whole_audit}

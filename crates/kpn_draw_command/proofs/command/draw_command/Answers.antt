@@ -1,4 +1,4 @@
--- What is given is a conclusion.
+-- What goes out is a conclusion.
 use Rattle.std.proofs.Common.{option_map}
 use Rattle.kpn_answers.proofs.Answers.{concludes_given}
 use Rattle.kpn_draw_command.specs.Answers.{IsDrawn, IsRefusalOfDrawing}
