@@ -344,7 +344,7 @@ next_channel H e c f g adds was =
       total = omega (arith, adds.total, was.total, length_push H e);
     }
 
--- what lies unread now is no more than the most
+-- no more is unread now than the most
 most_stands : (H : List Event) (c : ℕ) (f : ChannelFigures) → CountedChannel H c f → with_most f ≡ f
 most_stands H c f is =
     let last : unread_behind H c (length H) ≤ f.most = is.counts.most.bounded (length H) (omega arith) in

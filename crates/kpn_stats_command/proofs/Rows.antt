@@ -45,7 +45,7 @@ longest_done f rows k width all past so_far =
     ap (λ (xs : List Row). longest (map f xs)) (drop_of_length-le rows past) in
     omega (arith, none, so_far)
 
--- the advice where no writer waited, and where one did
+-- the advice if no writer waited, and if one did
 pub advice_enough : (waits last most enough : ℕ) → waits ≡ 0 → enough ≡ max most 1
     → codes ": " ++ decimal enough ++ codes " would have been enough for these events\n" ≡ advice_for waits last most
 advice_enough waits last most enough none is =

@@ -1,5 +1,5 @@
--- The figures of the events of a trace are those of the history that it tells: no figure looks at the capacity that a
--- growth tells, and in nothing else do the two differ.
+-- The figures of the events of a trace are those of its history. The two differ only in the capacities of growths, and
+-- no figure depends on those.
 use Rattle.std.proofs.Common.{◌≡◌, ℕ, ℤ, ◌≤◌, Bool, cond, List, [], ◌∷◌, ◌++◌, length, map, take, drop, count_by, sum, refl, sym, ap, ap₂, ◌∙◌, subst}
 use Rattle.std.specs.List.{flat_map}
 use Rattle.std.proofs.lemmas.List.Sums.{sum-map}
@@ -26,7 +26,7 @@ use Rattle.kpn_stats_command.specs.Figures.{waits_for_item, waits_for_room, is_g
 use Rattle.kpn_stats_command.specs.StatsText.{stats_text}
 use Rattle.kpn_stats_command.specs.Answers as answers
 
--- ---- events without the capacities that growths tell
+-- ---- events without the capacities of growths
 
 abbrev plain : Event → Event
 plain (Grow p c n) = Grow p c 0
@@ -149,7 +149,7 @@ of_history t trace figures are =
       processes = λ p below. process_alike trace.events (history_in t trace) p _ alike (are.processes p below);
     }
 
--- ---- what is told of a document
+-- ---- what the text says of a document
 
 same_channels : (v : Version) (t : Tables) → (audited_under v t).channels ≡ t.channels
 same_channels One t = refl

@@ -1,4 +1,4 @@
--- What `kpn stats` answers.
+-- What `kpn stats` writes.
 use Rattle.std.specs.Prelude.{◌≡◌, ℕ, List}
 use Rattle.kpn_text.specs.Document.{Document}
 use Rattle.kpn_trace.specs.declared.stored.Trace.{Trace}

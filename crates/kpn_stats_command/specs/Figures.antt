@@ -1,4 +1,4 @@
--- The figures of a history: how often each channel and each process did what, and the most items that lay unread.
+-- The figures of a history: how often each channel and each process did what, and the most items that were unread.
 use Rattle.std.specs.Prelude.{◌≡◌, ℕ, ◌+◌, ◌-◌, ◌<◌, ◌≤◌, max, Bool, false, nat_eq, List, length, take, count_by, Option, Some, None, slice_index_or, slice_set}
 use Rattle.kpn_net.specs.Tables.{Tables}
 use Rattle.kpn_trace.specs.declared.event.Event.{Event}
@@ -8,7 +8,7 @@ use Rattle.kpn_stats_command.specs.declared.figures.ChannelFigures.{ChannelFigur
 use Rattle.kpn_stats_command.specs.declared.figures.ProcessFigures.{ProcessFigures}
 use Rattle.kpn_stats_command.specs.declared.figures.Figures.{Figures}
 
--- ---- what is counted
+-- ---- what the figures count
 
 -- the reader of the channel comes to wait for an item
 abbrev pub waits_for_item : (c : ℕ) → Event → Bool
@@ -40,11 +40,11 @@ abbrev pub is_wait_full_of : (p : ℕ) → Event → Bool
 is_wait_full_of p (WaitFull q c) = nat_eq q p
 is_wait_full_of p event = false
 
--- how many items lie unread on the channel behind the first k events
+-- how many items are unread on the channel after the first k events
 abbrev pub unread_behind : List Event → (c k : ℕ) → ℕ
 unread_behind H c k = length (unread_on (take k H) c)
 
--- the most items that lie unread on the channel behind any number of first events
+-- the most items that are unread on the channel after any number of first events
 pub record IsMostUnread (H : List Event) (c most : ℕ) : Type 0 where
   pub reached : (k : ℕ) × ((k ≤ length H) × (unread_behind H c k ≡ most))
   pub bounded : (k : ℕ) → k ≤ length H → unread_behind H c k ≤ most
@@ -107,7 +107,7 @@ channel_of (Take c v) = Some c
 channel_of (Leave c) = Some c
 channel_of (Grow p c n) = Some c
 
--- the figures of a channel and one event on it, but for the most that lay unread
+-- the figures of a channel and one event on it, without the most unread items
 abbrev pub channel_counts_then : ChannelFigures → Event → ChannelFigures
 channel_counts_then f (Get p c v) = record f { read = f.read + 1 }
 channel_counts_then f (Put p c v) = record f { put = f.put + 1 }
@@ -118,14 +118,14 @@ channel_counts_then f (Take c v) = record f { read = f.read + 1 }
 channel_counts_then f (Grow p c n) = record f { growths = f.growths + 1 }
 channel_counts_then f event = f
 
--- the figures with what lies unread now
+-- the figures with what is unread now
 abbrev pub with_most : ChannelFigures → ChannelFigures
 with_most f = record f { most = max f.most (f.put - f.read) }
 
 abbrev pub channel_then : ChannelFigures → Event → ChannelFigures
 channel_then f event = with_most (channel_counts_then f event)
 
--- how much is counted of a channel
+-- how much the figures of a channel count
 abbrev pub channel_total : ChannelFigures → ℕ
 channel_total f = f.put + f.read + f.growths + f.waits_empty + f.waits_full
 
@@ -137,7 +137,7 @@ channels_at figures event (Some c) = slice_set figures c (channel_then (slice_in
 abbrev pub channels_then : List ChannelFigures → Event → List ChannelFigures
 channels_then figures event = channels_at figures event (channel_of event)
 
--- the process whose event this is; no growth is one's
+-- the process whose event this is; a growth is an event of none
 abbrev pub process_of : Event → Option ℕ
 process_of (Get p c v) = Some p
 process_of (Put p c v) = Some p

@@ -22,7 +22,7 @@ use Rattle.kpn_stats_command.specs.Layout.{tabbed_table, aligned_table}
 
 -- ---- cells
 
--- a number, or `-` where there is none
+-- a number, or `-` if there is none
 abbrev pub number_cell : Option ℕ → List ℕ
 number_cell None = codes "-"
 number_cell (Some n) = decimal n
@@ -85,8 +85,8 @@ process_rows d audit figures =
 
 -- ---- advice
 
--- where no writer waited for room, the most that lay unread is a capacity, at least 1, under which the same events are
--- legal; else only more than the last capacity could have spared the writer
+-- if no writer waited for room, the same events are legal under a capacity of the most unread items, or of 1 if that is
+-- 0. Else only a capacity above the last one could have spared the writer the wait
 abbrev pub advice_for : (waits last most : ℕ) → List ℕ
 advice_for waits last most =
     if nat_eq waits 0

@@ -1,4 +1,4 @@
-//! The command: a network and a trace are read, the trace is audited, and the figures of its history are written.
+//! The command reads a network and a trace, audits the trace, and writes the figures of its history.
 ghost use Rattle.std.specs.Prelude.{IfOk, IfErr};
 ghost use Rattle.kpn_answers.specs.Answer.{Concludes};
 ghost use Rattle.kpn_audit_command.specs.Answers.{IsRefusalOfAudit, IsNoFinding};
@@ -16,9 +16,9 @@ use kpn_trace::Trace;
 use std::alloc::Global;
 use std::io::Write;
 
-/// The command `kpn stats FILE TRACE` over a shelf, an output and a place for faults, where each process may make
-/// `steps` steps before each of its events. It writes these tables of a legal trace, and what an audit writes of any
-/// other. It answers the status that the program ends with. The description is read first, then the trace.
+/// The command `kpn stats FILE TRACE` over a shelf, an output and a place for faults. Each process may make `steps`
+/// steps before each of its events. It reads the description first, then the trace. It writes these tables of a legal
+/// trace, and what an audit writes of any other. It returns the exit status.
 pub fn stats_command<S: Shelf, O: Write, E: Write>(
     alloc: Global,
     file: &str,
@@ -55,7 +55,7 @@ fn answer<S: Shelf>(
     conclusion(alloc, &document, &trace, steps, tables)
 }
 
-// The text for what is found, and its status.
+// The text for a finding, and its status.
 fn conclusion(
     alloc: Global,
     document: &Document,

@@ -1,4 +1,4 @@
-//! The figures of a history, counted in one pass over its events.
+//! The figures of a history. One pass over its events counts them.
 ghost use Rattle.std.specs.Prelude.{◌≡◌, ◌+◌, ◌<◌, ◌^◌, ℕ, length, replicate, slice_index_or, IfOk};
 ghost use Rattle.kpn_stats_command.specs.Figures.{AreFigures, no_channel, no_process, channel_of, process_of, channel_then, process_then, channel_counts_then, channel_total, process_total, channels_then, processes_then};
 
@@ -14,7 +14,7 @@ pub(crate) struct ChannelFigures {
     pub(crate) put: usize,
     /// Items that were got or taken from it.
     pub(crate) read: usize,
-    /// The most items that lay unread.
+    /// The most items that were unread at once.
     pub(crate) most: usize,
     /// How often its capacity grew.
     pub(crate) growths: usize,
@@ -136,7 +136,7 @@ fn channel_of(event: Event) -> Option<usize>
     }
 }
 
-// The process whose event this is, where it counts.
+// The process whose event this is, if it counts.
 fn process_of(event: Event) -> Option<usize>
     ensures { result ≡ process_of event }
 {
@@ -158,7 +158,7 @@ fn channel_then(figures: ChannelFigures, event: Event) -> ChannelFigures
     figures
 }
 
-// The same, but for the most that lay unread.
+// The same, without the most unread items.
 fn channel_counts_then(figures: ChannelFigures, event: Event) -> ChannelFigures
     requires { channel_total figures + 1 < 2 ^ 64 }
     ensures { result ≡ channel_counts_then figures event }

@@ -1,4 +1,4 @@
-//! `kpn stats FILE TRACE`: figures of the run that a trace tells.
+//! `kpn stats FILE TRACE`: figures of the run whose trace this is.
 #![tactic(auto)]
 
 mod command;

@@ -14,7 +14,7 @@ use kpn_trace::How;
 use kpn_trace_text::how_word;
 use std::alloc::{AllocError, Global};
 
-/// Which tables are written.
+/// Which tables the command writes.
 #[derive(Clone, Copy, Debug, PartialEq, Eq)]
 pub enum StatsTables {
     /// Both tables in columns, and advice on capacities.
@@ -253,7 +253,7 @@ fn end_cell(
     Ok(Sequence::from_vec(text))
 }
 
-// The name of a channel; no bytes where there is none.
+// The name of a channel; no bytes if there is none.
 fn name_of(document: &Document, c: usize) -> &[u8]
     ensures { result.now ≡ name_at document.now.names.channels c }
 {
@@ -300,7 +300,7 @@ fn number_cells(alloc: Global, numbers: &[Option<usize>]) -> Result<Vec<Sequence
     Ok(cells)
 }
 
-// A number, or `-` where there is none.
+// A number, or `-` if there is none.
 fn number_cell(alloc: Global, number: Option<usize>) -> Result<Sequence<u8>, AllocError>
     ensures { IfOk result (λ cell. cell ≡ number_cell number) }
 {

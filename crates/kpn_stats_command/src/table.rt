@@ -98,7 +98,7 @@ fn longest_cell(rows: &[Row], k: usize) -> usize
     width
 }
 
-// The length of a cell; 0 where there is none.
+// The length of a cell; 0 if there is none.
 fn cell_length(row: &Row, k: usize) -> usize
     ensures { result ≡ length (slice_index_or row.now.cells k []) }
 {

@@ -1,4 +1,4 @@
--- Each finding gives its text under its status.
+-- Each finding has its text under its status.
 use Rattle.std.proofs.Common.{◌∙◌, ap, length, subst}
 use Rattle.kpn_net.specs.Tables.{Tables}
 use Rattle.kpn_audit_command.specs.Answers.{IsFinding}

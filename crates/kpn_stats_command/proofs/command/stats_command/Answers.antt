@@ -1,4 +1,4 @@
--- What is given is a conclusion.
+-- What goes out is a conclusion.
 use Rattle.kpn_answers.proofs.Answers.{concludes_given}
 use Rattle.kpn_audit_command.specs.Answers.{IsRefusalOfAudit}
 use Rattle.kpn_stats_command.specs.Answers.{AreStats}
