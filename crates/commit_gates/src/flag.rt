@@ -1,7 +1,7 @@
 //! A flag.
 use std::sync::atomic::{AtomicU64, Ordering};
 
-/// Is raised once, and never lowered.
+/// Somebody raises it once, and nobody lowers it.
 #[derive(Drop)]
 pub struct Flag {
     raised: AtomicU64,

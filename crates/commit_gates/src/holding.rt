@@ -5,7 +5,7 @@ use kpn_pool::{Gate, Go};
 use std::sync::atomic::{AtomicU64, Ordering};
 use std::thread;
 
-/// Which call is held, and for how many calls for the other of two processes.
+/// Which call is held, and until how many calls of the other of two processes.
 #[derive(Clone, Copy)]
 pub struct Held {
     /// The first call for this process, or else the first of all.
@@ -13,7 +13,7 @@ pub struct Held {
     pub until: u64,
 }
 
-/// Holds one call until the other of two processes came as often as is wanted.
+/// Holds one call until the other of two processes has come so often.
 #[derive(Drop)]
 pub struct Holding {
     held: Held,
@@ -35,7 +35,7 @@ impl Holding {
         }
     }
 
-    /// One call more for the process. Tells whether it is the one that is held.
+    /// One call more for the process. Returns whether it is the one to hold.
     pub fn is_held(&self, process: usize) -> bool {
         let own = if process == 0 { &self.zero } else { &self.one };
         let own = own.fetch_add(1, Ordering::SeqCst);

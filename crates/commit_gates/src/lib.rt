@@ -1,4 +1,4 @@
-//! Commit gates for tests: what a worker is answered between the steps of a process and their commit.
+//! Commit gates for tests: what a gate answers a worker between the steps of a process and their commit.
 #![tactic(auto)]
 
 mod always;
