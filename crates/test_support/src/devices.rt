@@ -22,7 +22,7 @@ impl Write for Broken {
     }
 }
 
-/// Gives one byte at each read, and fails once so many were given.
+/// Returns one byte at each read, and fails after so many.
 #[derive(Drop)]
 pub struct Halting {
     pub reads: u8,
@@ -63,7 +63,7 @@ impl Fall {
     }
 }
 
-/// Gives its bytes, one at each read, and fails once.
+/// Returns its bytes, one at each read, and fails once.
 #[derive(Drop)]
 pub struct Stumbling<'a> {
     pub bytes: &'a [u8],
@@ -81,7 +81,7 @@ impl Read for Stumbling<'_> {
     }
 }
 
-/// Takes what it is given, and fails once.
+/// Takes the bytes that it gets, and fails once.
 #[derive(Drop)]
 pub struct Tripping {
     pub fall: Fall,

@@ -1,10 +1,10 @@
-//! Heaps that are filled up, for tests of calls that are refused memory.
+//! Heaps that are full, for tests of calls that get no memory.
 ghost use Rattle.std.specs.Prelude.{◌≡◌, IfSome, vec_len};
 
 use linked_list_allocator::LocalHeap;
 
-/// Takes the greatest block of memory that is left of a heap, or `None` where nothing is left. The block is given back
-/// by `destroy_empty`.
+/// Takes the greatest block of memory that is left of a heap, or `None` if nothing is left. `destroy_empty` frees the
+/// block.
 pub fn fill<'a>(heap: &'a LocalHeap) -> Option<Vec<u8, &'a LocalHeap>>
     ensures { IfSome result (λ filling. vec_len filling ≡ 0) }
 {

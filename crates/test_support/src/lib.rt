@@ -1,4 +1,4 @@
-//! What tests of several crates use: worked descriptions, devices that fail, and heaps that are filled up.
+//! What tests of several crates use: worked descriptions, devices that fail, and heaps that are full.
 #![tactic(auto)]
 
 pub mod devices;
