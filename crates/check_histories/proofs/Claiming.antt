@@ -1,4 +1,4 @@
--- What the plain tests tell of worked histories.
+-- What follows from the plain tests for worked histories.
 use Rattle.std.specs.List.{list_all}
 use Rattle.std.proofs.Common.{◌≡◌, ◌≢◌, ℕ, suc, true, List, [], ◌∷◌, ◌++◌, take, None, subst}
 use Rattle.kpn_net.specs.Tables.{Tables}

@@ -1,4 +1,4 @@
--- Plain tests of which growth a history owes, and what a yes of each tells.
+-- Plain tests of which growth a history owes, and what follows from a yes of each.
 use Rattle.std.specs.Prelude.{nat_eq, nat_lt}
 use Rattle.std.specs.List.{last_or}
 use Rattle.std.proofs.Common.{◌≡◌, ℕ, ◌<◌, ◌⊎◌, inl, inr, Bool, true, false, not, ◌&&◌, ◌||◌, List, [], ◌∷◌, length, Option, Some, None, refl, sym, ap, subst, ◌∙◌, eq-eqb, arith}
@@ -146,7 +146,7 @@ owes_nothing-true t B p d (Some q) is e owed =
 
 -- ---- settled
 
--- a test of all numbers below one says yes where it does of each
+-- a test of all numbers below one says yes if it says yes of each
 all_below : (test : ℕ → Bool) (n : ℕ) → ((k : ℕ) → k < n → test k ≡ true) → each_below test n ≡ true
 all_below test n each =
     elim (cases_Bool (each_below test n)) [
@@ -263,7 +263,7 @@ stops-one t B p d q e told owed =
           absurd (both_ways _ (not-true _ off) (subst (λ w. waits_on d w ≡ true) (sym on_d) (eq-eqb d d refl)))
     ]
 
--- under `cycles`, before all stands still, or where the smallest awaited channel is at the limit
+-- under `cycles`, before all stand still, or if the smallest awaited channel is at the limit
 abbrev owes_none_at_stop : Tables → List Event → Bool
 owes_none_at_stop t B =
     not (is_all t.policy)

@@ -1,4 +1,4 @@
--- Plain tests of lists, and what a yes of each tells: beginnings, equal lists, and the smallest channel.
+-- Plain tests of lists, and what follows from a yes of each: beginnings, equal lists, and the smallest channel.
 use Rattle.std.specs.Prelude.{nat_eq, nat_lt, nat_le, Contains, if◌then◌else◌}
 use Rattle.std.specs.List.{list_all}
 use Rattle.std.proofs.Common.{◌≡◌, ℕ, ◌<◌, ◌≤◌, ◌⊎◌, inl, inr, Bool, true, false, ◌&&◌, ◌||◌, List, [], ◌∷◌, Option, Some, None, refl, subst}
@@ -57,7 +57,7 @@ abbrev lesser : (ℕ → ℕ) → ℕ → Option ℕ → ℕ
 lesser cap c None = c
 lesser cap c (Some d) = if before cap c d then c else d
 
--- a channel that is to be the smallest; none where there is no channel
+-- a channel that is to be the smallest; none if there is no channel
 abbrev pub smallest : (ℕ → ℕ) → List ℕ → Option ℕ
 smallest cap [] = None
 smallest cap (c ∷ channels) = Some (lesser cap c (smallest cap channels))

@@ -1,4 +1,4 @@
--- A plain test of tables, whose yes tells that they keep the rules of a network.
+-- A plain test of tables. If it says yes, they keep the rules of a network.
 use Rattle.std.specs.Prelude.{nat_le}
 use Rattle.std.specs.List.{list_all}
 use Rattle.std.proofs.Common.{◌≡◌, ℕ, zero, suc, ◌<◌, Bool, true, false, ◌&&◌, List, [], ◌∷◌, length, get_or, Option, Some, None, refl, arith}

@@ -1,5 +1,5 @@
--- A plain checker of histories: before each event it computes, with a number of turns for each loop, what each process
--- says and where it ends, and follows the waits. Its yes tells that the history is legal.
+-- A plain checker of histories. Before each event it computes, with a number of turns for each loop, what each process
+-- says and where it ends, and follows the waits. If it says yes, the history is legal.
 use Rattle.std.specs.Prelude.{nat_eq, nat_lt, nat_le, if◌then◌else◌, slice_get}
 use Rattle.std.specs.Ordering.{int_eq}
 use Rattle.std.proofs.Common.{◌≡◌, ◌≢◌, ℕ, ◌<◌, ◌≤◌, ℤ, Bool, true, false, not, ◌&&◌, List, [], ◌∷◌, ◌++◌, length, Option, Some, None, refl, ap, subst, ◌∙◌, append_assoc, arith}
@@ -231,7 +231,7 @@ is_due-true t n B (Take c v) e = may_take-true t B c e
 is_due-true t n B (Leave c) e = may_take-true t B c e
 is_due-true t n B (Grow p d cap) e = grows-owed t B p d e
 
--- a growth, which is found due only where it is owed, tells the capacity that its channel has then
+-- a growth, which is due only if it is owed, has the capacity that its channel then gets
 abbrev keeps_growth : Tables → List Event → Event → Bool
 keeps_growth t B (Grow p d cap) = nat_eq cap (larger_capacity t (capacity_or_zero t B d))
 keeps_growth t B event = owes_none t B
@@ -257,7 +257,7 @@ may_follow-true t n B event e =
 
 -- ---- a whole history
 
--- these events may follow, one after the other, where the loops have n turns
+-- these events may follow, one after the other, if the loops have n turns
 abbrev pub passes_on : Tables → (n : ℕ) → (B rest : List Event) → Bool
 passes_on t n B [] = is_consistent t n B
 passes_on t n B (event ∷ rest) =

@@ -1,4 +1,4 @@
--- What is claimed of worked histories.
+-- What the tests claim of worked histories.
 use Rattle.std.specs.Prelude.{ℕ, suc, List, take, Some}
 use Rattle.kpn_net.specs.Tables.{Tables}
 use Rattle.kpn_net.specs.Faults.{IsNetwork}

@@ -1,4 +1,4 @@
--- Worked networks. The text of each process stands above its tables.
+-- Worked networks. The text of each process is above its tables.
 use Rattle.std.specs.Prelude.{ℕ, pos, List, [], ◌∷◌}
 use Rattle.kpn_limits.specs.declared.TheConstants.{MAX_CAPACITY}
 use Rattle.kpn_lang.specs.declared.syntax.Op.TheVariants.{Add, Mul, Div}
@@ -22,7 +22,7 @@ program ins outs vars blocks = record { ins = ins; outs = outs; pars = 0; vars =
 abbrev instance : (program : ℕ) → (ins outs : List ℕ) → Instance
 instance program ins outs = record { program = program; ins = ins; outs = outs; pars = [] }
 
--- tables with the greatest limit, where channels of blocked cycles grow, by one
+-- tables with the greatest limit; channels of blocked cycles grow, by one
 abbrev tables : List Parts → List Instance → List ChannelSpec → Tables
 tables programs instances channels = tables_with programs instances channels MAX_CAPACITY Cycles One
 
@@ -35,7 +35,7 @@ copy_network = tables (
     instance 0 (0 ∷ []) (1 ∷ []) ∷ []) (
     Source ∷ Sink 1 ∷ [])
 
--- ---- Kahn's example (Kahn 1974), where f has a second output for a sink: channels X, Y, Z, T1, T2 and the sink
+-- ---- Kahn's example (Kahn 1974), but f has a second output for a sink: channels X, Y, Z, T1, T2 and the sink
 
 -- `while 1 { read a x; write c x; write d x; read b x; write c x; write d x; }`
 abbrev f_parts : Parts
@@ -94,7 +94,7 @@ two_with limit = record {
 unfoldable pub two_network : Tables
 two_network = two_with MAX_CAPACITY
 
--- the same where no channel may grow
+-- the same, but no channel may grow
 unfoldable pub two_at_limit : Tables
 two_at_limit = two_with 1
 
@@ -152,7 +152,7 @@ four_with capacity limit growth =
 unfoldable pub doubling_network : Tables
 doubling_network = four_with 1 MAX_CAPACITY Double
 
--- the same where a channel grows by one
+-- the same, but a channel grows by one
 unfoldable pub one_more_network : Tables
 one_more_network = four_with 1 MAX_CAPACITY One
 
@@ -182,7 +182,7 @@ ended_reader_network = tables (program 1 0 0 ([] ∷ []) ∷ writes_five ∷ [])
     instance 1 [] (0 ∷ []) ∷ instance 0 (0 ∷ []) [] ∷ []) (
     Inner 1 ∷ [])
 
--- ---- a writer that waits for a process which waits in a cycle without a full channel
+-- ---- a writer that waits for a process that waits in a cycle without a full channel
 
 -- `write o 1; write o 2; write o 3;`
 abbrev only_writes_three : Parts

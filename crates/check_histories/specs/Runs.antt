@@ -38,8 +38,8 @@ reader_closes_run =
     Get 1 0 (pos 2) ∷ Put 1 2 (pos 312) ∷ Take 2 (pos 312) ∷
     Ended 1 how.Done ∷ []
 
--- both channels are full and waited on: b, which has the least capacity, grows, and p, which does not write it, is
--- the one that closes the cycle
+-- both channels are full and awaited: b, which has the least capacity, grows; p, which does not write it, closes the
+-- cycle
 unfoldable pub larger_run : List Event
 larger_run =
     Put 0 0 (pos 1) ∷ Put 0 0 (pos 2) ∷ Put 1 1 (pos 1) ∷
@@ -158,7 +158,7 @@ small_full_run =
     WaitFull 0 0 ∷ Grow 0 0 3 ∷ Put 0 0 (pos 3) ∷
     Ended 0 how.Done ∷ []
 
--- until all stand still but for what is said of each
+-- the last thing that settles a run: an end, a close, a take of the last item and a leave, each in one of the next runs
 unfoldable pub end_settles_run : List Event
 end_settles_run =
     Close 1 ∷ Put 1 2 (pos 5) ∷ Take 2 (pos 5) ∷

@@ -21,7 +21,7 @@ fed_closed_left_view = record {
   counts = record { ready = 1; held = 0; empty = 0; full = 0; ended = 0 };
 }
 
--- two channels between two processes, where both wait and a growth is owed
+-- two channels between two processes; both wait, and a growth is owed
 unfoldable pub two_waiting_view : View Global
 two_waiting_view = record {
   journals = (pos 1 ∷ []) ∷ [] ∷ [] ∷ [];

@@ -39,7 +39,7 @@ waits_where_it_does_not_read = WaitEmpty 1 0 ∷ []
 unfoldable pub waits_where_it_does_not_write : List Event
 waits_where_it_does_not_write = take 5 two_run ++ WaitFull 0 0 ∷ []
 
--- ---- who has ended or is blocked does nothing
+-- ---- a process that has ended or is blocked does nothing
 
 unfoldable pub ends_twice : List Event
 ends_twice = Put 0 0 (pos 1) ∷ Ended 1 how.Done ∷ Ended 1 how.Done ∷ []
@@ -81,7 +81,7 @@ takes_once_more = two_run ++ Take 2 (pos 312) ∷ []
 unfoldable pub puts_into_a_full_channel : List Event
 puts_into_a_full_channel = Put 0 0 (pos 1) ∷ Put 0 0 (pos 2) ∷ []
 
--- ---- a channel grows where that is owed, and nowhere else
+-- ---- a channel grows if that is owed, and at no other time
 
 -- another event comes in place of the growth that is owed
 unfoldable pub growth_left_out : List Event
@@ -121,7 +121,7 @@ grows_for_its_writer = take 5 larger_run ++ Grow 1 1 2 ∷ []
 unfoldable pub grows_the_greater_number : List Event
 grows_the_greater_number = take 4 tie_run ++ Grow 1 1 2 ∷ []
 
--- ---- a growth makes a channel as large as the network says, and tells that
+-- ---- a growth makes a channel as large as the network says, and states that capacity
 
 -- after two growths by one the channel holds three
 unfoldable pub puts_as_if_doubled : List Event
@@ -143,7 +143,7 @@ tells_too_small_a_capacity = take 5 doubling_run ++ Grow 0 0 3 ∷ []
 unfoldable pub tells_too_large_a_capacity : List Event
 tells_too_large_a_capacity = take 5 doubling_run ++ Grow 0 0 4 ∷ []
 
--- ---- under the policy `all` a growth comes where all stand still
+-- ---- under the policy `all` a growth comes if all stand still
 
 -- process 2 is ready
 unfoldable pub grows_while_one_is_ready : List Event

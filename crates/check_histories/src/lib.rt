@@ -1,5 +1,5 @@
-//! Worked networks, a history of each, and lists of events that no run brings: what the definitions say of them. A
-//! definition that is wrong shows here, where something is asked of it that is known from elsewhere.
+//! Worked networks, a history of each, and lists of events that no run brings: what the definitions say of them. Here a
+//! definition is compared with what is known from elsewhere, so a wrong definition shows.
 #![tactic(auto)]
 
 pub mod seen;

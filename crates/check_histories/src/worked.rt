@@ -1,4 +1,4 @@
-//! Histories that a run may bring, and what they come to, as the contracts of functions with nothing to do.
+//! Histories that a run may bring, and what they come to, as contracts of functions that do nothing.
 ghost use Rattle.std.specs.Prelude.{◌≡◌, pos, [], ◌∷◌, Some};
 ghost use Rattle.kpn_trace.specs.declared.state.Verdict.TheVariants.{Ended, Clogged, Jammed};
 ghost use Rattle.kpn_trace.specs.Channels.{written_on, capacity_after};
@@ -10,13 +10,13 @@ ghost use Rattle.check_histories.specs.Runs.{copy_run, left_sink_run, two_run, r
 
 // ---- runs to the end
 
-/// A copy of 1, 2 and 3 ends where its source is closed and read.
+/// A copy of 1, 2 and 3 ends if its source is closed and read.
 pub fn copies_three_items()
     ensures run { RunsToItsEnd copy_network copy_run }
     ensures sink { written_on copy_run 1 ≡ pos 1 ∷ pos 2 ∷ pos 3 ∷ [] }
 {}
 
-/// The copy goes on where its sink is left, however full that is.
+/// The copy goes on if its sink is left, however full that is.
 pub fn copies_into_a_left_sink()
     ensures run { RunsToItsEnd copy_network left_sink_run }
 {}
@@ -61,13 +61,13 @@ pub fn two_readers_wait()
     ensures run { RunsToItsEnd two_readers_network two_readers_run }
 {}
 
-/// A writer never waits for a reader that has ended, also where it waited before.
+/// A writer never waits for a reader that has ended, even if it waited before.
 pub fn a_writer_outlives_its_reader()
     ensures run { RunsToItsEnd ended_reader_network ended_reader_run }
     ensures freed { RunsToItsEnd ended_reader_network freed_writer_run }
 {}
 
-/// A fault ends its process alone, and what it wrote before stays.
+/// A fault ends only its process, and what it wrote before stays.
 pub fn a_fault_ends_its_process()
     ensures zero_divisor { RunsToItsEnd zero_divisor_network zero_divisor_run }
     ensures overflow { RunsToItsEnd overflow_network overflow_run }
@@ -83,7 +83,7 @@ pub fn kahn_gives_six_items()
     ensures sink { written_on kahn_run 5 ≡ pos 0 ∷ pos 1 ∷ pos 0 ∷ pos 1 ∷ pos 0 ∷ pos 1 ∷ [] }
 {}
 
-/// Two channels between two processes where the limit forbids the growth: the cycle stays.
+/// Two channels between two processes, under a limit that forbids the growth: the cycle stays.
 pub fn two_channels_jam_at_the_limit()
     ensures { StopsAs two_at_limit two_at_limit_run Jammed }
 {}
@@ -101,14 +101,14 @@ pub fn a_writer_is_clogged()
 
 // ---- runs under the policy `all`
 
-/// The same network runs to its end, since the channel on which the writer waits grows where all stand still.
+/// The same network runs to its end: the channel on which the writer waits grows when all stand still.
 pub fn a_clogged_writer_goes_on()
     ensures run { RunsToItsEnd resolved_network resolved_run }
     ensures capacity { capacity_after resolved_network resolved_run 0 ≡ Some 3 }
 {}
 
-/// Whatever makes the last thing stand still: a wait on a full or an empty channel, an end, and a call of the outside
-/// that closes a source, takes the last item of a sink or leaves it.
+/// A channel grows whatever makes the last thing stand still: a wait on a full or an empty channel, an end, and a call
+/// of the outside that closes a source, takes the last item of a sink or leaves it.
 pub fn whatever_settles_lets_a_channel_grow()
     ensures wait_on_empty { Legal resolved_network reader_waits_last_run }
     ensures end { Legal outside_network end_settles_run }

@@ -1,10 +1,9 @@
-//! Lists of events that no run brings, and the event of each that is the first such, as the contracts of functions with
-//! nothing to do.
+//! Lists of events that no run brings, and the first such event of each, as contracts of functions that do nothing.
 ghost use Rattle.check_histories.specs.Claims.{BreaksAt};
 ghost use Rattle.check_histories.specs.Networks.{copy_network, two_network, two_at_limit, larger_network, tie_network, two_readers_network, ended_reader_network, clogged_network, zero_divisor_network, overflow_network, doubling_network, one_more_network, doubling_to_limit_network, resolved_network, resolved_to_limit_network, small_full_network, outside_network, cycle_below_limit};
 ghost use Rattle.check_histories.specs.WrongLists.{puts_another_item, gets_out_of_turn, puts_for_a_fault, ends_too_early, ends_as_done, ends_as_overflow, ends_as_zero_divisor, waits_where_it_does_not_read, waits_where_it_does_not_write, ends_twice, waits_while_blocked, waits_for_an_unread_item, waits_with_room, waits_for_an_ended_reader, waits_for_a_left_sink, gets_the_newest, gets_once_more, takes_once_more, puts_into_a_full_channel, growth_left_out, grows_another_channel, grows_for_the_reader, grows_at_first, grows_twice, grows_without_a_cycle, grows_at_the_limit, grows_the_larger, grows_for_its_writer, grows_the_greater_number, puts_as_if_doubled, puts_past_the_limit, grows_past_the_limit, tells_too_small_a_capacity, tells_too_large_a_capacity, grows_while_one_is_ready, grows_before_the_close, grows_where_nobody_waits, grows_for_the_last_to_wait, growth_at_stop_left_out, passes_over_the_cycle, doubles_past_the_limit, puts_past_the_doubled, feeds_no_source, feeds_after_the_close, closes_no_source, closes_twice, takes_from_no_sink, takes_after_the_leave, leaves_no_sink, leaves_twice, nobody_puts, nobody_gets, nobody_ends, nobody_puts_nowhere};
 
-/// A process says what its text says, ends as its text ends, and waits where its text reads or writes.
+/// A process says what its text says, ends as its text ends, and waits only if its text reads or writes.
 pub fn processes_keep_to_their_texts()
     ensures puts_another_item { BreaksAt two_network puts_another_item 4 }
     ensures gets_out_of_turn { BreaksAt two_network gets_out_of_turn 1 }
@@ -23,8 +22,8 @@ pub fn the_ended_and_the_blocked_rest()
     ensures waits_while_blocked { BreaksAt two_readers_network waits_while_blocked 1 }
 {}
 
-/// A process waits to read only where nothing is unread, and to write only on a full channel, which one whose reader
-/// has ended or left is not.
+/// A process waits to read only if nothing is unread, and to write only on a full channel. A channel whose reader has
+/// ended or left is not full.
 pub fn waits_have_their_reason()
     ensures unread_item { BreaksAt copy_network waits_for_an_unread_item 1 }
     ensures room { BreaksAt two_network waits_with_room 0 }
@@ -32,7 +31,7 @@ pub fn waits_have_their_reason()
     ensures left_sink { BreaksAt copy_network waits_for_a_left_sink 6 }
 {}
 
-/// Items are read in the order in which they were written, each once, and no more lie unread than the capacity.
+/// Items are read in the order in which they were written, each once, and no more are unread than the capacity.
 pub fn channels_are_queues()
     ensures gets_the_newest { BreaksAt copy_network gets_the_newest 2 }
     ensures gets_once_more { BreaksAt copy_network gets_once_more 3 }
@@ -40,8 +39,8 @@ pub fn channels_are_queues()
     ensures puts_into_a_full_channel { BreaksAt two_network puts_into_a_full_channel 1 }
 {}
 
-/// A growth comes at once where it is owed, and nowhere else: of the smallest full channel of the cycle, by the process
-/// that closed it.
+/// A growth comes at once if it is owed, and at no other time. It is the growth of the smallest full channel of the
+/// cycle, by the process that closed it.
 pub fn growths_are_owed()
     ensures left_out { BreaksAt two_network growth_left_out 3 }
     ensures another_channel { BreaksAt two_network grows_another_channel 3 }
@@ -55,7 +54,7 @@ pub fn growths_are_owed()
     ensures the_greater_number { BreaksAt tie_network grows_the_greater_number 4 }
 {}
 
-/// A growth makes a channel as large as the network says, never larger than the limit, and tells that capacity.
+/// A growth makes a channel as large as the network says, never larger than the limit, and states that capacity.
 pub fn growths_are_as_large_as_they_may_be()
     ensures by_one { BreaksAt one_more_network puts_as_if_doubled 7 }
     ensures past_the_limit { BreaksAt doubling_to_limit_network puts_past_the_limit 5 }
@@ -64,8 +63,9 @@ pub fn growths_are_as_large_as_they_may_be()
     ensures tells_too_large { BreaksAt one_more_network tells_too_large_a_capacity 5 }
 {}
 
-/// Under the policy `all` a growth comes at once where all stand still, and nowhere else: of the smallest channel on
-/// which a process waits as full, for that process, unless a growth is owed for a cycle; and never past the limit.
+/// Under the policy `all` a growth comes at once if all stand still, and at no other time. It is the growth of the
+/// smallest channel on which a process waits as full, for that process, unless a growth is owed for a cycle. It never
+/// passes the limit.
 pub fn growths_at_stops_are_owed()
     ensures while_one_is_ready { BreaksAt resolved_network grows_while_one_is_ready 3 }
     ensures before_the_close { BreaksAt outside_network grows_before_the_close 6 }
