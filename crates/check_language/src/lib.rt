@@ -1,4 +1,4 @@
-//! Tests of the process language and of its stepper by their public calls alone, in a crate of their own, so that the
+//! Tests of the process language and of its stepper only by their public calls, in a crate of their own, so that the
 //! two libraries are proved once.
 #![tactic(auto)]
 

@@ -1,4 +1,4 @@
-//! Rows of the stepper: how many steps are allowed, and what is said within them.
+//! Rows of the stepper: how many steps it may make, and what the process says within them.
 ghost use Rattle.std.specs.Prelude.{IsTrue};
 ghost use Rattle.kpn_step.specs.Frame.{fits};
 
@@ -123,7 +123,7 @@ fn written(rt: &impl Abort, writing: &Advance<'_>) -> Frame
     }
 }
 
-// Whether so many steps were made to this stop.
+// Whether it made so many steps to this stop.
 fn came_to(advance: &Advance<'_>, steps: u32, stop: Stop) -> bool {
     advance.steps() == steps && advance.stop() == stop
 }

@@ -1,4 +1,4 @@
--- The copy stands at the read where the advance stopped.
+-- The copy is at the read where the advance stopped.
 use Rattle.std.proofs.Common.{sym}
 use Rattle.check_language.proofs.stepper.given.Goals as goal
 
