@@ -1,4 +1,4 @@
-//! Channels: a worked row, and calls that are refused memory, by a heap that is filled up for a while.
+//! Channels: a worked row, and calls that get no memory, because a heap is full for a while.
 use kpn_chan::Channel;
 use linked_list_allocator::LocalHeap;
 use std::alloc::{AllocError, Allocator, Global};
@@ -26,7 +26,7 @@ fn put_numbers<A: Allocator + Copy>(
     Ok(())
 }
 
-/// Whether the next reads give the numbers from `first` to before `end`.
+/// Whether the next reads return the numbers from `first` to before `end`.
 fn gives_numbers<A: Allocator>(channel: &mut Channel<A>, first: i64, end: i64) -> bool {
     for item in first..end {
         if channel.get() != Some(item) {
@@ -36,7 +36,7 @@ fn gives_numbers<A: Allocator>(channel: &mut Channel<A>, first: i64, end: i64) -
     true
 }
 
-/// Whether items keep their order if the ring gets more places while they lie around its end.
+/// Whether items keep their order if the ring gets more places while they wrap around its end.
 fn keeps_order(alloc: Global) -> Result<bool, AllocError> {
     let mut channel = Channel::new(alloc, None)?;
     put_numbers(&mut channel, 0, 64)?;

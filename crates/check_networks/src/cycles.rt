@@ -1,5 +1,4 @@
-//! Worked tables of waits, with what is found from each process and by a scan, and a table that is refused
-//! memory.
+//! Worked tables of waits, with what each search and a scan find, and a table that gets no memory.
 ghost use Rattle.std.specs.Prelude.{IsTrue, IfOk};
 ghost use Rattle.kpn_net.specs.Waits.{IsOwnWait, AreWaits};
 
@@ -42,10 +41,10 @@ fn table(
     Ok(waits)
 }
 
-/// Waits and capacities, what is found from each process in order, and what a scan finds.
+/// Waits and capacities, what the search from each process in order finds, and what a scan finds.
 type Row<'a> = (&'a [Wait], &'a [u32], &'a [Found], Found);
 
-// Whether all is found of a row.
+// Whether the searches and the scan find what a row says.
 fn is_found(
     rt: &impl Abort,
     alloc: Global,
@@ -63,7 +62,7 @@ fn is_found(
     Ok(all)
 }
 
-// Asserts that all is found of each row, on a network of processes with these ports that do nothing.
+// Asserts that they do for each row, on a network of processes with these ports that do nothing.
 fn assert_found(
     rt: &impl Abort,
     alloc: Global,
@@ -230,7 +229,7 @@ fn cycles_are_found(rt: HostRuntime) -> Result<(), Fail> {
     assert_found(&rt, a, &ring, &[Inner(1); 5], 9, &SMALLEST_OF_RING)
 }
 
-// The table that is asked for while the heap is filled up is refused. The one that is asked for then is made.
+// While the heap is full, the first table gets no memory. After that the second one is made.
 #[test]
 fn table_of_waits_is_refused_memory(rt: HostRuntime) -> Result<(), Fail> {
     let heap = LocalHeap::new(rt.alloc(), 256)?;

@@ -1,4 +1,4 @@
-//! A history keeps its events in order, and a reservation that is refused leaves it as it was.
+//! A history keeps its events in order, and a reservation that fails leaves it as it was.
 use kpn_trace::{Event, History, How};
 use linked_list_allocator::LocalHeap;
 use std::alloc::Allocator;
@@ -32,8 +32,8 @@ fn keeps_events_in_order(rt: HostRuntime) -> Result<(), Fail> {
     Ok(())
 }
 
-// The heap has 256 bytes and an event takes 16: of room for 4 events it leaves 192 bytes, of which something else
-// takes 128 for a while.
+// The heap has 256 bytes and an event takes 16: room for 4 events leaves 192 bytes, of which something else takes 128
+// for a while.
 #[test]
 fn reserves_again_after_a_refusal(rt: HostRuntime) -> Result<(), Fail> {
     let heap = LocalHeap::new(rt.alloc(), 256)?;

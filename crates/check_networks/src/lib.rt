@@ -1,5 +1,5 @@
-//! Tests of networks, channels, cycles of waiting processes and histories, by public calls alone: what no
-//! clause says, and worked rows whose values come from outside.
+//! Tests of networks, channels, cycles of waiting processes and histories, only by public calls: what no clause says,
+//! and worked rows whose values come from outside.
 #![tactic(auto)]
 
 #[cfg(test)]

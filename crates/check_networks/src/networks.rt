@@ -1,5 +1,5 @@
-//! Networks: each refusal at its place and beside the one before it, sizes at their limits, who is at the
-//! ends of a channel, equality, how channels grow, and copies.
+//! Networks: each refusal at its place and beside the one before it, sizes at their limits, what is at the ends of a
+//! channel, equality, how channels grow, and copies.
 use crate::worked::{idle, idle_network, instance};
 use kpn_lang::{Expr, Op, Program, Stmt};
 use kpn_limits::MAX_CAPACITY;
@@ -10,8 +10,8 @@ use std::test::Fail;
 
 type Ports<'a> = (usize, &'a [usize], &'a [usize]);
 
-// Why a network is refused, or None: each instance is the number of its program, its ins and its outs. The limit
-// is 9. Program 0 has an in port and an out port, 1 has two out ports, 2 has two in ports.
+// Why `Network::new` refuses a network, or `None`. Each instance is the number of its program, its ins and its outs.
+// The limit is 9. Program 0 has an in port and an out port, 1 has two out ports, 2 has two in ports.
 fn refusal(
     alloc: Global,
     processes: &[Ports],
@@ -30,7 +30,7 @@ fn refusal(
     Ok(Network::new(alloc, programs, instances, channels, 9, policy, growth).err())
 }
 
-/// Processes and channels, and why their network is refused, or None.
+/// Processes and channels, and why their network is refused, or `None`.
 type Row<'a> = (&'a [Ports<'a>], &'a [ChannelSpec], Option<NetFault>);
 
 const AT_ITS_PLACE: [Row<'static>; 10] = [
@@ -125,7 +125,7 @@ fn refuses_the_first_fault(rt: HostRuntime) -> Result<(), Fail> {
     Ok(())
 }
 
-// A ring of processes, each with 4 ports each way: all limits of a network are reached.
+// A ring of processes, each with 4 ports each way: it reaches all limits of a network.
 fn ring(alloc: Global, processes: usize) -> Result<(Vec<Instance>, Vec<ChannelSpec>), AllocError> {
     let mut instances = Vec::new(alloc);
     let mut channels = Vec::new(alloc);
