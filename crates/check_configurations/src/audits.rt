@@ -1,5 +1,5 @@
-//! Audits in a heap: one that is too small for the configuration on which an audit replays, or for the items that come,
-//! refuses, and so does each that is smaller than the first that suffices.
+//! Audits in a heap. If the heap is too small for the configuration on which an audit replays, or for the items that
+//! come, the audit fails. So does each audit in a heap that is smaller than the first that suffices.
 use crate::feeding::copying;
 use crate::traces::trace_of;
 use kpn_audit::{AuditFault, audit};
@@ -11,7 +11,7 @@ use std::test::Fail;
 
 const ONE: [Event; 1] = [Event::Feed(0, 5)];
 
-/// Whether an audit of these events in a heap of this size is refused memory.
+/// Whether an audit of these events in a heap of this size gets too little memory.
 fn is_refused(
     alloc: Global,
     network: &Network,
@@ -36,8 +36,8 @@ fn is_legal(
     Ok(audit(&heap, network, &trace, 1_000).is_ok())
 }
 
-/// The size of the first heap, of 64 bytes and then of 16 more each time, in which an audit of these events is not
-/// refused memory.
+/// The size of the first heap, of 64 bytes and then of 16 more each time, in which an audit of these events gets enough
+/// memory.
 fn sufficient_size(
     alloc: Global,
     network: &Network,

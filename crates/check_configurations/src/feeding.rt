@@ -34,7 +34,7 @@ pub fn copying(alloc: Global) -> Result<Network, Fail> {
     )?)
 }
 
-/// Feeds an item to source `c`, and tells who was woken.
+/// Feeds an item to source `c`, and returns which process was woken.
 pub fn feed<A: Allocator + Copy>(
     rt: &impl Abort,
     network: &Network,

@@ -1,4 +1,4 @@
-//! Audits of a channel that grows, as its network says, or as version 1 of traces has it.
+//! Audits of a channel that grows, as its network says, or by the rules of version 1 of traces.
 use crate::traces::trace_of;
 use kpn_audit::{AuditFault, audit};
 use kpn_lang::{Expr, Program, Sequence, Stmt};

@@ -1,5 +1,5 @@
-//! Tests of configurations and audits, by public calls alone: memory that is refused, and audits of a channel that
-//! grows. What the calls for events do stands in the compared run of check_replays.
+//! Tests of configurations and audits, only by public calls: memory that runs out, and audits of a channel that grows.
+//! The compared run of check_replays shows what the calls for events do.
 #![tactic(auto)]
 
 #[cfg(test)]

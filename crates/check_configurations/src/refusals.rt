@@ -1,5 +1,5 @@
-//! Calls that want memory are refused it once, by a heap that is filled up for a while: all is as before, and the
-//! repeated call succeeds.
+//! Calls that take memory fail once, because a heap is full for a while. All is as before, and the repeated call
+//! succeeds.
 ghost use Rattle.kpn_configuration.specs.Configuration.{IsConfiguration};
 
 use crate::feeding::{copying, feed};
@@ -11,7 +11,7 @@ use std::process::Abort;
 use std::test::Fail;
 use test_support::heaps::fill;
 
-/// Feeds as many items as a channel has room for from the beginning.
+/// Feeds as many items as a new channel has room for.
 fn feed_four<A: Allocator + Copy>(
     rt: &impl Abort,
     network: &Network,
