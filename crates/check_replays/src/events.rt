@@ -1,4 +1,4 @@
-//! Events made by their calls, each after a look whether it may follow.
+//! Events made by their calls, each after a check whether it may follow.
 ghost use Rattle.std.specs.Prelude.{◌≡◌, ◌↔◌, ◌<◌, length, IfOk, IfSome, OnOk, IsTrue};
 ghost use Rattle.kpn_configuration.specs.Configuration.{IsConfiguration, IsFree};
 ghost use Rattle.kpn_configuration.specs.Owed.{IsAwaitedBelowLimit};
@@ -13,7 +13,7 @@ use kpn_net::{Network, Wait};
 use kpn_step::Stop;
 use kpn_trace::{Event, How};
 
-/// The processes that an event woke, in the order in which the call tells them.
+/// The processes that an event woke, in the order in which the call returns them.
 pub(crate) type Woken = Result<ArrayVec<usize, MAX_PORTS>>;
 
 /// At most one process was woken.
@@ -25,7 +25,7 @@ fn woken(process: Option<usize>) -> Woken {
     Ok(processes)
 }
 
-/// Steps process `p`, which has to be free, to its next stop.
+/// Steps process `p`, which has to be able to go, to its next stop.
 fn come_to_stop(state: &mut Configuration, network: &Network, p: usize) -> Result<Stop>
     requires { IsConfiguration network.now state.old }
     ensures shape { IsConfiguration network.now state.new }
@@ -60,7 +60,7 @@ fn to_read(state: &mut Configuration, network: &Network, p: usize, c: usize) -> 
     Ok(())
 }
 
-/// Steps process `p` to its next stop, which has to be a write to channel `c`, and gives the item.
+/// Steps process `p` to its next stop, which has to be a write to channel `c`, and returns the item.
 fn to_write(state: &mut Configuration, network: &Network, p: usize, c: usize) -> Result<i64>
     requires { IsConfiguration network.now state.old }
     ensures shape { IsConfiguration network.now state.new }
@@ -219,7 +219,7 @@ fn grow(state: &mut Configuration, network: &Network, p: usize, c: usize) -> Wok
     woken(state.grow(network, p, c).woken)
 }
 
-/// Makes the call for an event, and gives whom it woke.
+/// Makes the call for an event, and returns which processes it woke.
 pub(crate) fn happen(state: &mut Configuration, network: &Network, event: Event) -> Woken
     requires { IsConfiguration network.now state.old }
     ensures { IsConfiguration network.now state.new }

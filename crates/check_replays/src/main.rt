@@ -1,8 +1,8 @@
 //! Histories replayed by the calls of a configuration. Standard input has sections that end with a line `.`, each a
-//! description of a network and then a trace. Each process is stepped to its stop before its event. An event is
-//! repeated, and whom it woke and all that the configuration shows then follows.
+//! description of a network and then a trace. The program steps each process to its stop before its event. It repeats
+//! the event, and writes which processes it woke and all that the configuration then shows.
 //!
-//! What must come was computed by another program (tools/configurations.py), from the histories alone.
+//! Another program (tools/configurations.py) computed what must come, only from the histories.
 #![tactic(auto)]
 
 ghost use Rattle.kpn_configuration.specs.Configuration.{IsConfiguration};

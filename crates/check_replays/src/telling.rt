@@ -31,7 +31,7 @@ fn write_channel<O: Write>(
     Ok(())
 }
 
-/// What a process waits for, how it ended, and which channel has to grow where it has just come to wait.
+/// What a process waits for, how it ended, and which channel has to grow if it has just come to wait.
 fn write_process<O: Write>(
     network: &Network,
     state: &Configuration,
