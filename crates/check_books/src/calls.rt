@@ -79,7 +79,7 @@ fn put_back<A: Allocator>(alloc: Global, book: &mut Book<'_, A>, process: usize)
     Ok(format!(in alloc; "{answer:?}")?)
 }
 
-/// Feeds an item. Why a feed is refused can be asked before, and is the same.
+/// Feeds an item. If `feed_fault` names a fault before the call, the call has to fail with it.
 fn feed<A: Allocator + Copy>(
     alloc: Global,
     book: &mut Book<'_, A>,

@@ -4,7 +4,7 @@ use linked_list_allocator::LocalHeap;
 use std::alloc::Global;
 use test_support::heaps::fill;
 
-/// So many bytes a heap has.
+/// How many bytes a heap has.
 pub(crate) const SIZE: usize = 16_384;
 
 /// A heap rounds each size up to a multiple of this.

@@ -1,7 +1,7 @@
 //! Books, by public calls. Standard input has sections that end with a line `.`: a description of a network, a line
-//! `calls`, and then calls, one on a line. Each call is made on a heap with ever more bytes left, from none on, until
-//! it is not refused for want of memory. So each request for memory is refused in turn, and all that the book holds has
-//! to stay as it was. Then come the answer, whether the call was refused at first, and the events that it appended.
+//! `calls`, and then calls, one on a line. The program makes each call on a heap with ever more bytes left, from none
+//! on, until memory suffices. So each request for memory fails in turn, and all that the book holds has to stay as it
+//! was. Then the program writes the answer, whether the call failed at first, and the events that it appended.
 //!
 //! - `claim` claims the first process of the queue, and steps it to its next stop. These steps are numbered from 0.
 //! - `onward K` makes further steps from where the steps K have stopped, and `twin P K` steps of process P of an equal
@@ -11,7 +11,7 @@
 //! - `feed C ITEM BOUND`, `close C`, `take C` and `leave C` are the calls of the outside.
 //! - `view` makes a snapshot on that heap.
 //!
-//! What must come was worked out by hand.
+//! The expected output was worked out by hand.
 #![tactic(auto)]
 
 mod calls;
@@ -32,7 +32,7 @@ use linked_list_allocator::LocalHeap;
 use std::alloc::Global;
 use std::io::Write;
 
-/// Makes a call on ever more memory until it is not refused: its answer, and whether it was refused at first.
+/// Makes a call on ever more memory until that suffices: its answer, and whether it failed at first.
 fn refused_then_made<'n, 'h>(
     alloc: Global,
     heap: &'h LocalHeap,
@@ -80,7 +80,8 @@ fn make_call<'n, 'h, O: Write>(
     write_made(book, events, out)
 }
 
-/// Makes the calls of these lines on a new book of the network, which was read twice, and writes what came of each.
+/// Makes the calls of these lines on a new book of the network, and writes what came of each. The calls `twin` use
+/// `twin`, which was read from the same text.
 fn make_calls<'n, O: Write>(
     alloc: Global,
     network: &'n Network,

@@ -2,7 +2,7 @@
 use anyhow::{Result, bail};
 use std::alloc::Global;
 
-/// A call of a book, or steps that are made for one.
+/// A call of a book, or steps to make for one.
 #[derive(Clone, Copy)]
 pub(crate) enum Call {
     Claim,
