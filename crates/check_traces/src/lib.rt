@@ -1,5 +1,5 @@
-//! Tests of traces as texts, by public calls alone: worked lines, and memory that is refused. What whole texts of
-//! traces come to stands in the compared run of check_examples.
+//! Tests of traces as texts, only by public calls: worked lines, and memory that runs out. The compared run of
+//! check_examples shows what whole traces come to.
 #![tactic(auto)]
 
 #[cfg(test)]

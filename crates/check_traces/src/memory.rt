@@ -1,4 +1,4 @@
-//! A trace that is read while memory is refused, and once more with memory. A heap is filled up for a while.
+//! A trace is read while memory runs out, because a heap is full for a while, and once more with memory.
 use kpn_trace::Event;
 use kpn_trace_text::{TraceFault, read_trace};
 use linked_list_allocator::LocalHeap;
@@ -8,7 +8,7 @@ const TEXT: &[u8] = b"kpn-trace 1\nfeed 0 5\nclose 0\nget 0 0 5\n";
 
 const EVENTS: [Event; 3] = [Event::Feed(0, 5), Event::Close(0), Event::Get(0, 0, 5)];
 
-// Whether the text is refused for want of memory.
+// Whether reading the text fails because memory runs out.
 fn is_refused(heap: &LocalHeap) -> bool {
     matches!(read_trace(heap, TEXT), Err(TraceFault::NoMemory))
 }
