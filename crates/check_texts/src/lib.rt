@@ -1,6 +1,6 @@
-//! Tests of the crates that read and print texts: inputs that fail, stop or never end, texts at their limits, and
-//! what no command shows. They need public calls alone, so they stand above those crates, each of which is then proved
-//! once. Rows that are only compared stand in `check_examples`.
+//! Tests of the crates that read and print texts: inputs that fail, stop or never end, texts at their limits, and what
+//! no command shows. They need only public calls, so they are in a crate above, and each of those crates is proved
+//! once. Rows that only need a comparison are in `check_examples`.
 #![tactic(auto)]
 
 #[cfg(test)]

@@ -1,5 +1,5 @@
-//! The settings of a network as its text says them: texts that are read and printed, and words that cannot stand where
-//! they stand.
+//! The settings of a network as its text says them: texts that are read and printed, and words that may not be where
+//! they are.
 
 use kpn_net::{Growth, Policy};
 use kpn_text::{TextFault, print_network, read_network};
@@ -51,7 +51,7 @@ const READ: [Row; 7] = [
     ),
 ];
 
-/// Texts, each with the byte at which a word cannot stand there.
+/// Texts, each with the byte of a word that may not be there.
 const REFUSED: [(&str, usize); 13] = [
     ("network { grow some; }", 15),
     ("network { grow Double; }", 15),

@@ -1,5 +1,5 @@
-//! What the definition of tokens is held against: the format's own lists of marks and reserved
-//! words, and worked texts, each with its tokens.
+//! What the definition of tokens is compared with: the format's own lists of marks and reserved words, and worked
+//! texts, each with its tokens.
 
 use kpn_tokens::{Lexeme, Token, lexemes};
 use std::alloc::Global;
