@@ -1,7 +1,6 @@
-//! The operators of the process language on a table of operands: each line of standard input is `LEFT OP RIGHT`,
-//! `- OPERAND` or `! OPERAND`, and is answered with the value or the fault. The stored table lies at the ends of the
-//! range, and what it must give was computed by another program (tools/operator_table.py), with whole numbers that have
-//! no bound.
+//! The operators of the process language on a table of operands. Each line of standard input is `LEFT OP RIGHT`, `-
+//! OPERAND` or `! OPERAND`, and the answer is the value or the fault. The stored table is at the ends of the range.
+//! Another program (tools/operator_table.py) computed what must come, with whole numbers that have no bound.
 #![tactic(auto)]
 
 ghost use Rattle.std.specs.Prelude.{IfOk};
@@ -42,7 +41,7 @@ fn operand(alloc: Global, word: &str) -> Result<Box<Expr>>
     Ok(Box::new(alloc, Expr::Num(number))?)
 }
 
-/// The value of what a line says.
+/// The value of the expression on a line.
 fn answer(alloc: Global, line: &str) -> Result<std::result::Result<i64, Fault>> {
     let words: Vec<&str> = line.split_whitespace().collect(alloc)?;
     match words.as_slice() {
