@@ -1,5 +1,4 @@
-//! A channel on which items are put and from which they are read. `bench/chan` measures it beside a plain queue with a
-//! journal.
+//! A channel with puts and reads. `bench/chan` measures it beside a plain queue with a journal.
 use kpn_chan::Channel;
 use std::alloc::{AllocError, Global};
 
@@ -15,8 +14,8 @@ fn drained(channel: &mut Channel) -> i64 {
     sum
 }
 
-/// Puts the items 0, 1, .. and reads them each time that the channel is full: the sum of what was read,
-/// and the last item of the journal, or 0 where there is none.
+/// Puts the items 0, 1, .. and reads them each time that the channel is full: the sum of what was read, and the last
+/// item of the journal, or 0 if there is none.
 pub fn through(alloc: Global, capacity: u32, items: i64) -> Result<(i64, i64), AllocError> {
     let mut channel = Channel::new(alloc, Some(capacity))?;
     let mut sum = 0i64;

@@ -3,7 +3,7 @@ use kpn_parallel::{Gate, Go};
 use std::sync::atomic::{AtomicU64, Ordering};
 use std::thread;
 
-/// Random numbers that all workers draw from.
+/// Random numbers, from which all workers draw.
 #[derive(Drop)]
 pub struct Dawdling {
     drawn: AtomicU64,
@@ -28,7 +28,7 @@ impl Dawdling {
         number ^ (number >> 31)
     }
 
-    /// Spins for so many turns. Each loads a number, since a loop of hints alone is left out of the machine code.
+    /// Spins for so many turns. Each loads a number, since the compiler drops a loop that has only hints.
     fn spin(&self, turns: u64) {
         for _ in 0..turns {
             let _ = self.drawn.load(Ordering::SeqCst);

@@ -1,4 +1,4 @@
-//! Frames that are copied and compared.
+//! Frames, copied and compared.
 use crate::loops::counting;
 use anyhow::{Result, bail};
 use kpn_lang::Program;

@@ -1,4 +1,4 @@
-//! Whether a run by workers is as one on one thread.
+//! Whether a run by workers is like one on one thread.
 use anyhow::Result;
 use kpn_audit::audit;
 use kpn_lang::Sequence;
@@ -10,8 +10,8 @@ use std::alloc::{AllocError, Global};
 /// The most steps that the auditor makes for an event.
 const STEPS: u64 = 10_000_000;
 
-/// Whether a report has the outcome that is wanted, and the auditor finds its history legal. Where the run has ended or
-/// has enough, it has the items that are wanted too, and where it has ended the audit is exact.
+/// Whether a report has the wanted outcome, and the auditor finds its history legal. If the run has ended or has
+/// enough, it must have the wanted items too. If it has ended, the audit must be exact.
 pub fn is_as_wanted(
     alloc: Global,
     network: &Network,
@@ -36,7 +36,7 @@ pub fn is_as_wanted(
     Ok(is_whole && report.outcome == wanted.outcome)
 }
 
-/// Whether lists are the same, or begin with the same items where only so many are wanted.
+/// Whether lists are the same. If only so many items are wanted, they may differ behind those.
 fn are_same(left: &[Sequence<i64>], right: &[Sequence<i64>], most: Option<u64>) -> bool {
     if left.len() != right.len() {
         return false;
@@ -49,7 +49,7 @@ fn are_same(left: &[Sequence<i64>], right: &[Sequence<i64>], most: Option<u64>) 
     true
 }
 
-/// The first items, as many as are wanted at most.
+/// The first items, at most as many as are wanted.
 fn wanted_of(items: &[i64], most: Option<u64>) -> &[i64] {
     match most {
         Some(most) if most < items.len() as u64 => &items[..most as usize],

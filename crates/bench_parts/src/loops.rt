@@ -1,4 +1,4 @@
-//! The loops that are measured. Variable 0 is how many turns are wanted, 1 counts them, 2 is what is computed.
+//! The loops to measure. Variable 0 is how many turns are wanted, 1 counts them, 2 is what the loop computes.
 use kpn_lang::{Expr, Op, Stmt};
 use std::alloc::{AllocError, Global};
 
@@ -140,7 +140,7 @@ fn each_turn(alloc: Global, stmt: Stmt) -> Result<Vec<Vec<Stmt>>, AllocError> {
     ]?)
 }
 
-/// The blocks of a loop, or `None` where no loop has this name.
+/// The blocks of a loop, or `None` if no loop has this name.
 pub fn blocks_of(alloc: Global, name: &str) -> Result<Option<Vec<Vec<Stmt>>>, AllocError> {
     let blocks = match name {
         "counting" => vec![in alloc; outermost(alloc)?, vec![in alloc; add(alloc, TURN, 1)?]?]?,

@@ -1,5 +1,4 @@
-//! Parts of the program, which scripts of `bench/` measure. Each line of standard input names one, with what it is
-//! given:
+//! Parts of the program, which scripts of `bench/` measure. Each line of standard input names one, with its arguments:
 //!
 //! - `step LOOP TURNS` steps a loop of the process language. What the loop computed follows.
 //! - `frames COUNT` copies so many frames and compares them. How many were equal follows.
@@ -10,8 +9,8 @@
 //! - `trace EVENTS TIMES` writes the trace of so many events into memory, so often. How many bytes it has and their sum
 //!   follow.
 //! - `stress FILE WORKERS RUNS SEED TAKE NAME=FILE ..` runs a network so often by workers whose gate dawdles at random.
-//!   TAKE is how many items are wanted of each sink, 0 for all. How many runs there were follows, if each was as one on
-//!   one thread.
+//!   TAKE is how many items are wanted of each sink, 0 for all. How many runs there were follows, if each was like one
+//!   on one thread.
 #![tactic(auto)]
 
 mod chan;

@@ -23,7 +23,7 @@ fn instance(
     })
 }
 
-/// Programs that do nothing: without ports, with an out port alone, and with an in port and an out port.
+/// Programs that do nothing: without ports, with only an out port, and with an in port and an out port.
 fn programs(alloc: Global) -> Result<Option<Vec<Program>>, AllocError> {
     let mut programs = Vec::new(alloc);
     for (ins, outs) in [(0, 0), (0, 1), (1, 1)] {
@@ -84,7 +84,7 @@ pub fn network_of(
 }
 
 /// Process `p` of the first `length` processes waits on channel `p` as full, and all others wait for nobody. It is
-/// `None` where one of these channels is not its own.
+/// `None` if one of these channels is not its own.
 pub fn waits_of(
     alloc: Global,
     network: &Network,

@@ -1,4 +1,4 @@
-//! A loop of the process language that is stepped alone. `bench/step` measures it beside a plain interpreter.
+//! A loop of the process language, stepped alone. `bench/step` measures it beside a plain interpreter.
 use crate::loops::blocks_of;
 use anyhow::{Result, anyhow, bail};
 use kpn_lang::{Program, Said};

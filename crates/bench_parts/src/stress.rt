@@ -1,4 +1,4 @@
-//! A network that is run often by workers whose gate dawdles at random. `bench/stress` measures nothing by it: each run
+//! A network that workers run often while their gate dawdles at random. `bench/stress` measures nothing by it: each run
 //! has to come to the outcome and the items of a run on one thread, with a history that the auditor finds legal.
 ghost use Rattle.std.specs.Prelude.{◌≡◌, length};
 ghost use Rattle.kpn_net.specs.Iteration.{sources};
@@ -34,7 +34,7 @@ pub struct Plan {
     pub take: u64,
 }
 
-/// Makes these runs. The first that is not as one on one thread ends them with an error.
+/// Makes these runs. The first that is not like one on one thread ends them with an error.
 fn run_often<R: Threads + Wait + Clock + Sync>(
     rt: &R,
     alloc: Global,

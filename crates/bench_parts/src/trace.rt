@@ -1,4 +1,4 @@
-//! A trace that is written into memory. `bench/trace` measures it beside a plain writer.
+//! A trace in memory. `bench/trace` measures it beside a plain writer.
 use anyhow::{Result, bail};
 use kpn_net::{Growth, Policy};
 use kpn_trace::{Event, History};
