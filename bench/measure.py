@@ -1,4 +1,4 @@
-"""What the scripts that measure whole programs share: one run of a program, and programs that are built for it."""
+"""What the scripts that measure whole programs share: one run of a program, and the builds of programs for it."""
 import os
 import pathlib
 import subprocess
@@ -10,8 +10,8 @@ TOP = pathlib.Path(__file__).resolve().parent.parent
 
 
 class Run:
-    """One run of a program, over an input that is given to it: its seconds on the processors and on the clock, its peak
-    memory in bytes, and what it wrote."""
+    """One run of a program on this input: its seconds on the processors and on the clock, its peak memory in bytes, and
+    what it wrote."""
 
     def __init__(self, words, environment=None, given=''):
         with tempfile.TemporaryFile() as input, tempfile.TemporaryFile() as out, tempfile.TemporaryFile() as told:
@@ -46,14 +46,14 @@ def fastest(commands, runs):
 
 
 def kpn():
-    """The program that is measured, built where it is not current."""
+    """The program to measure. It is built if it is not current."""
     subprocess.run([TOP / 'kpn', '--version'], check=True, stdout=subprocess.DEVNULL)
     return TOP / 'crates/kpn/out/kpn'
 
 
 def parts():
-    """The program that does what a line of its input says with one part of the program, built where it is not current.
-    """
+    """The program that does what a line of its input says with one part of the program. It is built if it is not
+    current."""
     folder = TOP / 'crates/bench_parts'
     subprocess.run(['rt', 'run'], cwd=folder, input='frames 1\n', text=True, check=True, capture_output=True)
     return folder / 'out/bench_parts'

@@ -1,4 +1,4 @@
-"""Networks that are measured: their descriptions, and the same as a plain list of words and as a Go program.
+"""Networks to measure: their descriptions, and the same as a plain list of words and as a Go program.
 
 The language's parser is that of tools/rounds.py.
 """

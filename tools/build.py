@@ -1,13 +1,13 @@
 #!/usr/bin/env python3
-"""Proves and builds the program `kpn` and the libraries below it, and tells on standard error how far it is.
+"""Proves and builds the program `kpn` and the libraries below it, and reports on standard error how far it is.
 
 It calls the prover itself, side by side for crates that do not depend on one another, first for those with the longest
-chain of crates above. A library is made with its statements only, which crates above read in less time than its proofs.
-`rt check` wants the proofs, so what is made here stands in out/ at the top, apart from each crate's own out/:
-libraries/ (packed, since the gate refuses sources that no check reads) and logs/. The program is crates/kpn/out/kpn.
-A crate is proved anew if its contents have changed, or if a library below it came out otherwise. An
-interrupted build goes on where it was. The launcher `kpn` calls this; out/needed says afterwards which folders the
-program was made from.
+chain of crates above. It makes a library with its statements only, which crates above read in less time than its
+proofs. `rt check` needs the proofs, so this script has a folder of its own, out/ at the top, apart from each crate's
+out/. It has libraries/ (packed, since the gate refuses sources that no check reads) and logs/. The program is
+crates/kpn/out/kpn. It proves a crate anew if its contents have changed, or if a library below it came out otherwise. An
+interrupted build goes on where it was. The launcher `kpn` calls this script. Afterwards out/needed says which folders
+the program was made from.
 """
 import fcntl
 import hashlib
@@ -27,7 +27,7 @@ from prover import PARTS, Crate, find_kit, link_words, read_crates, words_of
 TOP = pathlib.Path(__file__).resolve().parent.parent
 OUT = TOP / 'out'
 PROGRAM = 'kpn'
-# A check was seen to take up to this much memory.
+# A check took up to this much memory when it was measured.
 BYTES_FOR_A_CRATE = 3 * 2**30
 # To read the libraries below a crate takes about as long as to prove so many bytes of sources.
 BYTES_FOR_LIBRARIES = 100_000
@@ -46,7 +46,7 @@ def sum_of(folder, files):
 
 
 class Target(Crate):
-    """A crate as what is to be made: the program, or a packed library."""
+    """A crate that is to be made: the program, or a packed library."""
 
     def __init__(self, folder, uses, direct):
         super().__init__(folder, uses, direct)
@@ -79,7 +79,7 @@ def unpack(crate, room):
 
 
 class Build:
-    """The crates that are still to be made, those that are being made, and the room where libraries lie unpacked."""
+    """The crates that are still to be made, those that are being made, and the folder of unpacked libraries."""
 
     def __init__(self, kit, room, crates, progress):
         self.kit, self.room, self.progress = kit, room, progress
@@ -143,7 +143,7 @@ class Build:
         """Keeps what was made, and returns whether it was made."""
         self.running.remove(crate)
         if crate.run.returncode == -signal.SIGKILL and crate.jobs > 1:
-            # Most likely for want of memory, of which one job takes less.
+            # Most likely memory ran out, and one job takes less of it.
             self.start(crate, 1)
             return True
         if crate.run.returncode or not self.keep(crate):
@@ -244,7 +244,7 @@ def build():
         return 1
     parts = [f'crates/{it.name}/{part}' for it in crates for part in PARTS if (it.folder / part).is_dir()]
     (OUT / 'needed').write_text('\n'.join(['crates.txt', *parts]) + '\n')
-    # So that a source which has changed since then is newer.
+    # Then a source that has changed since is newer.
     os.utime(program.made, (began, began))
     return 0
 

@@ -1,7 +1,7 @@
 #!/usr/bin/env python3
-"""Writes what crates/check_replays must write for its standard input: for each history there what every channel holds
-and every process does at the start and after each event, and whom the event woke, computed from the history alone by
-another program than the proved one (histories.py).
+"""Writes what crates/check_replays must write for its standard input. For each history there, that is what every
+channel holds and every process does at the start and after each event, and which processes the event woke. Another
+program than the proved one (histories.py) computes it, only from the history.
 """
 import pathlib
 

@@ -1,11 +1,11 @@
 #!/usr/bin/env python3
 """Reports what the documents name and is not there. It ends with 1 if there is anything. It is run by hand.
 
-- A file, a folder and a crate have to be there. A name in backquotes has to stand in a source, a definition, a proof, a
-  script or an example. A name with a file in brackets behind it has to stand in that file; if the file has definitions,
-  it has to be defined there.
+- A file, a folder and a crate have to be there. A name in backquotes has to be in a source, a definition, a proof, a
+  script or an example. A name with a file in brackets behind it has to be in that file; if the file has definitions, it
+  has to be defined there.
 - docs/GUARANTEES.md: in "By `f`: `clause`" the function `f` has to be in a crate of its section, with such a clause.
-- docs/LIBRARY.md: each piece of code has to stand so in the file that is named before it.
+- docs/LIBRARY.md: each piece of code has to be in the file that is named before it.
 - docs/WORDS.md has to be what tools/definitions.py writes.
 - The table of crates has to have as many edits and tests of each crate as there are.
 - No line is longer than 120 columns, except rows of tables.
@@ -26,7 +26,7 @@ NAME = re.compile(r"`((?:\w+::)*[A-Za-z_][\w']*)`")
 CODE = re.compile(r'From\s+`([^`]+)`[^`]*?```rust\n(.*?)```', re.S)
 # Parts of a path that stand for something else, or that a build makes.
 STANDS_FOR = set('CRATE mine MODULE FILE NAME NAME.antt NAME.edit FILE.antt MODULE.rt m out rlib'.split())
-# What a claim stands on, the head of a function, the clauses in it, and a name.
+# What a claim depends on, the head of a function, the clauses in it, and a name.
 BY = re.compile(r'\bBy (.*?)\.(?=\s|$)')
 HEAD = re.compile(r'\bfn (\w+)(.*?)(?:^\s*\{\}?$|\{\n|;\n)', re.S | re.M)
 CLAUSE = re.compile(r'\bensures\*? (\w+) \{')
@@ -75,7 +75,7 @@ def wrong_in(line, paths, words):
 
 
 def wrong_places(text, paths):
-    """What is named with a file in brackets behind it that does not have it."""
+    """Names with a file in brackets behind them that does not have them."""
     for name, path in PLACE.findall(' '.join(text.split())):
         word = re.escape(name.split('::')[-1])
         there = rf"^(?:  )?(?:[a-z]+ )*{word}(?![\w'])" if path.endswith('.antt') else rf'\b{word}\b'
@@ -105,7 +105,7 @@ def clauses_in(crates):
 
 
 def wrong_claims(document):
-    """What a claim stands on and is not there."""
+    """What a claim depends on and is not there."""
     for crates, points in sections_of(document):
         clauses = clauses_in(crates)
         for part in (part for point in points for by in BY.findall(point) for part in by.split(';')):
@@ -118,7 +118,7 @@ def wrong_claims(document):
 
 
 def wrong_counts(document):
-    """Where a table of crates has another number of edits or tests than there are."""
+    """The rows of a table of crates whose number of edits or tests is wrong."""
     rows = re.findall(r'^\| `?(\w+)`? \|[^|]*\| (\d*) *\|[^|]*\| (\d*) *\|', document.read_text(), re.M)
     told = {crate: (int(edits or 0), int(tests or 0)) for crate, edits, tests in rows}
     counts = {}

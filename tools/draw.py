@@ -1,6 +1,6 @@
 #!/usr/bin/env python3
-"""Draws each of the examples with `./kpn draw` and Graphviz, and looks whether Graphviz takes each drawing without a
-warning. It is run by hand, and wants the program `dot` (in Debian the package graphviz).
+"""Draws each of the examples with `./kpn draw` and Graphviz, and checks that Graphviz takes each drawing without a
+warning. It is run by hand, and needs the program `dot` (in Debian the package graphviz).
 
     tools/draw.py [FOLDER]
 
@@ -36,7 +36,7 @@ def svg(drawing):
 
 
 def drawing_after(example, words):
-    """The drawing of an example as it stands after a run."""
+    """The drawing of an example after a run."""
     with tempfile.TemporaryDirectory() as folder:
         trace = pathlib.Path(folder) / 'trace'
         kpn('run', example, *words, '--trace', trace)

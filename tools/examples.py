@@ -1,16 +1,16 @@
 #!/usr/bin/env python3
 """Writes what crates/check_examples must write for the lines of its standard input below the heading `# The examples`,
-if there is one: each line, and what comes of it, computed by other programs than the proved one (rounds.py,
-histories.py, figures.py). What stands above that heading stays as it is. Two parts have lines that are written anew
-too: below the heading `# The examples run by workers` each run above it once more by 1, 2 and 16 workers, with an audit
-of its trace; below `# Changed histories` those of history_tables.py.
+if there is one: each line, and what comes of it. Other programs than the proved one (rounds.py, histories.py,
+figures.py) compute that. What comes before that heading stays as it is. The script also writes the lines of two parts
+anew. Below the heading `# The examples run by workers` is each run above it once more by 1, 2 and 16 workers, with an
+audit of its trace. Below `# Changed histories` are the lines of history_tables.py.
 
-Before that it looks whether the comments at the head of each of the examples, and README.md, say what really comes of
-the commands that they name, and whether each of these commands has a row. It is run by hand, after each change of an
-example.
+Before that it checks the comments at the head of each of the examples, and README.md: they have to say what really
+comes of the commands that they name, and each of these commands has to have a row. It is run by hand, after each change
+of an example.
 
-What a run by workers writes is computed by a run on one thread: it is the same for any number of workers. Of the audit
-of its trace only those lines are compared that are the same.
+A run on one thread computes what a run by workers writes, since that is the same for any number of workers. Of the
+audit of its trace it compares only the lines that are the same.
 
 It knows the commands `check`, `print`, `draw`, `rounds`, `run`, `audit` and `stats`, and of the refusals those that the
 lines meet.
@@ -35,7 +35,7 @@ FOLDER = TOP / 'crates/check_examples'
 
 
 class Refused(Exception):
-    """What a refused command tells. Its status is 1."""
+    """The text of a refused command. Its status is 1."""
 
 
 def load(file):
@@ -115,7 +115,7 @@ def print_text(file):
 
 
 def lists_of(channels, options):
-    """The lists of the sources, by their names: the names are looked up before a file is read."""
+    """The lists of the sources, by their names. All names are looked up before a file is read."""
     named = [word.partition('=') for word in options]
     for place, (name, _, _) in enumerate(named):
         if channels.get(name, ('', None))[0] != 'source':
@@ -130,7 +130,7 @@ def rounds_text(file, turns, *options):
 
 
 def histories_answer(words):
-    """What `run` and `audit` write, and the status. What they would refuse is looked for first."""
+    """What `run` and `audit` write, and the status. It first checks what they would refuse."""
     found = histories.read_words(words)
     _, _, channels, _, _ = description(found.file)
     if words[0] == 'run':
@@ -201,7 +201,7 @@ def written_for(line):
 
 
 def without(option, words):
-    """The words of a run, but for an option and its value."""
+    """The words of a run, without an option and its value."""
     if option not in words:
         return words
     place = words.index(option)
@@ -209,8 +209,9 @@ def without(option, words):
 
 
 def audited_lines(report):
-    """How many lines of the audit of a run by workers are the same whatever their turns were: under `enough` and
-    `stopped` some of the workers may have gone on for a while, so whether all was over is left out."""
+    """How many lines of the audit of a run by workers are the same whatever their turns were. Under `enough` and
+    `stopped` some of the workers may have gone on for a while, so the line that says whether all was over does not
+    count."""
     return 1 if report.endswith(('enough\n', 'stopped\n')) else 2
 
 
@@ -238,7 +239,7 @@ A_PART = 'writes a line for each channel, and '
 
 def claims_of_example(text):
     """Each command that the comments at the head of an example name, with the sentence behind it and the lines that it
-    is said to write: command and lines are indented by three spaces, and all else is not."""
+    claims to write. Only command and lines are indented by three spaces."""
     comments = itertools.takewhile(lambda line: line.startswith('#'), text.splitlines())
     parts = [list(part) for _, part in itertools.groupby(comments, lambda line: line.startswith('#   '))]
     for command, sentence, lines in zip(parts, parts[1:], parts[2:]):
@@ -260,13 +261,13 @@ def claims_of_readme(text):
 
 
 def is_part(lines, written):
-    """Whether these lines stand among those that were written, in this order."""
+    """Whether these lines are among those that were written, in this order."""
     left = iter(written)
     return all(line in left for line in lines)
 
 
 def what_is_wrong(command, said, lines, rows):
-    """What is wrong with what is said of a command, if anything. It is run in the current folder."""
+    """What is wrong with what is said of a command, if anything. It runs the command in the current folder."""
     words = command.replace('examples/', '').split()
     if without('--workers', without('--trace', words)) not in [without('--trace', row) for row in rows]:
         return 'no row has this command'
@@ -280,7 +281,7 @@ def what_is_wrong(command, said, lines, rows):
 
 
 def wrong_claims(rows):
-    """What the examples and README.md say of commands, where something else is true."""
+    """What the examples and README.md wrongly say of commands."""
     files = sorted([*pathlib.Path().glob('*.kpn'), *pathlib.Path('worked').glob('*.kpn')])
     claims = [(file.name, *claim) for file in files
               for claim in claims_of_example(file.read_text())]

@@ -1,4 +1,4 @@
-"""What `kpn draw` and `kpn stats` write of a network and of a trace, computed by another program than the proved one:
+"""What `kpn draw` and `kpn stats` write of a network and of a trace. Another program than the proved one computes it
 from what an audit keeps of channels and processes (histories.py), and from the events of the trace.
 """
 import histories
@@ -13,7 +13,7 @@ HEAD = '''digraph network {
 
 
 def replay(network, trace):
-    """An audit behind the last event of a legal trace, and the most items that lay unread on each channel."""
+    """An audit behind the last event of a legal trace, and the most items that were unread on each channel."""
     audit = histories.Audit(network, histories.MOST_STEPS, trace.policy, trace.growth)
     most = [0] * len(network.channels)
     for event in trace.history:
@@ -23,7 +23,7 @@ def replay(network, trace):
 
 
 def standing(audit, p):
-    """How process p has ended, or what it waits for; nothing where it can go on."""
+    """How process p has ended, or what it waits for; nothing if it can go on."""
     if audit.has_ended(p):
         return audit.last_of[p][-1]
     wait = audit.blocked(p)

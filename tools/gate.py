@@ -3,10 +3,11 @@
 
 usage: tools/gate.py [--no-edits] [--jobs N] [CRATE ..]
 
-In a clean clone of what is committed each crate is proved, tried with its must-fail edits, tested and run by the same
-command lines of the prover as under `rt ci`, N at a time (one a processor, if N is not given), one job each. What
-is counted is the processor time of the children. With names of crates only these stand in the table; what lies below
-them is proved too. Since machines differ, the last line says how this one compares with the table's.
+It makes a clean clone of what is committed. There it proves each crate, tries its must-fail edits, tests it and runs
+it, with the command lines of the prover that `rt ci` uses. It does so for N crates at a time (one a processor, if N is
+not given), with one job each. It counts the processor time of the children. With names of crates, only these are in the
+table; the crates below them are proved too. Since machines differ, the last line says how this one compares with the
+table's.
 """
 import argparse
 import os
@@ -40,7 +41,7 @@ class Gate:
         self.is_well = True
 
     def run(self, words, folder, expected=0, **how):
-        """Runs a command, and gives its output and the processor time of all that it started."""
+        """Runs a command, and returns its output and the processor time of all that it started."""
         with tempfile.TemporaryFile('w+', errors='replace') as said:
             how = {'stdin': subprocess.DEVNULL, 'stdout': said, 'stderr': subprocess.STDOUT, **how}
             started = subprocess.Popen(list(map(str, words)), cwd=folder, **how)
@@ -131,7 +132,7 @@ def tell(text):
 
 
 def measure(gate, crates, shown, jobs, with_edits):
-    """Gives what each crate spent. A crate is proved once those below it are, and tried and tested after that."""
+    """Returns what each crate spent. A crate is proved once those below it are, and tried and tested after that."""
     spent = {crate: Spent() for crate in crates}
     with ThreadPoolExecutor(jobs) as pool:
         proofs, rest = {}, []

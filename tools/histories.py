@@ -1,9 +1,9 @@
 #!/usr/bin/env python3
-"""Runs of networks on one thread, their histories as text, and whether a history is legal, computed by another program
-than the proved one. Words: those of `kpn run`, whose workers it knows but does not start, and those of `kpn audit`.
+"""Runs of networks on one thread, their histories as text, and whether a history is legal. This is another program than
+the proved one. Words: those of `kpn run`, whose workers it knows but does not start, and those of `kpn audit`.
 
-What a run does is kept step by step; what a history must meet is judged from the lists that it leaves, so the two check
-each other. It trusts descriptions and item files: it is no checker of those.
+What a run does is kept step by step. What a history must meet is judged from the lists that it leaves. So the two check
+each other. It trusts descriptions and item files: it does not check those.
 """
 import argparse
 import collections
@@ -20,7 +20,7 @@ STATUSES = {'ended': 0, 'enough': 0, 'clogged': 3, 'jammed': 4, 'stopped': 5, 'l
 HEAD_ONE, HEAD_TWO = b'kpn-trace 1\n', b'kpn-trace 2\n'
 RULES = re.compile(rb'policy (cycles|all) grow (one|double)\n')
 
-# What a process stands at: ('step',), ('read', port), ('write', port, item), ('end', cause); and ('paused',), where it
+# Where a process is: ('step',), ('read', port), ('write', port, item), ('end', cause); and ('paused',), if it
 # made as many steps as it may.
 STEP, PAUSED = ('step',), ('paused',)
 
@@ -53,12 +53,12 @@ class Process:
                     yield STEP
 
     def inner(self, statements):
-        """A block that is left by a step of its own, which the body is not."""
+        """A block that a process leaves by a step of its own, unlike the body."""
         yield from self.block(statements)
         yield STEP
 
     def move(self, item=None):
-        """Past what it stands at, with the item that a read gives."""
+        """Moves past the place where it is, with the item of a read."""
         try:
             self.stands_at = self.turns.send(item)
         except StopIteration:
@@ -135,8 +135,8 @@ def smallest_waited(waits, capacities):
 
 
 class Run:
-    """A run on one thread. The ready processes stand in a queue; each in turn goes to its next stop, or makes its
-    quota of steps, and then does at most one thing to a channel."""
+    """A run on one thread. The ready processes are in a queue. Each in turn goes to its next stop, or makes its quota
+    of steps, and then does at most one thing to a channel."""
 
     def __init__(self, network, lists):
         self.network, self.processes = network, network.start()
@@ -229,7 +229,7 @@ class Run:
             self.write(p, self.network.ends[p][rest[0]], rest[1])
 
     def verdict(self):
-        """How a run stands still; None while a process is ready. The sinks are empty and the sources closed."""
+        """How a run has stopped; None while a process is ready. The sinks are empty and the sources closed."""
         if self.ready:
             return None
         found = [smallest_full(self.network, self.waits, self.capacities, p) for p in range(len(self.processes))]
@@ -292,7 +292,7 @@ def event_text(event):
 
 
 class Trace(typing.NamedTuple):
-    """A history and the rules of its growths. In version 1 a growth tells 0 as its new capacity."""
+    """A history and the rules of its growths. In version 1 a growth has 0 as its new capacity."""
     version: int
     policy: str
     growth: str
@@ -331,11 +331,11 @@ def read_event(line, version):
 
 
 class BadText(Exception):
-    """A text is no trace, or one of other rules than those of the network; as the program tells it."""
+    """A text is no trace, or one of other rules than those of the network. It has the program's own words."""
 
 
 def read_head(text):
-    """What the first lines tell, as a trace without events, and the lines behind them."""
+    """What the first lines say, as a trace without events, and the lines behind them."""
     if text.startswith(HEAD_ONE):
         return Trace(1, 'cycles', 'one', []), text[len(HEAD_ONE):]
     rules = RULES.match(text, len(HEAD_TWO)) if text.startswith(HEAD_TWO) else None
@@ -395,7 +395,7 @@ class Audit:
         return len(self.written[c]) - self.read_count[c] >= self.capacities[c]
 
     def blocked(self, p):
-        """What p is blocked on: its last event is a wait whose cause still stands."""
+        """What p is blocked on: its last event is a wait whose cause still holds."""
         last = self.last_of[p]
         if last is None or last[0] not in ('wait-empty', 'wait-full'):
             return None
@@ -407,7 +407,7 @@ class Audit:
 
     def owed(self):
         """The growth that has to follow, if one has: that of the cycle that a wait has closed, or else the one that is
-        owed where all stand still."""
+        owed when all stand still."""
         if self.last_event is not None and self.last_event[0] in ('wait-empty', 'wait-full'):
             p = self.last_event[1]
             d = self.owed_by_cycle(p)
@@ -426,7 +426,7 @@ class Audit:
         return *event[:3], self.capacities[event[2]] + 1
 
     def owed_by_cycle(self, p):
-        """The channel that has to grow where p has just come to wait."""
+        """The channel that has to grow if p has just come to wait."""
         d = smallest_full(self.network, self.waits(), self.capacities, p)
         return d if self.network.may_grow(d, self.capacities) else None
 
@@ -498,7 +498,7 @@ class Audit:
         self.last_of[p] = event
 
     def asks(self, p, stop, word, *rest):
-        """Whether the process stands where it says this, and the channel is as the event has it."""
+        """Whether the process is at the statement that says this, and the channel is ready for the event."""
         if word == 'end':
             return stop == ('end', *rest)
         if stop[0] == 'end' or self.network.ends[p][stop[1]] != rest[0]:
@@ -518,8 +518,8 @@ class Audit:
 
 
 def audit_text(network, trace, quota=MOST_STEPS):
-    """The answer, of which the first word decides the status. A trace of version 1 is judged by its own rules, whatever
-    the network says."""
+    """The answer, whose first word decides the status. A trace of version 1 has rules of its own, whatever the network
+    says."""
     if trace.version == 2 and (trace.policy, trace.growth) != network.growing[:2]:
         raise BadText('kpn: 53 PolicyDiffers')
     audit = Audit(network, quota, trace.policy, trace.growth)
@@ -532,7 +532,7 @@ def audit_text(network, trace, quota=MOST_STEPS):
 
 
 def status_of(text):
-    """The status that the program ends with: a report's last word, or an audit's first."""
+    """The exit status: a report's last word decides it, or an audit's first."""
     first, last = text.split()[0], text.split()[-1]
     return STATUSES[first if first in ('legal', 'illegal', 'budget') else last]
 

@@ -1,6 +1,6 @@
 """Lines for crates/check_examples that audit changed histories: worked histories, each with 30 changes of one event,
 some changes that have a name, cuts, and texts that are no histories. They are texts of version 1, and some of version 2
-follow them. Each is made as a file `changed` and audited. tools/examples.py puts them into the compared run and
+follow them. Each becomes a file `changed` and is audited. tools/examples.py puts them into the compared run and
 computes what must come.
 """
 import pathlib
@@ -93,7 +93,7 @@ def chosen(network, history):
 # ---- texts
 
 def line_of(event):
-    """The line of an event in version 1, in which a growth tells no capacity."""
+    """The line of an event in version 1, in which a growth has no capacity."""
     return histories.event_text(event[:3] if event[0] == 'grow' else event)
 
 

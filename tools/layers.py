@@ -1,8 +1,8 @@
 #!/usr/bin/env python3
 """Counts the functions of the product that only hand on: the body is one call on the function's own parameters.
 
-A body counts that is one call, with or without `?`, of which the receiver and each argument is a parameter or a field
-of one, borrowed or not. Not counted are functions in impls of traits, and the calls that the library offers to its
+A body counts if it is one call, with or without `?`, whose receiver and arguments are parameters or fields of one,
+borrowed or not. Functions in impls of traits do not count, and neither do the calls that the library offers to its
 users, which are named below. With -v it prints each function with its body. It depends on the layout of `rt fmt`.
 """
 import collections

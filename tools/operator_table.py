@@ -1,6 +1,6 @@
 #!/usr/bin/env python3
-"""Writes the stored table of crates/check_operators: each operator on pairs at the ends of the range, with what it
-must give, computed by whole numbers that have no bound."""
+"""Writes the stored table of crates/check_operators: each operator on pairs at the ends of the range, with the right
+answer. It computes with whole numbers that have no bound."""
 import pathlib
 
 LEAST, MOST = -2**63, 2**63 - 1

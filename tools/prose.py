@@ -1,12 +1,12 @@
 #!/usr/bin/env python3
-"""Counts the words of each document, and says how long its sentences are: the longest, the mean, and the share of those
-over 25 words.
+"""Counts the words of each document, and reports how long its sentences are: the longest, the mean, and the share of
+those over 25 words.
 
 usage: tools/prose.py [--long N] [FILE ..]
 
-Without a file it looks at README.md, docs/ and bench/RESULTS.md. Code blocks and tables are not counted. In a sentence,
-a piece of code in backquotes counts as one word. A heading is no sentence, and a point of a list ends one. With
-`--long N` it also writes each sentence of more than N words. It is run by hand.
+Without a file it looks at README.md, docs/ and bench/RESULTS.md. It does not count code blocks and tables. In a
+sentence, a piece of code in backquotes counts as one word. A heading is no sentence, and a point of a list ends one.
+With `--long N` it also writes each sentence of more than N words. It is run by hand.
 """
 import argparse
 import pathlib

@@ -1,5 +1,5 @@
-"""What crates.txt says of the crates, and how the prover is called for one of them: in the words that `rt` uses, but
-over libraries in a folder of the caller's. `build.py` and `gate.py` use it.
+"""What crates.txt says of the crates, and how to call the prover for one of them: in the words that `rt` uses, but over
+libraries in a folder of the caller's. `build.py` and `gate.py` use it.
 """
 import pathlib
 import subprocess
@@ -9,7 +9,7 @@ TARGET = 'x86_64-unknown-linux-gnu'
 
 
 def find_kit():
-    """The kit's folder, in which the page lies that `rt doc` names."""
+    """The kit's folder, which has the page that `rt doc` names."""
     said = subprocess.run(['rt', 'doc'], check=True, capture_output=True, text=True)
     return pathlib.Path(said.stdout.strip()).parent
 

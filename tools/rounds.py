@@ -1,8 +1,8 @@
 #!/usr/bin/env python3
-"""Kahn's n-th iterate of a network description, computed by another program than the proved one.
+"""Computes Kahn's n-th iterate of a network description. This is another program than the proved one.
 
-Words: the description's file, n, and NAME=FILE for each source that has items. Prints a line for each channel, as
-`kpn rounds` does. The tests' expected values come from here. It trusts its input: it is no checker of descriptions.
+Words: the description's file, n, and NAME=FILE for each source that has items. Prints a line for each channel, as `kpn
+rounds` does. The tests' expected values come from here. It trusts its input: it does not check descriptions.
 """
 import pathlib
 import re
@@ -15,11 +15,11 @@ LARGEST_CAPACITY = 1_048_576
 
 
 class Fault(Exception):
-    """An expression has no value, which ends its process. It is told as `overflow` or `zero-divisor`."""
+    """An expression has no value, which ends its process. The text for it is `overflow` or `zero-divisor`."""
 
 
 class Starved(Exception):
-    """A read found its list used up."""
+    """A read found its list empty."""
 
 
 class Cut(Exception):
@@ -28,7 +28,7 @@ class Cut(Exception):
 
 class Growing(typing.NamedTuple):
     """Which channels grow, by how much, and up to which capacity. Under both policies the smallest full channel of a
-    blocked cycle grows; under `all` also, where all stand still, the smallest on which a process waits as full."""
+    blocked cycle grows. Under `all`, when all stand still, so does the smallest on which a process waits as full."""
     policy: str
     growth: str
     limit: int
@@ -139,7 +139,7 @@ class Parser:
         return Growing(self.choice('policy', 'cycles', 'all'), self.choice('grow', 'one', 'double'), limit)
 
     def choice(self, word, *names):
-        """The name behind the word, where that is next; the first of the names goes without saying."""
+        """The name behind the word, if that is next; else the first of the names."""
         if not self.took(word):
             return names[0]
         found = self.next()

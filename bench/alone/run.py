@@ -1,8 +1,8 @@
 #!/usr/bin/env python3
 """Items per second and peak memory of `kpn alone sum`, beside awk and a plain Rust program of the same meaning.
 
-Prints ratios and checks that the outputs are equal. It is no part of the gate. Counts of lines may be given as words;
-the default is 1,000,000 and 10,000,000. The best of three runs is told.
+Prints ratios and checks that the outputs are equal. It is no part of the gate. Words may name counts of lines; the
+default is 1,000,000 and 10,000,000. It reports the best of three runs.
 """
 import hashlib
 import os

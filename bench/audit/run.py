@@ -1,10 +1,10 @@
 #!/usr/bin/env python3
-"""Seconds and memory of `kpn audit` beside the `kpn run --trace` that made the trace. What it takes to write a trace is
-measured by bench/trace.
+"""Seconds and memory of `kpn audit` beside the `kpn run --trace` that made the trace. bench/trace measures what it
+takes to write a trace.
 
 Prints ratios, and checks that the audit says `legal` and that a plain Rust program of the same meaning as `kpn run`
-makes the same trace. It is no part of the gate. Counts of events may be given as words; the default is 1,000,000 and
-10,000,000. The best of three runs is told, by the time that it took on its processor.
+makes the same trace. It is no part of the gate. Words may name counts of events; the default is 1,000,000 and
+10,000,000. It reports the best of three runs, by the time that each took on its processor.
 """
 import filecmp
 import pathlib

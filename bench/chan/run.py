@@ -1,8 +1,8 @@
 #!/usr/bin/env python3
 """Puts and gets per second of a channel, and its bytes an item, beside a plain Rust `VecDeque` with a `Vec` journal.
 
-Prints ratios and checks that both read the same. It is no part of the gate. The number of items may be given as a word;
-the default is 20,000,000. The best of five runs is told, by the time that the process took on its processor.
+Prints ratios and checks that both read the same. It is no part of the gate. A word may name the number of items; the
+default is 20,000,000. It reports the best of five runs, by the time that the process took on its processor.
 """
 import pathlib
 import sys

@@ -1,9 +1,9 @@
 #!/usr/bin/env python3
 """Walks per second along the waits of 2, 16 and 256 processes, on a chain and on a cycle.
 
-Each walk is measured in a network of as many processes as it meets and in one of 256, of which the others wait for
-nobody: what a step costs is to be the same. It is no part of the gate. The number of steps of a run may be given as a
-word; the default is 100,000,000. The best of five runs is told.
+It measures each walk in a network of as many processes as the walk meets and in one of 256, of which the others wait
+for nobody. A step has to cost the same in both. It is no part of the gate. A word may name the number of steps of a
+run; the default is 100,000,000. It reports the best of five runs.
 """
 import pathlib
 import sys

@@ -2,10 +2,10 @@
 """The files of the program, as the system has them: what a command may not write over, and what is left of a trace that
 can't be stored.
 
-Each case is made in a folder of its own, and says what has to come: the status, what is told, and what stands in the
-folder afterwards. Most of it the gate can't show, since it has no links, pipes, rights, locks and processes that are
-killed. It is no part of the gate. Begun by root it tries the rights of others as a user who has no rights here. A word
-names the program; it is crates/kpn/out/kpn where none is named.
+Each case has a folder of its own. It says what has to come: the status, what the program writes on standard error, and
+the contents of the folder afterwards. The gate can't show most of it, since it has no links, pipes, rights, locks and
+processes that are killed. It is no part of the gate. If root starts it, it tries the rights of others as a user who has
+no rights here. A word names the program; the default is crates/kpn/out/kpn.
 """
 import fcntl
 import os
@@ -39,13 +39,13 @@ cases, failed = [], []
 
 
 def case(test):
-    """A case: a function that is given an empty folder."""
+    """A case: a function that gets an empty folder."""
     cases.append(test)
     return test
 
 
 def run(folder, *words, **how):
-    """What `kpn run` writes, what it tells, and its status."""
+    """What `kpn run` writes on standard output and on standard error, and its status."""
     how.setdefault('stdout', subprocess.PIPE)
     how.setdefault('stderr', subprocess.PIPE)
     done = subprocess.run([PROGRAM, 'run', *words], cwd=folder, timeout=60, **how)
@@ -166,7 +166,7 @@ def another_file_with_the_bytes_of_an_input(folder):
 # ---- an output that is another output
 
 def outputs(folder, name, target, stream):
-    """The answer where standard output or standard error is the file of this name, and the trace goes to the other."""
+    """The answer if standard output or standard error is the file of this name, and the trace goes to the other."""
     with open(folder / name, 'ab') as file:
         return run(folder, 'two.kpn', '--trace', target, **{stream: file})
 
@@ -287,7 +287,7 @@ def a_link_to_a_file_that_is_not_there(folder):
 # ---- the file is tried before the run
 
 def long_run(folder):
-    """The words of a run of half a second or more, behind which its trace would be stored."""
+    """The words of a run of half a second or more, which would store its trace at its end."""
     shutil.copy(DATA / 'worked/spin.kpn', folder / 'spin.kpn')
     commits = 100
     while True:
@@ -447,7 +447,7 @@ def the_rights_of_a_new_file(folder):
 
 @case
 def the_rights_of_the_part_file_from_its_beginning(folder):
-    """No file with more rights than the old one is ever made: the calls of the system tell."""
+    """The calls of the system show that no file with more rights than the old one is ever made."""
     if shutil.which('strace') is None:
         return
     two(folder)
@@ -472,7 +472,7 @@ def an_old_part_file_with_more_rights(folder):
 
 @case
 def a_part_file_that_is_a_second_name(folder):
-    """What a part file is a second name of is not written."""
+    """The file that a part file is a second name of is not written."""
     two(folder)
     (folder / 'other').write_bytes(b'of another\n')
     os.link(folder / 'other', folder / 'out.kpn-part')
@@ -497,7 +497,7 @@ def a_device_that_is_full(folder):
 
 @case
 def a_file_that_may_grow_no_longer(folder):
-    """Where the trace is not written whole the old file stays, and no part file."""
+    """If the trace is not written whole, the old file stays, and no part file."""
     two(folder)
     (folder / 'out').write_bytes(b'kept\n')
     expect(run(folder, 'two.kpn', '--trace', 'out', preexec_fn=small_files), (b'', WRITE, 1))
@@ -525,7 +525,7 @@ def synced_before_it_succeeds(folder):
 
 @case
 def an_input_that_a_signal_interrupts(folder):
-    """A pipe whose reads are interrupted by signals that the program has stopped and gone on by."""
+    """A pipe. Signals that stop the program and let it go on interrupt its reads."""
     copy(folder)
     os.mkfifo(folder / 'pipe')
     begun = subprocess.Popen([PROGRAM, 'run', 'copy.kpn', '--source', 's=pipe'], cwd=folder, stdout=subprocess.PIPE,

@@ -26,7 +26,7 @@ import measure
 import networks
 
 COMMITS = 10_000_000
-# Instructions are counted at so many hops less a tenth of them, so that what a run costs by itself is left out.
+# The instructions of so many hops less those of a tenth of them, without what a run costs by itself.
 COUNTED_HOPS = 600_000
 
 

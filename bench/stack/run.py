@@ -1,10 +1,9 @@
 #!/usr/bin/env python3
-"""The least stack with which the rows of check_examples come to what they are to come to.
+"""The least stack with which the rows of check_examples come to their right answers.
 
-Each row runs with less and less stack, and its answer is compared with that of a run on all stack. A worker has as
-much stack as the calling thread. Where a stack begins is random, by some KiB, so each is tried several times. It is no
-part of the gate. Words: the program, which is crates/kpn/out/kpn where none is named, and a number N, where every N-th
-row is to do.
+Each row runs with less and less stack, and its answer is compared with that of a run on all stack. A worker has as much
+stack as the calling thread. A stack begins at random, by some KiB, so each is tried several times. It is no part of the
+gate. Words: the program, by default crates/kpn/out/kpn, and a number N, if only every N-th row is to run.
 """
 import os
 import pathlib
@@ -29,7 +28,7 @@ def text_of(word):
 
 
 def answer(words, folder, stack):
-    """What a command writes and tells, and its status, with so many KiB of stack."""
+    """What a command writes on both outputs, and its status, with so many KiB of stack."""
     def limit():
         resource.setrlimit(resource.RLIMIT_STACK, (stack * 1024, stack * 1024))
     given = folder / 'input'
@@ -52,7 +51,7 @@ def least(words, folder):
 
 
 def rows(folder):
-    """The command lines of the compared run, with the files that lie there as each is run."""
+    """The command lines of the compared run, each with the files that are there when it runs."""
     for line in (CASES / 'stdin').read_text().splitlines():
         word, _, rest = line.partition(' ')
         if word == 'first':

@@ -1,9 +1,9 @@
 #!/usr/bin/env python3
-"""Random networks under each policy and each growth, run and audited by the program beside tools/histories.py.
+"""Random networks under each policy and each growth. The program runs and audits them beside tools/histories.py.
 
-Of the run on one thread report, trace and audit have to be the same, and so have the audits of its history with one
-change, and of a run by workers, which has to be legal. It is no part of the gate. Words: for how many seconds, at first
-60; the number where the random ones begin, else by chance; and the program, if another one than that of `kpn`.
+Report, trace and audit of the run on one thread have to be the same. So have the audits of its history with one change,
+and of a run by workers, which has to be legal. It is no part of the gate. Words: for how many seconds, by default 60;
+where the random numbers begin, else by chance; and the program, if another one than that of `kpn`.
 """
 import collections
 import pathlib
@@ -26,7 +26,7 @@ WORKERS = (1, 2, 4, 16)
 
 
 def changed(chance, network, history):
-    """The history where one event is left out or comes twice, or has a growth before it or in its place."""
+    """The history without one event, with one event twice, or with a growth before it or in its place."""
     if not history:
         return history
     place = chance.randrange(len(history))

@@ -1,5 +1,5 @@
-"""Random networks by 1 to 16 workers, of which some are refused memory or threads and some are killed, each judged
-against the run on one thread and the auditor. `repeat.py mixed` calls it."""
+"""Random networks by 1 to 16 workers. Some runs get too little memory or too few threads, and some are killed. Each is
+judged against the run on one thread and the auditor. `repeat.py mixed` calls it."""
 import collections
 import os
 import pathlib
@@ -12,7 +12,7 @@ import time
 
 import random_networks
 
-# seconds that a run may take, where others work on the machine too
+# seconds that a run may take while others work on the machine too
 MOST = 60
 
 # the most commits of a run: not all networks come to an end
@@ -21,7 +21,7 @@ COMMITS = 2_000
 # the statuses of outcomes
 OUTCOMES = {b'ended': 0, b'enough': 0, b'clogged': 3, b'jammed': 4, b'stopped': 5}
 
-# what a run tells that lacks memory or a thread
+# what a run writes that lacks memory or a thread
 THREADS = (b'', b'kpn: 48 Threads\n', 7)
 NO_MEMORY = [(b'', b'kpn: %d NoMemory\n' % number, 6) for number in (28, 32, 42, 51)]
 
@@ -69,7 +69,7 @@ class Mix:
             way([*words, '--workers', str(self.random.randint(1, 16))], here)
 
     def judged(self, way, words, here, lacks=(), **how):
-        """A run with a trace that has to come to an outcome, or to one of these answers. Gives what it wrote."""
+        """A run with a trace that has to come to an outcome, or to one of these answers. Returns what it wrote."""
         (self.folder / 'trace').unlink(missing_ok=True)
         words = [*words, '--trace', 'trace']
         found = self.answer(words, **how)
@@ -87,7 +87,7 @@ class Mix:
         return found[0]
 
     def audit(self, words, outcome):
-        """A stored trace is legal, and exact where the run has ended."""
+        """A stored trace is legal, and exact if the run has ended."""
         found = self.answer(['audit', 'net', 'trace'])
         if not found[0].startswith(b'legal\n') or (outcome == b'ended' and b'exact yes' not in found[0]):
             self.fail(words, found)
@@ -102,7 +102,7 @@ class Mix:
         self.judged('refused memory', words, here, [THREADS, *NO_MEMORY], env={**os.environ, **refusing})
 
     def lacks_threads(self, words, here):
-        """So many threads are there beside the first one; only root can begin a run of a user who has no other."""
+        """So many threads are there beside the first one. Only root can start a run of a user who has no other."""
         if os.geteuid() != 0:
             return
         threads = self.random.randrange(8)
@@ -129,7 +129,7 @@ class Mix:
 
 
 def mix(seconds, processors, program, library, user, folder):
-    """So many seconds of such runs on these processors: tells how many came to each end."""
+    """So many seconds of such runs on these processors. Prints how many came to each end."""
     os.sched_setaffinity(0, processors)
     counts = Mix(program, library, user, folder).run(seconds)
     for (way, end), count in sorted(counts.items()):

@@ -1,6 +1,6 @@
 """Random networks of the language, with items for their sources."""
 
-# what stands before the statements of each process, so that each variable is set where it is read
+# what comes before the statements of each process, so that each variable is set when it is read
 HEAD = 'x = 1; y = 2; k = 0; '
 VARIABLES = ('x', 'y')
 OPERATORS = ('+', '-', '*', '%', '<', '==')
@@ -14,7 +14,7 @@ def expression(random, depth=2):
 
 
 def statement(random, ins, outs, depth):
-    """One that reads or writes more often than not, where there is a port for it."""
+    """One that reads or writes more often than not, if there is a port for it."""
     kinds = ['set'] + ['read'] * 3 * bool(ins) + ['write'] * 3 * bool(outs) + ['if', 'while'] * bool(depth)
     kind = random.choice(kinds)
     if kind == 'read':
@@ -34,7 +34,7 @@ def block(random, ins, outs, depth):
 
 
 def straight(random, ins, outs):
-    """Reads and writes alone, one after the other."""
+    """Only reads and writes, one after the other."""
     places = [*(f'read {port} x;' for port in ins), *(f'write {port} y;' for port in outs * 2)]
     return ' '.join(random.choice(places) for _ in range(random.randint(1, 20)) if places)
 

@@ -70,7 +70,7 @@ def rows(*commands):
 
 
 def answer(words, **how):
-    """What a command writes, what it tells, and its status. One that hangs ends this program."""
+    """What a command writes on both outputs, and its status. One that hangs ends this program."""
     try:
         done = subprocess.run(words, cwd=DATA, capture_output=True, timeout=MOST, **how)
     except subprocess.TimeoutExpired:
@@ -79,7 +79,7 @@ def answer(words, **how):
 
 
 def run_rows(program, prefix):
-    """Each row once by each number of workers. Tells how many runs there were."""
+    """Each row once by each number of workers. Returns how many runs there were."""
     for row in ROWS_OF_RUNS:
         wanted = answer([program, *row])
         for workers in WORKERS:
@@ -110,7 +110,7 @@ def repeat_tests(count):
 
 
 def repeat_program(words, count):
-    """Runs a program so often, and tells how many seconds that took. One run that fails ends this program."""
+    """Runs a program so often, and returns how many seconds that took. One run that fails ends this program."""
     before = time.monotonic()
     for number in range(count):
         done = subprocess.run(words, capture_output=True, text=True)
@@ -120,7 +120,7 @@ def repeat_program(words, count):
 
 
 def refused(program, row, workers, threads):
-    """What a run answers where the system has so many threads for it beside its first one."""
+    """What a run answers if the system has so many threads for it beside its first one."""
     def allow():
         resource.setrlimit(resource.RLIMIT_NPROC, (1 + threads, 1 + threads))
     words = [program, *row, '--workers', str(workers)]
@@ -143,7 +143,7 @@ def refuse_threads(program):
 
 
 def refused_memory(words, library, wanted, lacks):
-    """One run after the other. Tells how many told that they were refused memory, and how many were as wanted."""
+    """One run after the other. Returns how many reported that memory ran out, and how many were right."""
     told = ended = steady = first = 0
     while steady < STEADY:
         first += 1
@@ -166,7 +166,7 @@ def refusing_library(folder):
 
 
 def refuse_memory(program):
-    """Of runs by workers that come to an outcome. A thread wants memory too."""
+    """Of runs by workers that come to an outcome. A thread needs memory too."""
     library = refusing_library(pathlib.Path(program).parent)
     told = ended = 0
     for row in ROWS_OF_RUNS:

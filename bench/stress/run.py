@@ -2,8 +2,8 @@
 """Many runs of the example networks by workers, with a gate that dawdles at random.
 
 Each run has to come to the outcome and the items of a run on one thread, with a history that the auditor finds legal,
-and within its time: a run that hangs ends this program with an error. It is no part of the gate. How many runs there
-are in all may be given as a word; the default is 10,000. A second word is the number where the random ones begin.
+and within its time: a run that hangs ends this program with an error. It is no part of the gate. A word may name how
+many runs there are in all; the default is 10,000. A second word says where the random numbers begin.
 """
 import pathlib
 import subprocess

@@ -2,8 +2,8 @@
 """Megabytes per second of `kpn check` on large descriptions and of reading 10,000,000 items, beside `wc -l` and a plain
 Rust reader, and the seconds of `kpn rounds` on Kahn's example with 1,000 rounds.
 
-Items are read by `kpn rounds` with no round and one source, which writes them too, while the plain reader only reads
-them. It is no part of the gate. The best of three runs is told.
+`kpn rounds` with no round and one source reads the items and writes them too. The plain reader only reads them. It is
+no part of the gate. It reports the best of three runs.
 """
 import pathlib
 import subprocess
@@ -39,7 +39,7 @@ def processes():
 
 
 def minuses():
-    """One run of `-`, which nests too deep and is refused once its tokens were read."""
+    """One run of `-`, which nests too deep: it is refused after its tokens were read."""
     head = 'process p(out z) { write z '
     return head + '-' * (LIMIT - len(head))
 

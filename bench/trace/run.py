@@ -1,9 +1,10 @@
 #!/usr/bin/env python3
 """Time and memory of writing a trace into memory, beside a plain Rust program that writes the same with `writeln!`.
 
-Prints ratios and checks that both write the same bytes. It is no part of the gate. The number of events may be given as
-a word; the default is 10,000,000. What a run that writes the trace once takes is taken off from one that writes it
-oftener. The programs take turns, and the best of nine runs of each is told, by the time that it took on its processor.
+Prints ratios and checks that both write the same bytes. It is no part of the gate. A word may name the number of
+events; the default is 10,000,000. The time of a run that writes the trace once is subtracted from that of one that
+writes it more often. The programs take turns. It reports the best of nine runs of each, by the time that it took on its
+processor.
 """
 import pathlib
 import sys

@@ -1,11 +1,11 @@
 #!/usr/bin/env python3
-"""`kpn run --workers` beside the plain Rust program of bench/run, where steps are short, and, where processes compute
-by themselves, beside as many independent compiled loops as there are workers. `command.py` tells how it does beside
-one thread, at medium grain too.
+"""`kpn run --workers` beside two others. If steps are short, that is the plain Rust program of bench/run. If processes
+compute by themselves, it is as many independent compiled loops as there are workers. `command.py` compares it with one
+thread, at medium grain too.
 
-It tells parts of the other's speed, by the clock. All have to write the same. It is no part of the gate. The number of
-hops, of items that are put on a channel, may be given as a word; the default is 4,000,000. The programs take turns, and
-the best of five runs of each counts: on a machine that does other work only such parts of one run mean something.
+It reports parts of the other's speed, by the clock. All have to write the same. It is no part of the gate. A word may
+name the number of hops, of items that are put on a channel; the default is 4,000,000. The programs take turns, and the
+best of five runs of each counts: on a machine that does other work only such parts of one run mean something.
 """
 import pathlib
 import sys
