@@ -65,10 +65,9 @@ def keep_module(folder):
 
 
 def inlining():
-    """The attribute for inlining of the functions of each crate, by crate and name, where all of that name agree.
+    """The attribute for inlining of the functions of each crate, by crate and name, if all of that name agree.
 
-    Of the kit's crates only functions that are always inlined are marked.
-    """
+    Of the kit's crates only functions that are always inlined are marked."""
     found = collections.defaultdict(set)
     for top, marked in ((TOP / 'crates', 'always|never'), (KIT / 'rattle', 'always')):
         for file in top.glob('*/src/**/*.rt'):

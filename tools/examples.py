@@ -5,7 +5,7 @@ figures.py) compute that. What comes before that heading stays as it is. The scr
 anew. Below the heading `# The examples run by workers` is each run above it once more by 1, 2 and 16 workers, with an
 audit of its trace. Below `# Changed histories` are the lines of history_tables.py.
 
-Before that it checks the comments at the head of each of the examples, and README.md: they have to say what really
+Before that it checks the comments at the head of each of the examples, and README.md. They have to say what really
 comes of the commands that they name, and each of these commands has to have a row. It is run by hand, after each change
 of an example.
 

@@ -364,8 +364,8 @@ class Wrong(Exception):
 
 
 class Audit:
-    """What a history so far says of channels and processes: what was written and how much of it read, the capacities
-    that the growths led to, what was closed and left, and the last event of each process."""
+    """What a history so far says of channels and processes. Of a channel: what was written, how much of it was read,
+    the capacity that the growths led to, and whether it was closed or left. Of a process: its last event."""
 
     def __init__(self, network, quota=MOST_STEPS, policy=None, growth=None):
         self.network, self.quota, self.processes = network, quota, network.start()

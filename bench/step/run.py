@@ -1,6 +1,6 @@
 #!/usr/bin/env python3
 """Steps per second of the stepper on some loops, beside a plain Rust interpreter over the same enum trees and the same
-loops as rustc compiles them; and what it takes to copy a frame and compare it with another.
+loops as rustc compiles them. Also what it takes to copy a frame and compare it with another.
 
 Prints ratios and checks that all computed the same. It is no part of the gate. A word may name the number of turns; the
 default is 1,000,000. It reports the best processor time of 40 rounds, less that of a run with one turn. The runs are

@@ -40,20 +40,20 @@ TESTS = ('check_pool', 'check_parallel')
 WORKERS = (1, 2, 4, 16)
 PROCESSORS = {'all processors': [], 'two processors': ['taskset', '-c', '0,1']}
 
-# seconds that a test or a run may take, where others work on the machine too
+# seconds that a test or a run may take while others work on the machine too
 MOST = 60
 
 # a user who has no process
 USER = 54_321
 
-# what a run answers that wants a thread more than there are, and a command that wants memory
+# what a run answers that lacks a thread, and a command that lacks memory
 TOLD = (b'', b'kpn: 48 Threads\n', 7)
 NO_MEMORY = [(b'', b'kpn: %d NoMemory\n' % number, 6) for number in (28, 32, 42, 51)]
 
 # the processes of `kpn alone`, and what they read
 BUILT_IN, INPUT = ('copy', 'double', 'sum'), b'1\n2\n3\n'
 
-# a run needs no more memory where so many beginnings of a refusal in a row changed nothing
+# a run needs no more memory if so many beginnings of a refusal in a row changed nothing
 STEADY = 20
 
 

@@ -1,9 +1,9 @@
 #!/usr/bin/env python3
 """Many runs of the example networks by workers, with a gate that dawdles at random.
 
-Each run has to come to the outcome and the items of a run on one thread, with a history that the auditor finds legal,
-and within its time: a run that hangs ends this program with an error. It is no part of the gate. A word may name how
-many runs there are in all; the default is 10,000. A second word says where the random numbers begin.
+Each run has to come to the outcome and the items of a run on one thread, within its time, and the auditor has to find
+its history legal. A run that hangs ends this program with an error. It is no part of the gate. A word may name how many
+runs there are in all; the default is 10,000. A second word says where the random numbers begin.
 """
 import pathlib
 import subprocess

@@ -107,8 +107,8 @@ pub fn a_clogged_writer_goes_on()
     ensures capacity { capacity_after resolved_network resolved_run 0 ≡ Some 3 }
 {}
 
-/// A channel grows whatever makes the last thing stand still: a wait on a full or an empty channel, an end, and a call
-/// of the outside that closes a source, takes the last item of a sink or leaves it.
+/// A channel grows whatever settles the run last: a wait on a full or an empty channel, an end, or a call of the
+/// outside. Such a call closes a source, takes the last item of a sink or leaves it.
 pub fn whatever_settles_lets_a_channel_grow()
     ensures wait_on_empty { Legal resolved_network reader_waits_last_run }
     ensures end { Legal outside_network end_settles_run }

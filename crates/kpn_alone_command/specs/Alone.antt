@@ -19,8 +19,8 @@ use Rattle.kpn_alone_command.specs.Plain.{plain_text}
 abbrev pub IsUnknown : List ℕ → Type 0
 IsUnknown name = (process : BuiltIn) → name_of process ≢ name
 
--- the text is what `kpn alone NAME` makes of the bytes that came in: they spell items, the process of this name was
--- stepped alone on them, and the text states what it put and how it faulted
+-- the text is what `kpn alone NAME` makes of the bytes that came in. They spell items. The process of this name was
+-- stepped alone on them. The text states what it put and how it faulted
 pub record IsAloneText (name : List ℕ) (came_in : Option (List ℕ)) (text : List ℕ) : Type 0 where
   pub process : BuiltIn
   pub named : name_of process ≡ name

@@ -74,8 +74,8 @@ pub fn finding_looks_at_no_source()
         → (p : ℕ) (found : Found) → Finds t waits cap p found → Finds t waits other p found }
 {}
 
-/// If no cycle but the one through `p` has a full channel below the limit, a scan finds a channel if and only if the
-/// search from `p` finds it and it is below the limit.
+/// Suppose that no cycle but the one through `p` has a full channel below the limit. Then a scan finds a channel if and
+/// only if the search from `p` finds it and it is below the limit.
 pub fn scan_is_search()
     ensures { (t : Tables) (waits : List Wait) (cap : ℕ → ℕ) (p : ℕ) → p < length t.instances
         → ((q : ℕ) (others : List ℕ) (d : ℕ) → IsCycle t waits q others

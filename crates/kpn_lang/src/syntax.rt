@@ -45,7 +45,7 @@ pub enum Stmt {
     Read(usize, usize),
     /// Writes the value of an expression to an out port.
     Write(usize, Expr),
-    /// The first block where the expression is not 0, else the second.
+    /// The first block if the expression is not 0, else the second.
     If(Expr, BlockId, BlockId),
     /// The block again and again, as long as the expression is not 0.
     While(Expr, BlockId),

@@ -43,8 +43,8 @@ takes_from_sinks t H = flat_map (takes_of t H) (channel_numbers t)
 
 -- ---- the turns
 
--- a turn: the first process of the queue is claimed, makes no more steps than the quota, of which 0 counts as 1, and is
--- committed; then all that is unread on the sinks is taken
+-- a turn: the first process of the queue is claimed, makes no more steps than the quota, and is committed; then all
+-- that is unread on the sinks is taken. A quota of 0 counts as 1
 pub record IsTurn (quota : ℕ) (before after : Book) : Type 0 where
   pub answer : Done
   pub stepped : Book

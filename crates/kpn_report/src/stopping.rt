@@ -8,8 +8,8 @@ ghost use Rattle.kpn_report.specs.Running.{ReadsOneMore};
 use crate::outcome::{Limits, Outcome};
 use kpn_book::Book;
 
-/// What a run has come to under its limits, if it has: enough if what is wanted was read of each sink, else the verdict
-/// if there is one, else stopped if the commits have reached their limit.
+/// What a run has come to under its limits, if it has. It is enough if what is wanted was read of each sink. Else it is
+/// the verdict if there is one. Else it is stopped if the commits have reached their limit.
 pub fn outcome_of(book: &Book<'_>, limits: &Limits) -> Option<Outcome>
     ensures { IsOutcome book.now.tables book.now.history book.now.commits limits.now result }
 {

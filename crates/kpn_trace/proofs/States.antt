@@ -1,4 +1,5 @@
--- The state of a process. It has stopped if its process has ended or is blocked, and it is one but for ready and held.
+-- The state of a process. It has stopped if its process has ended or is blocked, and it is one except for ready and
+-- held.
 use Rattle.std.proofs.Common.{◌≡◌, ◌↔◌, ◌⊎◌, ℕ, zero, suc, ◌<◌, true, false, cond, List, [], ◌∷◌, length, get_or, count_by, refl, sym, ap, ◌∙◌, inl, inr, arith}
 use Rattle.std.proofs.lemmas.Bool.{both_ways, false≢true}
 use Rattle.std.proofs.lemmas.List.Sums.{sum_by-cons}

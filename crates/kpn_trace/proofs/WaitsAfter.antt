@@ -1,6 +1,5 @@
 -- What each process is blocked on after one more event of a legal history. Only a wait of its own blocks a process
--- again, since only the process itself reads the channel that it waits on as empty, and only it writes the one that it
--- waits on as full.
+-- again: nobody else reads the channel that it waits on as empty, or writes the one that it waits on as full.
 use Rattle.std.proofs.Common.{◌≡◌, ℕ, Bool, true, false, cond, ◌&&◌, ◌||◌, eqb, eq-eqb, List, [], ◌∷◌, ◌++◌, length, Option, Some, None, refl, sym, ap, ◌∙◌, subst, inl, inr, arith, drop}
 use Rattle.std.proofs.lemmas.Bool.{cases_Bool, both_ways, false_from_ne_true, and_parts, and_from, or_cases, cond_both, eqb-true, leb-true, le-leb, false≢true}
 use Rattle.kpn_net.specs.declared.wait.Wait.{Wait}

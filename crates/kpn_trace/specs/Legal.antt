@@ -23,8 +23,8 @@ use Rattle.kpn_trace.specs.Ends.{IsSettled}
 
 -- ---- consistency
 
--- what holds of a history at each moment: each process can say what it said on what it read, what was read begins what
--- was written, and no more is unread than the capacity of a channel whose reader lives
+-- what holds of a history at each moment. Each process can say what it said on what it read. What was read begins what
+-- was written. If the reader of a channel lives, no more is unread than the capacity
 pub record IsConsistent (t : Tables) (H : List Event) : Type 0 where
   pub said : (p : ℕ) → p < length t.instances → CanSay t p (read_on H) (talk_of H p)
   pub in_order : (c : ℕ) → c < length t.channels → IsPrefix (read_on H c) (written_on H c)
@@ -52,8 +52,8 @@ pub record OwesCycleGrowth (t : Tables) (B : List Event) (p d : ℕ) : Type 0 wh
   pub smallest : IsSmallest (capacity_or_zero t B) (full_in_cycle t B p others) d
   pub below_limit : capacity_or_zero t B d < t.limit
 
--- a growth of d is owed for a stop under the policy `all`: the history is settled, no growth is owed for a cycle, and
--- d, the smallest of the channels on which processes wait as full, is below the limit. p waits on d
+-- a growth of d is owed for a stop under the policy `all`. The history is settled, and no growth is owed for a cycle.
+-- The smallest of the channels on which processes wait as full is d, and it is below the limit. p waits on d
 pub record OwesStopGrowth (t : Tables) (B : List Event) (p d : ℕ) : Type 0 where
   pub policy : t.policy ≡ All
   pub settled : IsSettled t B

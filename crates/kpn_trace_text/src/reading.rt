@@ -26,8 +26,8 @@ pub fn read_event(line: &[u8], version: Version) -> Result<Event, BadEvent>
 
 /// The trace that the bytes spell, in either version. Its events may hold any numbers from 0 to 65535.
 ///
-/// It fails with `TraceFault::BadHead` if the bytes do not begin with the first lines of a trace, with
-/// `TraceFault::BadEvent` at the first line that spells no event or lacks its line feed, and with
+/// It fails with `TraceFault::BadHead` if the bytes do not begin with the first lines of a trace. It fails with
+/// `TraceFault::BadEvent` at the first line that spells no event or lacks its line feed. It fails with
 /// `TraceFault::NoMemory` if memory for the events ran out.
 pub fn read_trace<A: Allocator>(alloc: A, bytes: &[u8]) -> Result<Trace<A>, TraceFault>
     ensures ok { IfOk result (Spells bytes.now) }
