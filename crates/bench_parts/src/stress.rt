@@ -20,7 +20,6 @@ use std::time::Clock;
 /// The most steps that a process makes at a time.
 const QUOTA: u32 = 100;
 
-/// The most commits of a run.
 const COMMITS: u64 = 1_000_000;
 
 /// How often a network is run, and how.

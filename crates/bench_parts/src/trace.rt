@@ -27,7 +27,6 @@ fn history_of(alloc: Global, events: u32) -> Result<History, AllocError> {
     Ok(history)
 }
 
-/// The sum of bytes.
 fn sum_of(bytes: &[u8]) -> u64 {
     let mut sum = 0u64;
     for byte in bytes {

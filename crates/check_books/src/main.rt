@@ -100,7 +100,6 @@ fn make_calls<'n, O: Write>(
     Ok(())
 }
 
-/// Makes the calls of a section.
 fn make_section<O: Write>(alloc: Global, section: &str, out: &mut O) -> Result<()> {
     let Some((description, lines)) = section.split_once("calls\n") else {
         bail!("a section is a description and calls");

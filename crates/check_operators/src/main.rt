@@ -31,7 +31,6 @@ fn operator(word: &str) -> Option<Op> {
     }
 }
 
-/// An operand as an expression.
 fn operand(alloc: Global, word: &str) -> Result<Box<Expr>>
     ensures { IfOk result (λ found. IsNumber (term_of found.value)) }
 {

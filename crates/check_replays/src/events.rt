@@ -127,7 +127,6 @@ fn wait_on_full(state: &mut Configuration, network: &Network, p: usize, c: usize
     woken(None)
 }
 
-/// Whether the stop is this end.
 fn is_end(how: How, stop: Stop) -> bool
     ensures { IsTrue result ↔ (stop ≡ stop_of how) }
 {

@@ -50,7 +50,6 @@ fn replay<O: Write>(alloc: Global, network: &Network, lines: &str, out: &mut O) 
     Ok(())
 }
 
-/// Replays a section.
 fn replay_section<O: Write>(alloc: Global, section: &str, out: &mut O) -> Result<()> {
     let Some((description, lines)) = section.split_once("kpn-trace 1\n") else {
         bail!("a section is a description and a trace");

@@ -49,7 +49,6 @@ fn write_process<O: Write>(
     Ok(())
 }
 
-/// A line for each channel.
 fn write_channels<O: Write>(
     alloc: Global,
     network: &Network,
@@ -64,7 +63,6 @@ fn write_channels<O: Write>(
     Ok(())
 }
 
-/// A line for each process.
 fn write_processes<O: Write>(network: &Network, state: &Configuration, out: &mut O) -> Result<()>
     requires { IsConfiguration network.now state.now }
 {

@@ -13,7 +13,6 @@ fn is_refused(heap: &LocalHeap) -> bool {
     matches!(read_trace(heap, TEXT), Err(TraceFault::NoMemory))
 }
 
-// Whether the text is read as its events.
 fn is_read(heap: &LocalHeap) -> bool {
     match read_trace(heap, TEXT) {
         Ok(trace) => trace.events.as_slice() == EVENTS.as_slice(),

@@ -101,7 +101,6 @@ impl BuiltIn {
     }
 }
 
-// An operator between two expressions.
 fn binary(alloc: Global, op: Op, left: Expr, right: Expr) -> Result<Expr, AllocError>
     ensures { IfOk result (λ whole. term_of whole ≡ Bin op (term_of left) (term_of right)) }
 {

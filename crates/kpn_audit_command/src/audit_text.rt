@@ -44,7 +44,6 @@ fn push_exact(text: &mut Vec<u8>, exact: bool) -> Result<(), AllocError>
     }
 }
 
-// The line of one channel.
 fn push_channel(
     text: &mut Vec<u8>,
     name: &[u8],

@@ -51,7 +51,6 @@ fn items(out: &mut Vec<u8>, network: &Network, names: &NetworkNames) -> Result<(
     bytes(out, b"}\n")
 }
 
-/// The processes in order.
 fn processes(out: &mut Vec<u8>, network: &Network, names: &[ProcessNames]) -> Result<(), AllocError>
     requires { length names.now ≡ length network.now.programs }
     ensures { OnOk result (Writes out.old.items out.new.items
@@ -97,7 +96,6 @@ fn policy(out: &mut Vec<u8>, policy: Policy) -> Result<(), AllocError>
     }
 }
 
-/// The line of a policy.
 fn policy_line(out: &mut Vec<u8>, policy: Policy) -> Result<(), AllocError>
     ensures { OnOk result (Writes out.old.items out.new.items (policy_text (Some policy))) }
 {
@@ -116,7 +114,6 @@ fn growth(out: &mut Vec<u8>, growth: Growth) -> Result<(), AllocError>
     }
 }
 
-/// The line of a growth.
 fn growth_line(out: &mut Vec<u8>, growth: Growth) -> Result<(), AllocError>
     ensures { OnOk result (Writes out.old.items out.new.items (growth_text (Some growth))) }
 {
@@ -125,7 +122,6 @@ fn growth_line(out: &mut Vec<u8>, growth: Growth) -> Result<(), AllocError>
     bytes(out, b";\n")
 }
 
-/// The lines of the channels in order.
 fn channels(out: &mut Vec<u8>, network: &Network, names: &[Sequence<u8>]) -> Result<(), AllocError>
     requires { length names.now ≡ length network.now.channels }
     ensures { OnOk result (Writes out.old.items out.new.items
@@ -137,7 +133,6 @@ fn channels(out: &mut Vec<u8>, network: &Network, names: &[Sequence<u8>]) -> Res
     Ok(())
 }
 
-/// The line of a channel.
 fn channel(out: &mut Vec<u8>, name: &[u8], channel: ChannelSpec) -> Result<(), AllocError>
     ensures { OnOk result
         (Writes out.old.items out.new.items (item_text (channel_named name.now channel))) }
@@ -184,7 +179,6 @@ fn channel_spec(network: &Network, c: usize) -> ChannelSpec
     }
 }
 
-/// The lines of the instances in order.
 fn instances(out: &mut Vec<u8>, network: &Network, names: &NetworkNames) -> Result<(), AllocError>
     requires { length names.now.instances ≡ length network.now.instances }
     ensures { OnOk result (Writes out.old.items out.new.items

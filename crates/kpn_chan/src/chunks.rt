@@ -166,7 +166,6 @@ fn item_at(chunk: &[i64], place: usize) -> Option<i64>
     chunk.get(place).copied()
 }
 
-/// The items of a chunk from a place on.
 fn items_from(chunk: &[i64], place: usize) -> &[i64]
     requires { place ≤ length chunk.now }
     ensures { result.now ≡ drop place chunk.now }

@@ -41,7 +41,6 @@ fn push_head(text: &mut Vec<u8>) -> Result<(), AllocError>
     text.extend_from_slice(b"  edge [fontname=\"sans-serif\", fontsize=11];\n")
 }
 
-// The lines of all processes.
 fn push_processes(
     text: &mut Vec<u8>,
     document: &Document,
@@ -123,7 +122,6 @@ fn filling(state: State) -> &'static [u8]
     }
 }
 
-// The lines of all channels.
 fn push_channels(
     text: &mut Vec<u8>,
     document: &Document,
@@ -225,7 +223,6 @@ fn push_capacity(text: &mut Vec<u8>, cap: Option<u32>) -> Result<(), AllocError>
     }
 }
 
-// What went over a channel.
 fn push_flow(text: &mut Vec<u8>, flow: Option<Flow>) -> Result<(), AllocError>
     ensures { OnOk result (text.new.items ≡ text.old.items ++ flow_line flow) }
 {

@@ -54,7 +54,6 @@ pub(crate) fn flow_of(network: &Network, audit: Option<&Audit>, c: usize) -> Opt
     }
 }
 
-// What went over a channel.
 fn flow_in(network: &Network, audit: &Audit, c: usize) -> Flow
     requires there { c < length network.now.channels }
     requires whole { IsWhole network.now audit.now }

@@ -102,7 +102,6 @@ fn assignment<'a>(
     Ok((Statement::Assign(target, value), at))
 }
 
-/// The rest of a statement behind `read`.
 #[tactic(auto, unfolding(crate::specs::Reading::receive_behind, kpn_tokens::specs::Results::and_then))]
 fn read_statement<'a>(source: Source<'a>, at: usize) -> Read<Statement<'a>>
     ensures { Parses statement_seen spec.receive_behind source.entry at result }
@@ -113,7 +112,6 @@ fn read_statement<'a>(source: Source<'a>, at: usize) -> Read<Statement<'a>>
     Ok((Statement::Read(port, variable), at))
 }
 
-/// The rest of a statement behind `write`.
 #[tactic(auto, unfolding(crate::specs::Reading::send_behind, kpn_tokens::specs::Results::and_then))]
 fn write_statement<'a>(alloc: Global, source: Source<'a>, at: usize) -> Read<Statement<'a>>
     ensures { Parses statement_seen spec.send_behind source.entry at result }
@@ -124,7 +122,6 @@ fn write_statement<'a>(alloc: Global, source: Source<'a>, at: usize) -> Read<Sta
     Ok((Statement::Write(port, item), at))
 }
 
-/// The rest of a statement behind `if`.
 #[cycle(block)]
 #[tactic(auto, unfolding(crate::specs::Reading::choice_behind, kpn_tokens::specs::Results::and_then))]
 fn if_statement<'a>(
@@ -143,7 +140,6 @@ fn if_statement<'a>(
     Ok((Statement::If(test, then_block, else_block), at))
 }
 
-/// The rest of a statement behind `while`.
 #[cycle(block)]
 #[tactic(auto, unfolding(crate::specs::Reading::loop_behind, kpn_tokens::specs::Results::and_then))]
 fn while_statement<'a>(

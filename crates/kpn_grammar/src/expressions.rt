@@ -11,7 +11,6 @@ use crate::tree::{Expression, Identifier};
 use kpn_tokens::{Lexeme, Mark, Token};
 use std::alloc::Global;
 
-/// Whether an expression can begin with this token.
 fn begins_expression(token: &Token<'_>) -> bool
     ensures { result ≡ spec.begins_expression token.now }
 {

@@ -25,7 +25,6 @@ fn capacity(source: Source<'_>, at: usize) -> Read<Number>
     Ok((capacity, at))
 }
 
-/// The rest of a channel behind `channel`.
 #[tactic(auto, unfolding(crate::specs::Reading::channel_behind, kpn_tokens::specs::Results::and_then))]
 fn channel_behind<'a>(source: Source<'a>, at: usize) -> Read<Item<'a>>
     ensures { Parses item_seen spec.channel_behind source.entry at result }
@@ -35,7 +34,6 @@ fn channel_behind<'a>(source: Source<'a>, at: usize) -> Read<Item<'a>>
     Ok((Item::Channel(name, capacity), at))
 }
 
-/// The rest of a sink behind `sink`.
 #[tactic(auto, unfolding(crate::specs::Reading::sink_behind, kpn_tokens::specs::Results::and_then))]
 fn sink_behind<'a>(source: Source<'a>, at: usize) -> Read<Item<'a>>
     ensures { Parses item_seen spec.sink_behind source.entry at result }
@@ -45,7 +43,6 @@ fn sink_behind<'a>(source: Source<'a>, at: usize) -> Read<Item<'a>>
     Ok((Item::Sink(name, capacity), at))
 }
 
-/// The rest of a source behind `source`.
 #[tactic(auto, unfolding(crate::specs::Reading::source_behind, kpn_tokens::specs::Results::and_then))]
 fn source_behind<'a>(source: Source<'a>, at: usize) -> Read<Item<'a>>
     ensures { Parses item_seen spec.source_behind source.entry at result }
@@ -82,7 +79,6 @@ fn call<'a>(
     Ok((instance, at))
 }
 
-/// An instance behind its name.
 #[tactic(auto, unfolding(crate::specs::Reading::instance_behind, kpn_tokens::specs::Results::and_then))]
 fn instance_behind<'a>(
     alloc: Global,
@@ -99,7 +95,6 @@ fn instance_behind<'a>(
     Ok((Item::Instance(instance), at))
 }
 
-/// An item.
 #[tactic(auto, unfolding(crate::specs::Reading::item, crate::specs::Reading::item_behind, kpn_tokens::specs::Results::and_then))]
 fn item<'a>(alloc: Global, source: Source<'a>, at: usize) -> Read<Item<'a>>
     ensures { Parses item_seen (λ s. spec.item s 0) source.entry at result }
@@ -145,7 +140,6 @@ fn limit(source: Source<'_>, at: usize) -> Read<Option<Number>>
     Ok((Some(limit), at))
 }
 
-/// The word of a policy.
 #[tactic(auto, unfolding(crate::specs::Reading::word_of, kpn_tokens::specs::Results::and_then))]
 fn policy_word(source: Source<'_>, at: usize) -> Read<Policy>
     ensures { Parses (λ q. q) (spec.word_of words.policy_spelled) source.entry at result }
@@ -175,7 +169,6 @@ fn policy(source: Source<'_>, at: usize) -> Read<Option<Policy>>
     Ok((Some(policy), at))
 }
 
-/// The word of a growth.
 #[tactic(auto, unfolding(crate::specs::Reading::word_of, kpn_tokens::specs::Results::and_then))]
 fn growth_word(source: Source<'_>, at: usize) -> Read<Growth>
     ensures { Parses (λ g. g) (spec.word_of words.growth_spelled) source.entry at result }

@@ -7,7 +7,6 @@ ghost use Rattle.kpn_grammar.specs.Operators as table;
 use kpn_lang::Op;
 use kpn_tokens::Mark;
 
-/// Every operator.
 const ALL: [Op; 13] = [
     Op::Add,
     Op::Sub,

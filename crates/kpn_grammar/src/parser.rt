@@ -42,7 +42,6 @@ pub(crate) fn next<'a>(source: Source<'a>, at: usize) -> Read<&'a Lexeme<'a>>
     }
 }
 
-/// Whether a token is this mark.
 fn is_mark(token: &Token<'_>, mark: Mark) -> bool
     ensures { result ≡ tests.is_mark mark token.now }
 {
@@ -52,7 +51,6 @@ fn is_mark(token: &Token<'_>, mark: Mark) -> bool
     }
 }
 
-/// Whether a token is this reserved word.
 fn is_keyword(token: &Token<'_>, keyword: Keyword) -> bool
     ensures { result ≡ tests.is_keyword keyword token.now }
 {

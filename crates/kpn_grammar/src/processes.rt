@@ -122,7 +122,6 @@ fn parts<'a>(alloc: Global, source: Source<'a>, at: usize) -> Read<HeadParts<'a>
     parts_behind(alloc, source, word, at)
 }
 
-/// A process.
 #[tactic(auto, unfolding(crate::specs::Reading::process, kpn_tokens::specs::Results::and_then))]
 fn process<'a>(alloc: Global, source: Source<'a>, at: usize) -> Read<Process<'a>>
     ensures { Parses process_seen spec.process source.entry at result }

@@ -5,10 +5,8 @@ ghost use Rattle.kpn_grammar.specs.Words as table;
 
 use kpn_net::{Growth, Policy};
 
-/// Every policy.
 const POLICIES: [Policy; 2] = [Policy::Cycles, Policy::All];
 
-/// Every growth.
 const GROWTHS: [Growth; 2] = [Growth::One, Growth::Double];
 
 /// The word that stands for a policy behind `policy`.

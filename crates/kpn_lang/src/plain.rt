@@ -242,7 +242,6 @@ impl<'a> State<'a> {
         })
     }
 
-    // Whether a test holds.
     fn test(&self, expr: &Expr) -> Result<bool, Fault>
         requires { IsTrue (names_below (length self.now.variables) (term_of expr.now)) }
         ensures { result ≡ holds (value (term_of expr.now) self.now.variables) }
@@ -277,7 +276,6 @@ impl<'a> State<'a> {
         next_item(self.lists, &mut self.places, port)
     }
 
-    // The run that ends here.
     fn end(self, alloc: Global, ending: Ending) -> Result<Run, AllocError>
         ensures { let here = self.entry in
             IfOk result (λ run. run ≡ record {
@@ -297,7 +295,6 @@ impl<'a> State<'a> {
     }
 }
 
-// The items of a list from a place on.
 fn items_from(alloc: Global, items: &[i64], place: usize) -> Result<Sequence<i64>, AllocError>
     ensures { IfOk result (λ rest. rest ≡ drop place items.now) }
 {

@@ -37,7 +37,6 @@ fn value(literal: Literal) -> i64
     }
 }
 
-/// The whole numbers that literals write.
 fn values(alloc: Global, literals: &[Literal]) -> Result<Sequence<i64>, AllocError>
     ensures { IfOk result (λ xs. xs ≡ map literal_value (map literal_seen literals.now)) }
 {

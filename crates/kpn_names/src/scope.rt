@@ -71,7 +71,6 @@ impl<'a> Scope<'a> {
         }
     }
 
-    /// Whether a port has this name.
     fn is_port(&self, name: &'a [u8]) -> bool
         ensures { result ≡ spec.is_port self.now name.now }
     {

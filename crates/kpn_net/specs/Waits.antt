@@ -1,5 +1,5 @@
--- What processes wait for, and cycles of waiting processes. This is this project's rule, after Geilen and Basten 2003:
--- each process waits on one channel, which has one other end, so it waits for at most one process.
+-- What processes wait for, and cycles of waiting processes. The rule is this project's own, after Geilen and Basten
+-- 2003: each process waits on one channel, which has one other end, so it waits for at most one process.
 use Rattle.std.specs.Prelude.{◌≡◌, ℕ, ◌<◌, ◌≤◌, ◌⊎◌, List, [], ◌∷◌, length, Option, Some, None, Contains, slice_index_or}
 use Rattle.std.specs.List.{filter_map, range_with_len}
 use Rattle.kpn_net.specs.declared.wait.Wait.{Wait}

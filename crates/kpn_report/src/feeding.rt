@@ -78,7 +78,6 @@ fn feed_items(book: &mut Book<'_>, c: usize, items: &[i64]) -> Result<(), AllocE
     Ok(())
 }
 
-/// Closes source `c`.
 fn close(book: &mut Book<'_>, c: usize) -> Result<(), AllocError>
     ensures supplied { IfOk result (λ _. (before : Seen) (items : List ℤ)
         → IsSupplied c items before book.old → IsSupplied c items before book.new) }

@@ -94,7 +94,6 @@ fn no_processes(alloc: Global, processes: usize) -> Result<Vec<ProcessFigures>, 
     Ok(vec![in alloc; NO_PROCESS; processes]?)
 }
 
-// Counts an event in the figures of its channel.
 fn count_on_channel(channels: &mut Vec<ChannelFigures>, event: Event)
     requires { (c : ℕ) → c < length channels.old.items
         → channel_total (slice_index_or channels.old.items c no_channel) + 1 < 2 ^ 64 }
@@ -108,7 +107,6 @@ fn count_on_channel(channels: &mut Vec<ChannelFigures>, event: Event)
     }
 }
 
-// Counts an event in the figures of its process.
 fn count_of_process(processes: &mut Vec<ProcessFigures>, event: Event)
     requires { (p : ℕ) → p < length processes.old.items
         → process_total (slice_index_or processes.old.items p no_process) + 1 < 2 ^ 64 }
@@ -122,7 +120,6 @@ fn count_of_process(processes: &mut Vec<ProcessFigures>, event: Event)
     }
 }
 
-// The channel that an event is on.
 fn channel_of(event: Event) -> Option<usize>
     ensures { result ≡ channel_of event }
 {

@@ -104,7 +104,6 @@ fn channel_rows(
     Ok(rows)
 }
 
-// The heading of the channels.
 fn channel_heading(alloc: Global) -> Result<Row, AllocError>
     ensures { IfOk result (λ row. row ≡ channel_heading) }
 {
@@ -122,7 +121,6 @@ fn channel_heading(alloc: Global) -> Result<Row, AllocError>
     row_of(alloc, b"channel", word_cells(alloc, &words)?)
 }
 
-// The row of a channel.
 fn channel_row(
     alloc: Global,
     document: &Document,
@@ -187,7 +185,6 @@ fn process_rows(
     Ok(rows)
 }
 
-// The heading of the processes.
 fn process_heading(alloc: Global) -> Result<Row, AllocError>
     ensures { IfOk result (λ row. row ≡ process_heading) }
 {
@@ -195,7 +192,6 @@ fn process_heading(alloc: Global) -> Result<Row, AllocError>
     row_of(alloc, b"process", word_cells(alloc, &words)?)
 }
 
-// The row of a process.
 fn process_row(
     alloc: Global,
     document: &Document,
@@ -265,7 +261,6 @@ fn name_of(document: &Document, c: usize) -> &[u8]
     }
 }
 
-// A row with this name and these cells.
 fn row_of(alloc: Global, name: &[u8], cells: Vec<Sequence<u8>>) -> Result<Row, AllocError>
     ensures { IfOk result (λ row. row ≡ row_of name.now cells.items) }
 {
@@ -276,7 +271,6 @@ fn row_of(alloc: Global, name: &[u8], cells: Vec<Sequence<u8>>) -> Result<Row, A
     })
 }
 
-// A cell for each word.
 fn word_cells(alloc: Global, words: &[&str]) -> Result<Vec<Sequence<u8>>, AllocError>
     ensures { IfOk result (λ cells. cells.items ≡ map (λ word. word.now) words.now) }
 {
@@ -288,7 +282,6 @@ fn word_cells(alloc: Global, words: &[&str]) -> Result<Vec<Sequence<u8>>, AllocE
     Ok(cells)
 }
 
-// A cell for each number.
 fn number_cells(alloc: Global, numbers: &[Option<usize>]) -> Result<Vec<Sequence<u8>>, AllocError>
     ensures { IfOk result (λ cells. cells.items ≡ map number_cell numbers.now) }
 {
@@ -311,7 +304,6 @@ fn number_cell(alloc: Global, number: Option<usize>) -> Result<Sequence<u8>, All
     text_cell(alloc, buffer.format(number).as_bytes())
 }
 
-// A cell with this text.
 fn text_cell(alloc: Global, text: &[u8]) -> Result<Sequence<u8>, AllocError>
     ensures { IfOk result (λ cell. cell ≡ text.now) }
 {

@@ -76,7 +76,6 @@ fn push_aligned_lines(
     Ok(())
 }
 
-// The length of the longest name.
 fn longest_name(rows: &[Row]) -> usize
     ensures { result ≡ longest (names rows.now) }
 {
@@ -108,7 +107,6 @@ fn cell_length(row: &Row, k: usize) -> usize
     }
 }
 
-// The width of each column.
 fn widths_of(alloc: Global, columns: usize, rows: &[Row]) -> Result<Vec<usize>, AllocError>
     ensures { IfOk result (λ made. made.items ≡ widths columns rows.now) }
 {
@@ -162,7 +160,6 @@ fn push_right(text: &mut Vec<u8>, widths: &[usize], k: usize, cell: &[u8]) -> Re
     text.extend_from_slice(cell)
 }
 
-// So many spaces.
 fn push_spaces(text: &mut Vec<u8>, count: usize) -> Result<(), AllocError>
     ensures { OnOk result (text.new.items ≡ text.old.items ++ replicate count 32) }
 {

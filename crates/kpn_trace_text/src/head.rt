@@ -74,7 +74,6 @@ fn version_named(line: &[u8]) -> Option<Version>
     }
 }
 
-/// Whether the line is this one.
 fn is_line(line: &[u8], other: &[u8]) -> bool
     ensures { IsTrue result ↔ (line.now ≡ other.now) }
 {

@@ -21,7 +21,6 @@ pub fn two_numbers(parts: &[u8]) -> Option<(u16, u16)>
     Some((first, second))
 }
 
-/// A number and a capacity.
 fn number_and_capacity(parts: &[u8]) -> Option<(u16, u32)>
     ensures { MatchOption result
         ((m n : ℕ) → m < 2 ^ 16 → 0 < n → n ≤ MAX_CAPACITY

@@ -71,7 +71,6 @@ fn first_event(version: Version, bytes: &[u8]) -> Option<(Event, &[u8])>
     Some((event, rest))
 }
 
-/// The event that a line spells.
 fn event_of(version: Version, line: &[u8]) -> Option<Event>
     ensures { MatchOption result ((event : Event) → ¬ SpellsEvent version line.now event)
         (SpellsEvent version line.now) }

@@ -37,7 +37,6 @@ pub fn canonical_item(word: &[u8]) -> Option<i64>
     }
 }
 
-/// Whether this is the canonical form of an item.
 fn is_form_of(word: &[u8], item: i64) -> bool
     ensures { IsTrue result ↔ (word.now ≡ signed_decimal item) }
 {

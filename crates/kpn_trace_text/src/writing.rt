@@ -40,7 +40,6 @@ fn print<W: Write>(writer: &mut W, event: Event) -> io::Result<()>
     }
 }
 
-/// Writes the first lines of a trace.
 fn write_head<W: Write>(writer: &mut W, policy: Policy, growth: Growth) -> Result<(), WriteFault>
     ensures { OnOk result
         (Appends (W.contents writer.old) (W.contents writer.new)

@@ -202,7 +202,6 @@ fn budget_after_expr(expr: &Expr, budget: usize) -> Option<usize>
     }
 }
 
-/// The same for a statement.
 fn budget_after_stmt(stmt: &Stmt, budget: usize) -> Option<usize>
     ensures { result ≡ budget_after budget (statement_nodes (statement_of stmt.now)) }
 {
@@ -216,7 +215,6 @@ fn budget_after_stmt(stmt: &Stmt, budget: usize) -> Option<usize>
     }
 }
 
-/// The same for a block.
 fn budget_after_block(block: &[Stmt], budget: usize) -> Option<usize>
     ensures { result ≡ budget_after budget (sum_by statement_nodes (statements_of block.now)) }
 {
@@ -227,7 +225,6 @@ fn budget_after_block(block: &[Stmt], budget: usize) -> Option<usize>
     Some(rest)
 }
 
-/// The same for blocks.
 fn budget_after_blocks(blocks: &[Vec<Stmt>], budget: usize) -> Option<usize>
     ensures { let nodes = sum_by (sum_by statement_nodes) (blocks_of blocks.now) in
         result ≡ budget_after budget nodes }
