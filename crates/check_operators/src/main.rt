@@ -1,5 +1,5 @@
-//! The operators of the process language on a table of operands. Each line of standard input is `LEFT OP RIGHT`, `-
-//! OPERAND` or `! OPERAND`, and the answer is the value or the fault. The stored table is at the ends of the range.
+//! The operators of the process language on a table of operands. Each line of standard input is `LEFT OP RIGHT`,
+//! `- OPERAND` or `! OPERAND`, and the answer is the value or the fault. The stored table is at the ends of the range.
 //! Another program (tools/operator_table.py) computed what must come, with whole numbers that have no bound.
 #![tactic(auto)]
 

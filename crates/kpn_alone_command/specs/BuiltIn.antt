@@ -11,8 +11,8 @@ name_of Copy = codes "copy"
 name_of Double = codes "double"
 name_of Sum = codes "sum"
 
--- what each does with one item: `read i x; write o x;`, `read i x; write o (x * 2);` and `read i x; t = (t + x); write
--- o t;`; x is variable 0 and t is variable 1
+-- what each does with one item: `read i x; write o x;`, `read i x; write o (x * 2);` and
+-- `read i x; t = (t + x); write o t;`; x is variable 0 and t is variable 1
 abbrev pub turn_of : BuiltIn → List Statement
 turn_of Copy = Read 0 0 ∷ Write 0 (Var 0) ∷ []
 turn_of Double = Read 0 0 ∷ Write 0 (Bin Mul (Var 0) (Num (pos 2))) ∷ []

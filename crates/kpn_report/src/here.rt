@@ -1,4 +1,4 @@
-//! A run only on the calling thread.
+//! A run on the calling thread only.
 ghost use Rattle.std.specs.Prelude.{◌≡◌, ◌≤◌, length, IfOk};
 ghost use Rattle.kpn_net.specs.Iteration.{sources};
 ghost use Rattle.kpn_report.specs.Reports.{events_of, AreSupplied, IsReport};

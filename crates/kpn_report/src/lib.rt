@@ -1,5 +1,5 @@
 //! Reports of runs: what a run has come to under its limits, what its report promises, whatever the schedule, and a run
-//! only on the calling thread.
+//! on the calling thread only.
 #![tactic(auto)]
 
 mod feeding;

@@ -33,7 +33,7 @@ fn read_text(alloc: Global, text: &[u8]) -> Result<Document, TextFault>
 ///
 /// # Errors
 ///
-/// The fault of the first phase that finds one:
+/// The fault of the first phase that finds one, in this order:
 ///
 /// - [`TextFault::TooLong`] if the text has more than [`MAX_TEXT_BYTES`](kpn_limits::MAX_TEXT_BYTES);
 /// - the first in the text of [`TextFault::Token`] and, at a name, [`TextFault::TooLong`];

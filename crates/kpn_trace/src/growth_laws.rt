@@ -43,8 +43,8 @@ pub fn one_growth_is_owed()
     ensures cycles { (t : Tables) (H : List Event) → t.policy ≡ Cycles → OwesNoStopGrowth t H }
 {}
 
-/// After a wait of `p` a growth is owed for a cycle if and only if the search from `p` finds a full channel and that is
-/// below the limit. The growth is that of this channel. Else none is owed for a cycle.
+/// After a wait of `p` a growth is owed for a cycle if and only if the search from `p` finds a full channel, and that
+/// channel is below the limit. The growth is that of this channel. Else none is owed for a cycle.
 pub fn growth_is_owed_by_the_cycle()
     ensures owed { (t : Tables) (B : List Event) (event : Event) (p : ℕ) → waiter event ≡ Some p
         → (found : Found)

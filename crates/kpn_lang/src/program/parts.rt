@@ -1,4 +1,4 @@
-//! The parts of a program before anything is known of the rules, with a test for each rule.
+//! The parts of a program, which may break the rules of the language, with a test for each rule.
 ghost use Rattle.std.specs.Prelude.{◌≡◌, ◌<◌, length, nat_le, sum_by, false};
 ghost use Rattle.std.specs.List.{list_all, flat_map};
 ghost use Rattle.kpn_lang.specs.Syntax.{term_of, statement_of, names_below};

@@ -1,4 +1,4 @@
-//! The parts of a network before anything is known of the rules, with a test for each rule.
+//! The parts of a network, which may break its rules, with a test for each rule.
 ghost use Rattle.std.specs.Prelude.{◌≡◌, ℕ, ◌∷◌, [], length, position, None, All, if◌then◌else◌, nat_le};
 ghost use Rattle.std.specs.List.{list_any};
 ghost use Rattle.kpn_lang.specs.Parts.{IsProgram};
