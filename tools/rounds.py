@@ -1,8 +1,8 @@
 #!/usr/bin/env python3
 """Computes Kahn's n-th iterate of a network description. This is another program than the proved one.
 
-Words: the description's file, n, and NAME=FILE for each source that has items. Prints a line for each channel, as `kpn
-rounds` does. The tests' expected values come from here. It trusts its input: it does not check descriptions.
+Words: the description's file, n, and NAME=FILE for each source that has items. Like `kpn rounds`, it prints a line for
+each channel. The tests' expected values come from here. It trusts its input: it does not check descriptions.
 """
 import pathlib
 import re

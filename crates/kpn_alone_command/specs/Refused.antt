@@ -4,7 +4,7 @@ use Rattle.kpn_text.specs.declared.fault.TextFault.TheVariants as text
 use Rattle.kpn_answers.specs.declared.refusal.Refusal.{Refusal}
 use Rattle.kpn_answers.specs.declared.refusal.Refusal.TheVariants.{Description, NoMemory}
 
--- 28 in a program that is made of its parts, as in a description, and else 42
+-- 28 while a program is made of its parts, as in a description, and else 42
 abbrev pub WantsMemory : Refusal → Type 0
 WantsMemory (Description text.NoMemory) = ⊤
 WantsMemory NoMemory = ⊤

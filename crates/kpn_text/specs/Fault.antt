@@ -27,7 +27,7 @@ name_fault (name.UnknownName at) = text.UnknownName at
 name_fault (name.DoubleName at) = text.DoubleName at
 name_fault name.NoMemory = text.NoMemory
 
--- memory that ran out becomes the same fault, wherever it did
+-- if memory ran out, the fault is the same, wherever that was
 abbrev pub net_fault : NetFault → TextFault
 net_fault net.NoMemory = text.NoMemory
 net_fault broken = text.Net broken

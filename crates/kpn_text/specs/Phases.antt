@@ -75,7 +75,7 @@ abbrev pub TellsName : NameError → TextFault → Type 0
 TellsName unknown f = (at : ℕ) × (f ≡ fault.UnknownName at)
 TellsName double f = (at : ℕ) × (f ≡ fault.DoubleName at)
 
--- the fault states the cause: all of it, but of a name any byte
+-- the fault states the cause: all of it, and for a name some byte
 abbrev pub Tells : Cause → TextFault → Type 0
 Tells (in_tokens e) f = f ≡ lex_fault e
 Tells (in_grammar e) f = f ≡ grammar_fault e
