@@ -1,4 +1,4 @@
--- What the code keeps while it runs a network by itself. To read the public contracts, nobody needs it.
+-- Scaffolding: what the code keeps while it runs a network by itself. Only contracts of private functions use it.
 use Rattle.std.specs.Prelude.{◌≡◌, ◌≢◌, ◌↔◌, ℕ, ◌+◌, ◌<◌, ◌≤◌, if◌then◌else◌, Bool, true, false, IsTrue, ℤ, List, [], ◌∷◌, ◌++◌, length, take, slice_index_or, Option, Some, None}
 use Rattle.kpn_lang.specs.Prefix.{IsPrefix}
 use Rattle.kpn_net.specs.Tables.{Tables, channel_at, is_source, is_sink}
