@@ -128,7 +128,7 @@ def refused(program, row, workers, threads):
 
 
 def refuse_threads(program):
-    """Of runs that come to an outcome. Where a worker has ended, the next one may have its thread."""
+    """Of runs that come to an outcome. If a worker has ended, the next one may have its thread."""
     told = ended = 0
     for row in ROWS_OF_RUNS:
         wanted = answer([program, *row])

@@ -1,7 +1,7 @@
 //! A gate with one answer.
 use kpn_pool::{Gate, Go};
 
-/// Gives each worker the same answer.
+/// Answers each worker alike.
 #[derive(Drop)]
 pub struct Always(pub Go);
 

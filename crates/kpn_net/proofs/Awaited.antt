@@ -1,5 +1,5 @@
--- The channels on which processes of a wait table wait as full: each such process has its channel among them, and each
--- of them is waited on by a process.
+-- The channels on which processes of a wait table wait as full. Each such process has its channel among them, and a
+-- process waits on each of them.
 use Rattle.std.specs.Prelude.{Contains}
 use Rattle.std.specs.List.{cons_option, filter_map, range_with_len}
 use Rattle.std.proofs.Common.{◌≡◌, ℕ, suc, zero, ◌+◌, ◌<◌, ◌≤◌, List, length, Option, Some, None, sym, subst, inl, inr, arith}

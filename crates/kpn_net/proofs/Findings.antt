@@ -1,5 +1,5 @@
--- What is found of the cycles through processes: one thing, which depends on no capacity of a source, and from each
--- member the same.
+-- What a search finds of the cycles through processes. It is only one thing, it depends on no capacity of a source, and
+-- it is the same from each member.
 use Rattle.std.proofs.Common.{◌≡◌, ℕ, ◌<◌, false, List, ◌∷◌, length, Some, refl, ap, ◌∙◌, subst}
 use Rattle.std.specs.Prelude.{Contains}
 use Rattle.std.proofs.lemmas.Bool.{false_from_ne_true}

@@ -1,4 +1,4 @@
--- What the code keeps of the ends of the channels, as ports are gone through.
+-- What the code keeps of the ends of the channels while it goes through the ports.
 use Rattle.std.proofs.Common.{◌≡◌, ℕ, zero, suc, ◌+◌, ◌<◌, ◌≤◌, cond, Bool, true, false, not, eqb, ltb, List, [], ◌∷◌, ◌++◌, length, get_or, set, map, take, replicate, Option, Some, None, refl, sym, ap, ◌∙◌, subst, inl, inr, arith, eq-eqb, lt-ltb, le-ltb, get_or-set_same, get_or-set_other, append_assoc, length-set, add-zero}
 use Rattle.std.specs.List.{range_with_len, position, position_or_len}
 use Rattle.std.proofs.lemmas.List.{append-nil, take_more, take_all, get_or-take, get_or-replicate, length-replicate, length-take, get_or_default, get_or-map, length-map}

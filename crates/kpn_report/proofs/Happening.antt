@@ -1,5 +1,5 @@
--- What an event makes of a book together with the growth that is owed then: a growth is not seen in what was written,
--- what was read and what is closed.
+-- What an event makes of a book together with the growth that is owed then. A growth changes nothing in what was
+-- written, what was read and what is closed.
 use Rattle.std.proofs.Common.{◌≡◌, ℕ, Bool, true, false, ◌||◌, ℤ, List, [], ◌∷◌, ◌++◌, refl, sym, ap, ◌∙◌, subst, inl, inr, append_assoc}
 use Rattle.kpn_lang.specs.Prefix.{IsPrefix}
 use Rattle.kpn_lang.proofs.Prefixes.{IsPrefix-append}

@@ -1,4 +1,4 @@
--- Where the outside has nothing to do and no process is ready or held, the run is settled.
+-- If the outside has nothing to do and no process is ready or held, the run is settled.
 use Rattle.std.proofs.Common.{◌≡◌, ℕ, ◌+◌, ◌<◌, ◌^◌, [], length, refl, sym, ap, ◌∙◌, subst, inl, inr, arith}
 use Rattle.std.specs.List.{Contains}
 use Rattle.std.proofs.lemmas.Bool.{both_ways, eq-eqb}

@@ -26,7 +26,7 @@ length_push_flat : {X A : Type 0} (f : X → List A) (xs : List X) (x : X)
     → length (flat_map f (xs ++ x ∷ [])) ≡ length (flat_map f xs) + length (f x)
 length_push_flat f xs x = ap length (flat_map-push f xs x) ∙ length-append (flat_map f xs) (f x)
 
--- ---- the most that lay unread
+-- ---- the most unread items
 
 unread_now : (H : List Event) (c : ℕ) → unread_behind H c (length H) ≡ length (written_on H c) - length (read_on H c)
 unread_now H c =

@@ -26,7 +26,7 @@ one_more_row heading f n xs more so_far added =
     added ∙ ap (λ ys. ys ++ f n ∷ []) so_far
     ∙ ap (λ ys. heading ∷ ys) (sym (map-range_with_len_more f 0 n n (omega arith)))
 
--- the longest text of a column, as far as the rows were looked at
+-- the longest text of a column, among the rows so far
 pub longest_next : (f : Row → List ℕ) (rows : List Row) (k : ℕ) (row : Row) (width wider all : ℕ) → k < length rows
     → row ≡ get_or rows k row → wider ≡ max width (length (f row))
     → max width (longest (map f (drop k rows))) ≡ all → max wider (longest (map f (drop (k + 1) rows))) ≡ all

@@ -46,7 +46,7 @@ history_plain : (v : Version) (t : Tables) (events : List Event) → map plain e
 history_plain One t events = sym (told_behind_plain t [] events)
 history_plain Two t events = refl
 
--- what looks at no capacity
+-- what depends on no capacity
 blind : {A : Type 0} (f : Event → A) → ((p c n : ℕ) → f (Grow p c 0) ≡ f (Grow p c n)) → (e : Event)
     → f (plain e) ≡ f e
 blind f none (Grow p c n) = none p c n
@@ -69,7 +69,7 @@ count_plain f none H =
     sym (sum-map mark (map plain H)) ∙ ap sum (map_plain mark (λ p c n. ap (λ b. cond {A = ℕ} b 1 0) (none p c n)) H)
     ∙ sum-map mark H
 
--- ---- histories that are alike but for these capacities
+-- ---- histories that differ only in these capacities
 
 abbrev Alike : List Event → List Event → Type 0
 Alike H G = map plain H ≡ map plain G

@@ -1,5 +1,5 @@
--- The items of a network whose names were resolved resolve to the same tables again once their numbers are replaced by
--- their names, the channels first and then the instances.
+-- Take the items of a network whose names were resolved, with a name in place of each number again, the channels first
+-- and then the instances. They resolve to the same tables.
 use Rattle.std.proofs.Common.{◌≡◌, ℕ, zero, suc, ◌<◌, ◌^◌, false, List, [], ◌∷◌, ◌++◌, map, fold, ℤ, pos, negsuc, Result, Ok, refl, sym, ap, subst, ◌∙◌, append_assoc, append-nil, arith}
 use Rattle.std.specs.List.{AllByRecursion}
 use Rattle.std.proofs.lemmas.List.Sums.{fold-append}

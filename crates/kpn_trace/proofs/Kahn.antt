@@ -1,5 +1,5 @@
--- Kahn's theorem over all legal histories (Kahn 1974: the streams of a network are the least solution of its
--- processes' equations, whatever the order in which the processes go).
+-- Kahn's theorem over all legal histories. As in Kahn 1974, the streams of a network are the least solution of its
+-- processes' equations, whatever the order in which the processes go.
 use Rattle.std.proofs.Common.{◌≡◌, ℕ, ◌≤◌, ◌⊎◌, max, List, length, take, refl, sym, ap, ◌∙◌, inl, inr, arith}
 use Rattle.std.proofs.lemmas.List.{take-append-le}
 use Rattle.kpn_lang.specs.Prefix.{IsPrefix}

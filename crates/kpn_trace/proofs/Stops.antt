@@ -1,5 +1,5 @@
--- What a stop rests on: ended is quiet, jammed is at the limit, clogged waits for blocked processes, and but a leave
--- no event can follow.
+-- What a stop depends on. Ended is quiet, jammed is at the limit, and clogged waits for blocked processes. No event but
+-- a leave can follow.
 use Rattle.std.specs.Prelude.{Contains}
 use Rattle.std.specs.Option.{unwrap_or}
 use Rattle.std.proofs.Common.{◌≡◌, ◌≢◌, ℕ, suc, ℤ, ◌<◌, ◌≤◌, true, false, not, List, [], ◌∷◌, ◌++◌, length, Option, Some, None, refl, sym, ap, ◌∙◌, subst, inl, inr, arith}

@@ -226,7 +226,7 @@ wait_of-then t network B e legal p = wait_of-more t network B e legal p ∙ by_o
     by_own true is = refl
     by_own false is = kept_unless_woken t network B e legal p is (wait_of t B p) refl
 
--- ---- whom an event wakes
+-- ---- which processes an event wakes
 
 abbrev IsWokenAsEmpty : Tables → (p d : ℕ) → Wait → Type 0
 IsWokenAsEmpty t p d w = (w ≡ Empty d) × (reader_of t d ≡ Process p)

@@ -1,4 +1,4 @@
--- So few items never pause a process, and then it puts what is plainly said of it.
+-- So few items never pause a process, and then it puts the plain values.
 use Rattle.std.proofs.Common.{rules, ◌^◌, ◌-◌, [], ◌∷◌, arith}
 use Rattle.kpn_step.specs.Walk.{AloneGives}
 use Rattle.kpn_alone_command.specs.BuiltIn.{program_of}
