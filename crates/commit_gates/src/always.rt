@@ -1,7 +1,7 @@
 //! A gate with one answer.
 use kpn_pool::{Gate, Go};
 
-/// Answers each worker alike.
+/// Gives each worker the same answer.
 #[derive(Drop)]
 pub struct Always(pub Go);
 
