@@ -1,9 +1,10 @@
 #!/usr/bin/env python3
 """Makes an optimised build of the program `kpn` that is not proved, so that a change can be measured before its proof.
 
-It takes the module that `rt try` hands to the compiler, leaves out the checks of an unproved build, gives each function
-the attribute for inlining that its source has, and compiles it as a proved program is compiled. The number of machine
-instructions a commit is within 5 % of the proved program's. Takes some four minutes. The word is the file to be made.
+It takes the module that `rt try` passes to the compiler, leaves out the checks of an unproved build, and gives each
+function the attribute for inlining that its source has. Then it compiles the module as a proved program is compiled.
+The number of machine instructions a commit is within 5 % of the proved program's. It takes some four minutes. The word
+names the file to make.
 """
 import collections
 import os

@@ -1,13 +1,13 @@
 #!/usr/bin/env python3
-"""Item-hops a second of `kpn run` on one thread, beside a plain Rust program of the same meaning and, where `go` is
-installed, goroutines and channels on one processor; how the cost of a hop depends on the number of processes; and the
-memory of history and journals.
+"""Item-hops a second of `kpn run` on one thread, beside a plain Rust program of the same meaning. If `go` is installed,
+also beside goroutines and channels on one processor. Also how the cost of a hop depends on the number of processes, and
+the memory of history and journals.
 
-A hop is an item that is put on a channel. Prints ratios, above 1 where `kpn run` is the faster one, and checks that all
-wrote the same. It is no part of the gate. The number of hops may be given as a word; the default is 4,000,000. The
-programs take turns, and the best of three runs of each is told, or of `--runs N`, by the time that it took on its
-processor. `--before PROGRAM` names another build of `kpn`, which takes its turns as well. With `--instructions` it
-counts the machine instructions a commit by callgrind in place of all else.
+A hop is an item that is put on a channel. It prints ratios, above 1 if `kpn run` is faster, and checks that all wrote
+the same. It is no part of the gate. A word may name the number of hops; the default is 4,000,000. The programs take
+turns, and the best of three runs of each counts, or of `--runs N`, by the time that it took on its processor.
+`--before PROGRAM` names another build of `kpn`, which takes its turns as well. With `--instructions` it only counts the
+machine instructions a commit, by callgrind.
 """
 import argparse
 import os

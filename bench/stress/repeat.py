@@ -1,24 +1,24 @@
 #!/usr/bin/env python3
-"""The tests of workers, runs by workers, and commands that are refused memory, over and over: none may hang, and none
-come to something else.
+"""The tests of workers, runs by workers, and commands that get no memory, over and over. None may hang, and all must
+come to the same each time.
 
 It is no part of the gate. Words:
 
-    tests COUNT         the tests of check_pool and check_parallel, which are proved before, so often on all processors
+    tests COUNT         the tests of check_pool and check_parallel, which it proves before, so often on all processors
                         and so often on two
     runs COUNT [KPN]    each row `kpn run` of check_examples by 1, 2, 4 and 16 workers, so often on all processors and
-                        so often on two: what it writes and its status are to be those of one thread
-    threads [KPN]       these rows where the system has 0 to 3 threads for the workers, by a user of its own, so begun
-                        by root: where one is refused the run tells it (48), else it is as on one thread
-    memory [KPN]        these rows where call N of malloc and realloc is refused, or each from N on, for N from 1 on
-                        until nothing is refused any more (refuse.c): the run tells it, or is as on one thread
+                        so often on two: its output and status have to be those of one thread
+    threads [KPN]       these rows while the system has 0 to 3 threads for the workers, by a user of its own, so root
+                        has to start it: if a thread is refused, the run reports that (48), else it is as on one thread
+    memory [KPN]        these rows while call N of malloc and realloc fails, or each from N on, for N from 1 on until
+                        no call fails any more (refuse.c): the run reports that, or is as on one thread
     commands [KPN]      the same of each row of check_examples by one thread, of any command, and of the built-in
-                        processes: the command tells it, or is as with memory
-    mixed SECONDS [KPN] random networks by 1 to 16 workers, some of which are refused memory or threads or are killed,
-                        for so long on all processors and so long on two: each is judged against the run on one thread
-                        and the auditor, and it is told how many came to each end (mixed.py)
+                        processes: the command reports that, or is as with memory
+    mixed SECONDS [KPN] random networks by 1 to 16 workers for so long on all processors and so long on two; some get
+                        too little memory or too few threads, and some are killed: it judges each against the run on
+                        one thread and the auditor, and prints how many came to each end (mixed.py)
 
-KPN is the program, crates/kpn/out/kpn where none is named.
+KPN is the program, by default crates/kpn/out/kpn.
 """
 import os
 import pathlib

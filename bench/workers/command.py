@@ -1,13 +1,12 @@
 #!/usr/bin/env python3
 """`kpn run --workers` beside `kpn run` on one thread: the whole command, start, reading and report included.
 
-It tells parts of the speed of one thread, by the clock, above 1 where the workers are the faster ones: at fine grain,
-where a turn of a process is short; at medium grain, in pipelines whose stages go through a loop or write the value of a
-long expression for each item, with the microseconds that one thread takes for an item at a stage; and at coarse grain,
-where processes compute by themselves. All have to write the same. It is no part of the gate. The number of hops, of
-items that are put on a channel, may be given as a word; the default is 4,000,000. The command lines take turns, and the
-best of three runs of each counts, or of `--runs N`. `--only WORD` leaves out each network without this word in its
-title.
+It reports parts of the speed of one thread, by the clock, above 1 if the workers are faster. At fine grain a turn of a
+process is short. At medium grain the stages of pipelines go through a loop or write the value of a long expression for
+each item; the row has the microseconds that one thread takes for an item at a stage. At coarse grain processes compute
+by themselves. All have to write the same. It is no part of the gate. A word may name the number of hops, of items that
+are put on a channel; the default is 4,000,000. The command lines take turns, and the best of three runs of each counts,
+or of `--runs N`. `--only WORD` leaves out each network without this word in its title.
 """
 import argparse
 import pathlib
