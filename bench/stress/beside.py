@@ -31,7 +31,7 @@ def changed(chance, network, history):
         return history
     place = chance.randrange(len(history))
     event = history[place]
-    grow = 'grow', chance.randrange(len(network.instances)), chance.randrange(len(network.channels))
+    grow = 'grow', *(chance.randrange(len(of)) for of in (network.instances, network.channels)), chance.randint(1, 9)
     return history[:place] + chance.choice([[], [event, event], [grow, event], [grow]]) + history[place + 1:]
 
 
@@ -52,8 +52,10 @@ class Beside:
 
     def audited(self, what, network, history):
         """Both audit a history, and say the same of it."""
-        (self.folder / 'audited').write_bytes(histories.trace_text(history))
-        wanted = histories.audit_text(network, history, STEPS)
+        (self.folder / 'audited').write_bytes(histories.trace_text(history, network.growing))
+        growing = network.growing
+        trace = histories.Trace(2, growing.policy, growing.growth, history)
+        wanted = histories.audit_text(network, trace, STEPS)
         self.same(what, wanted, self.call('audit', 'net', 'audited', '--steps', str(STEPS)))
         self.counts[what, wanted.split()[0]] += 1
         return wanted
@@ -68,11 +70,11 @@ class Beside:
         network = histories.Network(text)
         run = histories.Run(network, items).go(None, COMMITS)
         self.same('run', histories.report_text(run), self.call(*words))
-        self.same('trace', histories.trace_text(run.history).decode(), (self.folder / 'trace').read_text())
+        self.same('trace', histories.trace_text(run.history, network.growing).decode(), (self.folder / 'trace').read_text())
         self.audited('audit', network, run.history)
         self.audited('audit of a changed history', network, changed(self.chance, network, run.history))
         report = self.call(*words, '--workers', str(self.chance.choice(WORKERS)))
-        history = histories.read_trace((self.folder / 'trace').read_bytes())
+        history = histories.read_trace((self.folder / 'trace').read_bytes()).history
         self.same('by workers', 'legal', self.audited('audit by workers', network, history).split()[0])
         self.counts[f'policy {network.growing.policy}, grow {network.growing.growth}', report.split()[-1]] += 1
 

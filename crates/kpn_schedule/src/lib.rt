@@ -3,6 +3,7 @@
 #![tactic(auto)]
 
 mod counting;
+mod queue;
 mod schedule;
 
 pub use schedule::Schedule;

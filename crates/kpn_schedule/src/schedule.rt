@@ -6,9 +6,9 @@ ghost use Rattle.kpn_schedule.specs.Counting.{IsTally};
 ghost use Rattle.kpn_schedule.specs.Schedule.{state_at, IsSchedule, HaveStopped, all_ready, HoldsFirst, made_ready, with_state};
 
 use crate::counting::{Tally, enter, leave};
+use crate::queue::Queue;
 use kpn_trace::{Counts, State};
 use std::alloc::{AllocError, Allocator, Global};
-use std::collections::VecDeque;
 use std::marker::Model;
 
 /// Where each process of a run stands, and the order in which those that are ready are to be stepped: who becomes
@@ -20,21 +20,21 @@ pub struct Schedule<A: Allocator = Global> {
     states: Vec<State, A>,
     // Kept step by step. How many are ready is the length of the queue.
     tally: Tally,
-    queue: VecDeque<usize, A>,
+    queue: Queue<A>,
 }
 
 impl<A: Allocator> Model for Schedule<A> {
-    ghost use Rattle.std.specs.Prelude.{◌≤◌, length};
-    ghost use Rattle.std.specs.VecDeque.{deque_capacity};
+    ghost use Rattle.std.specs.Prelude.{length};
     ghost use Rattle.kpn_schedule.specs.Counting.{IsTally};
+    ghost use Rattle.kpn_schedule.specs.Queue.{waiting, IsQueue};
     ghost use Rattle.kpn_schedule.specs.Schedule.{Schedule as Seen, IsSchedule};
 
     ghost Value = { Seen };
 
-    ghost view = { λ s. record { states = s.states.items; queue = s.queue.items } };
+    ghost view = { λ s. record { states = s.states.items; queue = waiting s.queue } };
 
-    ghost invariant = { λ s. IsSchedule (record { states = s.states.items; queue = s.queue.items })
-        × ((length s.states.items ≤ deque_capacity s.queue) × IsTally s.states.items s.tally) };
+    ghost invariant = { λ s. IsSchedule (record { states = s.states.items; queue = waiting s.queue })
+        × (IsQueue (length s.states.items) s.queue × IsTally s.states.items s.tally) };
 }
 
 impl<A: Allocator + Copy> Schedule<A> {
@@ -50,10 +50,7 @@ impl<A: Allocator + Copy> Schedule<A> {
             full: 0,
             ended: 0,
         };
-        let mut queue = VecDeque::with_capacity(alloc, processes)?;
-        for p in 0..processes {
-            queue.push_back_reserved(p);
-        }
+        let queue = Queue::new(alloc, processes)?;
         Ok(Schedule {
             states,
             tally,
@@ -110,7 +107,7 @@ impl<A: Allocator> Schedule<A> {
     pub fn next(&self) -> Option<usize>
         ensures { result ≡ slice_get self.now.queue 0 }
     {
-        self.queue.front().copied()
+        self.queue.first()
     }
 
     /// The first process of the queue is held from now on. Returns it, `None` where no process is ready.
@@ -118,7 +115,7 @@ impl<A: Allocator> Schedule<A> {
         ensures held { IfSome result (λ p. HoldsFirst p self.old self.new) }
         ensures none { IfNone result ((self.old.queue ≡ []) × (self.new ≡ self.old)) }
     {
-        let p = self.queue.pop_front()?;
+        let p = self.queue.take_first()?;
         self.states[p] = State::Held;
         Some(p)
     }
@@ -141,7 +138,7 @@ impl<A: Allocator> Schedule<A> {
         ensures { self.new ≡ made_ready p self.old }
     {
         self.states[p] = State::Ready;
-        self.queue.push_back_reserved(p);
+        self.queue.put(p);
     }
 
     /// From now on process `p`, which is not ready, is in this state, which is another than ready.

@@ -1,0 +1,106 @@
+//! The queue of the processes that are ready: the first leaves it and another comes behind in a few instructions.
+ghost use Rattle.std.specs.Prelude.{◌≡◌, ◌<◌, ◌≤◌, ℕ, [], ◌∷◌, ◌++◌, length, IfOk, IfSome, IfNone, slice_get, vec_len, vec_capacity};
+ghost use Rattle.std.specs.List.{range_with_len};
+ghost use Rattle.kpn_schedule.specs.Queue.{waiting, IsQueue};
+
+use std::alloc::{AllocError, Allocator};
+
+/// Numbers of processes, in a list that goes on to its end before what was taken is dropped. So nothing goes round in a
+/// ring, and a number is moved once while many are put.
+#[derive(Debug, Drop)]
+pub(crate) struct Queue<A: Allocator> {
+    pub(crate) numbers: Vec<usize, A>,
+    // how many of them were taken
+    pub(crate) taken: usize,
+}
+
+impl<A: Allocator> Queue<A> {
+    /// The numbers below this one, in order, and room for as many. The error is that memory ran out.
+    pub(crate) fn new(alloc: A, processes: usize) -> Result<Self, AllocError>
+        ensures numbers { IfOk result (λ queue. waiting queue ≡ range_with_len 0 processes) }
+        ensures queue { IfOk result (λ queue. IsQueue processes queue) }
+    {
+        let mut numbers = Vec::with_capacity(alloc, places_for(processes))?;
+        for p in 0..processes {
+            numbers.push_reserved(p);
+        }
+        Ok(Queue { numbers, taken: 0 })
+    }
+
+    /// How many numbers wait.
+    pub(crate) fn len(&self) -> usize
+        requires { self.now.taken ≤ length self.now.numbers.items }
+        ensures { result ≡ length (waiting self.now) }
+    {
+        self.numbers.len() - self.taken
+    }
+
+    /// The first number that waits.
+    pub(crate) fn first(&self) -> Option<usize>
+        ensures { result ≡ slice_get self.now.numbers.items self.now.taken }
+    {
+        self.numbers.get(self.taken).copied()
+    }
+
+    /// Takes the first number.
+    pub(crate) fn take_first(&mut self) -> Option<usize>
+        ensures some { IfSome result (λ p. waiting self.old ≡ p ∷ waiting self.new) }
+        ensures none { IfNone result ((waiting self.old ≡ []) × (self.new ≡ self.old)) }
+        ensures queue { (room : ℕ) → IsQueue room self.old → IsQueue room self.new }
+    {
+        let Some(p) = self.first() else {
+            return None;
+        };
+        self.taken += 1;
+        Some(p)
+    }
+
+    /// Puts a number behind the others, of which there are fewer than there is room for.
+    pub(crate) fn put(&mut self, p: usize)
+        requires { (room : ℕ) × IsQueue room self.old × (length (waiting self.old) < room) }
+        ensures numbers { waiting self.new ≡ waiting self.old ++ p ∷ [] }
+        ensures queue { (room : ℕ) → IsQueue room self.old → IsQueue room self.new }
+    {
+        self.make_room();
+        self.numbers.push_reserved(p);
+    }
+
+    /// Makes sure that there is a place behind the others.
+    fn make_room(&mut self)
+        requires { (room : ℕ) × IsQueue room self.old × (length (waiting self.old) < room) }
+        ensures numbers { waiting self.new ≡ waiting self.old }
+        ensures queue { (room : ℕ) → IsQueue room self.old → IsQueue room self.new }
+        ensures place { vec_len self.new.numbers < vec_capacity self.new.numbers }
+    {
+        if self.numbers.len() < self.numbers.capacity() {
+            return;
+        }
+        self.drop_taken();
+    }
+
+    /// Drops the numbers that were taken.
+    #[cold]
+    #[inline(never)]
+    fn drop_taken(&mut self)
+        requires { self.old.taken ≤ length self.old.numbers.items }
+        ensures numbers { self.new.numbers.items ≡ waiting self.old }
+        ensures taken { self.new.taken ≡ 0 }
+        ensures places { vec_capacity self.new.numbers ≡ vec_capacity self.old.numbers }
+    {
+        let left = self.len();
+        self.numbers.copy_within(self.taken.., 0);
+        self.numbers.truncate(left);
+        self.taken = 0;
+    }
+}
+
+/// How many places there are for so many processes. With more of them, numbers are moved to the front less often.
+fn places_for(processes: usize) -> usize
+    ensures { processes ≤ result }
+{
+    if processes < 1 << 32 {
+        4 * processes + 64
+    } else {
+        processes
+    }
+}
