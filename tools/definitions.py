@@ -1,6 +1,6 @@
 #!/usr/bin/env python3
 """Writes docs/WORDS.md: a list of the definitions in the folders specs/ of the program's crates, by file, each with the
-first line of the comment above it. It is run by hand, after each change of a definition. tools/documents.py reports a
+first sentence of the comment above it. It is run by hand, after each change of a definition. tools/documents.py reports a
 list that is out of date.
 
 It leaves out two kinds of definitions: those that are not public, and those that only contracts of private functions
@@ -16,15 +16,16 @@ COLUMNS = 120
 HEAD = '''# Words of the contracts
 
 `tools/definitions.py` writes this list from the files in `crates/CRATE/specs/`. Each file has its public definitions,
-with the first line of the comment above each. DEFINITIONS.md explains the words of the field.
+with the first sentence of the comment above each. DEFINITIONS.md explains the words of the field.
 '''
 DEFINED = re.compile(r"^(?:pub (?:record|data)|abbrev pub|  pub)\s+([^\s:]+)(?=\s)")
+SENTENCE_END = re.compile(r'(?<=[^.])\. (?=[A-Z`])')
 HEADING = '-- ---- '
 FOR_PRIVATE = re.compile(r'scaffolding|needs none of it', re.I)
 
 
 def words_of(file):
-    """The public definitions of a file, each with the first line of its comment."""
+    """The public definitions of a file, each with the first sentence of its comment."""
     lines = file.read_text().splitlines()
     if FOR_PRIVATE.search(' '.join(lines[:3])):
         return
@@ -43,8 +44,7 @@ def words_of(file):
             is_mutual = text in ('mutual', 'abbrev mutual') or (is_mutual and line.startswith(' '))
             is_field = line.startswith(' ') and not is_mutual
             if found and not is_field and not is_private and not FOR_PRIVATE.search(' '.join(comment)):
-                first = comment[0] if comment else ''
-                yield found[1], f'{first} ..' if len(comment) > 1 else first
+                yield found[1], SENTENCE_END.split(' '.join(comment), maxsplit=1)[0].removesuffix('.')
 
 
 def listed():
