@@ -74,7 +74,7 @@ impl<'p> Advance<'p> {
         self.steps
     }
 
-    /// Why they ended: what stands at the frame after them.
+    /// Why they ended: the stop at the frame after them.
     pub fn stop(&self) -> Stop
         ensures { result ≡ self.now.stop }
     {
