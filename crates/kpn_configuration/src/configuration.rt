@@ -34,7 +34,7 @@ pub use processes::Got;
 pub struct Configuration<A: Allocator = Global> {
     channels: Vec<Channel<A>, A>,
     closed: Vec<bool, A>,
-    // the capacities once more, in the form that the walk along the waits reads
+    // the capacities once more, in the form that the walk along the waits reads; the invariant keeps them equal
     capacities: Vec<u32, A>,
     waits: Waits<A>,
     ends: Vec<Option<How>, A>,
