@@ -17,7 +17,7 @@ pub record Book : Type 0 where
   pub schedule : Schedule
   pub commits : ℕ
 
--- some worker steps the process
+-- somebody steps the process
 pub record IsHeld (b : Book) (p : ℕ) : Type 0 where
   pub there : p < length b.schedule.states
   pub held : state_at b.schedule.states p ≡ Held

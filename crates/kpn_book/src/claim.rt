@@ -1,4 +1,4 @@
-//! A process that a worker may step.
+//! A process that was claimed, to be stepped.
 use kpn_lang::Program;
 use kpn_step::Frame;
 

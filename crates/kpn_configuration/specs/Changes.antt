@@ -28,7 +28,7 @@ abbrev pub end_then : Event → (p : ℕ) → Option How → Option How
 end_then (Ended q how) p before = if nat_eq q p then Some how else before
 end_then event p before = before
 
--- the port at this place among these is of this channel
+-- among these ports, this one is of this channel
 abbrev pub IsChannelAt : (ports : List ℕ) → (port c : ℕ) → Type 0
 IsChannelAt ports port c = (port < length ports) × (slice_index ports port ≡ c)
 

@@ -38,7 +38,7 @@ end_in s p = slice_index_or s.ends p None
 abbrev pub no_frame : Frame
 no_frame = record { outer = []; inner = record { block = 0; place = 0 }; variables = [] }
 
--- it is the frame for a number that no process has
+-- the frame of a process; no_frame for a number that no process has
 abbrev pub frame_in : Configuration → ℕ → Frame
 frame_in s p = slice_index_or s.frames p no_frame
 

@@ -78,6 +78,7 @@ impl<A: Allocator + Copy> Configuration<A> {
 }
 
 impl<A: Allocator> Configuration<A> {
+    /// A channel.
     pub fn channel(&self, c: usize) -> &Channel<A>
         requires { c < length self.now.channels }
         ensures { result.now ≡ channel_in self.now c }

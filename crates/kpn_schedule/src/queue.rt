@@ -6,7 +6,7 @@ ghost use Rattle.kpn_schedule.specs.Queue.{waiting, IsQueue};
 use std::alloc::{AllocError, Allocator};
 
 /// Numbers of processes in a list. It grows to its end before the queue drops those that were taken. So the queue needs
-/// no ring, and it moves a number at most once while it takes in many.
+/// no ring, and it moves a number once while it takes in many.
 #[derive(Debug, Drop)]
 pub(crate) struct Queue<A: Allocator> {
     pub(crate) numbers: Vec<usize, A>,

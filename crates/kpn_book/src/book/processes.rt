@@ -1,5 +1,4 @@
-//! The calls of a worker that steps processes: claim, commit and put back, and one call for a single owner that does
-//! all.
+//! The calls that step processes: claim, commit and put back, and one call that does all for a single owner.
 ghost use Rattle.std.specs.Prelude.{◌≡◌, ◌↔◌, true, false, IfOk, IfErr, OnErr, IsTrue, IfSome, IfNone};
 ghost use Rattle.kpn_net.specs.Tables.{program_of};
 ghost use Rattle.kpn_step.specs.Frame.{fits};
