@@ -187,7 +187,7 @@ impl<'n, A: Allocator> OpenBook<'n, A> {
         Done::Grew(d)
     }
 
-    /// Makes the growth that is owed for a stop, if one is and none is owed for a cycle. It returns the channel.
+    /// Makes the growth that is owed for a stop, if one is. None is owed for a cycle. It returns the channel.
     // It is inlined, since each wait and each end calls it, and hardly ever have all processes stopped.
     #[inline(always)]
     pub(crate) fn grow_at_stop(&mut self) -> Option<usize>
