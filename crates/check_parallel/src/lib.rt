@@ -1,5 +1,5 @@
-//! Tests of runs by several workers, by public calls alone: what no clause says of `run`. Each ends on any schedule,
-//! since a gate that waits does so for a bounded number of turns.
+//! Tests of runs by several workers. They use only public calls, and test what no clause says of `run`. Each test ends
+//! on any schedule, since a gate that waits does so for a bounded number of turns.
 #![tactic(auto)]
 
 #[cfg(test)]

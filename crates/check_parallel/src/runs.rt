@@ -44,39 +44,39 @@ network {
 }
 ";
 
-/// Two sources, whose items are read and dropped.
+/// Two sources, whose items the network reads and drops.
 const DROPPED: &str = "process drop(in i) { while 1 { read i x; } }
 network { source r; source s; d = drop(r;); e = drop(s;); }
 ";
 
-/// Two sources: the items of the first are read and dropped, those of the second come to a sink.
+/// Two sources: the network drops the items of the first, and copies those of the second to a sink.
 const HALF: &str = "process drop(in i) { while 1 { read i x; } }
 process copy(in i; out o) { while 1 { read i x; write o x; } }
 network { source r; source s; sink z cap 1; d = drop(r;); c = copy(s; z); }
 ";
 
-/// Until a verdict.
+/// A run until a verdict.
 const ALL: Limits = Limits {
     commits: 1_000_000,
     take: None,
     quota: 1_000,
 };
 
-/// One item of each sink.
+/// A run that takes one item of each sink.
 const ONE: Limits = Limits {
     commits: 1_000_000,
     take: Some(1),
     quota: 1_000,
 };
 
-/// A hundred commits.
+/// A run of at most a hundred commits.
 const FEW: Limits = Limits {
     commits: 100,
     take: None,
     quota: 1_000,
 };
 
-/// Turns of no step, which count as turns of one.
+/// Turns without a step, which count as turns of one step.
 const STILL: Limits = Limits {
     commits: 1_000_000,
     take: None,
@@ -109,7 +109,7 @@ impl Gate for AbandonsAt {
     }
 }
 
-/// What a run by so many workers answers, where there is a list for each source.
+/// What a run by this many workers returns, if there is a list for each source.
 fn answer<R: Threads + Wait + Clock + Sync, G: Gate>(
     rt: &R,
     alloc: Global,
@@ -127,7 +127,7 @@ fn answer<R: Threads + Wait + Clock + Sync, G: Gate>(
     Ok(Some(run(rt, alloc, network, lists, workers, gate, limits)))
 }
 
-/// The report of a run on one thread, where there is a list for each source.
+/// The report of a run on one thread, if there is a list for each source.
 fn here(
     alloc: Global,
     text: &str,
@@ -142,8 +142,8 @@ fn here(
     Ok(Some(run_here(alloc, network, lists, limits)?))
 }
 
-/// Whether a run by so many workers comes to the outcome and the items of a run on one thread, and, if the limit of
-/// commits stops it, makes as many. A network with several processes may pass the limit.
+/// Whether a run by this many workers has the outcome and the items of a run on one thread, and, if the limit of
+/// commits stops it, makes as many commits as the limit. A run of several processes may pass the limit.
 fn runs_as_here<R: Threads + Wait + Clock + Sync, G: Gate>(
     rt: &R,
     alloc: Global,
@@ -202,7 +202,7 @@ fn feeds(history: &History) -> usize {
         .count()
 }
 
-/// Whether a run by so many workers has fed and closed the sources as a run on one thread does, which comes to the same
+/// Whether a run by this many workers feeds and closes the sources as a run on one thread does, and has the same
 /// outcome.
 fn feeds_as_here<R: Threads + Wait + Clock + Sync>(
     rt: &R,
@@ -223,7 +223,7 @@ fn feeds_as_here<R: Threads + Wait + Clock + Sync>(
     Ok(is_same && report.outcome == wanted.outcome)
 }
 
-/// Each list is fed whole and its source closed, also where less is wanted of the sinks, or fewer commits are made.
+/// A run feeds each list whole and closes its source, even if it takes fewer items of the sinks or makes fewer commits.
 #[test]
 fn lists_are_fed_whole(rt: HostRuntime) -> Result<(), Fail> {
     let alloc = rt.alloc();
@@ -245,7 +245,7 @@ fn lists_are_fed_whole(rt: HostRuntime) -> Result<(), Fail> {
     Ok(())
 }
 
-/// What a run by so many workers through this gate comes to.
+/// The outcome of a run by this many workers through this gate.
 fn comes_to<R: Threads + Wait + Clock + Sync, G: Gate>(
     rt: &R,
     alloc: Global,
@@ -273,7 +273,7 @@ fn a_gate_that_always_abandons(rt: HostRuntime) -> Result<(), Fail> {
     Ok(())
 }
 
-/// One worker makes the 11 commits of `TWO`, and the gate is asked before each.
+/// One worker makes the 11 commits of `TWO`, and asks the gate before each.
 #[test]
 fn a_gate_that_abandons_at_one_call(rt: HostRuntime) -> Result<(), Fail> {
     let alloc = rt.alloc();
@@ -287,8 +287,8 @@ fn a_gate_that_abandons_at_one_call(rt: HostRuntime) -> Result<(), Fail> {
     Ok(())
 }
 
-/// The first event of a run by two workers whose gate holds this call until the other process came, or `None` where it
-/// did not come, or the run has not ended.
+/// The first event of a run by two workers whose gate holds this call until the other process has come. `None` if it
+/// did not come, or if the run has not ended.
 fn first_event<R: Threads + Wait + Clock + Sync>(
     rt: &R,
     alloc: Global,
@@ -304,7 +304,7 @@ fn first_event<R: Threads + Wait + Clock + Sync>(
     Ok(report.history.at(0))
 }
 
-/// Both processes stand at the gate at once, whichever call is held.
+/// Both processes are at the gate at once, whichever call the gate holds.
 #[test]
 fn refutes_one_worker_steps_everything(rt: HostRuntime) -> Result<(), Fail> {
     for process in [None, Some(0), Some(1)] {
@@ -317,8 +317,8 @@ fn refutes_one_worker_steps_everything(rt: HostRuntime) -> Result<(), Fail> {
     Ok(())
 }
 
-/// The history tells what the workers did: the one that is held puts its item later. On one thread `TWO` is four puts,
-/// three gets, a wait and an end of each process.
+/// The history shows what the workers did: the process that the gate holds puts its item later. On one thread `TWO` is
+/// four puts, three gets, a wait and an end of each process.
 #[test]
 fn journals_from_rounds(rt: HostRuntime) -> Result<(), Fail> {
     for (process, first) in [(0, Event::Put(1, 1, 7)), (1, Event::Put(0, 0, 7))] {

@@ -85,7 +85,7 @@ module _ (b : Book) (step : IsInStep b) where
     counts = counts;
   }
 
-  -- of so many channels
+  -- for this many channels
   pub Agrees-of : {A : Type 0} (channels : ℕ) → channels ≡ length b.tables.channels → (view : View A)
       → view.journals ≡ map (λ c. (channel_in b.configuration c).journal) (range_with_len 0 channels)
       → view.read ≡ map (λ c. (channel_in b.configuration c).read) (range_with_len 0 channels)

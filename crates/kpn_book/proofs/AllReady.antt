@@ -1,4 +1,4 @@
--- A schedule once some processes have become ready: those are, and all others are in the state that they were in.
+-- A schedule after some processes have become ready: these are ready, and all others have the state that they had.
 use Rattle.std.proofs.Common.{◌≡◌, ℕ, ◌<◌, List, [], ◌∷◌, ◌++◌, length, set, get_or, refl, sym, ◌∙◌, subst, inl, inr, arith}
 use Rattle.std.specs.List.{Contains}
 use Rattle.std.proofs.lemmas.Bool.{cases_eq, cases_lt}

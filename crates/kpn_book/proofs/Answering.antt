@@ -1,4 +1,4 @@
--- What a stop of a process is answered, and the events that this appends.
+-- What a commit returns at a stop of a process, and the events that this appends.
 use Rattle.std.proofs.Common.{◌≡◌, ◌↔◌, ℕ, ◌+◌, ◌<◌, ◌≤◌, ◌^◌, ℤ, Bool, true, false, cond, List, [], ◌∷◌, ◌++◌, length, count_by, Option, Some, None, refl, sym, ap, ◌∙◌, subst, inl, inr, arith}
 use Rattle.std.proofs.lemmas.Bool.{cases_eq}
 use Rattle.std.proofs.lemmas.List.Sums.{sum_by-append}
@@ -93,7 +93,7 @@ module _ (b : Book) (network : IsNetwork b.tables) (step : IsInStep b) (p : ℕ)
       let clash : ◌≡◌ {A = Option ℕ} None (Some d) = sym none ∙ some in
       absurd cc
 
--- the growth that is owed is made
+-- the growth that is owed happens
 pub has_grown : (b a : Book) → IsNetwork b.tables → (p q d : ℕ) → OwesGrowth b.tables b.history q d
     → Follows (growth_after b.tables b.history q d) b a → GrowsIfOwed p (done.Grew d) b a
 has_grown b a network p q d owes follows = record {
@@ -126,7 +126,7 @@ blocked_then p b a is = record { grows = is.grows; sound = is.sound; held = is.h
 pub grew_then : (p d : ℕ) (b a : Book) → GrowsAtStop (Some d) b a → GrowsIfOwed p (done.Grew d) b a
 grew_then p d b a is = record { grows = is.grows; sound = is.sound; held = is.held }
 
--- ---- an event, and the growth that is owed then
+-- ---- an event, and the growth that is then owed
 
 pub happens : (e : Event) (b m a : Book) (channel : Option ℕ) → Follows e b m → GrowsAtStop channel m a → Happens e b a
 happens e b m a None follows grows = record {
@@ -159,7 +159,7 @@ pub commits_at_stop : (b a : Book) (channel : Option ℕ) → GrowsAtStop channe
 commits_at_stop b a None grows = ap (λ x. x.commits) grows.grows.1
 commits_at_stop b a (Some d) grows = grows.grows.appends.commits
 
--- ---- answers
+-- ---- results
 
 pub answered_got : (b a : Book) → IsNetwork b.tables → (p c : ℕ) (v : ℤ)
     → next_item (channel_in b.configuration c) ≡ Some v
@@ -285,7 +285,7 @@ answered_paused b sound p held = record {
 
 -- ---- a commit is counted
 
--- all events together are those of one process at most once
+-- among these events at most one is of a process
 one_event : (e : Event) → count_by is_of_process (e ∷ []) ≤ 1
 one_event e = by_test (is_of_process e)
   where
@@ -362,7 +362,7 @@ module _ (b a : Book) (p : ℕ) (s : Stop) (answer : Done) (kept : IsKept b) (an
         countable = omega (arith, count, same, released);
       }
 
--- there is room for one commit more where a process is held
+-- there is room for one more commit if a process is held
 pub one_more_fits : (b : Book) (p : ℕ) → IsKept b → IsHeld b p → b.commits + 1 < 2 ^ 64
 one_more_fits b p kept held =
     let some = put_back_released b p held in

@@ -1,4 +1,4 @@
--- Events that are appended one after the other: what becomes of the network, the history and the number of commits.
+-- Events that are appended one after the other: the network, the history and the number of commits after them.
 use Rattle.std.proofs.Common.{◌≡◌, ℕ, ◌+◌, List, [], ◌∷◌, ◌++◌, length, refl, sym, ap, ◌∙◌, arith, append-nil}
 use Rattle.std.proofs.lemmas.List.{append_assoc, length-set, get_or-set_same}
 use Rattle.kpn_trace.specs.declared.event.Event.{Event}
@@ -29,7 +29,7 @@ pub commits_stay : (events : List Event) (before after : Book) → AppendsAll ev
 commits_stay [] before after is = ap (λ b. b.commits) is
 commits_stay (e ∷ events) before after is = commits_stay events is.0 after is.2 ∙ is.1.commits
 
--- the same events after one commit more
+-- the same events after one more commit
 counts_one : (e : Event) (before after : Book) → Appends e before after → Appends e (counted before) (counted after)
 counts_one e before after is = record {
   tables = is.tables;
@@ -83,7 +83,7 @@ commit_commits p a answer before after is =
     commits_stay is.handles.events (ready_if_paused p answer (counted (standing_at p a.to before))) after
     is.handles.appends ∙ base_commits answer p (counted (standing_at p a.to before))
 
--- who is claimed is held
+-- a process that is claimed is held
 pub claimed_is_held : (p : ℕ) (before after : Book) → IsClaimed p before after → IsHeld after p
 claimed_is_held p before after is =
     let there = is.holds.there in

@@ -1,4 +1,4 @@
--- A commit and a step in place: a process is held, stands where its steps have led, and is answered there.
+-- A commit, and a step in place: a process is held, goes to the end of its steps, and is committed there.
 use Rattle.std.proofs.Common.{◌≡◌, ◌≢◌, ℕ, ◌+◌, ◌-◌, ◌<◌, ◌≤◌, ◌^◌, ℤ, true, false, cond, if◌then◌else◌, is_ok, IsTrue, List, [], length, set, Option, Some, None, refl, sym, ap, ◌∙◌, subst, inl, inr, arith, IfSome, IfNone, Result, Ok, Err, slice_index}
 use Rattle.std.proofs.lemmas.Bool.{cases_eq, cases_lt, false≢true}
 use Rattle.std.proofs.lemmas.List.{length-set, get_or-set_same, get_or-set_other, get_or_past}
@@ -50,7 +50,7 @@ kept_reserved_on b kept c below = record {
 }
 
 module _ (s : Stop) (b o : Book) (but : is_but_reserved s b o) where
-  -- what holds of the book and of each book with an item reserved
+  -- what holds both of the book and of each book with an item reserved
   by_cases : (P : Book → Type 0) → P b → ((c : ℕ) → c < length b.configuration.channels → P (reserved_on c b)) → P o
   by_cases P same reserved =
       elim but [
@@ -88,7 +88,7 @@ module _ (s : Stop) (b o : Book) (but : is_but_reserved s b o) where
             (subst (λ x. HandlesStop p s answer x a) more.1.2 is)
       ]
 
--- ---- a process that stands elsewhere
+-- ---- a process at another frame
 
 pub kept_moved : (b : Book) → IsKept b → (p : ℕ) → p < length b.tables.instances → (a : Advanced) → IsAdvance a
     → IsOwnAdvance b p a → IsKept (standing_at p a.to b)
@@ -184,7 +184,7 @@ pub kept_claimed : (b : Book) → IsKept b → (p : ℕ) (a : Book) → IsClaime
 kept_claimed b kept p a claimed more =
     subst IsKept (sym claimed.same) (kept_with b kept p a.schedule claimed.holds more)
 
--- ---- what the calls answer
+-- ---- what the calls return
 
 pub claims_from : (r : Option ℕ) (b : Book) (s : Schedule) → IsKept b
     → (b.commits + held_count b ≡ 2 ^ 64 - 1 → ⊥) → IfSome r (λ p. HoldsFirst p b.schedule s)
@@ -210,7 +210,7 @@ commits_from b o1 o2 a p x answer held own but is handles = record {
 
 -- ---- an event of the outside
 
--- no growth is owed after it
+-- if no growth is owed after it
 pub kept_outside : (b a : Book) (e : Event) → IsNetwork b.tables → IsKept b → Follows e b a → is_of_process e ≡ false
     → waiter e ≡ None → goes_on e ≡ true → IsKept a
 kept_outside b a e network kept follows nobody none goes =
@@ -229,7 +229,7 @@ kept_outside b a e network kept follows nobody none goes =
       countable = omega (arith, count, held, zero, same);
     }
 
--- the growth that is owed after it is made
+-- if the growth that is owed after it happens
 pub kept_grown : (b m a : Book) (e : Event) (channel : Option ℕ) → IsKept b → Follows e b m → is_of_process e ≡ false
     → GrowsAtStop channel m a → IsKept a
 kept_grown b m a e channel kept follows nobody grows =
@@ -287,7 +287,7 @@ kept_stepped s b o1 o2 but kept p there x advance own is =
     (subst (λ t. p < length t.instances) (sym (tables_reserved s b o1 but)) there) x advance
     (own_reserved s b o1 but p x own))
 
--- the steps of a commit by the stop that was read of them
+-- the steps of a commit, by the stop that the code reads from them
 pub commits_read : (b o1 o2 a : Book) (p : ℕ) (x : Advanced) (s : Stop) (answer : Done) → s ≡ x.stop
     → IsHeld b p → IsOwnAdvance b p x → is_but_reserved s b o1 → o2 ≡ standing_at p x.to o1
     → HandlesStop p s answer o2 a → Commits p x answer b a

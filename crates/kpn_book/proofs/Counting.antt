@@ -1,4 +1,4 @@
--- How many processes are held after an event: one less where the event is of a process.
+-- How many processes are held after an event: one fewer if the event is of a process.
 use Rattle.std.proofs.Common.{◌≡◌, ℕ, ◌+◌, ◌<◌, true, false, cond, List, [], ◌∷◌, length, set, get_or, count_by, eqb, eq-eqb, refl, ap, ◌∙◌, subst, inl, inr, arith}
 use Rattle.std.specs.List.{Contains}
 use Rattle.std.proofs.lemmas.Bool.{cases_eq}
@@ -23,7 +23,7 @@ held_set : (xs : List State) (p : ℕ) (y : State) → p < length xs
     → held_in (set xs p y) + cond (is_held (get_or xs p Ready)) 1 0 ≡ held_in xs + cond (is_held y) 1 0
 held_set xs p y there = sum_by-set (λ x. cond (is_held x) 1 0) xs p y Ready there
 
--- one that was not held is set to a state that is not held
+-- a process that was not held gets a state that is not held
 pub held_same : (xs : List State) (p : ℕ) (y : State) → p < length xs → is_held (get_or xs p Ready) ≡ false
     → is_held y ≡ false → held_in (set xs p y) ≡ held_in xs
 held_same xs p y there old new =
@@ -32,7 +32,7 @@ held_same xs p y there old new =
     let no : cond {A = ℕ} (is_held y) 1 0 ≡ 0 = ap (λ b. cond b 1 0) new in
     omega arith
 
--- one that was held is set to a state that is not held
+-- a process that was held gets a state that is not held
 pub held_less : (xs : List State) (p : ℕ) (y : State) → p < length xs → get_or xs p Ready ≡ Held
     → is_held y ≡ false → held_in (set xs p y) + 1 ≡ held_in xs
 held_less xs p y there old new =
@@ -41,7 +41,7 @@ held_less xs p y there old new =
     let no : cond {A = ℕ} (is_held y) 1 0 ≡ 0 = ap (λ b. cond b 1 0) new in
     omega arith
 
--- one that was not held is held
+-- a process that was not held becomes held
 pub held_more : (xs : List State) (p : ℕ) → p < length xs → is_held (get_or xs p Ready) ≡ false
     → held_in (set xs p Held) ≡ held_in xs + 1
 held_more xs p there old =

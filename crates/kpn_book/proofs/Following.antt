@@ -1,4 +1,4 @@
--- One event that happens to a book: what the book is afterwards.
+-- One event that happens to a book: the book after it.
 use Rattle.std.proofs.Common.{◌≡◌, ℕ, ◌+◌, ◌<◌, true, false, eqb, List, [], ◌∷◌, ◌++◌, length, refl, sym, ap, ◌∙◌, subst, arith}
 use Rattle.std.proofs.lemmas.Bool.{eqb-true, false≢true}
 use Rattle.kpn_net.specs.Faults.{IsNetwork}
@@ -20,7 +20,7 @@ use Rattle.kpn_book.proofs.Woken.{EndsThere, woken_distinct}
 use Rattle.kpn_book.proofs.InStep.{woken_may_be_ready, woken_not_held, agree_after, length_after}
 use Rattle.kpn_book.proofs.Counting.{held_as_before, held_own}
 
--- the book once the event has made this configuration
+-- the book after the event has made this configuration
 abbrev pub next_book : Event → Configuration → Book → Book
 next_book e configuration b =
     record {
@@ -40,11 +40,11 @@ recorded b H s order =
 pub own_held : (b : Book) (p : ℕ) → IsHeld b p → (q : ℕ) → eqb p q ≡ true → IsHeld b q
 own_held b p held q is = subst (λ z. IsHeld b z) (eqb-true p q is) held
 
--- an event of nobody
+-- an event of no process
 pub own_none : (b : Book) (q : ℕ) → false ≡ true → IsHeld b q
 own_none b q is = absurd (false≢true is)
 
--- a held process is free, and there
+-- a held process is free, and exists
 pub held_is_free : (b : Book) → IsInStep b → (p : ℕ) → IsHeld b p → IsFree b.configuration p
 held_is_free b step p held =
     let there = held.there in
@@ -95,7 +95,7 @@ module _ (b : Book) (network : IsNetwork b.tables) (step : IsInStep b) (e : Even
 
 -- ---- how the calls come to it
 
--- the processes that are woken may become ready
+-- ---- what the calls make of it
 pub may_be_woken : (b : Book) → IsNetwork b.tables → IsInStep b → (e : Event)
     → ((q : ℕ) → is_of q e ≡ true → IsHeld b q) → EndsThere b.tables e → (s : Schedule) (ps : List ℕ)
     → s ≡ own_part e b.schedule → ps ≡ woken_by b.tables b.configuration.waits e → MayBeReady s ps

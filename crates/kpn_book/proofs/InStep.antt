@@ -126,7 +126,7 @@ module _ (t : Tables) (network : IsNetwork t) (H : List Event) (before : Configu
       (woken_waits t e (wait_in before q) woken)
       (λ how is. ended_waits_for_nobody t network H before run q there how is) (agree q there)
 
-  -- whom the event wakes is there and not ready, once the process of the event has moved
+  -- a process that the event wakes exists and is not ready, once the process of the event has moved
   pub woken_may_be_ready : (q : ℕ) → Contains (woken_by t before.waits e) q
       → (q < length (own_part e s).states) × (is_ready (state_at (own_part e s).states q) ≡ false)
   woken_may_be_ready q among =

@@ -1,4 +1,4 @@
--- A list begins with another exactly if its first items, as many as the other has, are the other.
+-- A list begins with another if and only if its first items, as many as the other has, are the other.
 use Rattle.std.proofs.Common.{◌≡◌, List, [], ◌∷◌, length, take, refl, ap, ◌∙◌}
 use Rattle.kpn_lang.specs.Prefix.{IsPrefix}
 

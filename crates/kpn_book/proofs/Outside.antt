@@ -1,4 +1,4 @@
--- What the calls of the outside come to.
+-- What the calls of the outside do.
 use Rattle.std.proofs.Common.{◌≡◌, is_some, cond, slice_get, ℕ, ◌<◌, ℤ, true, false, List, [], ◌∷◌, ◌++◌, length, Some, None, refl, sym, ap, ◌∙◌, subst, arith}
 use Rattle.std.proofs.lemmas.Bool.{false≢true}
 use Rattle.kpn_net.specs.Tables.{channel_at, is_source, is_sink}

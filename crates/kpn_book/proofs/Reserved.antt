@@ -1,4 +1,4 @@
--- That an item is reserved on a channel changes nothing of what an event does.
+-- An item that is reserved on a channel changes nothing of what an event does.
 use Rattle.std.proofs.Common.{◌≡◌, ℕ, ◌+◌, ◌<◌, ◌||◌, IsTrue, List, [], ◌∷◌, ◌++◌, length, refl, sym, ap, ◌∙◌, subst, inl, inr}
 use Rattle.std.proofs.lemmas.Bool.{cases_eq}
 use Rattle.std.proofs.lemmas.List.{get_or-set_same, get_or-set_other}
@@ -30,7 +30,7 @@ channel_before t e d x y after journal read capacity retired reserved is = recor
 }
 
 module _ (b : Book) (c : ℕ) (below : c < length b.configuration.channels) where
-  -- what does not look at the reservation sees the same channel
+  -- a function that does not look at the reservation has the same value
   pub sees_same : {X : Type 0} (f : ChannelState → X) → ((ch : ChannelState) → f (with_room ch) ≡ f ch) → (d : ℕ)
       → f (channel_in (reserved_on c b).configuration d) ≡ f (channel_in b.configuration d)
   sees_same f keeps d =

@@ -1,4 +1,4 @@
--- What is seen of a book.
+-- If some process has not stopped, the run is not settled.
 use Rattle.std.proofs.Common.{◌<◌, length, arith}
 use Rattle.kpn_trace.specs.Ends.{IsSettled}
 use Rattle.kpn_trace.proofs.States.{stopped_state}

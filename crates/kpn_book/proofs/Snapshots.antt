@@ -1,4 +1,4 @@
--- What a view that agrees with a legal history shows of its journals, read by itself.
+-- What a view that agrees with a legal history shows of its journals, without the history.
 use Rattle.std.proofs.Common.{◌≡◌, ◌⊎◌, ℕ, ℤ, ◌<◌, true, cond, List, [], length, get_or, sym, ap, ◌∙◌, subst, inl, inr, arith}
 use Rattle.std.proofs.lemmas.List.FromFn.{get_or-map-range_with_len}
 use Rattle.std.proofs.lemmas.List.Elements.{All-get_or}
@@ -78,7 +78,7 @@ module _ {A : Type 0} (t : Tables) (network : IsNetwork t) (H : List Event) (leg
       (least_if_quiet_given t network H legal (quiet t H view agrees rest) (shown_fed t view)
       (fed-shown t H view agrees) c)
 
--- the journals that are shown are those of a book in which they are what was written
+-- the view shows the journals of a book, if they are what was written
 pub shows_journals : {A : Type 0} (b : Book)
     → ((c : ℕ) → c < length b.tables.channels → (channel_in b.configuration c).journal ≡ written_on b.history c)
     → (view : View A) → Agrees b.tables b.history view → ShowsJournals b view
@@ -92,7 +92,7 @@ pub begins_shown : {A : Type 0} (b : Book) (view : View A) → ShowsJournals b v
 begins_shown b view shows c source items begins =
     subst (IsPrefix items) (sym (shows c (source_there b.tables c source))) begins
 
--- the same where the tables are those of a book
+-- the same, if the tables are those of a book
 module _ {A : Type 0} (t : Tables) (b : Book) (same : b.tables ≡ t) (book : IsBook b) (legal : Legal b.tables b.history)
     (view : View A) (agrees : Agrees b.tables b.history view) where
   pub run_of : ShowsARun t view
@@ -106,7 +106,7 @@ module _ {A : Type 0} (t : Tables) (b : Book) (same : b.tables ≡ t) (book : Is
   pub at_rest_of : IsKahnAtRest t view
   at_rest_of = subst (λ u. IsKahnAtRest u view) same (at_rest_least b.tables book.network b.history legal view agrees)
 
--- of the book that a view is seen of
+-- for the book of a view
 module _ {A : Type 0} (b : Book) (book : IsBook b) (view : View A) (agrees : Agrees b.tables b.history view) where
   pub run_shown : ShowsARun b.tables view
   run_shown = record {

@@ -127,7 +127,7 @@ pub owed_then : (b : Book) → IsBook b → (B rest : List Event) (p d n : ℕ)
     → b.history ≡ B ++ event.Grow p d n ∷ rest → OwesGrowth b.tables B p d
 owed_then b book B rest p d n is = (growth_follows b book B rest (event.Grow p d n) is).due
 
--- the capacity that it tells
+-- the capacity that it names
 pub told_then : (b : Book) → IsBook b → (B rest : List Event) (p d n : ℕ)
     → b.history ≡ B ++ event.Grow p d n ∷ rest → n ≡ larger_capacity b.tables (capacity_or_zero b.tables B d)
 told_then b book B rest p d n is =

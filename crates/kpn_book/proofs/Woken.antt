@@ -1,4 +1,4 @@
--- Whom an event wakes is whom it makes ready.
+-- An event makes ready exactly the processes that it wakes.
 use Rattle.std.proofs.Common.{◌≡◌, ℕ, ◌<◌, true, List, [], length, Option, Some, None, sym, ap, subst, inl, inr}
 use Rattle.std.specs.List.{Contains}
 use Rattle.std.specs.Option.{option_to_list}
@@ -29,7 +29,7 @@ only_one (Some p) q among =
 pub the_one : (o : Option ℕ) (q : ℕ) → o ≡ Some q → Contains (option_to_list o) q
 the_one o q is = subst (λ o. Contains (option_to_list o) q) (sym is) (Contains-first q [])
 
--- each process that ends is there
+-- each process that ends exists
 abbrev pub EndsThere : Tables → Event → Type 0
 EndsThere t (Ended p how) = p < length t.instances
 EndsThere t e = Unit {0}
@@ -77,14 +77,14 @@ module _ (t : Tables) (network : IsNetwork t) (waits : List Wait) (are : AreWait
   woken_is_among (Grow p c n) ends q there is = writer_among c q there is.0
   woken_is_among e ends q there is = absurd is
 
-  -- whom it makes ready it wakes
+  -- a process that becomes ready was woken
   pub among_wakes : (e : Event) → EndsThere t e → (q : ℕ) → Contains (woken_by t waits e) q
       → (q < length t.instances) × (wakes t e (wait_at waits q) ≡ true)
   among_wakes e ends q among =
       let is = among_is_woken e ends q among in
       (is.0, (woken t e q (wait_at waits q) (are.own q is.0)).1 is.1)
 
-  -- whom it wakes it makes ready
+  -- a process that is woken becomes ready
   pub wakes_among : (e : Event) → EndsThere t e → (q : ℕ) → q < length t.instances
       → wakes t e (wait_at waits q) ≡ true → Contains (woken_by t waits e) q
   wakes_among e ends q there is =

@@ -1,5 +1,5 @@
--- What a book is after it has one event more: the event changes the configuration and the schedule. After some events a
--- growth is owed, which is appended at once.
+-- A book after one more event: the event changes the configuration and the schedule. After some events a growth is
+-- owed, and it is appended at once.
 use Rattle.std.specs.Prelude.{◌≡◌, ℕ, List, [], ◌∷◌, ◌++◌}
 use Rattle.std.specs.List.{filter_map}
 use Rattle.std.specs.Option.{option_to_list}
@@ -18,7 +18,7 @@ use Rattle.kpn_book.specs.Book.{Book}
 
 -- ---- the schedule after an event
 
--- what an event makes of the process that made it: it is ready again, waits or has ended
+-- what an event does to the process that made it: the process is ready again, waits or has ended
 abbrev pub own_part : Event → Schedule → Schedule
 own_part (event.Get p c v) s = made_ready p s
 own_part (event.Put p c v) s = made_ready p s
@@ -27,10 +27,10 @@ own_part (event.WaitFull p c) s = with_state p (state.WaitsFull c) s
 own_part (event.Ended p how) s = with_state p (state.Ended how) s
 own_part e s = s
 
--- whom an event wakes, in the order in which they become ready, by what each process waits for: the writer of a
--- channel from which an item is read, which is left or which grows, where it waits on it as full; the reader of one to
--- which an item comes, where it waits on it as empty; at the end of a process the writers of the channels that it
--- reads, in order of port, where they wait on them as full
+-- which processes an event wakes, in the order in which they become ready, by what each process waits for: the writer
+-- of a channel that is read, left or grows, if it waits on it as full; the reader of a channel that gets an item, if it
+-- waits on it as empty; at the end of a process the writers of the channels that it reads, in order of port, if they
+-- wait on them as full
 abbrev pub woken_by : Tables → List Wait → Event → List ℕ
 woken_by t waits (event.Get p c v) = option_to_list (waiting_writer t waits c)
 woken_by t waits (event.Put p c v) = option_to_list (waiting_reader t waits c)
@@ -41,18 +41,18 @@ woken_by t waits (event.Leave c) = option_to_list (waiting_writer t waits c)
 woken_by t waits (event.Grow p c n) = option_to_list (waiting_writer t waits c)
 woken_by t waits e = []
 
--- these processes are ready, in this order at the tail of the queue
+-- these processes become ready, in this order at the tail of the queue
 abbrev pub all_made_ready : List ℕ → Schedule → Schedule
 all_made_ready [] s = s
 all_made_ready (p ∷ ps) s = all_made_ready ps (made_ready p s)
 
--- the process of the event goes first, then those that it wakes
+-- the process of the event moves first, then those that the event wakes
 abbrev pub schedule_after : Tables → List Wait → Event → Schedule → Schedule
 schedule_after t waits e s = all_made_ready (woken_by t waits e) (own_part e s)
 
 -- ---- the book after an event
 
--- the second book is the first with one event more
+-- the second book is the first with one more event
 pub record Appends (e : Event) (before after : Book) : Type 0 where
   pub tables : after.tables ≡ before.tables
   pub history : after.history ≡ before.history ++ e ∷ []
@@ -67,14 +67,14 @@ AppendsAll (e ∷ events) before after = (between : Book) × Appends e before be
 
 -- ---- events, and the growths that are owed
 
--- the growth that is owed after a history: none, or this one, which tells the capacity that the channel has then
+-- the growth that is owed after a history: none, or this event, which has the new capacity of the channel
 abbrev pub IsGrowthOwed : Tables → List Event → (growth : List Event) → Type 0
 IsGrowthOwed t H [] = OwesNothing t H
 IsGrowthOwed t H (event.Grow p d n ∷ []) =
     OwesGrowth t H p d × (n ≡ larger_capacity t (capacity_or_zero t H d))
 IsGrowthOwed t H growth = ⊥
 
--- the event happens: it is appended, and so is the growth that is owed then
+-- the event happens: it is appended, and so is the growth that is then owed
 pub record Happens (e : Event) (before after : Book) : Type 0 where
   pub growth : List Event
   pub owed : IsGrowthOwed before.tables (before.history ++ e ∷ []) growth

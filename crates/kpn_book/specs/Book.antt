@@ -1,4 +1,4 @@
--- The book of a run: what has happened in it, what this has led to, and who is to be stepped next.
+-- The book of a run: what has happened in it, what this has led to, and which process to step next.
 use Rattle.std.specs.Prelude.{◌≡◌, ℕ, ◌+◌, ◌<◌, List, length, count_by}
 use Rattle.kpn_net.specs.Tables.{Tables}
 use Rattle.kpn_step.specs.Frame.{Frame}
@@ -28,7 +28,7 @@ held_count b = count_by is_held b.schedule.states
 
 -- ---- changes without an event
 
--- process p stands at this frame
+-- process p is at this frame
 abbrev pub standing_at : (p : ℕ) → Frame → Book → Book
 standing_at p frame b = record b { configuration = with_frame p frame b.configuration }
 
@@ -36,11 +36,11 @@ standing_at p frame b = record b { configuration = with_frame p frame b.configur
 abbrev pub put_back : (p : ℕ) → Book → Book
 put_back p b = record b { schedule = made_ready p b.schedule }
 
--- one commit more was made
+-- one more commit was made
 abbrev pub counted : Book → Book
 counted b = record b { commits = b.commits + 1 }
 
--- the first process of the queue, p, is held from then on, and nothing else changes
+-- the first process of the queue, p, becomes held, and nothing else changes
 pub record IsClaimed (p : ℕ) (before after : Book) : Type 0 where
   pub holds : HoldsFirst p before.schedule after.schedule
   pub same : after ≡ record before { schedule = after.schedule }

@@ -1,4 +1,4 @@
--- What a commit does: the events that it appends and what it answers, by the stop of the steps that are committed.
+-- What a commit does: the events that it appends and what it returns, by the stop of the steps that it commits.
 use Rattle.std.specs.Prelude.{◌≡◌, ℕ, ◌⊎◌, true, false, ℤ, List, [], ◌∷◌, ◌++◌, Some}
 use Rattle.kpn_net.specs.Tables.{Tables, instance_at, program_of}
 use Rattle.kpn_step.specs.declared.stop.Stop.{Stop}
@@ -34,14 +34,14 @@ pub record IsWriteTo (t : Tables) (p : ℕ) (s : Stop) (c : ℕ) (v : ℤ) : Typ
 
 -- ---- the events of a commit
 
--- it got this item, which was the next one of the channel that it would read from
+-- it got this item, which was the next one of the channel that it would read
 pub record Gets (b : Book) (p : ℕ) (s : Stop) (v : ℤ) (events : List Event) : Type 0 where
   pub channel : ℕ
   pub asks : IsReadFrom b.tables p s channel
   pub item : next_item (channel_in b.configuration channel) ≡ Some v
   pub appends : events ≡ event.Get p channel v ∷ []
 
--- it put the item that it would write on a channel which was not full
+-- it put the item that it would write, on a channel that was not full
 pub record Puts (b : Book) (p : ℕ) (s : Stop) (events : List Event) : Type 0 where
   pub channel : ℕ
   pub item : ℤ
@@ -49,14 +49,14 @@ pub record Puts (b : Book) (p : ℕ) (s : Stop) (events : List Event) : Type 0 w
   pub ready : is_full (channel_in b.configuration channel) ≡ false
   pub appends : events ≡ event.Put p channel item ∷ []
 
--- it has to wait: the channel that it would read from is empty
+-- it has to wait: the channel that it would read is empty
 pub record HasToWaitOnEmpty (b : Book) (p : ℕ) (s : Stop) (wait : Event) : Type 0 where
   pub channel : ℕ
   pub asks : IsReadFrom b.tables p s channel
   pub empty : unread (channel_in b.configuration channel) ≡ []
   pub is : wait ≡ event.WaitEmpty p channel
 
--- it has to wait: the channel that it would write to is full
+-- it has to wait: the channel that it would write is full
 pub record HasToWaitOnFull (b : Book) (p : ℕ) (s : Stop) (wait : Event) : Type 0 where
   pub channel : ℕ
   pub item : ℤ
@@ -75,7 +75,7 @@ pub record IsBlocked (b : Book) (p : ℕ) (s : Stop) (events : List Event) : Typ
   pub nothing : OwesNothing b.tables (b.history ++ wait ∷ [])
   pub appends : events ≡ wait ∷ []
 
--- it waits, and the growth of channel d, which is owed then for some process, follows at once
+-- it waits, and the growth of channel d, which is then owed for some process, follows at once
 pub record WaitsAndGrows (b : Book) (p : ℕ) (s : Stop) (d : ℕ) (events : List Event) : Type 0 where
   pub wait : Event
   pub waits : HasToWait b p s wait
@@ -83,7 +83,7 @@ pub record WaitsAndGrows (b : Book) (p : ℕ) (s : Stop) (d : ℕ) (events : Lis
   pub owed : OwesGrowth b.tables (b.history ++ wait ∷ []) grower d
   pub appends : events ≡ wait ∷ growth_after b.tables (b.history ++ wait ∷ []) grower d ∷ []
 
--- it has ended, and the growth that is owed then follows at once
+-- it has ended, and the growth that is then owed follows at once
 pub record Ends (b : Book) (p : ℕ) (s : Stop) (events : List Event) : Type 0 where
   pub how : How
   pub asks : s ≡ stop_of how
@@ -96,7 +96,7 @@ pub record Pauses (s : Stop) (events : List Event) : Type 0 where
   pub asks : s ≡ stop.Paused
   pub appends : events ≡ []
 
--- what a commit of process p, which stands at this stop, answers, and the events that it appends
+-- what a commit of process p at this stop returns, and the events that it appends
 abbrev pub IsAnswer : Book → (p : ℕ) → Stop → Done → List Event → Type 0
 IsAnswer b p s (done.Got v) events = Gets b p s v events
 IsAnswer b p s done.Put events = Puts b p s events
@@ -107,12 +107,12 @@ IsAnswer b p s done.Paused events = Pauses s events
 
 -- ---- the book after a commit
 
--- a process that has paused is ready again; of all others their events tell
+-- a process that has paused is ready again; the events say what all others are
 abbrev pub ready_if_paused : (p : ℕ) → Done → Book → Book
 ready_if_paused p done.Paused b = put_back p b
 ready_if_paused p other b = b
 
--- process p stands at this stop and is committed: the commit is counted, and its events are appended
+-- the commit of process p at this stop: it is counted, and its events are appended
 pub record HandlesStop (p : ℕ) (s : Stop) (answer : Done) (before after : Book) : Type 0 where
   pub events : List Event
   pub answers : IsAnswer before p s answer events
@@ -123,7 +123,7 @@ pub record IsOwnAdvance (b : Book) (p : ℕ) (a : Advanced) : Type 0 where
   pub program : a.program ≡ program_of b.tables p
   pub from : a.from ≡ frame_in b.configuration p
 
--- these steps of process p, which is held, are committed: it stands where they have led
+-- the commit of these steps of process p, which is held: the process goes to their end
 pub record Commits (p : ℕ) (a : Advanced) (answer : Done) (before after : Book) : Type 0 where
   pub held : IsHeld before p
   pub own : IsOwnAdvance before p a

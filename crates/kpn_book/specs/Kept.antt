@@ -13,8 +13,7 @@ use Rattle.kpn_configuration.specs.Run.{IsRun}
 use Rattle.kpn_schedule.specs.Schedule.{state_at, IsSchedule}
 use Rattle.kpn_book.specs.Book.{Book, held_count}
 
--- the state of a process by how it ended and what it waits for: it is ready or held where it has not ended and waits
--- for nobody
+-- the state of a process by how it ended and what it waits for: ready or held if it has not ended and waits for nobody
 abbrev pub IsStateBy : (end : Option How) → (wait : Wait) → State → Type 0
 IsStateBy end wait Ready = (end ≡ None) × (wait ≡ Nobody)
 IsStateBy end wait Held = (end ≡ None) × (wait ≡ Nobody)
@@ -29,15 +28,15 @@ pub record IsInStep (b : Book) : Type 0 where
   pub states : (p : ℕ) → p < length b.tables.instances
       → IsStateBy (end_in b.configuration p) (wait_in b.configuration p) (state_at b.schedule.states p)
 
--- besides, no growth is owed, each event of a process was committed, and the commits can be counted, with one for each
--- process that is held
+-- besides, no growth is owed, a commit made each event of a process, and the commits can be counted, with one more for
+-- each process that is held
 pub record IsKept (b : Book) : Type 0 where
   pub in_step : IsInStep b
   pub nothing_owed : OwesNothing b.tables b.history
   pub committed : process_events b.history ≤ b.commits
   pub countable : b.commits + held_count b < 2 ^ 64
 
--- a book: besides, the tables are those of a network, and the queue holds each ready process once and no other
+-- a book: besides, the tables are those of a network, and the queue holds each ready process once and no other process
 pub record IsBook (b : Book) : Type 0 where
   pub network : IsNetwork b.tables
   pub schedule : IsSchedule b.schedule

@@ -1,4 +1,4 @@
--- Why a call is refused, and what the calls of the outside do where they are not.
+-- Why a call is refused, and what the calls of the outside do if they are not.
 use Rattle.std.specs.Prelude.{◌≡◌, ◌≢◌, ℕ, ◌≤◌, Bool, true, false, ℤ, [], length, Option, Some, None}
 use Rattle.kpn_net.specs.Tables.{channel_at, is_source, is_sink}
 use Rattle.kpn_step.specs.declared.stop.Stop.TheVariants as stop
@@ -14,7 +14,7 @@ use Rattle.kpn_book.specs.Commits.{IsOwnAdvance}
 
 -- ---- why
 
--- a commit: the process is not held, the steps are not its own, or memory is wanted; a pause wants none
+-- a commit: the process is not held, the steps are not its own, or memory ran out; a pause takes no memory
 abbrev pub RefusesCommit : (p : ℕ) → Advanced → Book → Refused → Type 0
 RefusesCommit p a b NotHeld = ¬ IsHeld b p
 RefusesCommit p a b Stranger = IsHeld b p × (¬ IsOwnAdvance b p a)
@@ -31,16 +31,16 @@ pub record IsOpenSource (b : Book) (c : ℕ) : Type 0 where
   pub source : is_source (channel_at b.tables c) ≡ true
   pub not_closed : closed_in b.configuration c ≡ false
 
--- its reader has not ended, and this many items or more are unread
+-- its reader has not ended, and at least this many items are unread
 pub record IsAtBound (channel : ChannelState) (bound : ℕ) : Type 0 where
   pub lives : channel.is_retired ≡ false
   pub reached : bound ≤ length (unread channel)
 
--- an open source whose bound is not reached: it is fed where there is memory
+-- an open source whose bound is not reached: a feed succeeds if there is memory
 abbrev pub AcceptsItem : (c : ℕ) → (bound : ℕ) → Book → Type 0
 AcceptsItem c bound b = IsOpenSource b c × (¬ IsAtBound (channel_in b.configuration c) bound)
 
--- feeding a source: there is none with this number, it is closed, its bound is reached, or memory is wanted
+-- feeding a source: no source has this number, it is closed, its bound is reached, or memory ran out
 abbrev pub RefusesFeed : (c : ℕ) → (item : ℤ) → (bound : ℕ) → Book → Refused → Type 0
 RefusesFeed c item bound b NoSuchEnd = is_source (channel_at b.tables c) ≡ false
 RefusesFeed c item bound b SourceClosed =
@@ -50,7 +50,7 @@ RefusesFeed c item bound b (Full v) =
 RefusesFeed c item bound b NoMemory = AcceptsItem c bound b
 RefusesFeed c item bound b other = ⊥
 
--- closing a source: there is none with this number, or memory is wanted, which is so only where it is open
+-- closing a source: no source has this number, or memory ran out, which can be only if it is open
 abbrev pub RefusesClose : (c : ℕ) → Book → Refused → Type 0
 RefusesClose c b NoSuchEnd = is_source (channel_at b.tables c) ≡ false
 RefusesClose c b NoMemory = IsOpenSource b c
@@ -61,8 +61,7 @@ pub record IsOpenSink (b : Book) (c : ℕ) : Type 0 where
   pub sink : is_sink (channel_at b.tables c) ≡ true
   pub not_left : (channel_in b.configuration c).is_retired ≡ false
 
--- taking from a sink: there is none with this number, it was left, or memory is wanted, which is so only where an item
--- is unread
+-- taking from a sink: no sink has this number, it was left, or memory ran out, which can be only if an item is unread
 abbrev pub RefusesTake : (c : ℕ) → Book → Refused → Type 0
 RefusesTake c b NoSuchEnd = is_sink (channel_at b.tables c) ≡ false
 RefusesTake c b SinkLeft =
@@ -70,7 +69,7 @@ RefusesTake c b SinkLeft =
 RefusesTake c b NoMemory = IsOpenSink b c × (unread (channel_in b.configuration c) ≢ [])
 RefusesTake c b other = ⊥
 
--- leaving a sink: there is none with this number, or memory is wanted, which is so only where it was not left
+-- leaving a sink: no sink has this number, or memory ran out, which can be only if it was not left
 abbrev pub RefusesLeave : (c : ℕ) → Book → Refused → Type 0
 RefusesLeave c b NoSuchEnd = is_sink (channel_at b.tables c) ≡ false
 RefusesLeave c b NoMemory = IsOpenSink b c

@@ -1,4 +1,4 @@
--- What a view of a run shows of the journals, read by itself.
+-- What a view of a run shows of the journals, without its history.
 use Rattle.std.specs.Prelude.{◌≡◌, ℕ, ◌<◌, if◌then◌else◌, List, [], length, slice_index_or, All}
 use Rattle.kpn_net.specs.Tables.{Tables, channel_at, is_source}
 use Rattle.kpn_net.specs.Process.{Family}
@@ -42,7 +42,7 @@ IsAtRest (WaitsEmpty c) = Unit {0}
 IsAtRest (Ended how) = Unit {0}
 IsAtRest state = ⊥
 
--- where each process has ended or waits on an empty channel, each journal is the least solution for what was fed
+-- if each process has ended or waits on an empty channel, each journal is the least solution for what was fed
 abbrev pub IsKahnAtRest : {A : Type 0} → Tables → View A → Type 0
 IsKahnAtRest t view = All IsAtRest view.states
     → (c : ℕ) → c < length t.channels → IsLeast t (shown_fed t view) c (shown_on view c)

@@ -1,4 +1,4 @@
-//! What the calls of a book answer.
+//! The results of the calls of a book.
 ghost use Rattle.std.specs.Prelude.{◌≡◌};
 ghost use Rattle.kpn_book.specs.declared.answers.Refused.TheVariants.{NoMemory};
 
@@ -13,7 +13,7 @@ pub enum Done {
     Put,
     /// The process waits.
     Blocked,
-    /// The process came to wait, and the capacity of this channel became larger for that.
+    /// The process came to wait, and for this the capacity of this channel became larger.
     Grew(usize),
     /// The process has ended.
     Ended,
@@ -21,16 +21,16 @@ pub enum Done {
     Paused,
 }
 
-/// Why a call was refused, with its number. Everything is then as before.
+/// Why a call was refused, with its number. The book is then as before.
 #[derive(Clone, Copy, Debug, PartialEq, Eq)]
 pub enum Refused {
-    /// 40: the process is not held, or there is none with this number.
+    /// 40: the process is not held, or no process has this number.
     NotHeld,
     /// 41: the steps are of another program, or began at another frame.
     Stranger,
     /// 42: memory ran out.
     NoMemory,
-    /// 43: there is no source, or no sink, with this number.
+    /// 43: no source, or no sink, has this number.
     NoSuchEnd,
     /// 44: the source is closed.
     SourceClosed,

@@ -1,4 +1,4 @@
-//! The book as its owner sees it: each call keeps all that holds of a book.
+//! The book as its owner sees it. Each call keeps all that holds of a book.
 ghost use Rattle.std.specs.Prelude.{◌≡◌, ◌↔◌, ◌<◌, ℕ, [], length, is_some, IfOk, IsTrue};
 ghost use Rattle.kpn_lang.specs.Prefix.{IsPrefix};
 ghost use Rattle.kpn_net.specs.Tables.{instance_at, program_of};
@@ -24,11 +24,11 @@ use std::marker::Model;
 mod outside;
 mod processes;
 
-/// The value under the lock of a run: its network, the history so far, the configuration to which it has led, the
+/// The value under the lock of a run: its network, the history so far, the configuration to which it leads, the
 /// schedule of the processes, and how many commits were made.
 ///
-/// Contracts see these five. Each call leaves a book of which `known` holds, and a call that is refused leaves it as it
-/// was.
+/// Contracts see these five. Each call leaves a book of which `known` holds. A call that is refused leaves the book as
+/// it was.
 #[derive(Debug, Drop)]
 pub struct Book<'n, A: Allocator = Global> {
     parts: OpenBook<'n, A>,
@@ -52,9 +52,9 @@ impl<'n, A: Allocator> Model for Book<'n, A> {
 }
 
 impl<'n, A: Allocator + Copy> Book<'n, A> {
-    /// The book of a network at the start: nothing has happened, each process stands at the start of its program, and
-    /// all are ready, in order of number. It makes the room of the queue for all of them. The allocator is kept for all
-    /// that the book comes to hold. The error is that memory ran out.
+    /// The book of a network at the start: nothing has happened, each process is at the start of its program, and all
+    /// are ready, in order of number. It makes the room of the queue for all of them. The book keeps the allocator for
+    /// all that it will hold. The error is that memory ran out.
     pub fn new(alloc: A, network: &'n Network) -> Result<Self, AllocError>
         ensures tables { IfOk result (λ book. book.tables ≡ network.now) }
         ensures history { IfOk result (λ book. book.history ≡ []) }
@@ -83,7 +83,7 @@ impl<'n, A: Allocator + Copy> Book<'n, A> {
 }
 
 impl<'n, A: Allocator> Book<'n, A> {
-    /// Does nothing. It tells a caller's proof what holds of every book.
+    /// Does nothing. A caller's proof learns from it what holds of every book.
     pub fn known(&self)
         ensures { IsBook self.now }
     {
@@ -119,7 +119,7 @@ impl<'n, A: Allocator> Book<'n, A> {
         &self.parts.history
     }
 
-    /// The events so far, moved out.
+    /// Moves the events so far out of the book.
     pub fn into_history(self) -> History<A>
         ensures { result.events ≡ self.entry.history }
     {
@@ -159,7 +159,7 @@ impl<'n, A: Allocator> Book<'n, A> {
         self.parts.configuration.is_closed(c)
     }
 
-    /// Whether the journal of a channel, all that was ever put on it, begins with these items.
+    /// Whether the journal of a channel begins with these items. The journal is all that was ever put on the channel.
     pub fn journal_begins(&self, c: usize, items: &[i64]) -> bool
         requires { c < length self.now.tables.channels }
         ensures { IsTrue result ↔ IsPrefix items.now (channel_in self.now.configuration c).journal }
@@ -167,8 +167,8 @@ impl<'n, A: Allocator> Book<'n, A> {
         self.parts.configuration.channel(c).begins_with(items)
     }
 
-    /// How the run has come to a stop, if it has: each process has ended or waits, each source is closed and each sink
-    /// is empty or left.
+    /// How the run has come to a stop, if it has. It has if each process has ended or waits, each source is closed and
+    /// each sink is empty or left.
     pub fn verdict(&self) -> Option<Verdict>
         ensures { IsVerdict self.now.tables self.now.history result }
     {
@@ -179,9 +179,9 @@ impl<'n, A: Allocator> Book<'n, A> {
         self.parts.judge()
     }
 
-    /// The run as it is seen at this moment, in lists of an allocator that the caller names: a legal history that owes
-    /// no growth agrees with it; each journal is a prefix of the least solution for what was fed, and is that solution
-    /// where each process has ended or waits on an empty channel. The error is that memory ran out.
+    /// A view of the run at this moment, in lists of an allocator that the caller names. A legal history that owes no
+    /// growth agrees with it. Each journal is a prefix of the least solution for what was fed, and is that solution if
+    /// each process has ended or waits on an empty channel. The error is that memory ran out.
     pub fn snapshot<B: Allocator + Copy>(&self, alloc: B) -> Result<View<B>, AllocError>
         ensures agrees { IfOk result (λ view. Agrees self.now.tables self.now.history view) }
         ensures states { IfOk result (λ view. view.states ≡ self.now.schedule.states) }
@@ -204,7 +204,7 @@ impl<'n, A: Allocator> Book<'n, A> {
 }
 
 impl<'n> Book<'n> {
-    /// The run as it is seen at its end, and its history, both moved out of the book where they can be: no journal is
+    /// A view of the run at its end, and its history. They are moved out of the book as far as possible: no journal is
     /// copied. The error is that memory ran out.
     pub fn into_view(self, alloc: Global) -> Result<(View, History), AllocError>
         ensures agrees { IfOk result (λ told. Agrees self.entry.tables self.entry.history told.0) }

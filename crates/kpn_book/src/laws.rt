@@ -1,4 +1,4 @@
-//! What holds of every book, as the contracts of functions with nothing to do: the layers above cite them.
+//! What holds of every book, as contracts of functions that do nothing. The layers above cite them.
 ghost use Rattle.std.specs.Prelude.{◌≡◌, ◌≢◌, ℕ, ◌+◌, ◌<◌, ◌≤◌, false, List, [], ◌∷◌, ◌++◌, length, map, count_by, Some};
 ghost use Rattle.kpn_lang.specs.declared.talk.Said.{Said};
 ghost use Rattle.kpn_lang.specs.Alone.{alone};
@@ -32,8 +32,8 @@ ghost use Rattle.kpn_book.specs.Kept.{IsBook};
 
 // ---- at each moment
 
-/// The journal of a channel is what was written on it in the history: what was read and then what lies unread. No more
-/// is unread than the capacity where the reader is there. Each journal is below the least solution for what was fed.
+/// The journal of a channel is what the history wrote there: what was read and then what is unread. If the reader is
+/// there, no more is unread than the capacity. Each journal is below the least solution for what was fed.
 pub fn journals()
     ensures written { (b : Book) → IsBook b → (c : ℕ) → c < length b.tables.channels
         → (channel_in b.configuration c).journal ≡ written_on b.history c }
@@ -49,8 +49,8 @@ pub fn journals()
         (channel_in b.configuration c).journal }
 {}
 
-/// The history is legal, the state of each process is what the history says of it, and the counts of those that wait
-/// are the numbers of processes that are blocked by the history.
+/// The history is legal. The state of each process is what the history says of it. The counts of waiting processes are
+/// the numbers of processes that are blocked by the history.
 pub fn the_history()
     ensures legal { (b : Book) → IsBook b → Legal b.tables b.history }
     ensures states { (b : Book) → IsBook b → (p : ℕ) → p < length b.tables.instances
@@ -62,8 +62,8 @@ pub fn the_history()
 {}
 
 /// Each growth took the smallest awaited full channel of a blocked cycle or of a settled network, below the limit, at
-/// the moment when it was owed. It names the new capacity. No blocked cycle with a full channel below the limit is
-/// left, and under the policy `all` no settled book has a process that waits on a full channel below the limit.
+/// the moment when it was owed. It names the new capacity. No blocked cycle has a full channel below the limit. Under
+/// the policy `all`, no settled book has a process that waits on a full channel below the limit.
 pub fn growths()
     ensures owed { (b : Book) → IsBook b → (B rest : List Event) (p d n : ℕ)
         → b.history ≡ B ++ event.Grow p d n ∷ rest → OwesGrowth b.tables B p d }
@@ -77,9 +77,9 @@ pub fn growths()
         → capacity_after b.tables b.history c ≡ Some b.tables.limit }
 {}
 
-/// Where each process stands: its frame goes on as the process does after what it has said. On lists that begin with
-/// what was read, the process says that, and then what the frame says on the rest, and comes to what the frame comes
-/// to.
+/// The frame of a process goes on as the process does after what it has said. Take lists that begin with what the
+/// process read. On them it says what it has said, and then what the frame says on the rest, and it comes to what the
+/// frame comes to.
 pub fn frames_go_on()
     ensures { (b : Book) → IsBook b → (p : ℕ) → p < length b.tables.instances → (X more : Family)
         → ((c : ℕ) → X c ≡ read_on b.history c ++ more c)
@@ -92,16 +92,16 @@ pub fn frames_go_on()
 
 // ---- at a stop
 
-/// Where each process has ended or waits on an empty channel, each journal is the least solution for what was fed.
+/// If each process has ended or waits on an empty channel, each journal is the least solution for what was fed.
 pub fn a_quiet_book()
     ensures { (b : Book) → IsBook b → IsQuiet b.tables b.history
         → (c : ℕ) → c < length b.tables.channels
         → IsLeast b.tables (fed b.tables b.history) c (channel_in b.configuration c).journal }
 {}
 
-/// What a verdict means. Ended is quiet. Jammed: some blocked cycle has full channels, all at the limit. Clogged: each
-/// process that is blocked on a full channel waits for a blocked process, and no blocked cycle has a full
-/// channel. After each of them no legal event but a leave can follow.
+/// What a verdict means. Ended: the book is quiet. Jammed: some blocked cycle has full channels, all at the limit.
+/// Clogged: each process that is blocked on a full channel waits for a blocked process, and no blocked cycle has a full
+/// channel. After each verdict no legal event but a leave can follow.
 pub fn what_a_verdict_means()
     ensures ended { (b : Book) → IsBook b → IsVerdict b.tables b.history (Some Ended)
         → IsQuiet b.tables b.history }
@@ -117,8 +117,8 @@ pub fn what_a_verdict_means()
 
 // ---- from one book to the next
 
-/// Events that are appended, one after the other, stand behind the history, and nothing else happens to the network and
-/// the number of commits.
+/// Events that are appended one after the other extend the history. They change neither the network nor the number of
+/// commits.
 pub fn what_is_appended()
     ensures tables { (events : List Event) (before after : Book) → AppendsAll events before after
         → after.tables ≡ before.tables }
@@ -139,7 +139,7 @@ pub fn what_a_commit_does()
         → Commits p a answer before after → after.commits ≡ before.commits + 1 }
 {}
 
-/// Who is claimed is held.
+/// A process that is claimed is held.
 pub fn a_claimed_process()
     ensures { (p : ℕ) (before after : Book) → IsClaimed p before after → IsHeld after p }
 {}

@@ -1,4 +1,4 @@
-//! The book of a run: the history so far, what it has led to and who is to be stepped next, in one value for one owner
+//! The book of a run: the history so far, what it has led to and which process to step next, in one value for one owner
 //! or for a lock.
 #![tactic(auto)]
 

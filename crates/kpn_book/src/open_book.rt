@@ -1,4 +1,4 @@
-//! The parts of a book in the midst of a call: all that holds of a book need not hold of them yet.
+//! The parts of a book in the midst of a call, when not all that holds of a book need hold of them.
 ghost use Rattle.std.specs.Prelude.{◌≡◌, ◌↔◌, ◌+◌, ◌-◌, ◌<◌, ◌^◌, Option, option_to_list, IsTrue, IfNone};
 ghost use Rattle.kpn_trace.specs.declared.state.Verdict.{Verdict as Told};
 ghost use Rattle.kpn_configuration.specs.Configuration.{IsConfiguration};
@@ -36,8 +36,8 @@ impl<'n, A: Allocator> OpenBook<'n, A> {
         p < self.schedule.len() && self.schedule.state(p) == State::Held
     }
 
-    /// The first process of the queue is held from now on. `None` where no process is ready, or where the commits and
-    /// the processes that are held are as many as can be counted.
+    /// Holds the first process of the queue, and returns it. `None` if no process is ready, or if the commits and the
+    /// held processes are as many as can be counted.
     pub(crate) fn hold_next(&mut self) -> Option<usize>
         requires { IsKept (book_of self.old) }
         ensures claims { claims_by result (book_of self.old) (book_of self.new) }
@@ -49,7 +49,7 @@ impl<'n, A: Allocator> OpenBook<'n, A> {
         self.schedule.hold_next()
     }
 
-    /// Whether the commits and the processes that are held are as many as can be counted.
+    /// Whether the commits and the held processes are as many as can be counted.
     fn is_counted_out(&self) -> bool
         requires { self.now.commits + held_count (book_of self.now) < 2 ^ 64 }
         ensures { IsTrue result ↔ (self.now.commits + held_count (book_of self.now) ≡ 2 ^ 64 - 1) }
@@ -57,7 +57,8 @@ impl<'n, A: Allocator> OpenBook<'n, A> {
         self.commits + self.schedule.held() as u64 == u64::MAX
     }
 
-    /// The verdict of the configuration. Apart, so that a verdict is asked for at each step by one look at the counts.
+    /// The verdict of the configuration. It is a function of its own, so that a test for a verdict at each step takes
+    /// only one look at the counts.
     #[cold]
     #[inline(never)]
     pub(crate) fn judge(&self) -> Option<Verdict>
@@ -69,7 +70,7 @@ impl<'n, A: Allocator> OpenBook<'n, A> {
     }
 }
 
-/// A process that was woken becomes ready, if there is one.
+/// Makes a process that was woken ready, if there is one.
 pub(crate) fn wake<A: Allocator>(schedule: &mut Schedule<A>, woken: Option<usize>)
     requires { MayBeReady schedule.old (option_to_list woken) }
     ensures { schedule.new ≡ all_made_ready (option_to_list woken) schedule.old }
@@ -79,7 +80,7 @@ pub(crate) fn wake<A: Allocator>(schedule: &mut Schedule<A>, woken: Option<usize
     }
 }
 
-/// A number of a process or of a channel, as events have it.
+/// The number of a process or of a channel, as events have it.
 pub(crate) fn number(n: usize) -> u16
     requires { n < 2 ^ 16 }
     ensures { result ≡ n }

@@ -1,4 +1,4 @@
-//! A run as it is seen at one moment, copied from its configuration and its schedule.
+//! A view of a run at one moment, copied from its configuration and its schedule.
 ghost use Rattle.std.specs.Prelude.{◌≡◌, ◌<◌, ◌∷◌, [], ◌++◌, length, map, IfOk};
 ghost use Rattle.std.specs.List.{range_with_len};
 ghost use Rattle.kpn_trace.specs.Views.{AreCounts};
@@ -11,8 +11,7 @@ use kpn_schedule::Schedule;
 use kpn_trace::View;
 use std::alloc::{AllocError, Allocator};
 
-/// The view of a run with so many channels, but for its journals: there are none in it yet. The error is that memory
-/// ran out.
+/// The view of a run with this many channels, without its journals. The error is that memory ran out.
 pub(crate) fn view_without_journals<A: Allocator, B: Allocator + Copy>(
     alloc: B,
     channels: usize,
@@ -43,7 +42,7 @@ pub(crate) fn view_without_journals<A: Allocator, B: Allocator + Copy>(
     Ok(view)
 }
 
-/// Puts a channel behind the others of a view, but for its journal.
+/// Appends a channel to a view, without its journal.
 fn add_channel<A: Allocator, B: Allocator>(
     configuration: &Configuration<A>,
     c: usize,
@@ -66,7 +65,7 @@ fn add_channel<A: Allocator, B: Allocator>(
     Ok(())
 }
 
-/// The journals of so many channels, copied.
+/// Copies of the journals of this many channels.
 pub(crate) fn copied_journals<A: Allocator, B: Allocator + Copy>(
     alloc: B,
     channels: usize,

@@ -1,4 +1,4 @@
--- What each call makes of a configuration: its parts are changed as its event changes them.
+-- What each call does to a configuration: its parts change as the call's event changes them.
 use Rattle.std.proofs.Common.{◌≡◌, ◌≢◌, ℕ, ◌+◌, ◌<◌, Bool, true, false, ◌||◌, ℤ, eqb, eq-eqb, IsTrue, List, [], ◌∷◌, ◌++◌, length, get_or, slice_set, Option, Some, refl, sym, ap, ◌∙◌, subst, inl, inr, arith, append-nil, add-zero, length-set}
 use Rattle.std.proofs.lemmas.Bool.{cases_eq, ne_eqb, eqb-true}
 use Rattle.std.proofs.lemmas.List.{get_or-set_same, get_or-set_other, get_or_default}
@@ -28,7 +28,7 @@ use Rattle.kpn_configuration.specs.Woken.{is_wait, woken_at, AreWoken}
 use Rattle.kpn_configuration.proofs.Parts.{or-false, IsUntouched, untouched, keeps_reader, channels_set, waits_of_kind, wakes-get, wakes-take, wakes-leave, wakes-put, wakes-feed, waits_set, wakes-wait_empty, wakes-wait_full, wait_then-close, KeepsRoom, SameLengths, IsConfiguration-next}
 use Rattle.kpn_configuration.proofs.Woken.{end_of, process_woken, stay}
 
--- the event makes the second configuration of the first, which stays one of the network
+-- the event changes the first configuration into the second, which is still one of the network
 pub record Made (t : Tables) (e : Event) (before after : Configuration) : Type 0 where
   pub changes : Changes t e before after
   pub shape : IsConfiguration t after
@@ -109,7 +109,7 @@ not_nobody Nobody some = absurd (some refl)
 not_nobody (Empty c) some = refl
 not_nobody (Full c) some = refl
 
--- ---- what the code shows of a configuration behind a view
+-- ---- what the code sees of a configuration through a view
 
 -- the element at a place of a list is the one that a clause names
 pub element : {X : Type 0} (xs ys : List X) (i : ℕ) (x d : X) → xs ≡ ys → i < length ys → x ≡ get_or xs i x
@@ -117,13 +117,13 @@ pub element : {X : Type 0} (xs ys : List X) (i : ℕ) (x d : X) → xs ≡ ys �
 element xs ys i x d same below is = is ∙ ap (λ zs. get_or zs i x) same ∙ get_or_default ys i x d below
 
 module _ (t : Tables) (s : Configuration) (shape : IsConfiguration t s) where
-  -- of a configuration that is written out
+  -- for a configuration that is given in full
   pub made : (e : Event) (final after : Configuration) → after ≡ final → KeepsRoom t s e → Changes t e s final
       → SameLengths s final → AreWaits t final.waits → Made t e s after
   made e final after is keeps changes same waits =
       subst (λ x. Made t e s x) (sym is) (Made-from t e s final shape keeps changes same waits)
 
-  -- an event on one channel that closes nothing, ends nobody and wakes who waits so
+  -- an event on one channel that closes nothing, ends no process and wakes those that wait in this way
   pub made_on : (e : Event) (c : ℕ) (ch : ChannelState) (wait : Wait) (frames : List Frame)
       → c < length t.channels → KeepsRoom t s e → IsChannelAfter t e c (channel_in s c) ch
       → ((d : ℕ) → d ≢ c → IsUntouched t e d)
@@ -172,7 +172,7 @@ module _ (t : Tables) (s : Configuration) (shape : IsConfiguration t s) where
   nobody_of : (q : ℕ) → false ≡ true → wait_at s.waits q ≡ Nobody
   nobody_of q is = absurd cc
 
-  -- ---- an item comes to a channel, or goes from it
+  -- ---- an item enters a channel, or leaves it
 
   module _ (c : ℕ) (v : ℤ) (ch : ChannelState) (below : c < length t.channels) (waits : List Wait)
       (after : Configuration) where

@@ -1,4 +1,4 @@
--- An event leads to one configuration, but for what is reserved.
+-- An event leads to one configuration, except for what is reserved.
 use Rattle.std.proofs.Common.{◌≡◌, ℕ, ℤ, sym, ◌∙◌, inl, inr}
 use Rattle.std.proofs.lemmas.Bool.{cases_eq}
 use Rattle.kpn_net.specs.Tables.{Tables}

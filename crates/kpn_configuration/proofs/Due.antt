@@ -1,4 +1,4 @@
--- An event that is due, by what the configuration says, may follow the history that leads there.
+-- An event that is due by the configuration may follow the history that leads there.
 use Rattle.std.proofs.Common.{◌≡◌, ◌≢◌, ℕ, ◌+◌, ◌<◌, Bool, true, false, not, ◌&&◌, ℤ, cond, eqb, List, [], ◌∷◌, ◌++◌, length, drop, map, Option, Some, None, slice_get, refl, sym, ap, ◌∙◌, subst, append-nil}
 use Rattle.std.proofs.lemmas.Bool.{not-true}
 use Rattle.std.proofs.lemmas.List.{get_or-map}
@@ -161,7 +161,7 @@ module _ (t : Tables) (network : IsNetwork t) (H : List Event) (s : Configuratio
           },
         ) tt
 
-    -- the end that a stop is
+    -- an end as a stop
     pub Legal-ended : (ended : How) → Stands t s p (stop_of ended) → Legal t (H ++ Ended p ended ∷ [])
     Legal-ended ended stands = legal_with (Ended p ended) there (may_go p there free, comes ended stands) tt
       where

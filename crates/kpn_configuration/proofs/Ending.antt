@@ -1,4 +1,4 @@
--- The end of a process: each channel that it reads is retired, in order of port, and the writer of the channel woken.
+-- The end of a process: it retires each channel that the process reads, in order of port, and wakes the writer of each.
 use Rattle.std.proofs.Common.{◌≡◌, ◌≢◌, ℕ, ◌<◌, Bool, true, false, ◌||◌, cond, eqb, eq-eqb, IsTrue, List, [], ◌∷◌, ◌++◌, length, get_or, take, length-take, Option, Some, None, refl, sym, ap, ◌∙◌, subst, inl, inr, arith, append-nil, add-zero, length-set, slice_set}
 use Rattle.std.specs.List.{Contains, list_any, filter_map, cons_option}
 use Rattle.std.specs.Option.{option_to_list}
@@ -43,7 +43,7 @@ among_more : (d c : ℕ) (ports : List ℕ) → list_any (eqb d) (ports ++ c ∷
 among_more d c ports =
     list_any-append (eqb d) ports (c ∷ []) ∙ ap (λ b. list_any (eqb d) ports || b) (or-false (eqb d c))
 
--- a wait for room on a channel is none on others
+-- a wait for room on one channel is no wait on others
 still_for_room : (c : ℕ) (ports : List ℕ) (w : Wait) → (Contains ports c → ⊥)
     → is_wait_on_full c (cond (is_wait_on_full_among ports w) Nobody w) ≡ is_wait_on_full c w
 still_for_room c ports Nobody none = refl
@@ -92,7 +92,7 @@ writer_still_waits t before now c ports woken none = by_end (writer_of t c)
     by_end Source = refl
     by_end Sink = refl
 
--- nothing was done at no ports
+-- at no ports nothing was done
 pub EndSoFar-none : (t : Tables) (s now : Configuration) → now ≡ s → AreWaits t s.waits → (woken : List ℕ) → woken ≡ []
     → EndSoFar t s now [] woken
 EndSoFar-none t s now is own woken none =
@@ -307,7 +307,7 @@ list_of_one h x = by_value (h x)
     by_value None = refl
     by_value (Some y) = refl
 
--- a port's channel stands at no port before it
+-- no port before it has the same channel
 pub not_before : (ports : List ℕ) → AreDistinct ports → (k : ℕ) → k < length ports
     → Contains (take k ports) (get_or ports k 0) → ⊥
 not_before ports distinct k below h =

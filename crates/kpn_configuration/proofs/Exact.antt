@@ -1,4 +1,4 @@
--- Nothing but what is due may follow: what a process says next and how it ends is what stands at its frame.
+-- Only what is due may follow: the stop at a frame decides what the process says next and how it ends.
 use Rattle.std.proofs.Common.{◌≡◌, ◌≢◌, ℕ, ◌<◌, ◌≤◌, Bool, true, false, not, ℤ, cond, eqb, List, [], ◌∷◌, ◌++◌, length, map, Option, Some, None, is_some, slice_get, slice_index, refl, sym, ap, ◌∙◌, subst, inl, inr, ◌⊎◌, arith, append-nil, length-append}
 use Rattle.std.proofs.lemmas.Bool.{false≢true, both_ways, eqb-true}
 use Rattle.std.proofs.lemmas.List.{length-map, map-append}
@@ -114,7 +114,7 @@ module _ (t : Tables) (network : IsNetwork t) (H : List Event) (legal : Legal t 
             (record { turns = can.turns; said = found.2 }),
       )
 
-  -- how it ends is the end that the stop is
+  -- how it ends is as its stop says
   pub end_is_there : (end : Ending) → ComesTo t p X end (talk_of H p)
       → (mine : Ending) × (ends_at_channel (instance_at t p) mine ≡ end)
       × EndsThere at (map more (instance_at t p).ins) mine

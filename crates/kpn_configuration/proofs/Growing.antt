@@ -1,5 +1,4 @@
--- Growth: which one is owed is what the search along the waits finds, and the channel made larger is what its event
--- makes of it.
+-- Growth: the search along the waits finds the growth that is owed, and the channel becomes what the event makes of it.
 use Rattle.std.proofs.Common.{◌≡◌, ◌↔◌, ℕ, ◌<◌, ◌≤◌, Bool, true, false, not, cond, eq-eqb, ltb, IsTrue, List, [], ◌∷◌, ◌++◌, length, Option, Some, None, is_some, refl, sym, ap, ◌∙◌, subst, inl, inr, arith, IsSomeAnd, ◌||◌, append-nil, add-zero, slice_set}
 use Rattle.std.specs.Option.{unwrap_or, option_map}
 use Rattle.std.proofs.lemmas.Bool.{cases_lt, ltb-true, ltb-false, ne_eqb}
@@ -149,7 +148,7 @@ full_wait wait.Nobody d is = absurd cc
 full_wait (wait.Empty c) d is = absurd cc
 full_wait (wait.Full c) d is = let same : c ≡ d = cc in ap wait.Full same
 
--- the channel of a growth that is owed for a cycle is waited on by a member of the cycle
+-- some member of the cycle waits on the channel whose growth is owed for the cycle
 pub awaited_in_cycle : (t : Tables) (s : Configuration) (p d : ℕ) → IsOwed t s p d → IsAwaitedBelowLimit t s d
 awaited_in_cycle t s p d owed =
     let at = full_at s.waits (p ∷ owed.smallest.others) d owed.smallest.smallest.among in
@@ -195,7 +194,7 @@ module _ (t : Tables) (network : IsNetwork t) (s : Configuration) (shape : IsCon
         omega arith,
       )
 
-  -- a process waits on the channel as full, so that an item is reserved there
+  -- a process waits on the channel as full, so an item is reserved there
   pub owed_is_reserved : IsTrue (channel_in s d).is_reserved
   owed_is_reserved = shape.reserved owed.process d owed.there owed_below owed.waits
 
@@ -235,7 +234,7 @@ module _ (t : Tables) (network : IsNetwork t) (s : Configuration) (shape : IsCon
       (λ c. refl) (λ q end. refl) (λ e. absurd cc) (wakes-grow t p d n) refl (λ q is. absurd cc) refl (λ q. refl) waits
       woke after is
 
-  -- the capacity that it gets is the larger one by the history too
+  -- the history gives the same larger capacity
   pub larger_by_history : (H : List Event) → IsRun t H s
       → larger_capacity t (cap_in (capacities s) d) ≡ larger_capacity t (capacity_or_zero t H d)
   larger_by_history H run = ap (larger_capacity t) (same_capacity t network H s run d)

@@ -1,5 +1,5 @@
--- After one more event a history leads to the configuration into which the event changes the one before: each of its
--- parts.
+-- After one more event the history leads to the configuration into which the event changes the one before, part by
+-- part.
 use Rattle.std.proofs.Common.{◌≡◌, ℕ, ◌+◌, Bool, true, false, not, ◌&&◌, ◌||◌, ℤ, cond, eqb, eq-eqb, List, [], ◌∷◌, ◌++◌, length, map, Option, Some, None, refl, sym, ap, ◌∙◌, subst, inl, inr, length-append}
 use Rattle.std.proofs.lemmas.Bool.{cases_eq, ne_eqb}
 use Rattle.std.proofs.lemmas.List.{map-append}
@@ -74,13 +74,13 @@ IsEndOf-next B event p end h = IsEndOf-kept B event p end refl h
 
 -- ---- frames
 
--- after an event of another, or one in which it says nothing, a process stands where it stood
+-- after an event of another process, or one in which it says nothing, a process is at the same place
 StandsAfter-kept : (t : Tables) (B : List Event) (e : Event) (p : ℕ) (f g : Frame)
     → talk_of (B ++ e ∷ []) p ≡ talk_of B p → g ≡ f → StandsAfter t B p f → StandsAfter t (B ++ e ∷ []) p g
 StandsAfter-kept t B e p f g talk same h =
     record { said = h.said; ports = h.ports; talk = h.talk ∙ sym talk; after = rw same h.after }
 
--- what is said at a port is said on the channel that stands there
+-- what is said at a port is said on the channel of that port
 said_at : (t : Tables) (B : List Event) (e : Event) (p : ℕ) (talk : List Said) (spoken heard : Said)
     → map (at_channel (instance_at t p)) talk ≡ talk_of B p → at_channel (instance_at t p) spoken ≡ heard
     → said_in p e ≡ heard ∷ [] → map (at_channel (instance_at t p)) (talk ++ spoken ∷ []) ≡ talk_of (B ++ e ∷ []) p

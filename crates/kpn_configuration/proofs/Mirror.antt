@@ -1,4 +1,4 @@
--- The capacities of channels beside them: they stay where one channel becomes another of the same capacity.
+-- The second list of capacities: it stays the same if one channel becomes another of the same capacity.
 use Rattle.std.proofs.Common.{◌≡◌, ℕ, ap, sym, ◌∙◌, refl, Bool, true, false, cond, Result, Ok, Err, IsOk, is_ok, IsSomeAnd, List, map, set, get_or, Option, Some, None}
 use Rattle.std.proofs.lemmas.List.{map-set}
 use Rattle.std.specs.Option.{unwrap_or}
@@ -16,12 +16,12 @@ pub room_same : (b : Bool) (channel : ChannelState) → (cond b (with_room chann
 room_same true channel = refl
 room_same false channel = refl
 
--- a value that is there
+-- a value that exists
 pub there_is : {E : Type 0} {X : Type 0} (r : Result Unit E) (a b : X) → IsOk r → cond (is_ok r) a b ≡ a
 there_is (Ok x) a b h = refl
 there_is (Err e) a b h = absurd (false≢true h)
 
--- the mirror after the channel and its capacity beside it have grown
+-- the list after the channel and its capacity in the list have grown
 pub mirror_grows : (channels : List ChannelState) (caps : List ℕ) (d larger : ℕ) (channel : ChannelState)
     → caps ≡ map (λ x. unwrap_or x.capacity 0) channels → channel.capacity ≡ Some larger
     → set caps d larger ≡ map (λ x. unwrap_or x.capacity 0) (set channels d channel)

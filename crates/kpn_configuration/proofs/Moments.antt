@@ -1,4 +1,4 @@
--- What holds at every moment of a run: the laws of legal histories, said of the configuration to which one leads.
+-- What holds at every moment of a run: the laws of legal histories, for the configuration to which a history leads.
 use Rattle.std.proofs.Common.{◌≡◌, ◌↔◌, ℕ, ◌<◌, ◌≤◌, Bool, true, false, not, List, ◌∷◌, ◌++◌, length, map, Option, Some, None, refl, sym, ap, ◌∙◌, subst, inl, inr}
 use Rattle.std.specs.List.{Contains}
 use Rattle.std.proofs.lemmas.Bool.{cases_lt, both_ways}

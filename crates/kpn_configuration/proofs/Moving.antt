@@ -1,4 +1,4 @@
--- Steps of a process between its events move its frame alone: the same history leads to the configuration after them.
+-- Steps of a process between its events move only its frame: the same history leads to the configuration after them.
 use Rattle.std.proofs.Common.{◌≡◌, ℕ, ◌<◌, IsTrue, List, length, sym, ◌∙◌, subst, inl, inr, arith, length-set}
 use Rattle.std.proofs.lemmas.Bool.{cases_eq}
 use Rattle.kpn_net.specs.Tables.{Tables, instance_at, program_of}

@@ -1,5 +1,5 @@
--- A frame stands at one stop, but for pauses: what it says and how it ends where nothing is left on any list tell
--- stops apart.
+-- A frame is at one stop, except for pauses: two stops differ in what the frame says, or in how it ends if no list has
+-- anything left.
 use Rattle.std.proofs.Common.{◌≡◌, ◌≢◌, ℕ, List, [], refl, sym, ap, ◌∙◌}
 use Rattle.kpn_lang.specs.Syntax.{Statement}
 use Rattle.kpn_lang.specs.declared.talk.Ending.{Ending}

@@ -1,4 +1,4 @@
--- What an event does to the parts of a configuration that it does not touch, and to those that it does.
+-- What an event does to the parts of a configuration: those that it touches, and the others.
 use Rattle.std.proofs.Common.{◌≡◌, ◌≢◌, ℕ, ◌+◌, ◌<◌, Bool, true, false, ◌||◌, ℤ, cond, eqb, eq-eqb, IsTrue, List, [], ◌++◌, length, get_or, set, Option, Some, None, is_some, refl, sym, ap, ◌∙◌, subst, inl, inr, append-nil, add-zero}
 use Rattle.std.specs.Option.{option_map}
 use Rattle.std.proofs.lemmas.Bool.{cases_eq, ne_eqb, both_ways}
@@ -49,7 +49,7 @@ untouched t e d channel u =
       reserved = λ none is. is;
     }
 
--- an event that ends nobody and is no leave of the channel leaves the reader
+-- an event keeps the reader if it ends no process and is no leave of the channel
 pub keeps_reader : (t : Tables) (e : Event) (d : ℕ) → ((r : ℕ) → is_end_of r e ≡ false) → is_leave_of d e ≡ false
     → takes_reader t d e ≡ false
 keeps_reader t e d ends leaves = by_end (reader_of t d)
@@ -82,7 +82,7 @@ channels_set t e channels c channel there here elsewhere d =
 
 -- ---- waits
 
--- an event that wakes those of one kind, and whose process, if it has one, waited for nobody and does not wait now
+-- an event that wakes the waits of one kind, and whose process, if it has one, waited for nobody and does not wait now
 pub waits_of_kind : (t : Tables) (e : Event) (kind : Wait → Bool) (before after : List Wait)
     → AreWoken kind before after → ((w : Wait) → wakes t e w ≡ kind w) → kind Nobody ≡ false
     → ((q : ℕ) → is_of q e ≡ true → wait_at before q ≡ Nobody) → wait_made e ≡ Nobody → (q : ℕ)
@@ -128,7 +128,7 @@ wakes-feed t c v Nobody = refl
 wakes-feed t c v (Empty d) = refl
 wakes-feed t c v (Full d) = refl
 
--- an event that makes its process wait, and wakes nobody
+-- an event that makes its process wait and wakes no process
 pub waits_set : (t : Tables) (e : Event) (p : ℕ) (wait : Wait) (waits : List Wait) → p < length waits
     → ((q : ℕ) → is_of q e ≡ eqb p q) → wait_made e ≡ wait → ((w : Wait) → wakes t e w ≡ false) → (q : ℕ)
     → wait_at (set waits p wait) q ≡ wait_then t e q (wait_at waits q)
@@ -162,10 +162,10 @@ wait_then-close t c q Nobody = refl
 wait_then-close t c q (Empty d) = refl
 wait_then-close t c q (Full d) = refl
 
--- ---- who waits on a channel as full keeps the item that is reserved there
+-- ---- a process that waits on a channel as full keeps the item that is reserved there
 
--- only the writer of a channel puts there, only a source is fed, who comes to wait as full has an item reserved, and
--- where a channel grows the limit is not 0
+-- only the writer of a channel puts there, only a source is fed, a process that comes to wait as full has an item
+-- reserved, and if a channel grows, the limit is not 0
 abbrev pub KeepsRoom : Tables → Configuration → Event → Type 0
 KeepsRoom t s (Put p c v) = writer_of t c ≡ end.Process p
 KeepsRoom t s (Feed c v) = is_source (channel_at t c) ≡ true
@@ -173,7 +173,7 @@ KeepsRoom t s (WaitFull p c) = IsTrue (channel_in s c).is_reserved
 KeepsRoom t s (Grow p c n) = 0 < t.limit
 KeepsRoom t s event = Unit {0}
 
--- the event of another writes nothing on a channel that a process writes
+-- an event of another process writes nothing on a channel that a process writes
 written_by_none : (t : Tables) (s : Configuration) (e : Event) → KeepsRoom t s e → (p c : ℕ)
     → writer_of t c ≡ end.Process p → is_of p e ≡ false → written_in c e ≡ []
 written_by_none t s (Put q d v) keeps p c own other = none_elsewhere d c v (λ same. both_ways (eqb q p) other
@@ -196,7 +196,7 @@ waited_before : (b : Bool) (w : Wait) (c : ℕ) → cond b Nobody w ≡ Full c �
 waited_before true w c is = absurd cc
 waited_before false w c is = is
 
--- who waits as full after an event has its item reserved before it, and the event does not write there
+-- a process that waits as full after an event had its item reserved before it, and the event does not write there
 room_before : (t : Tables) (s : Configuration) (e : Event) → IsConfiguration t s → KeepsRoom t s e → (p c : ℕ)
     → p < length t.instances → c < length t.channels → wait_then t e p (wait_in s p) ≡ Full c
     → (written_in c e ≡ []) × IsTrue (channel_in s c).is_reserved
@@ -212,7 +212,7 @@ room_before t s e shape keeps p c process channel is = by_own (is_of p e) refl i
           shape.reserved p c process channel before,
         )
 
--- ---- it stays a configuration of the network
+-- ---- it is still a configuration of the network
 
 pub record SameLengths (before after : Configuration) : Type 0 where
   pub channels : length after.channels ≡ length before.channels

@@ -1,4 +1,4 @@
--- The channel at which a process stands is one of the network, and its own.
+-- The channel that a process is about to read or write is one of the network, and its own.
 use Rattle.std.proofs.Common.{◌≡◌, ℕ, ◌<◌, ℤ, List, length, subst}
 use Rattle.std.specs.List.{Contains}
 use Rattle.std.proofs.lemmas.List.Elements.{Contains-get_or}

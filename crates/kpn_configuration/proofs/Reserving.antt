@@ -1,4 +1,4 @@
--- A reservation changes nothing that a history tells of.
+-- A reservation changes nothing that a history records.
 use Rattle.std.proofs.Common.{◌≡◌, ℕ, ◌<◌, Bool, true, false, not, cond, IsTrue, List, length, None, is_some, Some, refl, sym, ap, ◌∙◌, subst, inl, inr, length-set}
 use Rattle.std.proofs.lemmas.Bool.{cases_eq}
 use Rattle.std.proofs.lemmas.List.{get_or-set_same, get_or-set_other, set-get_or}
@@ -26,7 +26,7 @@ module _ (s : Configuration) (c : ℕ) (there : c < length s.channels) where
             (all d)
       ]
 
-  -- the code writes the channel back also where it is as before
+  -- the code writes the channel back even if it is as before
   pub room_made : (b : Bool) (channel before : ChannelState) → channel ≡ cond b (with_room before) before
       → before ≡ channel_in s c
       → with_channel c channel s ≡ cond b (with_channel c (with_room (channel_in s c)) s) s

@@ -1,4 +1,4 @@
--- The run after a call: its event was due, and the configuration is what the event makes of the one before.
+-- The run after a call: its event was due, and the configuration is as this event leaves it.
 use Rattle.std.proofs.Common.{List, [], ◌∷◌, ◌++◌}
 use Rattle.kpn_net.specs.Tables.{Tables}
 use Rattle.kpn_net.specs.Faults.{IsNetwork}

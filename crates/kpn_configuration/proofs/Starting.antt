@@ -125,7 +125,7 @@ module _ (t : Tables) (network : IsNetwork t) (s : Configuration)
           };
         }
 
--- the capacities beside the channels at the start
+-- the second list of capacities at the start
 pub mirror_at_start : (t : Tables) (channels : List ChannelState) (caps : List ℕ)
     → length channels ≡ length t.channels → length caps ≡ length t.channels
     → ((c : ℕ) → c < length t.channels

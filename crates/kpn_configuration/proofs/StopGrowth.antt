@@ -1,4 +1,4 @@
--- The growth that is owed at a stop: by the configuration it is what it is by the history.
+-- The growth that is owed at a stop: the configuration and the history agree on it.
 use Rattle.std.proofs.Common.{◌≡◌, ◌↔◌, ℕ, ◌<◌, ◌≤◌, Bool, true, false, cond, ltb, List, length, Option, Some, None, refl, sym, ap, ◌∙◌, subst, inl, inr, arith}
 use Rattle.std.specs.Prelude.{Contains, IfSome}
 use Rattle.std.proofs.lemmas.Bool.{ltb-true, ltb-false}
@@ -64,7 +64,7 @@ pub awaited_at_stop : (t : Tables) (s : Configuration) (p d : ℕ) → IsOwedAtS
 awaited_at_stop t s p d owed =
     record { process = p; there = owed.there; waits = owed.waits; below_limit = owed.below_limit }
 
--- the smallest channel is there, below the limit, and this is its writer
+-- the smallest channel exists and is below the limit, and this is its writer
 pub owed_by_smallest : (t : Tables) (s : Configuration) → IsConfiguration t s → t.policy ≡ All → IsSettledNow t s
     → (p d : ℕ) → IsSmallest (cap_in (capacities s)) (awaited_as_full t s.waits) d
     → cap_in (capacities s) d < t.limit → writer_of t d ≡ Process p → IsOwedAtStop t s p d
@@ -86,7 +86,7 @@ owed_by_smallest t s shape all settled p d smallest below writer =
     one_writer : {q r : ℕ} → Process q ≡ Process r → q ≡ r
     one_writer is = cc
 
--- nothing is owed where nobody waits as full, or the smallest channel is at the limit
+-- nothing is owed if no process waits as full, or if the smallest channel is at the limit
 pub none_by_smallest : (t : Tables) (s : Configuration) (found : Option ℕ)
     → FindsSmallest (cap_in (capacities s)) (awaited_as_full t s.waits) found
     → IfSome found (λ d. t.limit ≤ cap_in (capacities s) d) → (p d : ℕ) → ¬ IsOwedAtStop t s p d
@@ -98,7 +98,7 @@ none_by_smallest t s (Some c) finds at_limit p d owed =
     let below = owed.below_limit in
     omega arith
 
--- a channel that was found may grow exactly where it is below the limit
+-- a channel that was found may grow if and only if it is below the limit
 pub to_grow : (cap : ℕ → ℕ) (limit c d : ℕ) → channel_to_grow cap limit (found.Full c) ≡ Some d
     → (c ≡ d) × (cap d < limit)
 to_grow cap limit c d is = by_test (ltb (cap c) limit) refl is
@@ -115,7 +115,7 @@ not_to_grow cap limit c is = by_test (ltb (cap c) limit) refl is
     by_test true below e = absurd cc
     by_test false above e = ltb-false _ _ above
 
--- the writer of a channel whose growth is owed is who waits on it
+-- the writer of a channel whose growth is owed is the process that waits on it
 pub owed_writer : (t : Tables) (s : Configuration) → IsConfiguration t s → (p d : ℕ) → IsOwedAtStop t s p d
     → writer_of t d ≡ Process p
 owed_writer t s shape p d owed = subst (IsOwnWait t p) owed.waits (shape.waits.own p owed.there)

@@ -1,4 +1,4 @@
--- What a process can say and come to after a history, by the stop at which its frame stands.
+-- What a process can say and come to after a history, by the stop at its frame.
 use Rattle.std.proofs.Common.{◌≡◌, ◌≢◌, ℕ, ◌<◌, ◌≤◌, cond, eq-eqb, List, [], ◌∷◌, ◌++◌, length, get_or, map, refl, sym, ap, ◌∙◌, subst, inl, inr, arith}
 use Rattle.std.proofs.lemmas.Bool.{cases_eq, cases_lt, ne_eqb}
 use Rattle.std.proofs.lemmas.List.{get_or_past, get_or-map, length-map, map-append}
@@ -30,7 +30,7 @@ use Rattle.kpn_trace.specs.Legal.{Legal}
 use Rattle.kpn_trace.proofs.Journals.{read_on-got}
 use Rattle.kpn_configuration.specs.Run.{NamesInsBelow, StandsAfter}
 
--- ---- what was got at a port was got from the channel there
+-- ---- what was got at a port was got from its channel
 
 got_at-channel : (i : Instance) → AreDistinct i.ins → (talk : List Said) → NamesInsBelow (length i.ins) talk
     → (port : ℕ) → port < length i.ins → got_at (map (at_channel i) talk) (get_or i.ins port 0) ≡ got_at talk port
@@ -123,7 +123,7 @@ module _ (t : Tables) (network : IsNetwork t) (H : List Event) (legal : Legal t 
               (map-prefix (at_channel (instance_at t p)) (stand.said ++ spoken ∷ []) _ can.said);
         }
 
-    -- it comes to the end that the stop is
+    -- it comes to the end that its stop says
     pub ComesTo-end : (end : Ending) → EndsThere at (map more (instance_at t p).ins) end
         → ends_at_channel (instance_at t p) end ≢ ending.Cut
         → ComesTo t p X (ends_at_channel (instance_at t p) end) (talk_of H p)

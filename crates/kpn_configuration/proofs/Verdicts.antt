@@ -1,4 +1,4 @@
--- What the code tests of each process and each channel decides whether a moment is quiet or settled, and the verdict.
+-- The code's tests of each process and each channel decide whether a moment is quiet or settled, and the verdict.
 use Rattle.std.proofs.Common.{◌≡◌, ◌↔◌, ℕ, ◌+◌, ◌<◌, Bool, true, false, not, ◌||◌, ◌&&◌, cond, IsTrue, ℤ, List, [], ◌∷◌, length, slice_get, Option, Some, None, is_some, refl, sym, ap, ◌∙◌, subst, inl, inr, ◌⊎◌, arith}
 use Rattle.std.proofs.lemmas.Bool.{cases_lt, both_ways}
 use Rattle.kpn_net.specs.declared.wait.Wait.{Wait}

@@ -1,5 +1,5 @@
--- Who is woken: the writer of a channel that waits as full on it, its reader that waits as empty on it; and who is
--- woken is who becomes free.
+-- Which processes are woken: the writer of a channel if it waits on it as full, or its reader if it waits on it as
+-- empty. Exactly the processes that are woken become free.
 use Rattle.std.proofs.Common.{◌≡◌, ◌↔◌, ℕ, ◌<◌, Bool, true, false, cond, List, [], ◌∷◌, length, Option, Some, None, refl, sym, ap, ◌∙◌, subst, inl, inr, ◌⊎◌}
 use Rattle.std.specs.List.{Contains, filter_map, cons_option}
 use Rattle.std.proofs.lemmas.Bool.{false≢true}
@@ -24,7 +24,7 @@ use Rattle.kpn_configuration.specs.Woken.{waiting_writer, waiting_reader}
 use Rattle.kpn_configuration.proofs.Moments.{ended_waits_for_nobody}
 use Rattle.kpn_configuration.proofs.Woken.{who_waits}
 
--- ---- who waits on a channel
+-- ---- which process waits on a channel
 
 module _ (t : Tables) (waits : List Wait) (are : AreWaits t waits) (c q : ℕ) where
   pub who_writes : (waiting_writer t waits c ≡ Some q) ↔ ((q < length t.instances) × (wait_at waits q ≡ Full c))
@@ -33,7 +33,7 @@ module _ (t : Tables) (waits : List Wait) (are : AreWaits t waits) (c q : ℕ) w
   pub who_reads : (waiting_reader t waits c ≡ Some q) ↔ ((q < length t.instances) × (wait_at waits q ≡ Empty c))
   who_reads = who_waits t waits are (Empty c) (λ e. absurd cc) q
 
--- ---- who becomes free
+-- ---- which processes become free
 
 same_end : (e : Event) (q : ℕ) (end : Option How) → is_of q e ≡ false → end_then e q end ≡ end
 same_end (Ended p how) q end other = ap (λ b. cond b (Some how) end) other

@@ -1,4 +1,4 @@
--- Who waits for something at an end of a channel, and the table of waits once that process is woken.
+-- Which process waits for something at an end of a channel, and the table of waits after it is woken.
 use Rattle.std.proofs.Common.{◌≡◌, ◌≢◌, ◌↔◌, ℕ, ◌<◌, Bool, true, false, cond, eq-eqb, List, length, Option, Some, None, refl, sym, ap, ◌∙◌, subst, inl, inr, arith}
 use Rattle.std.proofs.lemmas.Bool.{cases_Bool, cases_eq, cases_lt, eqb-true, false≢true}
 use Rattle.std.proofs.lemmas.List.{get_or-set_same, get_or-set_other, get_or_past}
@@ -25,7 +25,7 @@ is_itself Nobody = refl
 is_itself (Empty c) = eq-eqb c c refl
 is_itself (Full c) = eq-eqb c c refl
 
--- the end of its channel at which a process that waits so is
+-- the end of its channel at which a process with this wait is
 abbrev pub end_of : Tables → Wait → End
 end_of t Nobody = Source
 end_of t (Empty c) = reader_of t c
@@ -41,7 +41,7 @@ end_there t q Nobody e = absurd cc
 end_there t q (Empty c) e = (Reads-reader_of t q c e).process
 end_there t q (Full c) e = (Writes-writer_of t q c e).process
 
--- the process at an end of a channel, where its wait is of a kind
+-- the process at an end of a channel, if its wait is of a kind
 at_end : (kind : Wait → Bool) (waits : List Wait) (end : End) (q : ℕ) → waiting_at kind waits end ≡ Some q
     → (end ≡ Process q) × (kind (wait_at waits q) ≡ true)
 at_end kind waits (Process r) q is = by_kind (kind (wait_at waits r)) refl is
@@ -90,7 +90,7 @@ module _ (t : Tables) (waits : List Wait) (are : AreWaits t waits) (wait : Wait)
           | inr past ↦ absurd (some (sym is ∙ get_or_past waits q Nobody past))
         ]
 
-    -- who is not told waits for something else
+    -- a process that is not returned waits for something else
     waits_not : (q : ℕ) → (waiting_at (is_wait wait) waits (end_of t wait) ≡ Some q → ⊥)
         → is_wait wait (wait_at waits q) ≡ false
     waits_not q none =
@@ -129,7 +129,7 @@ module _ (t : Tables) (waits : List Wait) (are : AreWaits t waits) (wait : Wait)
                   (waits_not q (λ is. differ (let e2 : ◌≡◌ {A = Option ℕ} (Some q) (Some r) = sym is ∙ e in cc))))
             ]
 
--- ---- the table behind a view
+-- ---- the table through a view
 
 pub woken_same : (kind : Wait → Bool) (end over : End) (xs ys waits : List Wait) → waits ≡ woken_at kind xs end
     → end ≡ over → xs ≡ ys → waits ≡ woken_at kind ys over

@@ -1,4 +1,4 @@
--- How one event changes a configuration into another, with no history in it.
+-- How one event changes a configuration into another. No history is part of this.
 use Rattle.std.specs.Prelude.{◌≡◌, ◌≢◌, ℕ, ◌+◌, ◌<◌, ◌||◌, IsTrue, nat_eq, if◌then◌else◌, ℤ, List, [], ◌++◌, length, Option, Some, slice_index}
 use Rattle.kpn_net.specs.Tables.{Tables, instance_at, program_of}
 use Rattle.kpn_step.specs.declared.stop.Stop.TheVariants.{WantRead, WantWrite}
@@ -13,9 +13,9 @@ use Rattle.kpn_trace.specs.Waking.{wait_then}
 use Rattle.kpn_trace.specs.AfterEvent.{capacity_then, takes_reader}
 use Rattle.kpn_configuration.specs.Configuration.{Configuration, channel_in, closed_in, wait_in, end_in, frame_in}
 
--- a channel after an event: what the event writes stands behind its journal, what it reads is read, a growth of it
--- makes its capacity larger, and it is retired from then on where the event takes its reader. But for a put, what was
--- reserved stays so
+-- a channel after an event: what the event writes is appended to its journal, and what it reads counts as read. A
+-- growth of the channel makes its capacity larger. The channel is retired from then on if the event takes its reader.
+-- What was reserved stays so, unless the event is a put
 pub record IsChannelAfter (t : Tables) (event : Event) (c : ℕ) (before after : ChannelState) : Type 0 where
   pub journal : after.journal ≡ before.journal ++ written_in c event
   pub read : after.read ≡ before.read + length (read_in c event)
@@ -23,30 +23,30 @@ pub record IsChannelAfter (t : Tables) (event : Event) (c : ℕ) (before after :
   pub retired : after.is_retired ≡ (before.is_retired || takes_reader t c event)
   pub reserved : written_in c event ≡ [] → IsTrue before.is_reserved → IsTrue after.is_reserved
 
--- how a process has ended after an event: as before, but for its own end
+-- how a process has ended after an event: as before, unless the event is its own end
 abbrev pub end_then : Event → (p : ℕ) → Option How → Option How
 end_then (Ended q how) p before = if nat_eq q p then Some how else before
 end_then event p before = before
 
--- a channel stands at this port among these
+-- among these ports, this one is of this channel
 abbrev pub IsChannelAt : (ports : List ℕ) → (port c : ℕ) → Type 0
 IsChannelAt ports port c = (port < length ports) × (slice_index ports port ≡ c)
 
--- process p stood at a read from the channel, and stands past it with the item
+-- process p was at a read from the channel, and is past it with the item
 pub record PassesRead (t : Tables) (p c : ℕ) (v : ℤ) (before after : Frame) : Type 0 where
   pub port : ℕ
   pub channel : IsChannelAt (instance_at t p).ins port c
   pub stood : StandsAt (program_of t p).blocks before (WantRead port)
   pub passes : IsGiven (program_of t p).blocks before v after
 
--- process p stood at a write of the item to the channel, and stands past it
+-- process p was at a write of the item to the channel, and is past it
 pub record PassesWrite (t : Tables) (p c : ℕ) (v : ℤ) (before after : Frame) : Type 0 where
   pub port : ℕ
   pub channel : IsChannelAt (instance_at t p).outs port c
   pub stood : StandsAt (program_of t p).blocks before (WantWrite port v)
   pub passes : after ≡ passed before
 
--- a frame after an event: past the read or the write, if the event is that of its process; else it is the same
+-- a frame after an event: past the read or the write, if the event is of its process; else the same
 abbrev pub IsFrameAfter : Tables → Event → (p : ℕ) → (before after : Frame) → Type 0
 IsFrameAfter t (Get q c v) p before after = (q ≡ p → PassesRead t p c v before after) × (q ≢ p → after ≡ before)
 IsFrameAfter t (Put q c v) p before after = (q ≡ p → PassesWrite t p c v before after) × (q ≢ p → after ≡ before)

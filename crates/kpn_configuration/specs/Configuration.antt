@@ -10,8 +10,8 @@ use Rattle.kpn_step.specs.Frame.{Frame, fits}
 use Rattle.kpn_chan.specs.Channel.{ChannelState, opened}
 use Rattle.kpn_trace.specs.declared.event.How.{How}
 
--- for each channel what it holds and whether it is closed; for each process what it waits for, how it ended if it
--- did, and the frame where it stands
+-- for each channel what it holds and whether it is closed; for each process what it waits for, how it ended if it did,
+-- and its frame
 pub record Configuration : Type 0 where
   pub channels : List ChannelState
   pub closed : List Bool
@@ -21,7 +21,7 @@ pub record Configuration : Type 0 where
 
 -- ---- its parts by number
 
--- an empty channel stands for one that is not there
+-- the channel with a number; an empty one for a number that no channel has
 abbrev pub channel_in : Configuration → ℕ → ChannelState
 channel_in s c = slice_index_or s.channels c (opened None false)
 
@@ -38,19 +38,19 @@ end_in s p = slice_index_or s.ends p None
 abbrev pub no_frame : Frame
 no_frame = record { outer = []; inner = record { block = 0; place = 0 }; variables = [] }
 
--- it stands for one that is not there
+-- the frame of a process; no_frame for a number that no process has
 abbrev pub frame_in : Configuration → ℕ → Frame
 frame_in s p = slice_index_or s.frames p no_frame
 
--- the capacity of each channel, 0 where it has none
+-- the capacity of each channel, 0 if it has none
 abbrev pub capacities : Configuration → List ℕ
 capacities s = map (λ c. unwrap_or c.capacity 0) s.channels
 
 -- ---- a configuration of a network
 
--- it has a channel and a mark for each channel of the network, and a wait, an end and a frame for each process; a
--- source has no capacity, all others have one, which is not 0; each process waits on a channel of its own, and its
--- frame is one of its program; and if a process waits on a channel as full, an item is reserved there
+-- it has a channel and a mark for each channel of the network, and a wait, an end and a frame for each process. A
+-- source has no capacity; each other channel has one, which is not 0. Each process waits on a channel of its own, and
+-- its frame is one of its program. If a process waits on a channel as full, an item is reserved there
 pub record IsConfiguration (t : Tables) (s : Configuration) : Type 0 where
   pub channels : length s.channels ≡ length t.channels
   pub closed : length s.closed ≡ length t.channels
@@ -80,7 +80,7 @@ abbrev pub is_full_wait : Wait → Bool
 is_full_wait (Full c) = true
 is_full_wait wait = false
 
--- ---- one part of it changed
+-- ---- one part changed
 
 abbrev pub with_channel : (c : ℕ) → ChannelState → Configuration → Configuration
 with_channel c channel s = record s { channels = slice_set s.channels c channel }

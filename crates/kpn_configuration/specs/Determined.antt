@@ -1,4 +1,4 @@
--- Two configurations of a network that agree but for what is reserved: all that an event settles.
+-- Two configurations of a network that agree except for what is reserved. An event decides all the rest.
 use Rattle.std.specs.Prelude.{◌≡◌, ℕ, ◌<◌, length}
 use Rattle.kpn_net.specs.Tables.{Tables}
 use Rattle.kpn_configuration.specs.Configuration.{Configuration, channel_in, closed_in, wait_in, end_in, frame_in}

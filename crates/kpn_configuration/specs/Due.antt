@@ -1,4 +1,4 @@
--- When an event may follow, said of the configuration before it.
+-- When an event may follow, as a property of the configuration before it.
 use Rattle.std.specs.Prelude.{◌≡◌, ℕ, true, false, ℤ, [], Some}
 use Rattle.kpn_lang.specs.declared.value.Fault.TheVariants as fault
 use Rattle.kpn_net.specs.Tables.{Tables, instance_at, program_of, channel_at, is_source, is_sink}
@@ -13,25 +13,25 @@ use Rattle.kpn_trace.specs.declared.event.How.TheVariants as how
 use Rattle.kpn_configuration.specs.Configuration.{Configuration, channel_in, closed_in, frame_in, IsFree}
 use Rattle.kpn_configuration.specs.Changes.{IsChannelAt}
 
--- ---- where a process stands
+-- ---- where a process is
 
--- process p stands at this stop
+-- process p is at this stop
 abbrev pub Stands : Tables → Configuration → (p : ℕ) → Stop → Type 0
 Stands t s p stop = StandsAt (program_of t p).blocks (frame_in s p) stop
 
--- process p stands at a read from channel c
+-- process p is at a read from channel c
 pub record ReadsFrom (t : Tables) (s : Configuration) (p c : ℕ) : Type 0 where
   pub port : ℕ
   pub channel : IsChannelAt (instance_at t p).ins port c
   pub stands : Stands t s p (WantRead port)
 
--- process p stands at a write of this item to channel c
+-- process p is at a write of this item to channel c
 pub record WritesTo (t : Tables) (s : Configuration) (p c : ℕ) (v : ℤ) : Type 0 where
   pub port : ℕ
   pub channel : IsChannelAt (instance_at t p).outs port c
   pub stands : Stands t s p (WantWrite port v)
 
--- the stop that an end is
+-- an end as a stop
 abbrev pub stop_of : How → Stop
 stop_of how.Done = Done
 stop_of how.Overflow = Faulted fault.Overflow
@@ -39,9 +39,9 @@ stop_of how.ZeroDivisor = Faulted fault.ZeroDivisor
 
 -- ---- when an event is due
 
--- an event of a process: it is free, it stands where it asks for the event, and its channel is ready for it. An event
--- of the outside: the source is not closed, the sink has this item next, or the sink has not been left. No growth is
--- due where nothing is owed; which one is owed says IsOwed
+-- an event of a process: the process is free, its next statement asks for the event, and its channel is ready for it.
+-- An event of the outside: the source is not closed, the sink has this item next, or the sink has not been left. This
+-- is for moments that owe no growth, so no growth is due. For a growth see IsOwed
 abbrev pub IsDueNow : Tables → Configuration → Event → Type 0
 IsDueNow t s (Get p c v) = IsFree s p × ReadsFrom t s p c × (next_item (channel_in s c) ≡ Some v)
 IsDueNow t s (Put p c v) = IsFree s p × WritesTo t s p c v × (is_full (channel_in s c) ≡ false)

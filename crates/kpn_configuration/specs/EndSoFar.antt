@@ -1,4 +1,4 @@
--- What the code keeps while it retires the channels of a process that has ended. A reader of the public contracts
+-- What stays true while the code retires the channels of a process that has ended. A reader of the public contracts
 -- needs none of it.
 use Rattle.std.specs.Prelude.{◌≡◌, ℕ, Bool, false, nat_eq, IsTrue, List, length}
 use Rattle.std.specs.List.{Contains, list_any, filter_map}
@@ -21,7 +21,7 @@ pub record IsRetiredAs (before after : ChannelState) : Type 0 where
   pub is : after ≡ retired after.is_reserved before
   pub keeps : IsTrue before.is_reserved → IsTrue after.is_reserved
 
--- what has been done at these ports
+-- what the code has done at these ports
 pub record EndSoFar (t : Tables) (before now : Configuration) (ports told : List ℕ) : Type 0 where
   pub channels : length now.channels ≡ length before.channels
   pub closed : now.closed ≡ before.closed

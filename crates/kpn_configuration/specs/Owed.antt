@@ -1,4 +1,5 @@
--- Which growth is owed once a process has come to wait, or once the run has come to a stop, said of the configuration.
+-- Which growth is owed once a process has come to wait, or once the run has come to a stop, as a property of the
+-- configuration.
 use Rattle.std.specs.Prelude.{◌≡◌, ℕ, ◌<◌, nat_lt, if◌then◌else◌, length, Option, Some, None}
 use Rattle.kpn_net.specs.declared.found.Found.{Found}
 use Rattle.kpn_net.specs.declared.found.Found.TheVariants.{NoCycle, AllEmpty, Full}
@@ -14,8 +15,8 @@ use Rattle.kpn_configuration.specs.Settled.{IsSettledNow}
 abbrev pub IsOwed : Tables → Configuration → (p d : ℕ) → Type 0
 IsOwed t s p d = IsBelowLimit t s.waits (cap_in (capacities s)) p d
 
--- the growth of d is owed for a stop under the policy `all`: the run is settled, and d, the smallest of the channels on
--- which processes wait as full, is below the limit; p waits on it
+-- the growth of d is owed for a stop under the policy `all`: the run is settled, d is the smallest of the channels on
+-- which processes wait as full, it is below the limit, and p waits on it
 pub record IsOwedAtStop (t : Tables) (s : Configuration) (p d : ℕ) : Type 0 where
   pub policy : t.policy ≡ All
   pub settled : IsSettledNow t s

@@ -1,4 +1,4 @@
--- A quiet moment of a run, said of the configuration.
+-- A quiet moment of a run, as a property of the configuration.
 use Rattle.std.specs.Prelude.{◌≡◌, ℕ, ◌<◌, ◌⊎◌, length, Some}
 use Rattle.kpn_net.specs.declared.wait.Wait.TheVariants.{Empty}
 use Rattle.kpn_net.specs.Tables.{Tables}

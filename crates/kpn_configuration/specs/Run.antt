@@ -1,4 +1,4 @@
--- Which history leads to a configuration: the same channels, ends and waits, and each process where its talk has
+-- Which history leads to a configuration: the same channels, ends and waits, and each process as far as its talk has
 -- brought it.
 use Rattle.std.specs.Prelude.{◌≡◌, ℕ, ◌<◌, false, not, List, [], ◌∷◌, length, map, Option, Some, None, Contains}
 use Rattle.kpn_lang.specs.declared.talk.Said.{Said}
@@ -17,8 +17,8 @@ use Rattle.kpn_trace.specs.Waiting.{wait_of}
 use Rattle.kpn_trace.specs.Legal.{Legal}
 use Rattle.kpn_configuration.specs.Configuration.{Configuration, channel_in, closed_in, wait_in, end_in, frame_in, IsConfiguration}
 
--- a channel holds what the history brought it: its journal is what was written, of which as many items were read as
--- the history read; it has its capacity then, and is retired where its reader does not live
+-- a channel is as the history left it: its journal is what was written there, and as many items of it were read as the
+-- history read; it has its capacity by the history, and is retired if its reader does not live
 pub record HoldsChannel (t : Tables) (H : List Event) (c : ℕ) (channel : ChannelState) : Type 0 where
   pub journal : channel.journal ≡ written_on H c
   pub read : channel.read ≡ length (read_on H c)
@@ -36,7 +36,7 @@ NamesInsBelow ins [] = Unit {0}
 NamesInsBelow ins (Got port v ∷ talk) = (port < ins) × NamesInsBelow ins talk
 NamesInsBelow ins (Put port v ∷ talk) = NamesInsBelow ins talk
 
--- a frame is where a process stands after the history: where its program stands after saying at its ports what the
+-- a frame is as far as a process has come in the history: its program comes there after it said at its ports what the
 -- process said on its channels
 pub record StandsAfter (t : Tables) (H : List Event) (p : ℕ) (f : Frame) : Type 0 where
   pub said : List Said

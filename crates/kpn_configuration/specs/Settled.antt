@@ -1,4 +1,4 @@
--- What a run has come to where nothing goes on by itself, said of the configuration.
+-- What a run has come to if nothing goes on by itself, as a property of the configuration.
 use Rattle.std.specs.Prelude.{◌≡◌, ◌≢◌, ℕ, ◌<◌, ◌⊎◌, true, List, [], ◌∷◌, length, Option, Some, None, Contains}
 use Rattle.kpn_net.specs.declared.wait.Wait.TheVariants.{Nobody, Full}
 use Rattle.kpn_net.specs.Tables.{Tables, channel_at, is_source, is_sink}
@@ -40,8 +40,8 @@ pub record HasFullWaitNow (t : Tables) (s : Configuration) : Type 0 where
   pub channel : ℕ
   pub waits : wait_in s process ≡ Full channel
 
--- the verdict: none unless the run is settled; jammed where some cycle has a full channel, else clogged where some
--- process waits on a full channel, else ended
+-- the verdict: none unless the run is settled; jammed if some cycle has a full channel, else clogged if some process
+-- waits on a full channel, else ended
 abbrev pub IsVerdictNow : Tables → Configuration → Option Verdict → Type 0
 IsVerdictNow t s None = ¬ IsSettledNow t s
 IsVerdictNow t s (Some Jammed) = IsSettledNow t s × HasFullCycleNow t s

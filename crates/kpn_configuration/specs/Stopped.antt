@@ -1,4 +1,4 @@
--- What the code asks of each process and each channel before it gives a verdict. A reader of the public contracts
+-- What the code tests of each process and each channel before it gives a verdict. A reader of the public contracts
 -- needs none of it.
 use Rattle.std.specs.Prelude.{ℕ, ◌||◌, ◌&&◌, Bool, true, false, not, is_some, if◌then◌else◌}
 use Rattle.kpn_net.specs.declared.wait.Wait.{Wait}

@@ -1,4 +1,4 @@
-//! A configuration as it is kept: the channels, and for each process its wait, its end and its frame.
+//! A configuration as it is stored: the channels, and for each process its wait, its end and its frame.
 ghost use Rattle.std.specs.Prelude.{◌≡◌, ◌<◌, List, length, map, IsTrue, IsOk, IfOk, is_ok, is_some, if◌then◌else◌};
 ghost use Rattle.kpn_chan.specs.Channel.{ChannelState, with_room, next_item};
 ghost use Rattle.kpn_configuration.specs.Configuration.{channel_in, closed_in, wait_in, end_in, frame_in, with_channel, IsConfiguration};
@@ -34,7 +34,7 @@ pub use processes::Got;
 pub struct Configuration<A: Allocator = Global> {
     channels: Vec<Channel<A>, A>,
     closed: Vec<bool, A>,
-    // the capacity of each channel once more, in the form that the walk along the waits reads
+    // the capacities once more, in the form that the walk along the waits reads; the invariant keeps them equal
     capacities: Vec<u32, A>,
     waits: Waits<A>,
     ends: Vec<Option<How>, A>,
@@ -61,8 +61,8 @@ impl<A: Allocator> Model for Configuration<A> {
 }
 
 impl<A: Allocator + Copy> Configuration<A> {
-    /// Makes room for one more item on a channel, so that the next put or feed there takes no memory. No
-    /// history tells of it. The error is that memory ran out; all is then as before.
+    /// Makes room for one more item on a channel, so that the next put or feed there takes no memory. No history
+    /// records it. The error is that memory ran out; the configuration is then as before.
     #[inline(always)]
     pub fn reserve_one(&mut self, c: usize) -> Result<(), AllocError>
         requires { c < length self.old.channels }
@@ -78,7 +78,7 @@ impl<A: Allocator + Copy> Configuration<A> {
 }
 
 impl<A: Allocator> Configuration<A> {
-    /// A channel, to be looked at.
+    /// A channel.
     pub fn channel(&self, c: usize) -> &Channel<A>
         requires { c < length self.now.channels }
         ensures { result.now ≡ channel_in self.now c }
@@ -86,7 +86,7 @@ impl<A: Allocator> Configuration<A> {
         &self.channels[c]
     }
 
-    /// The journals, in order of the channels' numbers, moved out of the configuration. The error is that memory ran
+    /// Moves the journals out of the configuration, in order of the channels' numbers. The error is that memory ran
     /// out.
     pub fn into_journals(self, alloc: A) -> Result<Sequence<Journal<A>, A>, AllocError>
         ensures { let s = self in IfOk result (λ journals.
@@ -100,7 +100,7 @@ impl<A: Allocator> Configuration<A> {
         Ok(Sequence::from_vec(journals))
     }
 
-    /// A list of all items that were ever put on a channel, oldest first. The error is that memory ran out.
+    /// A copy of all items that were ever put on a channel, oldest first. The error is that memory ran out.
     pub fn copy_journal<B: Allocator>(&self, alloc: B, c: usize) -> Result<Vec<i64, B>, AllocError>
         requires { c < length self.now.channels }
         ensures { IfOk result (λ items. items.items ≡ (channel_in self.now c).journal) }
@@ -133,7 +133,7 @@ impl<A: Allocator> Configuration<A> {
         self.waits.get(p)
     }
 
-    /// How a process has ended, or `None` where it has not.
+    /// How a process has ended, or `None` if it has not.
     pub fn end_of(&self, p: usize) -> Option<How>
         requires { p < length self.now.ends }
         ensures { result ≡ end_in self.now p }
@@ -141,7 +141,7 @@ impl<A: Allocator> Configuration<A> {
         self.ends[p]
     }
 
-    /// Where a process stands.
+    /// The frame of a process.
     pub fn frame(&self, p: usize) -> &Frame
         requires { p < length self.now.frames }
         ensures { result.now ≡ frame_in self.now p }

@@ -1,4 +1,4 @@
-//! What holds of each configuration, as the contracts of functions with nothing to do: the layers above cite them.
+//! What holds of each configuration, as contracts of functions that do nothing. The layers above cite them.
 ghost use Rattle.std.specs.Prelude.{◌≡◌, ◌≢◌, ◌↔◌, ◌⊎◌, ℕ, ◌<◌, ◌≤◌, true, false, List, [], ◌∷◌, ◌++◌, length, map, Option, Some, is_some, Contains};
 ghost use Rattle.std.specs.List.{filter_map};
 ghost use Rattle.kpn_lang.specs.declared.talk.Said.{Said};
@@ -34,24 +34,24 @@ ghost use Rattle.kpn_configuration.specs.Changes.{Changes};
 ghost use Rattle.kpn_configuration.specs.Determined.{AreSame};
 ghost use Rattle.kpn_configuration.specs.Due.{Stands, ReadsFrom, IsDueNow};
 
-/// Where a history leads to a configuration, and an event that may follow it changes that into another one,
-/// the history with the event leads to the other.
+/// If a history leads to a configuration, and an event that may follow it changes this configuration into another, the
+/// history with the event leads to the other.
 pub fn one_more_event()
     ensures { (t : Tables) → IsNetwork t → (H : List Event) (event : Event)
         → (before after : Configuration) → IsRun t H before → Legal t (H ++ event ∷ [])
         → Changes t event before after → IsConfiguration t after → IsRun t (H ++ event ∷ []) after }
 {}
 
-/// An event leads from a configuration to one other, but for what is reserved: so a call whose contract says what it
-/// changes leaves nothing else of the configuration open.
+/// An event leads from a configuration to only one other, except for what is reserved. So a call whose contract says
+/// what it changes leaves nothing else of the configuration open.
 pub fn an_event_leads_to_one()
     ensures { (t : Tables) (event : Event) (before after other : Configuration)
         → Changes t event before after → Changes t event before other → AreSame t after other }
 {}
 
-/// After a run that owes no growth an event may follow exactly where it is due by the configuration: one of
-/// the outside always, one of a process where the process is free and stands at a stop that is no pause. Where a growth
-/// is owed nothing else may follow.
+/// After a run that owes no growth, an event may follow if and only if the configuration says that it is due. For an
+/// event of the outside this always holds. For one of a process, the process has to be free and at a stop that is no
+/// pause. If a growth is owed, nothing else may follow.
 pub fn exactly_what_is_due()
     ensures may { (t : Tables) → IsNetwork t → (H : List Event) (s : Configuration) → IsRun t H s
         → OwesNothing t H → (event : Event) → HasNumbers t event → IsDueNow t s event
@@ -70,14 +70,14 @@ pub fn exactly_what_is_due()
         → (event : Event) → Legal t (H ++ event ∷ []) → event ≡ growth_after t H p d }
 {}
 
-/// A process stands at one stop, but for pauses: so what is due there is all that is due of it.
+/// A process is at one stop, except for pauses. So what is due there is all that is due of the process.
 pub fn one_stop_stands()
     ensures { (t : Tables) (s : Configuration) (p : ℕ) (stop other : Stop) → Stands t s p stop
         → Stands t s p other → stop ≢ Paused → other ≢ Paused → stop ≡ other }
 {}
 
-/// A process that may go has not left its channels: one at which it stands to read is not retired, and where it gives
-/// no item nothing is unread there, so that the process either gets an item or waits.
+/// A process that may go has not left its channels. A channel that it is about to read is not retired. If the channel
+/// gives no item, none is unread there. So the process either gets an item or waits.
 pub fn a_reader_is_there()
     ensures reader { (t : Tables) → IsNetwork t → (H : List Event) (s : Configuration)
         → IsRun t H s → (p c : ℕ) → p < length t.instances → IsFree s p → ReadsFrom t s p c
@@ -87,9 +87,9 @@ pub fn a_reader_is_there()
         → is_some (next_item (channel_in s c)) ≡ false → unread (channel_in s c) ≡ [] }
 {}
 
-/// At every moment of a run the journal of a channel is what was read from it and then what lies unread there, and is
-/// below the least solution for what was fed. No more is unread than the capacity where the reader is there, and
-/// each capacity is from 1 to the limit.
+/// At every moment of a run the journal of a channel is what was read from it and then what is unread, and is below the
+/// least solution for what was fed. If the reader is there, no more is unread than the capacity. Each capacity is from
+/// 1 to the limit.
 pub fn every_moment()
     ensures queued { (t : Tables) → IsNetwork t → (H : List Event) (s : Configuration)
         → IsRun t H s → (c : ℕ) → c < length t.channels
@@ -106,7 +106,7 @@ pub fn every_moment()
         → IsBelowLeast t (fed t H) c (channel_in s c).journal }
 {}
 
-/// A moment is quiet exactly where its history is, and then each journal is the least solution for what was fed.
+/// A moment is quiet if and only if its history is, and then each journal is the least solution for what was fed.
 pub fn a_quiet_moment()
     ensures quiet { (t : Tables) → IsNetwork t → (H : List Event) (s : Configuration)
         → IsRun t H s → (IsQuietNow t s ↔ IsQuiet t H) }
@@ -115,7 +115,7 @@ pub fn a_quiet_moment()
         → IsLeast t (fed t H) c (channel_in s c).journal }
 {}
 
-/// A run is settled, and has a verdict, exactly where its history is and has.
+/// A run is settled if and only if its history is, and it has the verdict of its history.
 pub fn the_verdict()
     ensures settled { (t : Tables) → IsNetwork t → (H : List Event) (s : Configuration)
         → IsRun t H s → (IsSettledNow t s ↔ IsSettled t H) }
@@ -124,7 +124,8 @@ pub fn the_verdict()
         → (verdict : Option Verdict) → (IsVerdictNow t s verdict ↔ IsVerdict t H verdict) }
 {}
 
-/// What a process says after the history, on lists that what it read begins, its frame says on the rest of them.
+/// Take lists that begin with what the process read. What the process says on them after the history, its frame says on
+/// the rest of them.
 pub fn frames_go_on()
     ensures { (t : Tables) → IsNetwork t → (H : List Event) (s : Configuration) → IsRun t H s
         → (p : ℕ) → p < length t.instances → (X more : Family)
@@ -135,16 +136,17 @@ pub fn frames_go_on()
         (residual (program_of t p).blocks (frame_in s p)) (map more (instance_at t p).ins) }
 {}
 
-/// Where no growth is owed no cycle of waiting processes is left to grow: each full channel of each is at the limit.
+/// If no growth is owed, no cycle of waiting processes is left to grow: each full channel of such a cycle is at the
+/// limit.
 pub fn no_cycle_is_left_to_grow()
     ensures { (t : Tables) → IsNetwork t → (H : List Event) (s : Configuration) → IsRun t H s
         → OwesNothing t H → (p : ℕ) (others : List ℕ) (d : ℕ) → IsCycle t s.waits p others
         → Contains (full_channels s.waits (p ∷ others)) d → t.limit ≤ cap_in (capacities s) d }
 {}
 
-/// Whom an event on a channel wakes is who waits there; whom an end wakes are those that wait on a full channel of the
-/// process, each once. A process that has ended waits for nobody. So of the other processes those are free after an
-/// event that were free before it, and those that it wakes.
+/// An event on a channel wakes the process that waits there. An end wakes the processes that wait on a full channel of
+/// the process that ended, each once. A process that has ended waits for nobody. So after an event the other free
+/// processes are those that were free before it and those that it wakes.
 pub fn who_is_woken()
     ensures writer { (t : Tables) (waits : List Wait) → AreWaits t waits
         → (c q : ℕ) → ((waiting_writer t waits c ≡ Some q)

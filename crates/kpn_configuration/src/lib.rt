@@ -1,5 +1,5 @@
-//! What a legal history leads to: the states of the processes of a network and the contents of its channels at one
-//! moment of a run, and how each event changes them.
+//! The configuration to which a legal history leads: the states of the processes of a network and the contents of its
+//! channels at one moment of a run, and how each event changes them.
 #![tactic(auto)]
 
 mod configuration;

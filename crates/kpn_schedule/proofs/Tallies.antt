@@ -1,4 +1,4 @@
--- The counts of a list of states, where one of them is replaced by another.
+-- The counts of a list of states, if one of them is replaced by another.
 use Rattle.std.proofs.Common.{◌≡◌, ◌↔◌, ℕ, ◌+◌, ◌<◌, ◌≤◌, Bool, true, false, not, cond, nat_eq, List, [], ◌∷◌, length, replicate, set, get_or, count_by, refl, sym, ap, ◌∙◌, arith}
 use Rattle.std.proofs.lemmas.Bool.{not-false, eqb-true, eq-eqb}
 use Rattle.std.proofs.lemmas.List.{get_or_default}
@@ -52,7 +52,7 @@ IsTally-ready n =
     let going = going_apart (replicate n Ready) in
     record { going = omega (arith, are.ready, are.held); empty = are.empty; full = are.full; ended = are.ended }
 
--- the tally stays where one that goes is replaced by another one
+-- the tally stays if a ready or held state is replaced by the other of the two
 pub IsTally-goes : (xs : List State) (tally : Tally) (i : ℕ) (y : State) → i < length xs
     → ((f : State → Bool) → f Ready ≡ f Held → f (get_or xs i Ready) ≡ f y)
     → IsTally xs tally → IsTally (set xs i y) tally
@@ -69,7 +69,7 @@ IsTally-goes xs tally i y there alike is = record {
         let one : cond {A = ℕ} (f (get_or xs i Ready)) 1 0 ≡ cond (f y) 1 0 = ap (λ b. cond b 1 0) (alike f both) in
         omega arith
 
--- ---- all have stopped where none goes
+-- ---- all have stopped if no process is ready or held
 
 none_of : (f : State → Bool) (xs : List State) → ((i : ℕ) → i < length xs → f (get_or xs i Ready) ≡ false)
     → count_by f xs ≡ 0

@@ -1,4 +1,4 @@
--- Counts kept step by step: one process more or less in a state. A reader of the public contracts needs none of it.
+-- Counts of processes by state, kept step by step. A reader of the public contracts needs none of it.
 use Rattle.std.specs.Prelude.{◌≡◌, ℕ, ◌+◌, ◌-◌, Bool, not, if◌then◌else◌, List, count_by}
 use Rattle.kpn_trace.specs.declared.state.State.{State}
 use Rattle.kpn_trace.specs.declared.state.State.TheVariants.{Ready, Held, WaitsEmpty, WaitsFull, Ended}
@@ -30,7 +30,7 @@ one_more_if is n = if is then n + 1 else n
 abbrev pub one_less_if : Bool → ℕ → ℕ
 one_less_if is n = if is then n - 1 else n
 
--- one process more is in this state
+-- one more process is in this state
 abbrev pub one_more : State → Tally → Tally
 one_more state tally = record {
   going = one_more_if (goes state) tally.going;
@@ -39,7 +39,7 @@ one_more state tally = record {
   ended = one_more_if (is_ended state) tally.ended;
 }
 
--- one process less is in this state
+-- one process fewer is in this state
 abbrev pub one_less : State → Tally → Tally
 one_less state tally = record {
   going = one_less_if (goes state) tally.going;

@@ -1,5 +1,5 @@
--- The queue as it is kept: a list of numbers, of which the first were taken. A reader of the public contracts needs
--- none of it.
+-- The queue as it is stored: a list of numbers, from which the first were taken.
+-- A reader of the public contracts needs none of it.
 use Rattle.std.specs.Prelude.{◌≤◌, ℕ, List, length, drop, vec_capacity}
 use Rattle.kpn_schedule.specs.declared.queue.Queue.{Queue}
 

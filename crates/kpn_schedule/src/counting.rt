@@ -4,7 +4,7 @@ ghost use Rattle.kpn_schedule.specs.Counting.{count_in, one_more, one_less};
 
 use kpn_trace::State;
 
-/// The counts that are kept: those that stay where a process that is ready is held and where it is put back.
+/// The counts that are stored. Each stays the same when a ready process becomes held, and when it is put back.
 #[derive(Debug, Drop)]
 pub(crate) struct Tally {
     /// How many processes are ready or held.
@@ -16,7 +16,7 @@ pub(crate) struct Tally {
     pub(crate) ended: usize,
 }
 
-/// Counts one process more in this state.
+/// Counts one more process in this state.
 pub(crate) fn enter(tally: &mut Tally, state: State)
     requires { count_in state tally.old + 1 < 2 ^ 64 }
     ensures { tally.new ≡ one_more state tally.old }
@@ -29,7 +29,7 @@ pub(crate) fn enter(tally: &mut Tally, state: State)
     }
 }
 
-/// Counts one process less in this state.
+/// Counts one process fewer in this state.
 pub(crate) fn leave(tally: &mut Tally, state: State)
     requires { 0 < count_in state tally.old }
     ensures { tally.new ≡ one_less state tally.old }

@@ -1,5 +1,5 @@
-//! Schedules of a run: which processes are ready and in which order they are to be stepped, who is held, who waits or
-//! has ended, and how many of each there are.
+//! The schedule of a run: which processes are ready and in which order to step them, which are held, which wait or have
+//! ended, and how many of each there are.
 #![tactic(auto)]
 
 mod counting;

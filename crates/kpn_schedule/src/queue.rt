@@ -1,12 +1,12 @@
-//! The queue of the processes that are ready: the first leaves it and another comes behind in a few instructions.
+//! The queue of the ready processes. A process leaves at its head and another joins at its tail in a few instructions.
 ghost use Rattle.std.specs.Prelude.{◌≡◌, ◌<◌, ◌≤◌, ℕ, [], ◌∷◌, ◌++◌, length, IfOk, IfSome, IfNone, slice_get, vec_len, vec_capacity};
 ghost use Rattle.std.specs.List.{range_with_len};
 ghost use Rattle.kpn_schedule.specs.Queue.{waiting, IsQueue};
 
 use std::alloc::{AllocError, Allocator};
 
-/// Numbers of processes, in a list that goes on to its end before what was taken is dropped. So nothing goes round in a
-/// ring, and a number is moved once while many are put.
+/// Numbers of processes in a list. It grows to its end before the queue drops those that were taken. So the queue needs
+/// no ring, and it moves a number once while it takes in many.
 #[derive(Debug, Drop)]
 pub(crate) struct Queue<A: Allocator> {
     pub(crate) numbers: Vec<usize, A>,
@@ -27,7 +27,6 @@ impl<A: Allocator> Queue<A> {
         Ok(Queue { numbers, taken: 0 })
     }
 
-    /// How many numbers wait.
     pub(crate) fn len(&self) -> usize
         requires { self.now.taken ≤ length self.now.numbers.items }
         ensures { result ≡ length (waiting self.now) }
@@ -35,14 +34,12 @@ impl<A: Allocator> Queue<A> {
         self.numbers.len() - self.taken
     }
 
-    /// The first number that waits.
     pub(crate) fn first(&self) -> Option<usize>
         ensures { result ≡ slice_get self.now.numbers.items self.now.taken }
     {
         self.numbers.get(self.taken).copied()
     }
 
-    /// Takes the first number.
     pub(crate) fn take_first(&mut self) -> Option<usize>
         ensures some { IfSome result (λ p. waiting self.old ≡ p ∷ waiting self.new) }
         ensures none { IfNone result ((waiting self.old ≡ []) × (self.new ≡ self.old)) }
@@ -55,7 +52,7 @@ impl<A: Allocator> Queue<A> {
         Some(p)
     }
 
-    /// Puts a number behind the others, of which there are fewer than there is room for.
+    /// Puts a number behind the others. There are fewer than there is room for.
     pub(crate) fn put(&mut self, p: usize)
         requires { (room : ℕ) × IsQueue room self.old × (length (waiting self.old) < room) }
         ensures numbers { waiting self.new ≡ waiting self.old ++ p ∷ [] }
@@ -65,7 +62,7 @@ impl<A: Allocator> Queue<A> {
         self.numbers.push_reserved(p);
     }
 
-    /// Makes sure that there is a place behind the others.
+    /// Makes sure that there is a place for one more number.
     fn make_room(&mut self)
         requires { (room : ℕ) × IsQueue room self.old × (length (waiting self.old) < room) }
         ensures numbers { waiting self.new ≡ waiting self.old }
@@ -78,7 +75,6 @@ impl<A: Allocator> Queue<A> {
         self.drop_taken();
     }
 
-    /// Drops the numbers that were taken.
     #[cold]
     #[inline(never)]
     fn drop_taken(&mut self)
@@ -94,7 +90,7 @@ impl<A: Allocator> Queue<A> {
     }
 }
 
-/// How many places there are for so many processes. With more of them, numbers are moved to the front less often.
+/// How many places there are for this many processes. With more places the queue moves numbers less often.
 fn places_for(processes: usize) -> usize
     ensures { processes ≤ result }
 {

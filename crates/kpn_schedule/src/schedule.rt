@@ -1,4 +1,4 @@
-//! A schedule as it is kept: the states of the processes, and a queue of those that are ready with room for all.
+//! A schedule as it is stored: the states of the processes, and a queue with room for all of them.
 ghost use Rattle.std.specs.Prelude.{◌≡◌, ◌↔◌, ℕ, ◌<◌, ◌^◌, true, false, [], length, replicate, count_by, slice_get, slice_set, IfOk, IfSome, IfNone};
 ghost use Rattle.kpn_trace.specs.declared.state.State.TheVariants.{Ready};
 ghost use Rattle.kpn_trace.specs.Views.{AreCounts, is_ready, is_held};
@@ -11,14 +11,14 @@ use kpn_trace::{Counts, State};
 use std::alloc::{AllocError, Allocator, Global};
 use std::marker::Model;
 
-/// Where each process of a run stands, and the order in which those that are ready are to be stepped: who becomes
-/// ready goes to the tail of a queue, and the first of it is the next to be held.
+/// The state of each process of a run, and the order in which to step those that are ready. A process that becomes
+/// ready goes to the tail of a queue. The first of the queue is the next to be held.
 ///
-/// Contracts see the state of each process and the queue. But for `new` and `copy_states` no call takes memory.
+/// Contracts see the state of each process and the queue. Only `new` and `copy_states` take memory.
 #[derive(Debug, Drop)]
 pub struct Schedule<A: Allocator = Global> {
     states: Vec<State, A>,
-    // Kept step by step. How many are ready is the length of the queue.
+    // It is kept step by step. The length of the queue is how many are ready.
     tally: Tally,
     queue: Queue<A>,
 }
@@ -38,8 +38,8 @@ impl<A: Allocator> Model for Schedule<A> {
 }
 
 impl<A: Allocator + Copy> Schedule<A> {
-    /// The schedule of so many processes at the start: all are ready, in order of number. The error is that memory ran
-    /// out.
+    /// The schedule of this many processes at the start: all are ready, in order of number. The error is that memory
+    /// ran out.
     pub fn new(alloc: A, processes: usize) -> Result<Self, AllocError>
         ensures { IfOk result (λ made. made ≡ all_ready processes) }
     {
@@ -103,14 +103,14 @@ impl<A: Allocator> Schedule<A> {
         self.tally.going == 0
     }
 
-    /// The process that is the next to be held, `None` where no process is ready.
+    /// The process that is the next to be held, and `None` if no process is ready.
     pub fn next(&self) -> Option<usize>
         ensures { result ≡ slice_get self.now.queue 0 }
     {
         self.queue.first()
     }
 
-    /// The first process of the queue is held from now on. Returns it, `None` where no process is ready.
+    /// Makes the first process of the queue held, and returns it. It returns `None` if no process is ready.
     pub fn hold_next(&mut self) -> Option<usize>
         ensures held { IfSome result (λ p. HoldsFirst p self.old self.new) }
         ensures none { IfNone result ((self.old.queue ≡ []) × (self.new ≡ self.old)) }
@@ -120,18 +120,18 @@ impl<A: Allocator> Schedule<A> {
         Some(p)
     }
 
-    /// Process `p` becomes ready, at the tail of the queue.
+    /// Makes process `p`, which is not ready, ready, at the tail of the queue.
     pub fn make_ready(&mut self, p: usize)
         requires process { p < length self.old.states }
         requires state { is_ready (state_at self.old.states p) ≡ false }
         ensures { self.new ≡ made_ready p self.old }
     {
-        // As if it were held first: the one call counts it, the other queues it.
+        // As if it were held first: the first call counts it, the second queues it.
         self.set(p, State::Held);
         self.put_back(p);
     }
 
-    /// Process `p`, which is held, becomes ready, at the tail of the queue.
+    /// Makes process `p`, which is held, ready, at the tail of the queue.
     pub fn put_back(&mut self, p: usize)
         requires process { p < length self.old.states }
         requires held { state_at self.old.states p ≡ State.Held }
@@ -141,7 +141,7 @@ impl<A: Allocator> Schedule<A> {
         self.queue.put(p);
     }
 
-    /// From now on process `p`, which is not ready, is in this state, which is another than ready.
+    /// Puts process `p`, which is not ready, into this state, which is not ready either.
     pub fn set(&mut self, p: usize, state: State)
         requires process { p < length self.old.states }
         requires old { is_ready (state_at self.old.states p) ≡ false }
@@ -151,15 +151,15 @@ impl<A: Allocator> Schedule<A> {
         change(&mut self.states, &mut self.tally, p, state);
     }
 
-    /// A list of the states, in order of number. The error is that memory ran out.
+    /// A copy of the states, in order of number. The error is that memory ran out.
     pub fn copy_states<B: Allocator>(&self, alloc: B) -> Result<Vec<State, B>, AllocError>
         ensures { IfOk result (λ states. states.items ≡ self.now.states) }
     {
         Vec::from_slice(alloc, self.states.as_slice())
     }
 
-    /// Does nothing. It tells a caller's proof what holds of every schedule: the queue holds each ready process once
-    /// and no other, and the number of processes is one of the machine's.
+    /// Does nothing. A caller's proof learns from it what holds of every schedule: the queue holds each ready process
+    /// once and no other process, and the number of processes is one of the machine's.
     pub fn known(&self)
         ensures schedule { IsSchedule self.now }
         ensures bound { length self.now.states < 2 ^ 64 }
@@ -168,14 +168,12 @@ impl<A: Allocator> Schedule<A> {
     }
 }
 
-/// The states of so many processes that are all ready.
 fn all_ready<A: Allocator>(alloc: A, processes: usize) -> Result<Vec<State, A>, AllocError>
     ensures { IfOk result (λ states. states.items ≡ replicate processes Ready) }
 {
     Ok(vec![in alloc; State::Ready; processes]?)
 }
 
-/// From now on process `p` is in this state.
 fn change<A: Allocator>(states: &mut Vec<State, A>, tally: &mut Tally, p: usize, state: State)
     requires process { p < length states.old.items }
     requires tally { IsTally states.old.items tally.old }

@@ -1,4 +1,4 @@
--- The frame at which a process stands after what it has said, and what it can say and come to from there.
+-- The frame of a process after its talk, and what the process can say and come to from there.
 use Rattle.std.proofs.Common.{◌≡◌, ◌≢◌, ℕ, ◌<◌, ℤ, true, false, eqb, cond, List, [], ◌∷◌, ◌++◌, length, set, get_or, refl, sym, ap, subst, ◌∙◌, inl, inr, arith, append_assoc, append-nil, length-set}
 use Rattle.std.specs.Prelude.{◌↔◌}
 use Rattle.std.proofs.lemmas.Bool.{cases_eq}
@@ -45,7 +45,7 @@ IsRestAfter-put talk o v lists rest l =
           (got_at-append talk (Put o v ∷ []) port ∙ append-nil (got_at talk port));
     }
 
--- before an item was got it stood at the front of what remains
+-- before an item was got, it was the first of what remains
 abbrev before_got : ℕ → ℤ → Lists → Lists
 before_got port v rest = set rest port (v ∷ list_at rest port)
 
@@ -185,7 +185,7 @@ speaks_ends : (p : Process) (lists : Lists) (first : Said) (q : ℕ → Ran) →
     (other : Ending) → ComesTo p lists other [] → ⊥
 speaks_ends p lists first q e other c = let both = sym (ap (λ r. r.talk) (e c.turns)) ∙ c.said in cc
 
--- ---- what stands there, by cases
+-- ---- what is next at the frame, by cases
 
 read_next_none : (rest : Lists) (port : ℕ) (said : Said) → list_at rest port ≡ [] →
     SaysNext (WantRead port) rest said → ⊥
@@ -256,7 +256,7 @@ fault_ends rest fault (ending.Faulted other) = (λ e. same e, λ h. ap ending.Fa
 fault_ends rest fault (ending.Starved i) = (λ e. absurd cc, λ h. absurd h)
 fault_ends rest fault ending.Cut = (λ e. absurd cc, λ h. absurd h)
 
--- ---- what a frame can say and come to, by the stop that stands there
+-- ---- what a frame can say and come to, by its stop
 
 both_ways : (A B C : Type 0) → (A ↔ B) → (B ↔ C) → (A ↔ C)
 both_ways A B C h k = (λ a. k.0 (h.0 a), λ c. h.1 (k.1 c))

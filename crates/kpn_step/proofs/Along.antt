@@ -1,4 +1,4 @@
--- A process along its way through whole lists: what it did so far, and that it comes to an end.
+-- A process on its way through whole lists: what it did so far, and that it comes to an end.
 use Rattle.std.proofs.Common.{◌≡◌, ℕ, zero, suc, ◌+◌, ◌-◌, ◌*◌, ◌<◌, ◌≤◌, ℤ, nat_eq, List, [], ◌∷◌, ◌++◌, length, IsTrue, ap, subst, ◌∙◌, arith}
 use Rattle.std.specs.List.{sum_by}
 use Rattle.std.proofs.lemmas.Bool.Decides.{nat_tests}
@@ -24,7 +24,7 @@ use Rattle.kpn_step.proofs.MayStep.{write_within}
 use Rattle.kpn_step.proofs.Stands.{StandsAt-stop_at}
 use Rattle.kpn_step.proofs.Walked.{Walks-steps, Walks-said, fits-alone, AloneGives-done, AloneGives-faulted, AloneGives-starved, AloneGives-paused}
 
--- the way from the start: some of the steps were made, this was said, and this was taken
+-- the way from the start: the process made some of the steps, said this, and took this
 pub record Along (parts : Parts) (pars : List ℤ) (lists : Lists) (quota left : ℕ) (talk : List Said) (f : Frame)
     (taken : List ℕ) : Type 0 where
   pub steps : ℕ
@@ -65,11 +65,11 @@ module _ (parts : Parts) (program : IsProgram parts) (pars : List ℤ) (lists : 
           ports = ports ∙ along.ports;
         }
 
-    -- where it says nothing more
+    -- if it says nothing more
     most : Along-steps.steps ≤ quota
     most = omega (arith, along.counted, walked.most)
 
-    -- the steps of this walk use up what was left exactly where all of them use up the quota
+    -- the steps of this walk use up what was left if and only if all of them use up the quota
     same_use : nat_eq steps left ≡ nat_eq (along.steps + steps) quota
     same_use = grind (arith, nat_tests, along.counted)
 
@@ -101,7 +101,7 @@ module _ (parts : Parts) (program : IsProgram parts) (pars : List ℤ) (lists : 
 abbrev pub statements_in : List (List Statement) → ℕ
 statements_in blocks = sum_by length blocks
 
--- how far it can go on: through the statements of the block, and for each step that is left through all
+-- how far it can still go: through the statements of the block, and through all statements for each step that is left
 abbrev pub way_left : List (List Statement) → ℕ → Frame → ℕ
 way_left blocks left f = (statements_in blocks + 1) * left + (length (block_at blocks f.inner.block) - f.inner.place)
 
@@ -110,7 +110,7 @@ length-block [] b = omega arith
 length-block (block ∷ blocks) zero = omega (arith, sum_by-cons length block blocks)
 length-block (block ∷ blocks) (suc b) = omega (arith, sum_by-cons length block blocks, length-block blocks b)
 
--- what it says it goes past
+-- the frame goes past what it says
 goes_past : (blocks : List (List Statement)) (g h : Frame) (lists rest : Lists) (said : Said) →
     Speaks blocks g lists said h rest → (h.inner.block ≡ g.inner.block) × (h.inner.place ≡ g.inner.place + 1)
     × (g.inner.place < length (block_at blocks g.inner.block))

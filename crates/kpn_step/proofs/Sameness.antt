@@ -9,7 +9,7 @@ use Rattle.kpn_lang.specs.Alone.{Process, CanSay, ComesTo}
 use Rattle.kpn_lang.proofs.Prefixes.{IsPrefix-trans, IsPrefix-same}
 use Rattle.kpn_step.specs.Residual.{SaysTheSame}
 
--- the talk is only extended, and a run that was not cut is the same
+-- the talk is only extended, and a run that was not cut stays the same
 pub record IsBelow (ran further : Ran) : Type 0 where
   pub talk : IsPrefix ran.talk further.talk
   pub same : ran.ending ≢ Cut → further ≡ ran
@@ -18,7 +18,7 @@ pub IsBelow-same : (ran further : Ran) → further ≡ ran → IsBelow ran furth
 IsBelow-same ran further e =
     record { talk = IsPrefix-same ran.talk further.talk (sym (ap (λ r. r.talk) e)); same = λ h. e }
 
--- with some number of turns the second process goes on where the first came to
+-- with some number of turns the second process comes at least as far as the first
 pub record Covers (p q : Process) : Type 0 where
   pub turns : ℕ → ℕ
   pub below : (n : ℕ) (lists : Lists) → IsBelow (p n lists) (q (turns n) lists)

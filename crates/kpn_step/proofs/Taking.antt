@@ -1,4 +1,4 @@
--- A read says the item that is next at its port, and takes it from there.
+-- A read says the next item of its port, and takes it from there.
 use Rattle.std.proofs.Common.{◌≡◌, ℕ, ℤ, List, [], ◌∷◌, ◌++◌, length, take, drop, slice_get, Some, ap, subst, ◌∙◌, arith}
 use Rattle.std.proofs.lemmas.List.{append-nil, drop_all, take_all}
 use Rattle.kpn_lang.specs.declared.talk.Said.TheVariants.{Got}
@@ -23,7 +23,7 @@ Speaks-got blocks f g stop port v lists rest stands is given first without =
     let items = list_at lists port in
     (s.0, drop 1 items, s.1.statement, front items v first, given port s.0 s.1.statement, without)
 
--- a slice of all elements that is given back is the elements
+-- writing all elements of a slice back changes nothing else
 pub written_back : (old new : List ℕ) → length new ≡ length old →
     take (length old) (new ++ drop (length new) old) ≡ new
 written_back old new even =

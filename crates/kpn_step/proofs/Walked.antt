@@ -1,5 +1,5 @@
 -- Walks: steps, and between them the items got and put. After a walk the process can say and come to whatever the last
--- frame can, after what the walk said; so what stands at the last frame tells how the process ends.
+-- frame can, after what the walk said. So the stop at the last frame decides how the process ends.
 use Rattle.std.proofs.Common.{◌≡◌, ◌≢◌, ℕ, ◌+◌, ◌≤◌, nat_eq, ℤ, IsTrue, List, [], ◌∷◌, ◌++◌, length, set, refl, sym, ap, ◌∙◌, arith, append_assoc, append-nil}
 use Rattle.kpn_lang.specs.declared.value.Fault.{Fault}
 use Rattle.kpn_lang.specs.declared.talk.Said.{Said}
@@ -142,7 +142,7 @@ SaysTheSame-start parts pars program = SaysTheSame-equal _ _ (residual_start par
 -- ---- a program stepped alone from its start
 
 module _ (parts : Parts) (program : IsProgram parts) (pars : List ℤ) (lists : Lists) where
-  -- after a walk from the start the program goes on as the last frame
+  -- after a walk from the start the program goes on as the last frame does
   pub GoesOnAs-alone : (k : ℕ) (talk : List Said) (to : Frame) (rest : Lists) →
       Walks parts.blocks k (start_frame parts pars) lists talk to rest →
       GoesOnAs (alone parts pars) lists talk (residual parts.blocks to) rest
@@ -158,7 +158,7 @@ module _ (parts : Parts) (program : IsProgram parts) (pars : List ℤ) (lists : 
   fits-alone k talk to rest e w =
       fits-walks parts program k (start_frame parts pars) to lists rest talk (fits-start parts pars program e) w
 
-  -- what the last frame comes to with nothing more said, the program comes to
+  -- if the last frame comes to an end and says nothing more, the program comes to that end
   comes_to : (k : ℕ) (talk : List Said) (to : Frame) (rest : Lists) (end : Ending) →
       Walks parts.blocks k (start_frame parts pars) lists talk to rest →
       residual parts.blocks to 0 rest ≡ ends end to.variables rest → end ≢ ending.Cut →

@@ -24,15 +24,15 @@ Speaks blocks f lists (Got port v) g rest =
 Speaks blocks f lists (Put port v) g rest =
     (step_of blocks f ≡ Stops (WantWrite port v)) × (g ≡ passed f) × (rest ≡ lists)
 
--- this many steps, in which this is said, lead from the one frame and lists to the other
+-- these steps, which say this, lead from the first frame and lists to the second
 abbrev pub Walks : List (List Statement) → ℕ → Frame → Lists → List Said → Frame → Lists → Type 0
 Walks blocks k f lists [] g rest = Steps blocks k f g × (rest ≡ lists)
 Walks blocks k f lists (said ∷ talk) g rest =
     (i j : ℕ) × (h after : Frame) × (remaining : Lists) × (k ≡ i + j) × Steps blocks i f h
     × Speaks blocks h lists said after remaining × Walks blocks j after remaining talk g rest
 
--- what a process alone comes to after its talk; where it was paused it can say the talk, it would go on to make a step,
--- and the quota is used up
+-- what a process alone comes to after its talk; if it was paused, it can say the talk, it would go on with a step, and
+-- the quota is used up
 abbrev pub IsAloneOutcome : Parts → List ℤ → Lists → (used_up : Type 0) → Frame → List Said → AloneStop → Type 0
 IsAloneOutcome parts pars lists used_up to talk Done = ComesTo (alone parts pars) lists ending.Done talk
 IsAloneOutcome parts pars lists used_up to talk (Faulted fault) =
@@ -42,9 +42,9 @@ IsAloneOutcome parts pars lists used_up to talk (Starved port) =
 IsAloneOutcome parts pars lists used_up to talk Paused =
     CanSay (alone parts pars) lists talk × IsBetween (step_of parts.blocks to) × used_up
 
--- a program stepped alone from its start: no more steps than the quota, in which this is said, and how it ends: as the
--- stop after exactly these steps says, which is a pause only where they are the quota and it is between two of them;
--- and so the program comes to that end by itself
+-- a program stepped alone from its start: it makes no more steps than the quota and says this in them. It ends as the
+-- stop after exactly these steps says, which is a pause only if they are the quota and it is between two of them. So
+-- the program comes to that end by itself
 pub record AloneGives (parts : Parts) (pars : List ℤ) (lists : Lists) (quota : ℕ) (talk : List Said)
     (stop : AloneStop) : Type 0 where
   pub steps : ℕ

@@ -1,4 +1,4 @@
-//! What an advance of a process holds: it names its own input, so that it can be judged later.
+//! An advance of a process. It names its own input, so that it can be judged later.
 ghost use Rattle.std.specs.Prelude.{◌≡◌, IsTrue};
 ghost use Rattle.kpn_step.specs.Frame.{fits};
 ghost use Rattle.kpn_step.specs.Stops.{IsAdvance, IsAtPort, IsWithinQuota, advanced_of};
@@ -74,7 +74,7 @@ impl<'p> Advance<'p> {
         self.steps
     }
 
-    /// Why they ended: what stands at the frame after them.
+    /// Why they ended: the stop at the frame after them.
     pub fn stop(&self) -> Stop
         ensures { result ≡ self.now.stop }
     {
@@ -97,8 +97,8 @@ impl<'p> Advance<'p> {
         self.stop = stop;
     }
 
-    /// Does nothing. It tells a caller's proof what the steps are, and that a stop at a read or a write names a port of
-    /// the program.
+    /// Does nothing. A caller's proof learns from it what the steps are, and that a stop at a read or a write names a
+    /// port of the program.
     pub fn known(&self)
         ensures advance { IsAdvance self.now }
         ensures port { IsAtPort self.now.program self.now.to self.now.stop }

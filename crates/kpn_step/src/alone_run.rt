@@ -1,4 +1,4 @@
-//! What a process does that is stepped alone on whole lists.
+//! What a process does if it is stepped alone on whole lists.
 use crate::stop::AloneStop;
 use kpn_lang::{Said, Sequence};
 

@@ -1,5 +1,4 @@
-//! What holds of the frames of every process, as the contracts of functions with nothing to do: the layers above cite
-//! them.
+//! What holds of the frames of every process, as contracts of functions that do nothing. The layers above cite them.
 ghost use Rattle.std.specs.Prelude.{◌≡◌, ◌≢◌, ◌↔◌, ℕ, ℤ, List, [], ◌∷◌, ◌++◌};
 ghost use Rattle.kpn_lang.specs.declared.talk.Said.{Said};
 ghost use Rattle.kpn_lang.specs.declared.talk.Said.TheVariants.{Got, Put};
@@ -13,8 +12,8 @@ ghost use Rattle.kpn_step.specs.Frame.{Frame, start_frame, passed};
 ghost use Rattle.kpn_step.specs.Stops.{StandsAt, IsGiven, Advanced, IsAdvance};
 ghost use Rattle.kpn_step.specs.After.{IsRestAfter, IsAfter, SaysNext, EndsThere};
 
-/// The frame of a process after its talk: the start before it said anything, kept by an advance, and taken on by an
-/// item that it is given and by one that it wrote.
+/// The frame of a process after its talk. It is the start frame before the process said anything. An advance keeps it.
+/// An item that the process is given or writes takes it on.
 pub fn after_talk()
     ensures start { (parts : Parts) (pars : List ℤ) → IsProgram parts
         → IsAfter parts pars [] (start_frame parts pars) }
@@ -30,8 +29,8 @@ pub fn after_talk()
         → IsAfter parts pars (talk ++ Put port v ∷ []) (passed f) }
 {}
 
-/// What a process says next and how it ends is what stands at its frame, where that is no pause: at a read the first
-/// item that remains at the port, or it starves; at a write its item; else nothing.
+/// The stop at a frame, if it is no pause, decides what the process says next and how it ends. At a read that is the
+/// first item that remains at the port, or the process starves. At a write it is the item. Else it says nothing more.
 pub fn says_what_stands()
     ensures talk { (parts : Parts) (pars : List ℤ) (talk : List Said) (f : Frame)
         → (lists rest : Lists) → IsAfter parts pars talk f → IsRestAfter talk lists rest

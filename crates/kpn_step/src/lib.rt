@@ -1,5 +1,5 @@
-//! The stepper: a process as a frame of fixed size that goes step by step through its program, tied to
-//! what the process does alone on whole lists.
+//! The stepper: a process is a frame of fixed size that goes step by step through its program. The contracts tie this
+//! to what the process does alone on whole lists.
 #![tactic(auto)]
 
 mod advanced;

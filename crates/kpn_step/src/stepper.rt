@@ -1,4 +1,4 @@
-//! Steps of a process, with what they started from.
+//! Steps of a process, with the frame from which they began.
 ghost use Rattle.std.specs.Prelude.{◌≡◌, IsTrue};
 ghost use Rattle.kpn_step.specs.Frame.{fits};
 ghost use Rattle.kpn_step.specs.Stops.{IsAdvance, IsWithinQuota};
@@ -7,12 +7,16 @@ use crate::advanced::Advance;
 use crate::frame::Frame;
 use kpn_lang::Program;
 
-/// Makes steps from a frame of the program until it stops, at most `quota`.
+/// Makes at most `quota` steps from a frame of the program, until the process stops.
 ///
-/// At each step: where no place is left it is `Done`; at a read it is `WantRead`; a write is evaluated
-/// and is `WantWrite` or `Faulted`; else, if `quota` steps were made, it is `Paused`; else, if the
-/// expression of the assignment or test faults, `Faulted`, which is no step; else it makes one step: an
-/// assignment, a test of an `if` or a `while`, or the leaving of a finished block.
+/// At each step it takes the first of these that applies:
+///
+/// - If no place is left, the stop is `Done`.
+/// - At a read it is `WantRead`.
+/// - At a write, the item is evaluated, and the stop is `WantWrite` or `Faulted`.
+/// - If `quota` steps were made, it is `Paused`.
+/// - If the expression of the assignment or test faults, it is `Faulted`, and this is no step.
+/// - Else it makes one step: an assignment, a test of an `if` or a `while`, or the leaving of a finished block.
 pub fn advance(program: &Program, frame: Frame, quota: u32) -> Advance<'_>
     requires { IsTrue (fits program.now frame) }
     ensures program { result.program ≡ program.now }

@@ -1,7 +1,7 @@
-//! Where the stepper stops.
+//! The stops of the stepper.
 use kpn_lang::Fault;
 
-/// Why steps were ended.
+/// Why the stepper stopped.
 #[derive(Clone, Copy, Debug, PartialEq, Eq)]
 pub enum Stop {
     /// The process would read at this in port.

@@ -7,7 +7,7 @@ use crate::frame::Frame;
 use crate::stop::Stop;
 use kpn_lang::Program;
 
-/// Makes steps until the frame stops, at most `quota`: how many, and the stop.
+/// Makes at most `quota` steps, until the process stops. It returns how many, and the stop.
 pub(crate) fn walk(program: &Program, frame: &mut Frame, quota: u64) -> (u64, Stop)
     requires { IsTrue (fits program.now frame.old) }
     ensures { Walked program.now.blocks quota frame.old result.0 result.1 frame.new }

@@ -16,8 +16,8 @@ use kpn_lang::{Program, Said, Sequence, next_item};
 use kpn_limits::MAX_PORTS;
 use std::alloc::{AllocError, Global};
 
-/// Steps a program from its start, on a list for each in port, until it ends or has made `quota` steps.
-/// There are as many values as parameters. It wants memory for the talk alone.
+/// Steps a program from its start, on a list for each in port, until it ends or has made `quota` steps. There are as
+/// many values as parameters. Only the talk takes memory.
 pub fn alone(
     alloc: Global,
     program: &Program,
@@ -44,7 +44,7 @@ pub fn alone(
     }
 }
 
-/// What the frame says where it stopped, and goes past; or how the process ended there.
+/// Says what the frame says at its stop, and goes past it; or returns how the process ended there.
 fn say(
     program: &Program,
     frame: &mut Frame,

@@ -1,5 +1,5 @@
-//! The calls of the outside: it feeds sources and closes them, takes from sinks and leaves them. Sources and sinks
-//! go by their channel numbers.
+//! The calls of the outside, which feeds sources and closes them, and takes from sinks and leaves them. Sources and
+//! sinks go by their channel numbers.
 ghost use Rattle.std.specs.Prelude.{◌≡◌, ◌≢◌, ◌↔◌, IsTrue, IfOk, IfErr, OnErr, IfSome, IfNone};
 ghost use Rattle.kpn_book.specs.Refusals.{AcceptsItem, IsAtBound, RefusesFeed, RefusesClose, RefusesTake, RefusesLeave, Feeds, Closes, Takes, Leaves};
 
@@ -11,8 +11,8 @@ use kpn_trace::Event;
 use std::alloc::Allocator;
 
 impl<'n, A: Allocator> Book<'n, A> {
-    /// Why a feed would be refused, whatever memory there is. `None` where it would be refused for want of memory
-    /// alone. Ask this if you have no memory of your own for the feed: want of memory is the last cause.
+    /// Why a feed would be refused, whatever memory there is. `None` if only want of memory could refuse it. Use it if
+    /// you have no memory of your own for the feed: want of memory is the last cause.
     pub fn feed_fault(&self, source: usize, item: i64, bound: usize) -> Option<Refused>
         ensures cause { IfSome result (λ cause. RefusesFeed source item bound self.now cause) }
         ensures lasts { IfSome result (λ cause. cause ≢ Refused.NoMemory) }
@@ -32,7 +32,7 @@ impl<'n, A: Allocator> Book<'n, A> {
         None
     }
 
-    /// Puts an item on a source that is not closed and on which fewer items than the bound are unread, or whose reader
+    /// Puts an item on a source that is not closed. Fewer items than the bound must be unread there, unless its reader
     /// has ended.
     pub fn feed(&mut self, source: usize, item: i64, bound: usize) -> Result<(), Refused>
     where
@@ -54,7 +54,7 @@ impl<'n, A: Allocator> Book<'n, A> {
         Ok(())
     }
 
-    /// Closes a source. A second time it changes nothing and takes no memory.
+    /// Closes a source. A second call changes nothing and takes no memory.
     pub fn close_source(&mut self, source: usize) -> Result<(), Refused>
         ensures done { IfOk result (λ _. Closes source self.old self.new) }
         ensures refused { IfErr result (λ cause. RefusesClose source self.old cause) }
@@ -74,8 +74,8 @@ impl<'n, A: Allocator> Book<'n, A> {
         Ok(())
     }
 
-    /// The next item of a sink that was not left, which is then read. `None` where nothing is unread: that takes no
-    /// memory and changes nothing.
+    /// Takes the next item of a sink that was not left; the item is then read. It returns `None` if nothing is unread,
+    /// and then takes no memory and changes nothing.
     pub fn take(&mut self, sink: usize) -> Result<Option<i64>, Refused>
         ensures done { IfOk result (λ item. Takes sink item self.old self.new) }
         ensures refused { IfErr result (λ cause. RefusesTake sink self.old cause) }
@@ -98,8 +98,8 @@ impl<'n, A: Allocator> Book<'n, A> {
         Ok(Some(item))
     }
 
-    /// Leaves a sink: nothing is taken from it any more, and it is never full. A second time it changes nothing and
-    /// takes no memory.
+    /// Leaves a sink: the outside takes nothing from it any more, and it is never full. A second call changes nothing
+    /// and takes no memory.
     pub fn leave_sink(&mut self, sink: usize) -> Result<(), Refused>
         ensures done { IfOk result (λ _. Leaves sink self.old self.new) }
         ensures refused { IfErr result (λ cause. RefusesLeave sink self.old cause) }
@@ -120,7 +120,7 @@ impl<'n, A: Allocator> Book<'n, A> {
     }
 }
 
-/// Whether the reader of a channel is there, and as many items as the bound are unread.
+/// Whether the reader of a channel lives, and at least as many items as the bound are unread.
 fn is_at_bound<A: Allocator>(channel: &Channel<A>, bound: usize) -> bool
     ensures { IsTrue result ↔ IsAtBound channel.now bound }
 {

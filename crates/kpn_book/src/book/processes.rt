@@ -1,4 +1,4 @@
-//! The calls for whoever steps the processes: claim, commit, put back, and all in one for a single owner.
+//! The calls that step processes: claim, commit and put back, and one call that does all for a single owner.
 ghost use Rattle.std.specs.Prelude.{◌≡◌, ◌↔◌, true, false, IfOk, IfErr, OnErr, IsTrue, IfSome, IfNone};
 ghost use Rattle.kpn_net.specs.Tables.{program_of};
 ghost use Rattle.kpn_step.specs.Frame.{fits};
@@ -17,9 +17,8 @@ use kpn_trace::State;
 use std::alloc::{AllocError, Allocator};
 
 impl<'n, A: Allocator> Book<'n, A> {
-    /// The first process of the queue, which is held from now on, with its program and the frame where it stands.
-    /// `None` where no process is ready, or where the commits and the processes that are held are as many as can be
-    /// counted.
+    /// Holds the first process of the queue, and returns it with its program and its frame. `None` if no process is
+    /// ready, or if the commits and the held processes are as many as can be counted.
     pub fn claim(&mut self) -> Option<Claim<'n>>
         ensures claimed { IfSome result (λ claim. IsClaimed claim.process self.old self.new) }
         ensures program { IfSome result (λ claim.
@@ -42,8 +41,8 @@ impl<'n, A: Allocator> Book<'n, A> {
         })
     }
 
-    /// Claims the first process of the queue as `claim` does, in the memory that the claim has: its frame is copied,
-    /// and no step is made. Returns whether there was one.
+    /// Claims the first process of the queue as `claim` does, in the memory that the claim has: it copies the frame,
+    /// and makes no step. It returns whether there was one.
     pub fn claim_into(&mut self, claim: &mut Claim<'n>) -> bool
         ensures claimed { (result ≡ true) → IsClaimed claim.new.process self.old self.new }
         ensures program { (result ≡ true)
@@ -67,9 +66,9 @@ impl<'n, A: Allocator> Book<'n, A> {
         true
     }
 
-    /// Commits the steps of process `p`, which is held: they are steps of its program from its frame. It gets or puts
-    /// an item, waits, ends or is ready again, by where the steps have stopped, and others are woken by that; where it
-    /// waits and a growth is owed for this, that growth is made.
+    /// Commits the steps of process `p`, which is held. They are steps of its program from its frame. The stop of the
+    /// steps decides: the process gets or puts an item, waits, ends or is ready again. This wakes other processes. If
+    /// the process waits and a growth is owed for this, the growth follows.
     pub fn commit(&mut self, p: usize, advance: &Advance) -> Result<Done, Refused>
     where
         A: Copy,
@@ -86,8 +85,8 @@ impl<'n, A: Allocator> Book<'n, A> {
         self.commit_own(p, advance)
     }
 
-    /// Commits the steps of process `p` as `commit` does, for who knows that they are steps of its program, as those of
-    /// its claim are: so the programs, which may be long, are not compared.
+    /// Commits the steps of process `p` as `commit` does. The caller knows that they are steps of its program, as those
+    /// of its claim are. So this call does not compare the programs, which may be long.
     pub fn commit_own(&mut self, p: usize, advance: &Advance) -> Result<Done, Refused>
     where
         A: Copy,
@@ -112,7 +111,7 @@ impl<'n, A: Allocator> Book<'n, A> {
         Ok(done)
     }
 
-    /// Puts process `p`, which is held, to the tail of the queue. It stands where it stood.
+    /// Puts process `p`, which is held, to the tail of the queue. Its frame stays.
     pub fn put_back(&mut self, p: usize) -> Result<(), Refused>
         ensures held { IfOk result (λ _. IsHeld self.old p) }
         ensures after { IfOk result (λ _. self.new ≡ put_back p self.old) }
@@ -126,9 +125,9 @@ impl<'n, A: Allocator> Book<'n, A> {
         Ok(())
     }
 
-    /// Claims a process, advances it by no more steps than the quota and commits this, in place: no frame is copied.
-    /// `None` where nobody can be claimed. The error is that memory ran out: the process has made its steps and is
-    /// ready again, at the tail of the queue.
+    /// Claims a process, makes at most `quota` steps of it and commits them, in place: it copies no frame. `None` if no
+    /// process can be claimed. The error is that memory ran out: the process has made its steps and is ready again, at
+    /// the tail of the queue.
     pub fn step_next(&mut self, quota: u32) -> Result<Option<Done>, AllocError>
     where
         A: Copy,

@@ -1,5 +1,5 @@
-//! Answers a held process at its stop: one function for each kind of stop makes the event that is due there, and after
-//! a wait or an end the growth that is owed.
+//! The commit of a held process at its stop. One function for each kind of stop makes the event that is due there, and
+//! after a wait or an end the growth that is owed.
 ghost use Rattle.std.specs.Prelude.{◌≡◌, ◌≢◌, ◌<◌, ◌≤◌, ◌+◌, ℕ, ℤ, [], true, length, IsTrue};
 ghost use Rattle.kpn_net.specs.Tables.{instance_at, program_of};
 ghost use Rattle.kpn_step.specs.declared.stop.Stop.{Stop as Place};
@@ -30,7 +30,7 @@ use kpn_trace::{Event, How, State};
 use std::alloc::{AllocError, Allocator};
 
 impl<'n, A: Allocator> OpenBook<'n, A> {
-    /// Reserves what process `p`, which stands at this stop, may need: two events, and for a write an item.
+    /// Reserves what process `p` may need at this stop: two events, and for a write an item.
     pub(crate) fn reserve(&mut self, p: usize, stop: Stop) -> Result<(), AllocError>
     where
         A: Copy,
@@ -49,13 +49,12 @@ impl<'n, A: Allocator> OpenBook<'n, A> {
                 self.history.reserve(2)?;
                 self.configuration.reserve_one(c)
             }
-            // an arm of its own: in one with the ends the stop would be looked at again where the read is answered
+            // an arm of its own: if it were one with the ends, the code would test the stop again before the read
             Stop::WantRead(_) => self.history.reserve(2),
             Stop::Done | Stop::Faulted(_) => self.history.reserve(2),
         }
     }
 
-    /// Process `p`, which stands at this stop, is answered.
     pub(crate) fn handle_stop(&mut self, p: usize, stop: Stop) -> Done
         requires sound { IsSound (book_of self.old) }
         requires held { IsHeld (book_of self.old) p }
@@ -86,7 +85,7 @@ impl<'n, A: Allocator> OpenBook<'n, A> {
         }
     }
 
-    /// Process `p`, which stands at a read from channel `c`, gets its next item, or waits where there is none.
+    /// Process `p`, which is at a read from channel `c`, gets its next item, or waits if there is none.
     fn read(&mut self, p: usize, c: usize) -> Done
         requires room { 2 ≤ self.old.history.room }
         requires sound { IsSound (book_of self.old) }
@@ -109,8 +108,7 @@ impl<'n, A: Allocator> OpenBook<'n, A> {
         Done::Got(got.item)
     }
 
-    /// Process `p`, which stands at a write of this item to channel `c`, puts it there, or waits where the channel is
-    /// full.
+    /// Process `p`, which is at a write of this item to channel `c`, puts it there, or waits if the channel is full.
     fn write(&mut self, p: usize, c: usize, item: i64) -> Done
         requires room { 2 ≤ self.old.history.room }
         requires sound { IsSound (book_of self.old) }
@@ -133,7 +131,6 @@ impl<'n, A: Allocator> OpenBook<'n, A> {
         Done::Put
     }
 
-    /// Process `p`, which stands at a read from channel `c`, waits on it as empty.
     fn wait_on_empty(&mut self, p: usize, c: usize)
         requires room { 0 < self.old.history.room }
         requires sound { IsSound (book_of self.old) }
@@ -150,8 +147,6 @@ impl<'n, A: Allocator> OpenBook<'n, A> {
         self.schedule.set(p, State::WaitsEmpty(c));
     }
 
-    /// Process `p`, which stands at a write of this item to channel `c` and has an item reserved there, waits on it as
-    /// full.
     fn wait_on_full(&mut self, p: usize, c: usize, item: i64)
         requires room { 0 < self.old.history.room }
         requires sound { IsSound (book_of self.old) }
@@ -162,7 +157,7 @@ impl<'n, A: Allocator> OpenBook<'n, A> {
         ensures follows { Follows (event.WaitFull p c) (book_of self.old) (book_of self.new) }
         ensures room { self.old.history.room ≤ self.new.history.room + 1 }
     {
-        // The contract alone names the item.
+        // Only the contract names the item.
         let _item = item;
         let network = self.network;
         network.known();
@@ -171,7 +166,7 @@ impl<'n, A: Allocator> OpenBook<'n, A> {
         self.schedule.set(p, State::WaitsFull(c));
     }
 
-    /// After a wait of process `p` the growth that is owed is made, if one is: for a cycle through `p`, or else for a
+    /// Makes the growth that is owed after a wait of process `p`, if one is: for a cycle through `p`, or else for a
     /// stop.
     fn grow_if_owed(&mut self, p: usize) -> Done
         requires room { 0 < self.old.history.room }
@@ -192,8 +187,8 @@ impl<'n, A: Allocator> OpenBook<'n, A> {
         Done::Grew(d)
     }
 
-    /// The growth that is owed for a stop is made, if one is, where none is owed for a cycle. Returns its channel.
-    // Each wait and each end comes here, and hardly any finds that all processes have stopped.
+    /// Makes the growth that is owed for a stop, if one is. None is owed for a cycle. It returns the channel.
+    // It is inlined, since each wait and each end calls it, and hardly ever have all processes stopped.
     #[inline(always)]
     pub(crate) fn grow_at_stop(&mut self) -> Option<usize>
         requires room { 0 < self.old.history.room }
@@ -208,7 +203,7 @@ impl<'n, A: Allocator> OpenBook<'n, A> {
         self.grow_when_stopped()
     }
 
-    /// The same once each process has ended or waits.
+    /// The same, once each process has ended or waits.
     #[cold]
     #[inline(never)]
     fn grow_when_stopped(&mut self) -> Option<usize>
@@ -226,7 +221,6 @@ impl<'n, A: Allocator> OpenBook<'n, A> {
         Some(owed.channel)
     }
 
-    /// The growth of channel `d`, which is owed for process `p`, is made.
     fn grow(&mut self, p: usize, d: usize)
         requires room { 0 < self.old.history.room }
         requires step { IsInStep (book_of self.old) }
@@ -244,7 +238,7 @@ impl<'n, A: Allocator> OpenBook<'n, A> {
         wake(&mut self.schedule, grown.woken);
     }
 
-    /// Process `p`, which stands at this end, has ended, and the growth that is owed then is made.
+    /// Ends process `p`, which is at this end, and makes the growth that is then owed.
     fn finish(&mut self, p: usize, how: How) -> Done
         requires room { 2 ≤ self.old.history.room }
         requires sound { IsSound (book_of self.old) }
@@ -257,7 +251,7 @@ impl<'n, A: Allocator> OpenBook<'n, A> {
         Done::Ended
     }
 
-    /// Process `p`, which stands at this end, ends, and those that this wakes become ready.
+    /// Ends process `p`, which is at this end. The processes that this wakes become ready.
     fn end(&mut self, p: usize, how: How)
         requires room { 0 < self.old.history.room }
         requires sound { IsSound (book_of self.old) }
@@ -275,7 +269,6 @@ impl<'n, A: Allocator> OpenBook<'n, A> {
     }
 }
 
-/// These processes become ready, in this order.
 fn wake_all<A: Allocator>(schedule: &mut Schedule<A>, woken: &[usize])
     requires { MayBeReady schedule.old woken.now }
     ensures { schedule.new ≡ all_made_ready woken.now schedule.old }
@@ -286,7 +279,6 @@ fn wake_all<A: Allocator>(schedule: &mut Schedule<A>, woken: &[usize])
     }
 }
 
-/// The channel at an in port of process `p`.
 fn in_channel(network: &Network, p: usize, port: usize) -> usize
     requires process { p < length network.now.instances }
     requires port { port < length (instance_at network.now p).ins }
@@ -295,7 +287,6 @@ fn in_channel(network: &Network, p: usize, port: usize) -> usize
     network.ins(p)[port]
 }
 
-/// The channel at an out port of process `p`.
 fn out_channel(network: &Network, p: usize, port: usize) -> usize
     requires process { p < length network.now.instances }
     requires port { port < length (instance_at network.now p).outs }
@@ -304,7 +295,6 @@ fn out_channel(network: &Network, p: usize, port: usize) -> usize
     network.outs(p)[port]
 }
 
-/// How a process ends by this fault.
 fn how_of(fault: Fault) -> How
     ensures { stop_of result ≡ Faulted fault }
 {

@@ -1,5 +1,5 @@
-//! The events of the outside after which a growth may be owed: a source is closed, an item is taken from a sink, a sink
-//! is left.
+//! The events of the outside after which a growth may be owed: it closes a source, takes an item from a sink or leaves
+//! a sink.
 ghost use Rattle.std.specs.Prelude.{◌≡◌, ◌<◌, ◌≤◌, ◌+◌, true, false, IsSome, Some};
 ghost use Rattle.kpn_net.specs.Tables.{channel_at, is_source, is_sink};
 ghost use Rattle.kpn_chan.specs.Channel.{next_item};
@@ -12,7 +12,7 @@ use kpn_trace::Event;
 use std::alloc::Allocator;
 
 impl<'n, A: Allocator> OpenBook<'n, A> {
-    /// A source that is open is closed.
+    /// Closes a source that is open.
     pub(crate) fn close(&mut self, c: usize)
         requires room { 0 < self.old.history.room }
         requires sound { IsSound (book_of self.old) }
@@ -27,7 +27,7 @@ impl<'n, A: Allocator> OpenBook<'n, A> {
         self.history.push(Event::Close(number(c)));
     }
 
-    /// The next item of a sink that was not left is taken.
+    /// Takes the next item of a sink that was not left.
     pub(crate) fn take(&mut self, c: usize) -> i64
         requires room { 0 < self.old.history.room }
         requires sound { IsSound (book_of self.old) }
@@ -45,7 +45,7 @@ impl<'n, A: Allocator> OpenBook<'n, A> {
         got.item
     }
 
-    /// A sink that was not left is left.
+    /// Leaves a sink that was not left.
     pub(crate) fn leave(&mut self, c: usize)
         requires room { 0 < self.old.history.room }
         requires sound { IsSound (book_of self.old) }

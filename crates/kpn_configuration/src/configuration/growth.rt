@@ -1,4 +1,4 @@
-//! Growth: which channel has to grow once a process has come to wait, and the channel made larger.
+//! Growth: which channel has to grow once a process has come to wait, and how it grows.
 ghost use Rattle.std.specs.Prelude.{◌≡◌, ◌↔◌, ◌<◌, ℕ, List, [], ◌∷◌, ◌++◌, length, IsTrue, IfSome, Some, None};
 ghost use Rattle.kpn_trace.specs.declared.event.Event.{Event};
 ghost use Rattle.kpn_trace.specs.declared.event.Event.TheVariants as event;
@@ -22,7 +22,7 @@ use kpn_cycle::{Found, cycle_through, smallest_waited};
 use kpn_net::{End, Network, Policy, Wait};
 use std::alloc::Allocator;
 
-/// A growth that is owed: of this channel, for a process that waits.
+/// A growth that is owed: the channel, and a process that waits.
 #[derive(Clone, Copy, Debug, PartialEq, Eq)]
 pub struct OwedGrowth {
     pub process: usize,
@@ -38,8 +38,8 @@ pub struct Grown {
 }
 
 impl<A: Allocator> Configuration<A> {
-    /// The channel whose growth is owed for a cycle once process `p` has come to wait: the smallest full channel of the
-    /// cycle of waiting processes through `p`, if its capacity is below the limit.
+    /// The channel whose growth is owed for a cycle once process `p` has come to wait. It is the smallest full channel
+    /// of the cycle of waiting processes through `p`, if its capacity is below the limit.
     pub fn owed(&self, network: &Network, p: usize) -> Option<usize>
         requires shape { IsConfiguration network.now self.now }
         requires process { p < length network.now.instances }
@@ -57,7 +57,7 @@ impl<A: Allocator> Configuration<A> {
         self.channel_to_grow(network.limit(), found)
     }
 
-    /// The growth that is owed for a stop: under the policy `all`, once the run is settled, that of the smallest
+    /// The growth that is owed for a stop. Under the policy `all`, once the run is settled, it is that of the smallest
     /// channel on which a process waits as full, if its capacity is below the limit.
     pub fn owed_at_stop(&self, network: &Network) -> Option<OwedGrowth>
         requires shape { IsConfiguration network.now self.now }
@@ -90,7 +90,6 @@ impl<A: Allocator> Configuration<A> {
         Some(OwedGrowth { process, channel })
     }
 
-    /// The smallest channel on which a process waits as full, if there is one.
     fn smallest_waited(&self, network: &Network) -> Option<usize>
         requires shape { IsConfiguration network.now self.now }
         ensures exact { let waited = awaited_as_full network.now self.now.waits in
@@ -121,8 +120,8 @@ impl<A: Allocator> Configuration<A> {
         }
     }
 
-    /// The capacity of channel `d`, whose growth is owed for process `p`, becomes larger, as the growth of the
-    /// network says. Tells the new one, and whom this wakes.
+    /// Makes the capacity of channel `d`, whose growth is owed for process `p`, larger, as the growth of the network
+    /// says. It returns the new capacity, and which process this wakes.
     ///
     /// It takes no memory: the writer of `d` waits on it as full, and reserved an item there before it came to wait.
     pub fn grow(&mut self, network: &Network, p: usize, d: usize) -> Grown
@@ -150,7 +149,6 @@ impl<A: Allocator> Configuration<A> {
         }
     }
 
-    /// The capacity that a channel below the limit has after one growth.
     fn larger_capacity(&self, network: &Network, d: usize) -> u32
         requires channel { d < length self.now.channels }
         requires limit { cap_in (capacities self.now) d < network.now.limit }
@@ -159,8 +157,7 @@ impl<A: Allocator> Configuration<A> {
         network.larger_capacity(self.capacities[d])
     }
 
-    /// Makes the capacity of a channel larger: it becomes `cap`. Since an item is reserved there, this takes no
-    /// memory.
+    /// Makes the capacity of a channel larger: it becomes `cap`. It takes no memory, since an item is reserved there.
     fn enlarge(&mut self, d: usize, cap: u32)
         requires channel { d < length self.old.channels }
         requires capacity { MayGrowTo cap (channel_in self.old d) }

@@ -1,4 +1,4 @@
-//! The events of the outside: it feeds sources and closes them, takes from sinks and leaves them.
+//! The events of the outside, which feeds sources and closes them, and takes from sinks and leaves them.
 ghost use Rattle.std.specs.Prelude.{◌≡◌, ◌<◌, ℕ, true, false, List, [], ◌∷◌, ◌++◌, length, IsTrue, IsSome, Some};
 ghost use Rattle.kpn_net.specs.Tables.{channel_at, is_source, is_sink};
 ghost use Rattle.kpn_chan.specs.Channel.{next_item};
@@ -17,8 +17,8 @@ use kpn_net::{Network, Wait};
 use std::alloc::Allocator;
 
 impl<A: Allocator> Configuration<A> {
-    /// The outside puts an item on a source that is not closed and has room reserved for it. Returns
-    /// the process that this wakes: the reader of the source, if it waited on it as empty.
+    /// The outside puts an item on a source that is not closed and has room reserved for it. It returns the process
+    /// that this wakes, which is the reader of the source, if it waited on it as empty.
     pub fn feed(&mut self, network: &Network, c: usize, item: i64) -> Option<usize>
         requires shape { IsConfiguration network.now self.old }
         requires channel { c < length network.now.channels }
@@ -75,8 +75,8 @@ impl<A: Allocator> Configuration<A> {
         Got { item, woken }
     }
 
-    /// The outside leaves a sink that it has not left. Returns the process that this wakes: the writer of the
-    /// sink, if it waited on it as full.
+    /// The outside leaves a sink that it has not left. It returns the process that this wakes, which is the writer of
+    /// the sink, if it waited on it as full.
     pub fn leave(&mut self, network: &Network, c: usize) -> Option<usize>
         requires shape { IsConfiguration network.now self.old }
         requires channel { c < length network.now.channels }

@@ -1,4 +1,4 @@
-//! The configuration at the start: nothing has happened yet.
+//! The configuration at the start, when nothing has happened yet.
 ghost use Rattle.std.specs.Prelude.{◌≡◌, ◌<◌, ℕ, [], false, length, replicate, IfOk, Some, None, slice_index_or};
 ghost use Rattle.std.specs.Option.{unwrap_or};
 ghost use Rattle.kpn_net.specs.Tables.{channel_at, instance_at, program_of, capacity};
@@ -16,8 +16,8 @@ use kpn_trace::How;
 use std::alloc::{AllocError, Allocator};
 
 impl<A: Allocator + Copy> Configuration<A> {
-    /// The configuration of a network at the start: its channels are empty, and each process stands at its
-    /// beginning. The error is that memory ran out.
+    /// The configuration of a network at the start: its channels are empty, and each process is at its beginning. The
+    /// error is that memory ran out.
     pub fn new(alloc: A, network: &Network) -> Result<Self, AllocError>
         ensures run { IfOk result (λ made. IsRun network.now [] made) }
         ensures frames { let t = network.now in
@@ -42,7 +42,6 @@ impl<A: Allocator + Copy> Configuration<A> {
     }
 }
 
-/// An empty channel for each channel of the network.
 fn channels_at_start<A: Allocator + Copy>(
     alloc: A,
     network: &Network,
@@ -60,7 +59,6 @@ fn channels_at_start<A: Allocator + Copy>(
     Ok(channels)
 }
 
-/// The capacity of each channel, 0 for a source.
 fn capacities_at_start<A: Allocator>(alloc: A, network: &Network) -> Result<Vec<u32, A>, AllocError>
     ensures len { IfOk result
         (λ capacities. length capacities.items ≡ length network.now.channels) }
@@ -74,7 +72,6 @@ fn capacities_at_start<A: Allocator>(alloc: A, network: &Network) -> Result<Vec<
     Ok(capacities)
 }
 
-/// The frame of each process at its beginning.
 fn frames_at_start<A: Allocator>(alloc: A, network: &Network) -> Result<Vec<Frame, A>, AllocError>
     ensures len { IfOk result (λ frames. length frames.items ≡ length network.now.instances) }
     ensures each { IfOk result (λ frames. (p : ℕ) → p < length network.now.instances
@@ -89,14 +86,12 @@ fn frames_at_start<A: Allocator>(alloc: A, network: &Network) -> Result<Vec<Fram
     Ok(frames)
 }
 
-/// No channel is closed.
 fn none_closed<A: Allocator>(alloc: A, channels: usize) -> Result<Vec<bool, A>, AllocError>
     ensures { IfOk result (λ closed. closed.items ≡ replicate channels false) }
 {
     vec![in alloc; false; channels]
 }
 
-/// No process has ended.
 fn none_ended<A: Allocator>(alloc: A, processes: usize) -> Result<Vec<Option<How>, A>, AllocError>
     ensures { IfOk result (λ ends. ends.items ≡ replicate processes None) }
 {

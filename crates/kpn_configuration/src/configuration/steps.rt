@@ -1,4 +1,4 @@
-//! Steps of a process between its events: they change its frame alone, and no event tells of them.
+//! Steps of a process between its events. They change only its frame, and no event records them.
 ghost use Rattle.std.specs.Prelude.{◌≡◌, ◌<◌, ℕ, List, length};
 ghost use Rattle.kpn_net.specs.Tables.{program_of};
 ghost use Rattle.kpn_step.specs.Stops.{IsAdvance, IsAtPort, IsWithinQuota, advanced_of};
@@ -13,8 +13,7 @@ use kpn_step::{Advance, Stop};
 use std::alloc::Allocator;
 
 impl<A: Allocator> Configuration<A> {
-    /// Steps process `p` from its frame on, by no more steps than the quota: how many there were, and the stop at
-    /// which it stands afterwards.
+    /// Makes at most `quota` steps of process `p` from its frame on. It returns how many, and the stop after them.
     pub fn step(&mut self, network: &Network, p: usize, quota: u32) -> (u32, Stop)
         requires shape { IsConfiguration network.now self.old }
         requires process { p < length network.now.instances }
@@ -34,7 +33,7 @@ impl<A: Allocator> Configuration<A> {
         frame.run(network.program(p), quota)
     }
 
-    /// Process `p` stands where these steps, which began at its frame, have led.
+    /// Takes process `p` to the end of these steps, which began at its frame.
     pub fn step_to(&mut self, network: &Network, p: usize, advance: &Advance)
         requires shape { IsConfiguration network.now self.old }
         requires process { p < length network.now.instances }

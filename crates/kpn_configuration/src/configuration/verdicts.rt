@@ -1,4 +1,4 @@
-//! Where nothing goes on by itself: quiet moments, settled ones, and the verdict on a run.
+//! What a run has come to if nothing goes on by itself: quiet moments, settled ones, and the verdict.
 ghost use Rattle.std.specs.Prelude.{◌≡◌, ◌≢◌, ◌↔◌, ◌⊎◌, ℕ, ◌<◌, List, length, Option, Some, IsTrue};
 ghost use Rattle.kpn_net.specs.declared.wait.Wait.TheVariants as wait;
 ghost use Rattle.kpn_trace.specs.declared.event.Event.{Event};
@@ -33,8 +33,8 @@ impl<A: Allocator> Configuration<A> {
         true
     }
 
-    /// The verdict on a run: none unless each process has ended or waits, each source is closed, and each
-    /// sink is empty or left. It walks along the waits from each process.
+    /// The verdict on a run: none unless each process has ended or waits, each source is closed, and each sink is empty
+    /// or left. It walks along the waits from each process.
     pub fn verdict(&self, network: &Network) -> Option<Verdict>
         requires shape { IsConfiguration network.now self.now }
         ensures exact { (verdict : Option Verdict)
@@ -47,7 +47,7 @@ impl<A: Allocator> Configuration<A> {
         self.judge(network)
     }
 
-    /// The verdict, asked for in this order: settled, a cycle with a full channel, a wait on a full channel.
+    /// It tests in this order: settled, a cycle with a full channel, a wait on a full channel.
     fn judge(&self, network: &Network) -> Option<Verdict>
         requires shape { IsConfiguration network.now self.now }
         ensures { IsVerdictNow network.now self.now result }
@@ -84,7 +84,6 @@ impl<A: Allocator> Configuration<A> {
         true
     }
 
-    /// Whether each source is closed, and each sink is empty or left.
     fn is_outside_done(&self, network: &Network) -> bool
         requires shape { IsConfiguration network.now self.now }
         ensures { IsTrue result ↔ IsOutsideDone network.now self.now }
@@ -144,7 +143,6 @@ impl<A: Allocator> Configuration<A> {
         matches!(self.wait(p), Wait::Full(_))
     }
 
-    /// Whether the outside may still feed the channel, or take from it.
     fn awaits_outside(&self, network: &Network, c: usize) -> bool
         requires there { c < length network.now.channels }
         requires channel { c < length self.now.channels }

@@ -1,4 +1,4 @@
-//! Who is woken: a channel has one writer and one reader, so that what happens to it wakes one process at most.
+//! Waking. A channel has one writer and one reader, so an event on it wakes at most one process.
 ghost use Rattle.std.specs.Prelude.{◌≡◌, ℕ, ◌<◌, length};
 ghost use Rattle.kpn_net.specs.declared.tables.End.TheVariants.{Process};
 ghost use Rattle.kpn_configuration.specs.Woken.{is_wait, waiting_at, woken_at};
@@ -7,7 +7,7 @@ use kpn_cycle::Waits;
 use kpn_net::{End, Wait};
 use std::alloc::Allocator;
 
-/// Wakes the process at this end of a channel, if this is what it waits for: it waits for nobody then. Returns it.
+/// Wakes the process at this end of a channel, if it waits for this: then it waits for nobody. It returns the process.
 #[inline(always)]
 pub(super) fn wake<A: Allocator>(waits: &mut Waits<A>, end: End, wait: Wait) -> Option<usize>
     requires { (q : ℕ) → end ≡ Process q → q < length waits.old }

@@ -1,4 +1,4 @@
--- What went on is one step more, and was allowed.
+-- Going on is one step more, which was allowed.
 use Rattle.std.proofs.Common.{arith}
 use Rattle.std.proofs.lemmas.Bool.Decides.{nat_tests}
 use Rattle.kpn_step.proofs.StepCases.{Steps-more}

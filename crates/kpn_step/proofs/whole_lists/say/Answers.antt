@@ -1,4 +1,4 @@
--- A read is at an in port of the program, for which there is a list, and says what is next there.
+-- A read is at an in port of the program, which has a list, and it says the next item there.
 use Rattle.std.proofs.Common.{◌≡◌, Some, to_z, of_z, w64, rules, ap, ◌∙◌, arith}
 use Rattle.kpn_lang.specs.Lists.{remaining}
 use Rattle.kpn_step.proofs.MayStep.{read_port}

@@ -1,4 +1,4 @@
--- The statement at which the frame stands names a port of the program.
+-- The frame's next statement names a port of the program.
 use Rattle.std.proofs.Common.{subst}
 use Rattle.kpn_step.specs.Stops.{Advanced, IsAtPort}
 use Rattle.kpn_step.proofs.MayStep.{at_port}
