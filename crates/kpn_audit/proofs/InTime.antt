@@ -17,12 +17,12 @@ use Rattle.kpn_audit.specs.Place.{StopsWithin, GoesBy, ComesBy, IsPlaceAfter}
 
 -- ---- what the stop of a call says
 
--- where the stop is no pause no step can be made
+-- if the stop is no pause, no step can be made
 pub no_step : (x : Step) (used_up : Bool) (stop : Stop) → stop ≡ stop_at x used_up → stop ≢ Paused → (next : Frame)
     → x ≢ Goes next
 no_step x used_up stop is no_pause next goes = no_pause (is ∙ ap (λ y. stop_at y used_up) goes)
 
--- nor would one come that faults, where the steps are used up
+-- nor would one come that faults, once the steps are used up
 never_between : (x : Step) (stop : Stop) → stop ≡ stop_at x true → stop ≢ Paused → ¬ IsBetween x
 never_between (Stops s) stop is no_pause between = between
 never_between (Faults fault) stop is no_pause between = no_pause is
@@ -79,7 +79,7 @@ one_end blocks (suc n) (suc m) f g h s ends u stops =
     let same : u.0 ≡ s.0 = same_next u.0 s.0 (sym u.1 ∙ s.1) in
     one_end blocks n m s.0 g h s.2 ends (subst (λ x. Steps blocks m x h) same u.2) stops
 
--- who comes to a stop in time is not between two steps when they are used up
+-- a process that comes to a stop in time is not between two steps when they are used up
 pub not_out_of_steps : (blocks : List (List Statement)) (quota : ℕ) (f h : Frame) → StopsWithin blocks quota f
     → Steps blocks quota f h → ¬ IsBetween (step_of blocks h)
 not_out_of_steps blocks quota f h within u between =

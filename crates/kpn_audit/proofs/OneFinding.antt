@@ -65,7 +65,7 @@ module _ (t : Tables) (H : List Event) (quota : ℕ) where
   one_fault (Budget k) (Budget j) x y first second =
       ap Budget (at_one k j (λ less. enough j k y.1 less x.0) (λ less. enough k j x.1 less y.0))
 
-  -- where the whole list is legal and within its steps, no event is at fault
+  -- if the whole list is legal and within its steps, no event is at fault
   pub no_fault : (fault : AuditFault) → Legal t H → AreWithinSteps t H quota (length H) → IsFault t H quota fault
       → fault ≡ NoMemory
   no_fault (Illegal k) legal within x =

@@ -123,7 +123,7 @@ module _ (t : Tables) (network : IsNetwork t) (H : List Event) (s : Configuratio
 
 -- ---- growths, and numbers
 
--- where a growth is owed nothing else may follow
+-- if a growth is owed, nothing else may follow
 pub only_growth : (t : Tables) (H : List Event) (e : Event) (p d : ℕ) → OwesGrowth t H p d → Legal t (H ++ e ∷ [])
     → e ≡ growth_after t H p d
 only_growth t H e p d owes legal = ((Legal-exactly t H e).0 legal).1.growth p d owes

@@ -1,4 +1,4 @@
--- The history that a stored trace tells, one event after another.
+-- The history that a stored trace gives, one event after another.
 use Rattle.std.proofs.Common.{◌≡◌, ℕ, zero, suc, ◌+◌, ◌^◌, ◌<◌, Bool, true, false, List, [], ◌∷◌, ◌++◌, length, take, get_or, Some, refl, sym, ap, ap₂, subst, ◌∙◌, append-nil, append_assoc, arith}
 use Rattle.std.specs.Prelude.{nat_lt, if◌then◌else◌}
 use Rattle.std.proofs.lemmas.Bool.{ltb-true}
@@ -50,7 +50,7 @@ told_at : (v : Version) (t : Tables) (events : List Event) (k : ℕ) (d : Event)
 told_at One t events k d below = told_behind-at t [] events k d below
 told_at Two t events k d below = refl
 
--- what is told of the event that stands at a place is the event of the history there
+-- what the event at a place gives is the event of the history there
 pub told_there : (v : Version) (t : Tables) (events : List Event) (k : ℕ) (d e : Event) → k < length events
     → e ≡ told_in v t (take k (history_of v t events)) (get_or events k d) → e ≡ get_or (history_of v t events) k d
 told_there v t events k d e below is = is ∙ sym (told_at v t events k d below)
@@ -59,7 +59,7 @@ pub is_there : (v : Version) (t : Tables) (events : List Event) (k : ℕ) → k 
     → k < length (history_of v t events)
 is_there v t events k below = let same = history_of-length v t events in omega (arith, below, same)
 
--- ---- the capacity that a growth tells
+-- ---- the capacity that a growth names
 
 -- one more than a capacity is a number of the machine
 pub has_room : (t : Tables) → IsNetwork t → (H : List Event) (s : Configuration) → IsRun t H s → (c cap : ℕ)

@@ -20,15 +20,15 @@ use Rattle.kpn_audit.specs.declared.judged.Judged.{Judged}
 use Rattle.kpn_audit.specs.declared.judged.Judged.TheVariants.{Follows, Illegal, Budget}
 use Rattle.kpn_audit.specs.Place.{StopsWithin, GoesBy}
 
--- the stop is a read at a port where this channel is
+-- the stop is a read at a port that has this channel
 abbrev pub IsReadFrom : (ports : List ℕ) → (c : ℕ) → Stop → Type 0
 IsReadFrom ports c stop = (port : ℕ) × IsChannelAt ports port c × (stop ≡ WantRead port)
 
--- the stop is a write of this item at a port where this channel is
+-- the stop is a write of this item at a port that has this channel
 abbrev pub IsWriteOf : (ports : List ℕ) → (c : ℕ) → (v : ℤ) → Stop → Type 0
 IsWriteOf ports c v stop = (port : ℕ) × IsChannelAt ports port c × (stop ≡ WantWrite port v)
 
--- a free process stands at this stop, which is no pause, and where it can make no step
+-- a free process stands at this stop, which is no pause, and can make no step there
 pub record StandsFree (t : Tables) (s : Configuration) (p : ℕ) (stop : Stop) : Type 0 where
   pub there : p < length t.instances
   pub free : IsFree s p
@@ -52,14 +52,14 @@ abbrev pub AllGoBy : Tables → Event → (before after : Configuration) → Typ
 AllGoBy t event before after =
     (p : ℕ) → p < length t.instances → GoesBy t p event (frame_in before p) (frame_in after p)
 
--- an event follows a history, and leads to a configuration where this is owed
+-- an event follows a history, and leads to a configuration in which this is owed
 pub record IsFollowed (t : Tables) (H : List Event) (event : Event) (before after : Configuration)
     (owed : Option OwedGrowth) : Type 0 where
   pub run : IsRun t (H ++ event ∷ []) after
   pub owes : Owes t (H ++ event ∷ []) after owed
   pub goes : AllGoBy t event before after
 
--- what is found of an event where no more steps are needed to judge it
+-- what is found of an event if no more steps are needed to judge it
 abbrev pub IsMade : Tables → List Event → Event → (before after : Configuration) → Judged → Type 0
 IsMade t H event before after (Follows owed) = IsFollowed t H event before after owed
 IsMade t H event before after Illegal = ¬ Legal t (H ++ event ∷ [])

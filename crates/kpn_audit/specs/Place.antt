@@ -11,7 +11,7 @@ use Rattle.kpn_trace.specs.declared.event.Event.{Event}
 use Rattle.kpn_trace.specs.Talks.{is_of}
 use Rattle.kpn_configuration.specs.Changes.{IsFrameAfter}
 
--- so many steps lead from the one frame to the other, where no further step can be made: it stands at a stop there
+-- so many steps lead from the one frame to the other, and no further step can be made there: it stands at a stop
 pub record ComesToStop (blocks : List (List Statement)) (steps : ℕ) (before there : Frame) : Type 0 where
   pub reached : Steps blocks steps before there
   pub stop : Stop

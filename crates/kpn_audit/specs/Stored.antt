@@ -1,5 +1,5 @@
--- Which history a stored trace tells, and under which rules of growth it is audited. A trace of version 2 names its
--- policy and its growth, and each growth in it tells the new capacity. One of version 1 does not: it is audited under
+-- Which history a stored trace gives, and under which rules of growth it is audited. A trace of version 2 names its
+-- policy and its growth, and each growth in it names the new capacity. One of version 1 does not: it is audited under
 -- the policy `cycles` and the growth `one`, whatever the network says.
 use Rattle.std.specs.Prelude.{◌≡◌, ℕ, ◌+◌, nat_lt, if◌then◌else◌, List, [], ◌∷◌, ◌++◌, length, Option, Some, None}
 use Rattle.kpn_net.specs.declared.tables.Policy.TheVariants.{Cycles}
@@ -42,7 +42,7 @@ abbrev pub told_behind : Tables → (B events : List Event) → List Event
 told_behind t B [] = []
 told_behind t B (event ∷ events) = told t B event ∷ told_behind t (B ++ told t B event ∷ []) events
 
--- the history that events of this version tell
+-- the history that events of this version give
 abbrev pub history_of : Version → Tables → List Event → List Event
 history_of One t events = told_behind t [] events
 history_of Two t events = events
@@ -62,6 +62,6 @@ abbrev pub told_in : Version → Tables → (B : List Event) → Event → Event
 told_in One t B event = told t B event
 told_in Two t B event = event
 
--- the new capacity that a growth of channel c tells, said of the channel's capacity now
+-- the new capacity that a growth of channel c names, said of the channel's capacity now
 abbrev pub told_capacity : Tables → (now : Option ℕ) → (c n : ℕ) → ℕ
 told_capacity t now c n = if nat_lt c (length t.channels) then one_larger now n else n

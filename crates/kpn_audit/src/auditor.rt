@@ -25,7 +25,7 @@ use std::alloc::Allocator;
 /// `quota` of them at most, and where it stops the event has to be due.
 ///
 /// The configuration on which it replays takes its memory from `alloc`, and so does what it finds; the journals are
-/// moved there, not copied. Where memory is refused the answer is [`AuditFault::NoMemory`], and nothing is kept.
+/// moved there, not copied. If memory is refused, the answer is [`AuditFault::NoMemory`], and nothing is kept.
 pub fn audit<A: Allocator + Copy, B: Allocator>(
     alloc: A,
     network: &Network,

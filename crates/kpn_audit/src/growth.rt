@@ -51,7 +51,7 @@ pub(crate) fn after_event<A: Allocator>(
     Judged::Follows(configuration.owed_at_stop(network))
 }
 
-/// Judges an event where this growth is owed: it has to be that growth, with the capacity that the channel has then.
+/// Judges an event if this growth is owed: it has to be that growth, with the capacity that the channel has then.
 pub(crate) fn judge_owed<A: Allocator>(
     configuration: &mut Configuration<A>,
     network: &Network,

@@ -43,7 +43,7 @@ fn has_numbers(network: &Network, event: Event) -> bool
     }
 }
 
-/// The process that an event is of, where it is one of a process.
+/// The process that an event is of, if it is one of a process.
 fn process_of(event: Event) -> Option<usize>
     ensures some { IfSome result (λ p. is_of p event ≡ true) }
     ensures none { IfNone result (is_of_process event ≡ false) }
@@ -91,7 +91,7 @@ fn judge_at_stop<A: Allocator + Copy>(
     }
 }
 
-/// Judges an event of process `p`: whether it may go on, where it comes to a stop, and what is due there.
+/// Judges an event of process `p`: whether it may go on, at which stop it comes to stand, and what is due there.
 fn judge_process<A: Allocator + Copy>(
     configuration: &mut Configuration<A>,
     network: &Network,
@@ -138,7 +138,7 @@ fn judge_outside<A: Allocator + Copy>(
     }
 }
 
-/// Judges an event where nothing is owed.
+/// Judges an event if nothing is owed.
 fn judge_next<A: Allocator + Copy>(
     configuration: &mut Configuration<A>,
     network: &Network,
@@ -162,8 +162,7 @@ fn judge_next<A: Allocator + Copy>(
     }
 }
 
-/// Judges the event that comes next, where this is owed, and makes it where it may follow. The error is that memory ran
-/// out.
+/// Judges the event that comes next, if this is owed, and makes it if it may follow. The error is that memory ran out.
 pub(crate) fn judge<A: Allocator + Copy>(
     configuration: &mut Configuration<A>,
     network: &Network,

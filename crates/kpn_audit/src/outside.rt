@@ -1,4 +1,4 @@
-//! Events of the outside: each is judged by its channel, and made where it may follow.
+//! Events of the outside: each is judged by its channel, and made if it may follow.
 ghost use Rattle.std.specs.Prelude.{◌≡◌, ◌↔◌, ◌<◌, true, false, List, length, IsTrue, IfOk};
 ghost use Rattle.kpn_net.specs.Tables.{channel_at, is_source, is_sink};
 ghost use Rattle.kpn_trace.specs.declared.event.Event.TheVariants as event;

@@ -1,4 +1,4 @@
-//! Events of processes: each is judged by where its process stands, and made where it may follow.
+//! Events of processes: each is judged by where its process stands, and made if it may follow.
 ghost use Rattle.std.specs.Prelude.{◌≡◌, ◌<◌, List, length, IfOk};
 ghost use Rattle.kpn_trace.specs.declared.event.Event.TheVariants as event;
 ghost use Rattle.kpn_configuration.specs.Configuration.{IsConfiguration};

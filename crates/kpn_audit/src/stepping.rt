@@ -30,7 +30,7 @@ fn is_free<A: Allocator>(configuration: &Configuration<A>, network: &Network, p:
     configuration.end_of(p).is_none() && matches!(configuration.wait(p), Wait::Nobody)
 }
 
-/// How many of these steps are made in one call: all, where they fit its number.
+/// How many of these steps are made in one call: all, if they fit its number.
 fn part_of(remaining: u64) -> u32
     ensures most { result ≤ remaining }
     ensures some { 0 < remaining → 0 < result }

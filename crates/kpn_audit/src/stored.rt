@@ -1,4 +1,4 @@
-//! Events of a stored trace: which event a line of each version tells.
+//! Events of a stored trace: which event a line of each version gives.
 ghost use Rattle.std.specs.Prelude.{◌≡◌, ◌<◌, ◌^◌, ◌+◌, ℕ, List, length, Some};
 ghost use Rattle.kpn_trace.specs.declared.event.Event.{Event};
 ghost use Rattle.kpn_configuration.specs.Configuration.{channel_in, IsConfiguration};
@@ -10,7 +10,7 @@ use kpn_net::Network;
 use kpn_trace::{Event, Version};
 use std::alloc::Allocator;
 
-/// The event that stands next in a trace of this version. A growth of version 1 does not tell the new capacity: the
+/// The event that stands next in a trace of this version. A growth of version 1 does not name the new capacity: the
 /// configuration shows it.
 pub(crate) fn told<A: Allocator>(
     configuration: &Configuration<A>,

@@ -1,4 +1,4 @@
--- A legal list has no event that is illegal, and where it is quiet its journals are the least solution.
+-- A legal list has no event that is illegal, and if it is quiet its journals are the least solution.
 use Rattle.std.proofs.Common.{◌≡◌, ◌⊎◌, ℕ, List, inl, inr, refl}
 use Rattle.std.proofs.lemmas.Result.{err_from_is_err_and}
 use Rattle.kpn_trace.specs.Legal.{Legal}
