@@ -138,11 +138,11 @@ fn is_gathered<'a, J: Job, R: Wait>(
     let (Some(mut source), Some(sink)) = (sources.pop(), sinks.pop()) else {
         return Ok(false);
     };
-    let is_ended = is_ended(rt, &shared, &mut source, &sink);
+    let has_ended = is_ended(rt, &shared, &mut source, &sink);
     let Some(filling) = fill(heap) else {
         return Ok(false);
     };
-    let is_ended_again = close(rt, &shared, &source).is_ok() && leave(rt, &shared, &sink).is_ok();
+    let has_ended_again = close(rt, &shared, &source).is_ok() && leave(rt, &shared, &sink).is_ok();
     let are_kept = source.fed() == [5].as_slice() && sink.taken().is_empty();
     let is_new = workers
         .first()
@@ -150,7 +150,7 @@ fn is_gathered<'a, J: Job, R: Wait>(
     shared.halt(rt);
     let book = gather(shared, workers);
     filling.destroy_empty();
-    Ok(is_ended && is_ended_again && are_kept && is_new && book.history().len() == 3)
+    Ok(has_ended && has_ended_again && are_kept && is_new && book.history().len() == 3)
 }
 
 /// Takes until memory is refused. Tells whether the seat then has what was taken before.
