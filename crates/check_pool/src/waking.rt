@@ -157,7 +157,7 @@ fn comes_to<J: Job + Send + Sync, R: Threads + Wait + Clock + Sync>(
     Ok(work_and_serve(rt, opened, &Pausing::new(held), task))
 }
 
-/// How many runs by two workers of a network are late. `None` if something did not go well, or a worker ended otherwise.
+/// How many runs of a network by two workers are late. `None` if one did not go well, or a worker ended otherwise.
 fn late_runs<R: Threads + Wait + Clock + Sync>(
     rt: &R,
     alloc: Global,
