@@ -1,13 +1,14 @@
 //! The seats of the outside: what is fed is copied by a worker and taken, and a seat of another run is known as such.
 ghost use Rattle.std.specs.Prelude.{◌≡◌};
 
-use crate::networks::{copying, two_sevens};
+use crate::networks::copying;
 use commit_gates::{Always, MOST_TURNS};
 use kpn_net::Network;
 use kpn_pool::{
     Go, Job, Opened, Refused, Shared, SinkSeat, SnapFault, SourceSeat, View, Why, WorkerSeat,
     close, feed, leave, snapshot, take, work,
 };
+use kpn_text::read_network;
 use std::alloc::{AllocError, Allocator, Global};
 use std::marker::Brand;
 use std::sync::Wait;
@@ -16,6 +17,7 @@ use std::test::Fail;
 use std::thread;
 use std::thread::Threads;
 use std::time::Clock;
+use test_support::texts::TWO;
 
 /// Whether the journals of the two channels are these.
 pub fn shows<A: Allocator>(
@@ -140,11 +142,11 @@ fn answered<J: Job, R: Wait>(
 fn snapshot_shows_own_feeds_alone(rt: HostRuntime) -> Result<(), Fail> {
     let alloc = rt.alloc();
     let network = copying(alloc, 1)?;
-    let other = two_sevens(alloc)?;
+    let other = read_network(alloc, TWO.as_bytes())?;
     let seat = copied::<Brand, HostRuntime>(&rt, alloc, Blank::new(1), &network)?;
     let mut seat = seat.expect(&rt, "a whole run");
     let no_such_end = Some(Refused::NoSuchEnd);
-    for (network, fed) in [(&other, no_such_end), (&network, None)] {
+    for (network, fed) in [(other.network(), no_such_end), (&network, None)] {
         assert!(rt; seat.fed() == [1, 2, 3].as_slice());
         let blank = Blank::new(1);
         let refusals = answered::<Brand, HostRuntime>(&rt, alloc, blank, network, &mut seat)?;

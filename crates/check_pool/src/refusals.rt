@@ -1,5 +1,5 @@
-//! Calls that want memory are refused it, by a heap that is full for a while: all is as before, and the repeated call
-//! succeeds.
+//! Calls on a heap that is full for a while. Those that want memory are refused it: all is as before, and the repeated
+//! call succeeds. The others succeed at once.
 ghost use Rattle.std.specs.Prelude.{◌≡◌};
 
 use crate::endings::is_ready;
@@ -8,8 +8,8 @@ use crate::outside::shows;
 use commit_gates::Always;
 use kpn_net::Network;
 use kpn_pool::{
-    Go, Job, Opened, Refused, Shared, SinkSeat, SnapFault, SourceSeat, Why, close, feed, leave,
-    snapshot, take, work,
+    Go, Job, Opened, Refused, Shared, SinkSeat, SnapFault, SourceSeat, Why, close, feed, gather,
+    leave, snapshot, take, work,
 };
 use linked_list_allocator::LocalHeap;
 use std::alloc::{AllocError, Global};
@@ -35,20 +35,21 @@ fn opens<'a, J: Job>(heap: &'a LocalHeap, blank: Blank, network: &Network) -> bo
     opened.is_ok()
 }
 
-/// Whether each call is refused for want of memory and leaves the run empty.
+/// Whether each call that wants memory is refused it and leaves the run empty, in which there is nothing to take.
 fn all_refused<'a, J: Job, R: Wait>(
     rt: &R,
     alloc: Global,
     heap: &'a LocalHeap,
     shared: &Shared<'_, J, &'a LocalHeap>,
     source: &mut SourceSeat<&'a LocalHeap>,
-    sink: &SinkSeat<&'a LocalHeap>,
+    sink: &mut SinkSeat<&'a LocalHeap>,
 ) -> bool {
     feed(rt, shared, source, 5, 9) == Err(Refused::NoMemory)
         && close(rt, shared, source) == Err(Refused::NoMemory)
         && leave(rt, shared, sink) == Err(Refused::NoMemory)
         && snapshot(rt, heap, shared, source).err() == Some(SnapFault::NoMemory)
         && shared.try_snapshot(heap).is_err()
+        && take(rt, shared, sink) == Ok(None)
         && source.fed().is_empty()
         && shows(&snapshot(rt, alloc, shared, source), &[], &[])
 }
@@ -90,17 +91,66 @@ fn is_fed<'a, J: Job, R: Wait>(
         mut sources,
         mut sinks,
     } = opened;
-    let (Some(mut source), Some(sink)) = (sources.pop(), sinks.pop()) else {
+    let (Some(mut source), Some(mut sink)) = (sources.pop(), sinks.pop()) else {
         return Ok(false);
     };
     let Some(filling) = fill(heap) else {
         return Ok(false);
     };
-    let are_refused = all_refused(rt, alloc, heap, &shared, &mut source, &sink);
+    let are_refused = all_refused(rt, alloc, heap, &shared, &mut source, &mut sink);
     filling.destroy_empty();
     let is_shown = shows(&snapshot(rt, heap, &shared, &source), &[], &[]);
     let are_fed = feeds_until_refused(rt, alloc, &shared, &mut source);
     Ok(are_refused && is_shown && are_fed)
+}
+
+/// Feeds an item, closes the source and leaves the sink. Tells whether all succeeds.
+fn is_ended<'a, J: Job, R: Wait>(
+    rt: &R,
+    shared: &Shared<'_, J, &'a LocalHeap>,
+    source: &mut SourceSeat<&'a LocalHeap>,
+    sink: &SinkSeat<&'a LocalHeap>,
+) -> bool {
+    feed(rt, shared, source, 5, 9).is_ok()
+        && close(rt, shared, source).is_ok()
+        && leave(rt, shared, sink).is_ok()
+}
+
+/// A run that is ended by the outside. Tells whether the calls that want no memory succeed while the heap is full: the
+/// source is closed and the sink left a second time, the seats are read, the run is halted and its book gathered.
+fn is_gathered<'a, J: Job, R: Wait>(
+    rt: &R,
+    heap: &'a LocalHeap,
+    blank: Blank,
+    network: &Network,
+) -> Result<bool, AllocError>
+    requires ledger { (blank.name ≡ J.name) × (blank.parts ≡ J.parts) }
+    requires network { network.now ≡ J.network }
+    requires one { J.parts ≡ 1 }
+{
+    let opened: Opened<'_, J, &'a LocalHeap> = Shared::new(heap, blank, network, 1, 9)?;
+    let Opened {
+        shared,
+        workers,
+        mut sources,
+        mut sinks,
+    } = opened;
+    let (Some(mut source), Some(sink)) = (sources.pop(), sinks.pop()) else {
+        return Ok(false);
+    };
+    let has_ended = is_ended(rt, &shared, &mut source, &sink);
+    let Some(filling) = fill(heap) else {
+        return Ok(false);
+    };
+    let has_ended_again = close(rt, &shared, &source).is_ok() && leave(rt, &shared, &sink).is_ok();
+    let are_kept = source.fed() == [5].as_slice() && sink.taken().is_empty();
+    let is_new = workers
+        .first()
+        .is_some_and(|seat| seat.why().is_none() && seat.commits() == 0);
+    shared.halt(rt);
+    let book = gather(shared, workers);
+    filling.destroy_empty();
+    Ok(has_ended && has_ended_again && are_kept && is_new && book.history().len() == 3)
 }
 
 /// Takes until memory is refused. Tells whether the seat then has what was taken before.
@@ -171,6 +221,8 @@ fn refused_calls_change_nothing(rt: HostRuntime) -> Result<(), Fail> {
     assert!(rt; opens::<Brand>(&heap, Blank::new(1), &copying));
     let fed = is_fed::<Brand, HostRuntime>(&rt, alloc, &heap, Blank::new(1), &copying)?;
     assert!(rt; fed);
+    let gathered = is_gathered::<Brand, HostRuntime>(&rt, &heap, Blank::new(1), &copying)?;
+    assert!(rt; gathered);
     let poured = is_poured::<Brand, HostRuntime>(&rt, alloc, &heap, Blank::new(1), &pouring)?;
     assert!(rt; poured);
     Ok(())

@@ -17,3 +17,9 @@ ghosts-is_poured-J-Job g a = record { network = a.network.now }
 
 abbrev pub ghosts-is_poured-J-Ledger : goal.ghosts-is_poured-J-Ledger
 ghosts-is_poured-J-Ledger g a = record { name = a.blank.name; parts = a.blank.parts }
+
+abbrev pub ghosts-is_gathered-J-Job : goal.ghosts-is_gathered-J-Job
+ghosts-is_gathered-J-Job g a = record { network = a.network.now }
+
+abbrev pub ghosts-is_gathered-J-Ledger : goal.ghosts-is_gathered-J-Ledger
+ghosts-is_gathered-J-Ledger g a = record { name = a.blank.name; parts = a.blank.parts }

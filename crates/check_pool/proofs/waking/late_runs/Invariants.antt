@@ -1,4 +1,4 @@
-use Rattle.check_pool.proofs.waking.all_come.Given as goal
+use Rattle.check_pool.proofs.waking.late_runs.Given as goal
 
 abbrev pub ghosts-comes_to-J-Job : goal.ghosts-comes_to-J-Job
 ghosts-comes_to-J-Job g a = record { network = a.network.now }
