@@ -12,8 +12,8 @@ of an example.
 A run on one thread computes what a run by workers writes, since that is the same for any number of workers. Of the
 audit of its trace it compares only the lines that are the same.
 
-It knows the commands `check`, `print`, `draw`, `rounds`, `run`, `audit` and `stats`, and of the refusals those that the
-lines meet.
+It knows the commands `check`, `print`, `draw`, `rounds`, `run`, `audit` and `stats`, `explain` of descriptions that are
+right, and of the refusals those that the lines meet.
 """
 import argparse
 import contextlib
@@ -175,7 +175,8 @@ def answer(words):
             return histories_answer(words)
         if command in ('draw', 'stats'):
             return figures_answer(words)
-        return {'check': check, 'print': print_text, 'rounds': rounds_text}[command](*rest), 0
+        # Explained files of examples are right.
+        return {'check': check, 'explain': check, 'print': print_text, 'rounds': rounds_text}[command](*rest), 0
     except (Refused, histories.BadText) as refused:
         return f'{refused}\n', 1
 

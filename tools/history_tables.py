@@ -167,7 +167,7 @@ def version_two_of_two(text):
     for line in BAD_RULES:
         yield 'a bad second line', HEAD_TWO + line
         yield 'a bad second line', HEAD_TWO + line + text.removeprefix(head)
-    yield 'the growth tells another capacity', text.replace('grow 0 0 2', 'grow 0 0 3')
+    yield 'the growth names another capacity', text.replace('grow 0 0 2', 'grow 0 0 3')
     for other in ('policy all grow one\n', 'policy cycles grow double\n', 'policy all grow double\n'):
         yield 'other rules', text.replace(rules, other)
     yield 'other rules, and the first event is illegal', f'{HEAD_TWO}policy all grow one\nend 0 done\n'
@@ -188,8 +188,8 @@ def tables_of_version_two():
     as_version_one = HEAD + text.split('\n', 2)[2].replace('grow 0 0 2', 'grow 0 0').replace('grow 0 0 4', 'grow 0 0')
     yield 'worked/unclogged_doubled.kpn', [
         ('the growths of a stop', text),
-        ('its first growth tells too much', text.replace('grow 0 0 2', 'grow 0 0 3')),
-        ('its second growth tells too little', text.replace('grow 0 0 4', 'grow 0 0 3')),
+        ('its first growth names too much', text.replace('grow 0 0 2', 'grow 0 0 3')),
+        ('its second growth names too little', text.replace('grow 0 0 4', 'grow 0 0 3')),
         ('its events in version 1', as_version_one),
     ]
     yield 'clogged.kpn', [('the trace of a run under other rules', text)]

@@ -1,6 +1,6 @@
 #!/usr/bin/env python3
-"""The files of the program, as the system has them: what a command may not write over, and what is left of a trace that
-can't be stored.
+"""The files of the program, as the system has them: what a command may not write over, and what is left of a trace or of
+a sink's items that can't be stored.
 
 Each case has a folder of its own. It says what has to come: the status, what the program writes on standard error, and
 the contents of the folder afterwards. The gate can't show most of it, since it has no links, pipes, rights, locks and
@@ -23,13 +23,20 @@ import time
 
 TOP = pathlib.Path(__file__).resolve().parent.parent.parent
 DATA = TOP / 'crates/check_examples/data'
-TRACE = (DATA / 'histories/two.trace').read_bytes()
+# the trace of two.kpn, which lies there in version 1, in the version that a run stores
+TRACE = (DATA / 'histories/two.trace').read_bytes().replace(
+    b'kpn-trace 1\n', b'kpn-trace 2\npolicy cycles grow one\n').replace(b'grow 0 0\n', b'grow 0 0 2\n')
 REPORT = b'sink z: 312\nended\n'
 COPY = (DATA / 'copy.kpn').read_bytes()
 TWO = (DATA / 'two.kpn').read_bytes()
 USAGE = b'kpn: usage: --trace OUT, a file that is no input and no other output\n'
+SINK_USAGE = b'kpn: usage: --sink NAME=OUT, a file that is no input and no other output\n'
 WRITE = b'kpn: 27 Write\n'
 READ = b'kpn: 26 Read\n'
+BOTH = b"""process both(in i; out o, p) { while 1 { read i x; write o x; write p (0 - x); } }
+network { source s; sink y cap 1; sink z cap 1; b = both(s; y, z); }
+"""
+BOTH_REPORT = b'sink y: 1 2\nsink z: -1 -2\nwaits b s\nended\n'
 
 # a user who owns nothing here
 USER = 54_321
@@ -61,10 +68,10 @@ def names(folder):
     return sorted(os.listdir(folder))
 
 
-def is_refused(folder, *words):
-    """The word behind `--trace` is refused, and the folder stays as it was."""
+def is_refused(folder, *words, usage=USAGE):
+    """An output is refused, and the folder stays as it was."""
     before = {name: (folder / name).read_bytes() for name in names(folder) if (folder / name).is_file()}
-    expect(run(folder, *words), (b'', USAGE, 2))
+    expect(run(folder, *words), (b'', usage, 2))
     expect({name: (folder / name).read_bytes() for name in names(folder) if (folder / name).is_file()}, before)
 
 
@@ -75,6 +82,21 @@ def two(folder):
 def copy(folder):
     (folder / 'copy.kpn').write_bytes(COPY)
     (folder / 'items').write_bytes(b'1\n2\n')
+
+
+def both(folder):
+    (folder / 'both.kpn').write_bytes(BOTH)
+    (folder / 'items').write_bytes(b'1\n2\n')
+
+
+def run_both(folder, *words, **how):
+    return run(folder, 'both.kpn', '--source', 's=items', *words, **how)
+
+
+def is_refused_sink(folder, *words):
+    """A file of a sink is refused, and the folder stays as it was."""
+    for workers in ((), ('--workers', '2')):
+        is_refused(folder, 'both.kpn', '--source', 's=items', *workers, *words, usage=SINK_USAGE)
 
 
 # ---- an output that is an input
@@ -216,6 +238,127 @@ def standard_output_in_another_file(folder):
     expect((found[1], found[2]), (b'', 0))
     expect((folder / 'out').read_bytes(), REPORT)
     expect((folder / 'trace').read_bytes(), TRACE)
+
+
+# ---- sinks
+
+@case
+def what_sinks_received(folder):
+    both(folder)
+    expect(run_both(folder, '--sink', 'z=zs', '--sink', 'y=ys', '--trace', 'out'), (BOTH_REPORT, b'', 0))
+    expect((folder / 'ys').read_bytes(), b'1\n2\n')
+    expect((folder / 'zs').read_bytes(), b'-1\n-2\n')
+    expect(names(folder), ['both.kpn', 'items', 'out', 'ys', 'zs'])
+    expect(run_both(folder, '--sink', 'z=zs', '--take', '1')[2], 0)
+    expect((folder / 'zs').read_bytes(), b'-1\n')
+
+
+@case
+def a_sink_over_an_input(folder):
+    both(folder)
+    (folder / 'link').symlink_to('items')
+    os.link(folder / 'both.kpn', folder / 'second')
+    for name in ('items', './items', 'link', 'both.kpn', 'second', f'{folder}/items'):
+        is_refused_sink(folder, '--sink', f'z={name}')
+
+
+@case
+def a_sink_over_another_output(folder):
+    both(folder)
+    is_refused_sink(folder, '--trace', 'out', '--sink', 'z=out')
+    is_refused_sink(folder, '--trace', 'out', '--sink', 'z=./out')
+    is_refused_sink(folder, '--sink', 'y=out', '--sink', 'z=out')
+    is_refused_sink(folder, '--sink', 'y=out', '--sink', 'z=./out')
+    is_refused_sink(folder, '--sink', 'z=out', '--sink', 'z=out')
+    (folder / 'out').write_bytes(b'kept\n')
+    (folder / 'link').symlink_to('out')
+    os.link(folder / 'out', folder / 'second')
+    for name in ('link', 'second', f'../{folder.name}/out'):
+        is_refused_sink(folder, '--trace', name, '--sink', 'y=out')
+        is_refused_sink(folder, '--trace', 'out', '--sink', f'y={name}')
+        is_refused_sink(folder, '--sink', f'y={name}', '--sink', 'z=out')
+
+
+@case
+def a_sink_in_a_part_file(folder):
+    both(folder)
+    is_refused_sink(folder, '--trace', 'out', '--sink', 'z=out.kpn-part')
+    is_refused_sink(folder, '--trace', 'out.kpn-part', '--sink', 'z=out')
+    is_refused_sink(folder, '--sink', 'y=out', '--sink', 'z=./out.kpn-part')
+    is_refused_sink(folder, '--sink', 'y=./out.kpn-part', '--sink', 'z=out')
+
+
+@case
+def two_names_with_one_part_file(folder):
+    """The part file of the first is locked, and nothing is stored."""
+    both(folder)
+    expect(run_both(folder, '--sink', f'y={"n" * 254}', '--sink', f'z={"n" * 255}'), (b'', WRITE, 1))
+    expect(names(folder), ['both.kpn', 'items'])
+
+
+@case
+def a_link_that_leads_nowhere_and_another_output(folder):
+    """Nothing is written into the file that the link names."""
+    for words in (('--sink', 'y=out', '--sink', 'z=link'), ('--sink', 'y=link', '--sink', 'z=out'),
+                  ('--trace', 'link', '--sink', 'z=out')):
+        for name in names(folder):
+            os.remove(folder / name)
+        both(folder)
+        (folder / 'link').symlink_to('out')
+        expect(run_both(folder, *words), (b'', WRITE, 1))
+        expect((folder / 'out').read_bytes(), b'')
+        expect(names(folder), ['both.kpn', 'items', 'link', 'out'])
+
+
+@case
+def a_sink_on_standard_output_in_a_file(folder):
+    both(folder)
+    for target in ('/dev/stdout', './out', 'out'):
+        with open(folder / 'out', 'ab') as file:
+            found = run_both(folder, '--sink', f'z={target}', stdout=file)
+        expect((found[1], found[2]), (SINK_USAGE, 2))
+        expect((folder / 'out').read_bytes(), b'')
+
+
+@case
+def a_sink_on_standard_output_in_a_pipe(folder):
+    both(folder)
+    expect(run_both(folder, '--sink', 'z=/dev/stdout'), (b'-1\n-2\n' + BOTH_REPORT, b'', 0))
+
+
+@case
+def sinks_that_can_not_be_stored(folder):
+    """Whether they can is tried before the run, and nothing is stored."""
+    both(folder)
+    for name in ('', 'missing/out', 'items/out', 'out/', 'n' * 256):
+        expect(run_both(folder, '--trace', 'out', '--sink', 'y=ys', '--sink', f'z={name}'), (b'', WRITE, 1))
+        expect(names(folder), ['both.kpn', 'items'])
+
+
+@case
+def a_sink_on_a_device_that_is_full(folder):
+    """The files before it stay, and those behind it are not stored."""
+    both(folder)
+    (folder / 'zs').write_bytes(b'kept\n')
+    expect(run_both(folder, '--trace', 'out', '--sink', 'y=/dev/full', '--sink', 'z=zs'), (b'', WRITE, 1))
+    expect((folder / 'zs').read_bytes(), b'kept\n')
+    expect(names(folder), ['both.kpn', 'items', 'out', 'zs'])
+
+
+@case
+def inputs_are_refused_before_sinks_are_ready(folder):
+    both(folder)
+    expect(run(folder, 'both.kpn', '--source', 's=no', '--sink', 'z=missing/out'), (b'', READ, 1))
+    expect(run(folder, 'both.kpn', '--source', 's=no', '--sink', 'q=out'), (b'', b'kpn: 22 UnknownName at 0\n', 1))
+    expect(names(folder), ['both.kpn', 'items'])
+
+
+@case
+def a_sink_of_a_run_that_is_stopped(folder):
+    both(folder)
+    expect(run_both(folder, '--max-commits', '3', '--sink', 'y=ys')[::2], (b'stopped\n', 5))
+    expect((folder / 'ys').read_bytes(), b'1\n')
+    expect(names(folder), ['both.kpn', 'items', 'ys'])
 
 
 # ---- outputs that stay allowed

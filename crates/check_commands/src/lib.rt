@@ -1,5 +1,5 @@
-//! Tests of the program's commands: devices that fail, words that are not understood, and want of memory. Rows
-//! that are only compared stand in `check_examples`.
+//! Tests of the program's commands: devices that fail, words that are not understood, and want of memory. Rows that
+//! the gate only compares are in `check_examples`.
 #![tactic(auto)]
 
 #[cfg(test)]

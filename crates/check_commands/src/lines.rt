@@ -11,7 +11,7 @@ use std::time::Clock;
 use test_support::devices::{Broken, Fall, Tripping};
 use test_support::texts::COPY;
 
-/// What a command line answered and wrote.
+/// The status of a command line, and what it wrote.
 #[derive(Drop)]
 pub struct Answer {
     pub status: u8,
@@ -28,7 +28,7 @@ pub fn words_of(alloc: Global, line: &str) -> Result<Vec<String>, AllocError> {
     Ok(words)
 }
 
-/// The answer to a command line over an input that fails, and a shelf that holds nothing.
+/// Runs a command line over an input that fails and an empty shelf.
 pub fn run<R: Threads + Wait + Clock + Sync>(
     rt: &R,
     alloc: Global,
@@ -50,27 +50,31 @@ pub fn run<R: Threads + Wait + Clock + Sync>(
     Ok(Answer { status, out, err })
 }
 
-/// Whether a command line over an input that fails has this status, writes nothing and tells this.
+/// Whether a command line over an input that fails ends with this status and this error line, and writes nothing else.
 fn is_refused<R: Threads + Wait + Clock + Sync>(
     rt: &R,
     alloc: Global,
     line: &str,
     status: u8,
-    told: &str,
+    error: &str,
 ) -> Result<bool, AllocError> {
     let answer = run(rt, alloc, line)?;
-    Ok(answer.status == status && answer.out.is_empty() && answer.err.as_slice() == told.as_bytes())
+    Ok(
+        answer.status == status
+            && answer.out.is_empty()
+            && answer.err.as_slice() == error.as_bytes(),
+    )
 }
 
-/// Whether a command line over a shelf that holds copy as `n` and a trace as `t`, and an output that fails once, behind
-/// so many calls, has this status and tells this.
+/// Whether a command line ends with this status and this error line. Its shelf holds copy as `n` and a trace as `t`, and
+/// its output fails once, after so many calls.
 fn writes_to<R: Threads + Wait + Clock + Sync>(
     rt: &R,
     alloc: Global,
     line: &str,
     calls: u8,
     wanted: u8,
-    told: &str,
+    error: &str,
 ) -> Result<bool, Fail> {
     let mut shelf = MemoryShelf::new(alloc);
     shelf.store("n", COPY.as_bytes())?;
@@ -87,12 +91,12 @@ fn writes_to<R: Threads + Wait + Clock + Sync>(
     let status = command(
         rt, alloc, &words, &mut shelf, &mut input, &mut out, &mut err,
     );
-    Ok(status == wanted && err.as_slice() == told.as_bytes())
+    Ok(status == wanted && err.as_slice() == error.as_bytes())
 }
 
-/// Whether a command line tells an output that fails once, at the write or at the flush, and succeeds over one that
-/// takes all.
-fn tells_an_output<R: Threads + Wait + Clock + Sync>(
+/// Whether a command line reports an output that fails once, at the write or at the flush, and succeeds over one that
+/// takes everything.
+fn reports_an_output<R: Threads + Wait + Clock + Sync>(
     rt: &R,
     alloc: Global,
     line: &str,
@@ -104,36 +108,39 @@ fn tells_an_output<R: Threads + Wait + Clock + Sync>(
     )
 }
 
-// The name is looked at before the input is read.
+// The command looks at the name before it reads the input.
 #[test]
-fn tells_an_input_that_fails(rt: HostRuntime) -> Result<(), Fail> {
-    for (line, status, told) in [
+fn reports_an_input_that_fails(rt: HostRuntime) -> Result<(), Fail> {
+    for (line, status, error) in [
         ("kpn alone product", 2, "kpn: usage: copy, double or sum\n"),
         ("kpn alone sum", 1, "kpn: 26 Read\n"),
     ] {
-        let refused = is_refused(&rt, rt.alloc(), line, status, told)?;
+        let refused = is_refused(&rt, rt.alloc(), line, status, error)?;
         assert!(rt; refused, "{line}");
     }
     Ok(())
 }
 
 #[test]
-fn tells_an_output_that_fails_at_any_call(rt: HostRuntime) -> Result<(), Fail> {
+fn reports_an_output_that_fails_at_any_call(rt: HostRuntime) -> Result<(), Fail> {
     for line in [
         "kpn alone sum",
         "kpn check n",
+        "kpn explain n",
+        "kpn explain n t",
         "kpn print n",
         "kpn draw n",
         "kpn draw n t",
         "kpn rounds n 3",
         "kpn run n",
+        "kpn run n --sink z=o",
         "kpn audit n t",
         "kpn stats n t",
         "kpn --help",
         "kpn check --help",
     ] {
-        let told = tells_an_output(&rt, rt.alloc(), line)?;
-        assert!(rt; told, "{line}");
+        let reported = reports_an_output(&rt, rt.alloc(), line)?;
+        assert!(rt; reported, "{line}");
     }
     Ok(())
 }

@@ -1,4 +1,4 @@
-//! One call in turn that fails: of a shelf with one of its names, of an input, of the place for faults.
+//! One call that fails: of a shelf for one of its names, of an input, or of the place for faults.
 
 use crate::lines::words_of;
 use kpn_cli::command::command;
@@ -13,7 +13,7 @@ use std::time::Clock;
 use test_support::devices::{Broken, Fall, Stumbling};
 use test_support::texts::{COPY, TWO};
 
-/// Which call of a shelf answers otherwise.
+/// The call of a shelf that answers otherwise.
 #[derive(Clone, Copy, Debug, PartialEq, Eq)]
 enum Call {
     Load,
@@ -22,7 +22,7 @@ enum Call {
     MakeReady,
 }
 
-/// A shelf in memory, of which one call fails for one name; or which holds all names to be one file with that one.
+/// A shelf in memory. One call of it fails for one name, or takes every name for one file with that one.
 #[derive(Drop)]
 struct Troubled<'a> {
     kept: MemoryShelf,
@@ -69,12 +69,16 @@ const WRITE: &str = "kpn: 27 Write\n";
 
 const TRACE: &str = "kpn: usage: --trace OUT, a file that is no input and no other output\n";
 
+const SINK: &str = "kpn: usage: --sink NAME=OUT, a file that is no input and no other output\n";
+
 const RUN: &str = "kpn run copy --source s=items --trace out";
+
+const KEEP: &str = "kpn run copy --source s=items --sink z=out";
 
 const AUDIT: &str = "kpn audit two trace";
 
-/// Command lines with the call that fails for a name: their statuses, what they tell, and whether a trace is stored.
-const ROWS: [(&str, Call, &str, u8, &str, bool); 15] = [
+/// Command lines, each with the call that fails for a name, its status, its error line, and whether it stores `out`.
+const ROWS: [(&str, Call, &str, u8, &str, bool); 20] = [
     (RUN, Call::Load, "copy", 1, READ, false),
     (RUN, Call::Load, "items", 1, READ, false),
     (RUN, Call::Load, "trace", 0, "", true),
@@ -86,13 +90,18 @@ const ROWS: [(&str, Call, &str, u8, &str, bool); 15] = [
     (RUN, Call::IsSameFile, "/dev/stdout", 2, TRACE, false),
     (RUN, Call::IsSameFile, "/dev/stderr", 2, TRACE, false),
     (RUN, Call::IsSameFile, "trace", 0, "", true),
+    (KEEP, Call::Load, "trace", 0, "", true),
+    (KEEP, Call::Store, "out", 1, WRITE, false),
+    (KEEP, Call::MakeReady, "out", 1, WRITE, false),
+    (KEEP, Call::IsSameFile, "items", 2, SINK, false),
+    (KEEP, Call::IsSameFile, "/dev/stdout", 2, SINK, false),
     (AUDIT, Call::Load, "two", 1, READ, false),
     (AUDIT, Call::Load, "trace", 1, READ, false),
     ("kpn draw two trace", Call::Load, "trace", 1, READ, false),
     ("kpn stats two trace", Call::Load, "trace", 1, READ, false),
 ];
 
-/// A shelf with two networks, items and a trace, of which one call fails for one name.
+/// A shelf with two networks, items and a trace. One call of it fails for one name.
 fn shelf_of(alloc: Global, call: Call, name: &str) -> Result<Troubled<'_>, Fail> {
     let mut kept = MemoryShelf::new(alloc);
     kept.store("copy", COPY.as_bytes())?;
@@ -102,14 +111,14 @@ fn shelf_of(alloc: Global, call: Call, name: &str) -> Result<Troubled<'_>, Fail>
     Ok(Troubled { kept, call, name })
 }
 
-/// Whether a command line over a shelf has this status and tells this, and whether there is a trace then. Nothing is
-/// written where something is told.
-fn is_told<R: Threads + Wait + Clock + Sync>(
+/// Whether a command line over a shelf ends with this status and this error line, and whether it stores `out`. With an
+/// error line it writes nothing.
+fn is_reported<R: Threads + Wait + Clock + Sync>(
     rt: &R,
     alloc: Global,
     row: &(&str, Call, &str, u8, &str, bool),
 ) -> Result<bool, Fail> {
-    let (line, call, name, wanted, told, stored) = *row;
+    let (line, call, name, wanted, error, stored) = *row;
     let words = words_of(alloc, line)?;
     let mut shelf = shelf_of(alloc, call, name)?;
     let mut out = Vec::new(alloc);
@@ -125,13 +134,13 @@ fn is_told<R: Threads + Wait + Clock + Sync>(
     );
     Ok(
         status == wanted
-            && err.as_slice() == told.as_bytes()
-            && out.is_empty() != told.is_empty()
+            && err.as_slice() == error.as_bytes()
+            && out.is_empty() != error.is_empty()
             && shelf.kept.load(alloc, "out").is_ok() == stored,
     )
 }
 
-/// What `kpn alone sum` answers to three items, where the call of this number of its input fails once.
+/// What `kpn alone sum` answers to three items if the call of this number of its input fails once.
 fn sums<R: Threads + Wait + Clock + Sync>(
     rt: &R,
     alloc: Global,
@@ -155,8 +164,8 @@ fn sums<R: Threads + Wait + Clock + Sync>(
     Ok((status, if status == 0 { out } else { err }))
 }
 
-/// The status of a command line where what it tells goes nowhere.
-fn status_untold<R: Threads + Wait + Clock + Sync>(
+/// The status of a command line whose error line goes nowhere.
+fn status_unseen<R: Threads + Wait + Clock + Sync>(
     rt: &R,
     alloc: Global,
     line: &str,
@@ -176,21 +185,21 @@ fn status_untold<R: Threads + Wait + Clock + Sync>(
 }
 
 #[test]
-fn tells_a_shelf_that_fails_for_one_name(rt: HostRuntime) -> Result<(), Fail> {
+fn reports_a_shelf_that_fails_for_one_name(rt: HostRuntime) -> Result<(), Fail> {
     for row in &ROWS {
-        let told = is_told(&rt, rt.alloc(), row)?;
-        assert!(rt; told, "{} {}", row.0, row.2);
+        let reported = is_reported(&rt, rt.alloc(), row)?;
+        assert!(rt; reported, "{} {}", row.0, row.2);
     }
     Ok(())
 }
 
-// The six bytes and the end are seven calls. A call that a signal interrupts is made again.
+// The six bytes and the end are seven calls. The command repeats a call that a signal interrupts.
 #[test]
-fn tells_an_input_that_fails_at_any_call(rt: HostRuntime) -> Result<(), Fail> {
+fn reports_an_input_that_fails_at_any_call(rt: HostRuntime) -> Result<(), Fail> {
     for before in 0..7 {
-        let (status, told) = sums(&rt, rt.alloc(), before, ErrorKind::Other)?;
+        let (status, error) = sums(&rt, rt.alloc(), before, ErrorKind::Other)?;
         assert!(rt;
-            status == 1 && told.as_slice() == READ.as_bytes(),
+            status == 1 && error.as_slice() == READ.as_bytes(),
             "{before}"
         );
     }
@@ -205,7 +214,7 @@ fn tells_an_input_that_fails_at_any_call(rt: HostRuntime) -> Result<(), Fail> {
 }
 
 #[test]
-fn ends_alike_where_faults_can_not_be_told(rt: HostRuntime) -> Result<(), Fail> {
+fn ends_alike_if_nobody_sees_the_error_line(rt: HostRuntime) -> Result<(), Fail> {
     for (line, wanted) in [
         ("kpn", 2),
         ("kpn run copy --take 0", 2),
@@ -218,7 +227,7 @@ fn ends_alike_where_faults_can_not_be_told(rt: HostRuntime) -> Result<(), Fail> 
         ("kpn run copy --trace out", 1),
         ("kpn check copy", 0),
     ] {
-        let status = status_untold(&rt, rt.alloc(), line)?;
+        let status = status_unseen(&rt, rt.alloc(), line)?;
         assert!(rt; status == wanted, "{line}");
     }
     Ok(())

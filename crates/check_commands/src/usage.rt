@@ -1,4 +1,4 @@
-//! Which words are understood, and help.
+//! Words that are understood or not, and help.
 
 use crate::lines::run;
 use std::alloc::{AllocError, Global};
@@ -7,8 +7,8 @@ use std::test::Fail;
 use std::thread::Threads;
 use std::time::Clock;
 
-/// Words, and the status: 2 where they are not understood, 0 where they ask for help.
-const ROWS: [(&str, u8); 38] = [
+/// Words and their status: 2 if they are not understood, 0 if they ask for help.
+const ROWS: [(&str, u8); 43] = [
     ("kpn", 2),
     ("kpn alone", 2),
     ("kpn run two.kpn --take 0", 2),
@@ -19,6 +19,7 @@ const ROWS: [(&str, u8); 38] = [
     ("kpn run two.kpn --workers 17", 2),
     ("kpn run two.kpn --workers two", 2),
     ("kpn run two.kpn --workers", 2),
+    ("kpn run two.kpn --sink", 2),
     ("kpn audit two.kpn", 2),
     ("kpn audit two.kpn two.trace --steps 0", 2),
     ("kpn audit two.kpn two.trace --steps 1000000001", 2),
@@ -29,6 +30,9 @@ const ROWS: [(&str, u8); 38] = [
     ("kpn draw", 2),
     ("kpn draw two.kpn two.trace copy.trace", 2),
     ("kpn check", 2),
+    ("kpn explain", 2),
+    ("kpn explain two.kpn two.trace --items", 2),
+    ("kpn explain two.kpn two.trace --steps 0", 2),
     ("kpn print one.kpn two.kpn", 2),
     ("kpn rounds two.kpn", 2),
     ("kpn rounds two.kpn 1001", 2),
@@ -41,6 +45,7 @@ const ROWS: [(&str, u8); 38] = [
     ("kpn help", 0),
     ("kpn alone --help", 0),
     ("kpn check --help", 0),
+    ("kpn explain --help", 0),
     ("kpn print --help", 0),
     ("kpn draw --help", 0),
     ("kpn rounds --help", 0),
@@ -49,8 +54,8 @@ const ROWS: [(&str, u8); 38] = [
     ("kpn stats --help", 0),
 ];
 
-/// Whether a command line has this status, and its answer stands where it belongs: help on the output, all else where
-/// faults go.
+/// Whether a command line has this status and answers at the right place: with help on the output, with anything else on
+/// the place for faults.
 fn is_answered<R: Threads + Wait + Clock + Sync>(
     rt: &R,
     alloc: Global,
@@ -67,7 +72,7 @@ fn is_answered<R: Threads + Wait + Clock + Sync>(
 }
 
 #[test]
-fn tells_usage_and_help(rt: HostRuntime) -> Result<(), Fail> {
+fn reports_usage_and_help(rt: HostRuntime) -> Result<(), Fail> {
     for (line, status) in &ROWS {
         let answered = is_answered(&rt, rt.alloc(), line, *status)?;
         assert!(rt; answered, "{line}");

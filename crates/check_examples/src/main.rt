@@ -1,16 +1,16 @@
-//! Command lines as a compared run. A line of standard input is one of these, and is repeated behind `$ `:
+//! Command lines as a compared run. The program repeats each line of standard input behind `$ `. A line is one of these:
 //!
-//! - `kpn WORDS`, a command line, which is run over the files that lie here. What it wrote follows; where it failed,
-//!   also what it told and its status. Its standard input is the file `input`, where a line has made one.
-//! - `first COUNT kpn WORDS`, a command line too, but only so many lines of what it wrote follow: what else an audit
-//!   writes of a run by workers depends on how their turns fell.
-//! - `file NAME TEXT` makes a file. In the text `\n`, `\r` and `\0` stand for bytes that no line can have.
+//! - `kpn WORDS`, a command line over the files in this folder. Below it comes what it wrote and, if it failed, its error
+//!   line and its status. Its standard input is the file `input`, if there is one.
+//! - `first COUNT kpn WORDS`, a command line too. Only so many lines of what it wrote follow, since the rest of an audit
+//!   of a run by workers depends on the order of their turns.
+//! - `file NAME TEXT` makes a file. In the text `\n`, `\r` and `\0` are bytes that no line can have.
 //! - `many NAME COUNT TEXT` puts such a text so often behind what the file holds.
 //! - `cat NAME`: what the file holds follows.
-//! - `# TEXT`, a heading, which is repeated as it is.
+//! - `# TEXT`, a heading, which stands without `$ `.
 //!
-//! What must come of the lines below the heading `# The examples` was computed by another program (tools/examples.py),
-//! of those above it by hand.
+//! Another program (tools/examples.py) computed what the lines below the heading `# The examples` must write. For those
+//! above it the answers were written or checked by hand.
 #![tactic(auto)]
 
 use anyhow::Result;
@@ -31,7 +31,7 @@ fn words_of(alloc: Global, line: &str) -> Result<Vec<String>> {
     Ok(words)
 }
 
-/// The bytes that a text of a line stands for.
+/// The bytes that a text of a line means.
 fn unescaped(alloc: Global, text: &str) -> Result<String> {
     let text = text.replace(alloc, "\\n", "\n")?;
     let text = text.replace(alloc, "\\r", "\r")?;
@@ -67,7 +67,7 @@ fn extend_file<S: Shelf>(alloc: Global, shelf: &mut S, line: &str) -> Result<()>
     Ok(())
 }
 
-/// What a file holds, and nothing where it can't be read.
+/// What a file holds, and nothing if it can't be read.
 fn bytes_of<S: Shelf>(alloc: Global, shelf: &S, name: &str) -> Vec<u8> {
     match shelf.load(alloc, name) {
         Ok(bytes) => bytes,
@@ -85,17 +85,17 @@ fn run<R: Threads + Wait + Clock + Sync, S: Shelf, O: Write>(
 ) -> Result<()> {
     let words = words_of(alloc, line)?;
     let input = bytes_of(alloc, shelf, "input");
-    let mut told = Vec::new(alloc);
+    let mut errors = Vec::new(alloc);
     let mut input = input.as_slice();
-    let status = command(rt, alloc, &words, shelf, &mut input, out, &mut told);
+    let status = command(rt, alloc, &words, shelf, &mut input, out, &mut errors);
     if status != 0 {
-        out.write_all(&told)?;
+        out.write_all(&errors)?;
         writeln!(out, "status {status}")?;
     }
     Ok(())
 }
 
-/// Runs the command line of `COUNT kpn WORDS`, and writes the first lines of what came of it.
+/// Runs the command line of `COUNT kpn WORDS`, and writes the first lines of what it wrote.
 fn run_first<R: Threads + Wait + Clock + Sync, S: Shelf, O: Write>(
     rt: &R,
     alloc: Global,

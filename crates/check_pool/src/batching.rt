@@ -72,8 +72,8 @@ impl<'s, 'n, J: Job + Send + Sync> Gate for Ending<'s, 'n, J> {
     }
 }
 
-/// A worker is at work until the gate ends it at the last of these processes. Tells whether the gate was asked for them
-/// in their order, and ended it.
+/// A worker is at work until the gate ends it at the last of these processes. Returns whether the gate was asked for
+/// them in their order, and ended it.
 fn works<J: Job + Send + Sync, R: Wait + Clock>(
     rt: &R,
     alloc: Global,
@@ -116,7 +116,7 @@ fn put_by(book: &Book<'_>, processes: &[u16]) -> bool {
     is_so
 }
 
-/// Two turns of a worker. Tells whether all is as it has to be after each.
+/// Two turns of a worker. Returns whether all is as it has to be after each.
 fn ends_twice<J: Job + Send + Sync, R: Wait + Clock>(
     rt: &R,
     alloc: Global,

@@ -55,7 +55,7 @@ impl Gate for HoldingThree {
     }
 }
 
-/// Pauses at each call, and holds one process, if it is to, until it is told to let go.
+/// Pauses at each call, and holds one process, if it is to, until somebody makes it let go.
 #[derive(Drop)]
 pub struct Pausing {
     held: Option<usize>,
@@ -72,7 +72,7 @@ impl Pausing {
         }
     }
 
-    /// Lets go of who is held, now and from now on.
+    /// Lets go of the process that is held, now and from now on.
     pub fn let_go(&self) {
         self.lets_go.raise();
     }

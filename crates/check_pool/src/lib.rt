@@ -1,4 +1,4 @@
-//! Tests of the pool, by public calls alone: what workers, gates and seats do that no clause can say. Each ends on any
+//! Tests of the pool, by public calls only: what workers, gates and seats do that no clause can say. Each ends on any
 //! schedule, since whoever waits for somebody else waits for a bounded number of turns.
 #![tactic(auto)]
 

@@ -26,7 +26,7 @@ const LOOKS: u64 = 1_000;
 /// So many microseconds go by before each of these.
 const PAUSE: u64 = 300;
 
-/// Tells that a worker has come. Lets commits through until it is shut, and then ends each worker.
+/// Shows that a worker has come. Lets commits through until it is shut, and then ends each worker.
 #[derive(Drop)]
 pub struct Door {
     reached: Flag,
@@ -90,7 +90,7 @@ fn times_taken<J: Job, R: Clock>(
     taken
 }
 
-/// Counts snapshots while one worker is at work, and tells why this ends. Where those before the door are counted it is
+/// Counts snapshots while one worker is at work, and returns why this ends. If those before the door are counted it is
 /// shut.
 fn work_and_look<J: Job + Send + Sync, R: Threads + Wait + Clock + Sync>(
     rt: &R,
@@ -160,7 +160,7 @@ fn refutes_holds_the_lock_while_stepping(rt: HostRuntime) -> Result<(), Fail> {
     Ok(())
 }
 
-/// A worker that evaluated the items under the lock, there alone or there too, would have it for more than half of the
+/// A worker that evaluated the items under the lock, only there or there too, would have it for more than half of the
 /// time. One that does not has it for a small part: for two commits at each item.
 #[test]
 fn refutes_evaluates_under_the_lock(rt: HostRuntime) -> Result<(), Fail> {

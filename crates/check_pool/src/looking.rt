@@ -19,7 +19,7 @@ use std::time::Clock;
 /// After so many commits the workers end.
 const COMMITS: u64 = 20_000;
 
-/// Whether the counts of a desk are those of three processes. A caller's proof is told what holds of every desk.
+/// Whether the counts of a desk are those of three processes. A caller's proof learns what holds of every desk.
 fn counts_three<J: Job>(desk: &Desk<'_, J>) -> bool
     ensures below { AreBelowLeast desk.now.book }
     ensures none_left { HasNoneLeftToGrow desk.now.book }
@@ -34,7 +34,7 @@ fn counts_three<J: Job>(desk: &Desk<'_, J>) -> bool
     waiting.saturating_add(others) == 3
 }
 
-/// Looks until the commits have reached their number. Tells whether each look finds three processes.
+/// Looks until the commits have reached their number. Returns whether each look finds three processes.
 fn looks<J: Job, R: Wait>(rt: &R, shared: &Shared<'_, J>) -> bool {
     for _ in 0..MOST_TURNS {
         let look = shared.look(rt);
@@ -50,7 +50,7 @@ fn looks<J: Job, R: Wait>(rt: &R, shared: &Shared<'_, J>) -> bool {
     false
 }
 
-/// Two workers at once while the calling thread looks. Tells why they end, and whether the looks find what they have
+/// Two workers at once while the calling thread looks. Returns why they end, and whether the looks find what they have
 /// to.
 fn work_and_look<J: Job + Send + Sync, R: Threads + Wait + Clock + Sync>(
     rt: &R,

@@ -39,7 +39,7 @@ impl<'s, 'n, J: Job + Send + Sync> Gate for Meeting<'s, 'n, J> {
     }
 }
 
-/// Two workers at work at once, with such a gate. Tells their seats, and whether they met.
+/// Two workers at work at once, with such a gate. Returns their seats, and whether they met.
 fn work_till_met<J: Job + Send + Sync, R: Threads + Wait + Clock + Sync>(
     rt: &R,
     alloc: Global,
@@ -102,7 +102,7 @@ fn refutes_one_worker_steps_everything(rt: HostRuntime) -> Result<(), Fail> {
     Ok(())
 }
 
-/// The same where each of the two processes waits for the other one.
+/// The same if each of the two processes waits for the other one.
 #[test]
 fn two_workers_settle(rt: HostRuntime) -> Result<(), Fail> {
     let network = two_readers(rt.alloc())?;

@@ -32,7 +32,7 @@ pub fn shows<A: Allocator>(
     journals.len() == 2 && journals[0].is(source) && journals[1].is(sink)
 }
 
-/// Feeds before anybody works, and closes. Tells whether all is answered as it has to be.
+/// Feeds before anybody works, and closes. Returns whether all is answered as it has to be.
 fn feeds<J: Job, R: Wait>(
     rt: &R,
     alloc: Global,
@@ -48,7 +48,8 @@ fn feeds<J: Job, R: Wait>(
     two && is_fresh && third && is_full && is_closed && source.fed() == [1, 2, 3].as_slice()
 }
 
-/// Takes until three items came, and leaves the sink. Tells whether no call is refused before that, and a take is then.
+/// Takes until three items came, and leaves the sink. Returns whether no call is refused before that, and a take is
+/// then.
 fn takes<J: Job, R: Wait>(rt: &R, shared: &Shared<'_, J>, sink: &mut SinkSeat) -> bool {
     let mut is_good = true;
     for _ in 0..MOST_TURNS {
@@ -63,7 +64,7 @@ fn takes<J: Job, R: Wait>(rt: &R, shared: &Shared<'_, J>, sink: &mut SinkSeat) -
     is_good && has_left && is_left && sink.taken() == [1, 2, 3].as_slice()
 }
 
-/// One worker copies while three items are taken. Tells why it ends, and whether they came.
+/// One worker copies while three items are taken. Returns why it ends, and whether they came.
 fn copies<J: Job + Send + Sync, R: Threads + Wait + Clock + Sync>(
     rt: &R,
     shared: &Shared<'_, J>,
@@ -82,7 +83,7 @@ fn copies<J: Job + Send + Sync, R: Threads + Wait + Clock + Sync>(
     (seat.why(), came)
 }
 
-/// A whole run by one worker. Gives the seat of the source, or none where something is not answered as it has to be.
+/// A whole run by one worker. Returns the seat of the source, or none if something is not answered as it has to be.
 fn copied<J: Job + Send + Sync, R: Threads + Wait + Clock + Sync>(
     rt: &R,
     alloc: Global,

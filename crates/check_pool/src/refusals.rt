@@ -54,7 +54,7 @@ fn all_refused<'a, J: Job, R: Wait>(
         && shows(&snapshot(rt, alloc, shared, source), &[], &[])
 }
 
-/// Feeds until memory is refused. Tells whether the seat and the run then have what was fed before.
+/// Feeds until memory is refused. Returns whether the seat and the run then have what was fed before.
 fn feeds_until_refused<'a, J: Job, R: Wait>(
     rt: &R,
     alloc: Global,
@@ -72,7 +72,7 @@ fn feeds_until_refused<'a, J: Job, R: Wait>(
     false
 }
 
-/// A run that is fed. Tells whether all is answered as it has to be, while the heap is full and then.
+/// A run that is fed. Returns whether all is answered as it has to be, while the heap is full and then.
 fn is_fed<'a, J: Job, R: Wait>(
     rt: &R,
     alloc: Global,
@@ -104,7 +104,7 @@ fn is_fed<'a, J: Job, R: Wait>(
     Ok(are_refused && is_shown && are_fed)
 }
 
-/// Feeds an item, closes the source and leaves the sink. Tells whether all succeeds.
+/// Feeds an item, closes the source and leaves the sink. Returns whether all succeeds.
 fn is_ended<'a, J: Job, R: Wait>(
     rt: &R,
     shared: &Shared<'_, J, &'a LocalHeap>,
@@ -116,8 +116,8 @@ fn is_ended<'a, J: Job, R: Wait>(
         && leave(rt, shared, sink).is_ok()
 }
 
-/// A run that is ended by the outside. Tells whether the calls that want no memory succeed while the heap is full: the
-/// source is closed and the sink left a second time, the seats are read, the run is halted and its book gathered.
+/// A run that is ended by the outside. Returns whether the calls that want no memory succeed while the heap is full:
+/// the source is closed and the sink left a second time, the seats are read, the run is halted and its book gathered.
 fn is_gathered<'a, J: Job, R: Wait>(
     rt: &R,
     heap: &'a LocalHeap,
@@ -153,7 +153,7 @@ fn is_gathered<'a, J: Job, R: Wait>(
     Ok(has_ended && has_ended_again && are_kept && is_new && book.history().len() == 3)
 }
 
-/// Takes until memory is refused. Tells whether the seat then has what was taken before.
+/// Takes until memory is refused. Returns whether the seat then has what was taken before.
 fn takes_until_refused<'a, J: Job, R: Wait>(
     rt: &R,
     shared: &Shared<'_, J, &'a LocalHeap>,
@@ -172,7 +172,7 @@ fn takes_until_refused<'a, J: Job, R: Wait>(
     false
 }
 
-/// A run whose worker writes until the heap is full. Tells whether all is answered as it has to be.
+/// A run whose worker writes until the heap is full. Returns whether all is answered as it has to be.
 fn is_poured<'a, J: Job, R: Wait + Clock>(
     rt: &R,
     alloc: Global,

@@ -1,4 +1,4 @@
-//! A worker that rests comes to ready work, also where a gate holds all others.
+//! A worker that rests comes to ready work, also if a gate holds all others.
 ghost use Rattle.std.specs.Prelude.{◌≡◌};
 
 use crate::gates::HoldingThree;

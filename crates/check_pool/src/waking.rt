@@ -1,4 +1,5 @@
-//! Who sleeps is woken: a run takes far longer if somebody wakes only by the clock. On a busy machine some runs may.
+//! A thread that sleeps is woken: a run takes far longer if a thread wakes only by the clock. On a busy machine some
+//! runs may.
 ghost use Rattle.std.specs.Prelude.{◌≡◌};
 
 use crate::gates::Pausing;
@@ -41,7 +42,7 @@ enum Task {
     Closes,
     /// It feeds the item and closes the source, and makes no call after that.
     FeedsAndCloses,
-    /// It tells the workers to end.
+    /// It makes the workers end.
     Halts,
 }
 
@@ -52,7 +53,7 @@ struct Outside {
     sinks: Vec<SinkSeat>,
 }
 
-/// Waits until so many items of the last sink were taken, or the run has ended. Tells which.
+/// Waits until so many items of the last sink were taken, or the run has ended. Returns which.
 fn await_items<J: Job, R: Wait + Clock>(
     rt: &R,
     shared: &Shared<'_, J>,
@@ -70,7 +71,7 @@ fn await_items<J: Job, R: Wait + Clock>(
     unreachable!()
 }
 
-/// Feeds items one by one, and waits for each until it was taken. Tells whether all come.
+/// Feeds items one by one, and waits for each until it was taken. Returns whether all come.
 fn hand_over<J: Job, R: Wait + Clock>(
     rt: &R,
     shared: &Shared<'_, J>,
@@ -87,7 +88,7 @@ fn hand_over<J: Job, R: Wait + Clock>(
     true
 }
 
-/// Does the task, and waits until the run has ended if it makes calls then. Tells whether all went well.
+/// Does the task, and waits until the run has ended if it makes calls then. Returns whether all went well.
 fn serve<J: Job, R: Wait + Clock>(
     rt: &R,
     shared: &Shared<'_, J>,
@@ -113,7 +114,7 @@ fn serve<J: Job, R: Wait + Clock>(
     !await_items(rt, shared, outside.sinks.as_mut_slice(), usize::MAX) && is_done
 }
 
-/// A run by two workers while the outside does its task. Tells whether all went well, and why the workers end.
+/// A run by two workers while the outside does its task. Returns whether all went well, and why the workers end.
 fn work_and_serve<J: Job + Send + Sync, R: Threads + Wait + Clock + Sync>(
     rt: &R,
     opened: Opened<'_, J>,
@@ -180,8 +181,8 @@ fn late_runs<R: Threads + Wait + Clock + Sync>(
     Ok(Some(late))
 }
 
-/// An item is fed once the workers rest, and who serves the sinks sleeps before it comes there: on a sink that is then
-/// full, on one that is not half full, and behind a gate that holds the other worker.
+/// An item is fed once the workers rest, and the thread that serves the sinks sleeps before it comes there: on a
+/// sink that is then full, on one that is not half full, and behind a gate that holds the other worker.
 #[test]
 fn items_go_from_hand_to_hand(rt: HostRuntime) -> Result<(), Fail> {
     let alloc = rt.alloc();

@@ -51,7 +51,7 @@ is_no_success (Trace trace.NoMemory) e = absurd (omega arith)
 is_no_success (Output write.NoMemory) e = absurd (omega arith)
 is_no_success other e = absurd (omega arith)
 
--- what holds where there is an answer holds under success
+-- what holds if there is an answer holds under success
 pub under_success : {A : Type 0} (P Unwritten : Type 0) (Given : A → Type 0) (status : ℕ) (answer : Result A Refusal)
     → OnOk answer P
     → MatchResult answer Given (λ refusal. Unwritten × (status ≡ status_of refusal)) → status ≡ 0 → P

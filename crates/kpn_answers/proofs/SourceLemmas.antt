@@ -1,14 +1,17 @@
 -- Sources by number, and the lists in their places.
-use Rattle.std.proofs.Common.{◌≡◌, ℕ, suc, ◌+◌, ◌<◌, ℤ, Bool, true, false, cond, ◌||◌, List, [], ◌∷◌, ◌++◌, length, get_or, set, take, drop, map, nat_eq, replicate, Option, Some, Ok, Err, refl, sym, ap, subst, ◌∙◌, arith, drop-cons}
+use Rattle.std.proofs.Common.{◌≡◌, ℕ, suc, ◌+◌, ◌<◌, ℤ, Bool, true, false, cond, ◌||◌, List, [], ◌∷◌, ◌++◌, length, get_or, set, take, drop, map, count_by, nat_eq, replicate, Option, Some, Ok, Err, refl, sym, ap, subst, ◌∙◌, arith, drop-cons}
 use Rattle.std.specs.List.{AllZip, list_any}
 use Rattle.std.proofs.lemmas.List.{length-map, take-append-drop, map-append, map_more}
+use Rattle.std.proofs.lemmas.List.Sums.{count_by_more_yes, sum_by-take-le}
 use Rattle.std.proofs.lemmas.Slice.Zip.{AllZip-long}
+use Rattle.kpn_net.specs.declared.tables.ChannelSpec.{ChannelSpec}
+use Rattle.kpn_net.specs.Tables.{Tables, channel_at}
 use Rattle.kpn_items.proofs.FileLemmas.{AllZip-push}
-use Rattle.kpn_answers.specs.declared.sources.SourceFault.TheVariants.{Double}
+use Rattle.kpn_answers.specs.declared.sources.NameFault.TheVariants.{Double}
 use Rattle.kpn_answers.specs.declared.refusal.Refusal.{Refusal}
 use Rattle.kpn_answers.specs.declared.refusal.Refusal.TheVariants.{Input}
 use Rattle.kpn_answers.specs.SourceRefusals.{IsRefusalOfFile, IsRefusalOfItems}
-use Rattle.kpn_answers.specs.Sources.{with_source, placed, IsItemFile, AreGiven}
+use Rattle.kpn_answers.specs.Sources.{with_end, placed, IsItemFile, AreGiven}
 use Rattle.kpn_answers.specs.Shelf.{Loads}
 
 -- one more list is put in the place of its source
@@ -32,21 +35,21 @@ list_any-map p f (x ∷ xs) = ap (λ b. p (f x) || b) (list_any-map p f xs)
 
 module _ {F : Type 0} (source : F → ℕ) (feeds : List F) (n : ℕ) (found : Option ℕ) (e : Some n ≡ found) where
   named_if : (before : Bool) → list_any (λ f. nat_eq (source f) n) feeds ≡ before
-      → with_source (map source feeds) found
+      → with_end (map source feeds) found
       ≡ cond before (Err (Double (length (map source feeds)))) (Ok (map source feeds ++ n ∷ []))
   named_if before any =
-      ap (with_source (map source feeds)) (sym e)
+      ap (with_end (map source feeds)) (sym e)
       ∙ ap (λ b. cond b (Err (Double (length (map source feeds)))) (Ok (map source feeds ++ n ∷ [])))
       (sym (list_any-map (λ m. nat_eq m n) source feeds) ∙ any)
 
   -- a source that was named before
   pub named_before : list_any (λ f. nat_eq (source f) n) feeds ≡ true
-      → with_source (map source feeds) found ≡ Err (Double (length feeds))
+      → with_end (map source feeds) found ≡ Err (Double (length feeds))
   named_before any = named_if true any ∙ ap (λ k. Err (Double k)) (length-map feeds source)
 
   -- a source that was not
   pub named_now : list_any (λ f. nat_eq (source f) n) feeds ≡ false
-      → with_source (map source feeds) found ≡ Ok (map source feeds ++ n ∷ [])
+      → with_end (map source feeds) found ≡ Ok (map source feeds ++ n ∷ [])
   named_now any = named_if false any
 
 module _ {F : Type 0} (source : F → ℕ) (file : F → List ℕ) (may_give : Loads) (count : ℕ)
@@ -92,3 +95,11 @@ module _ {F : Type 0} (source : F → ℕ) (file : F → List ℕ) (may_give : L
     fails = h;
   }
   file_refused other h = absurd h
+
+-- a channel that passes a test has fewer such channels before it than there are
+pub end_below : (is : ChannelSpec → Bool) (t : Tables) (c : ℕ) → c < length t.channels
+    → is (channel_at t c) ≡ true → count_by is (take c t.channels) < count_by is t.channels
+end_below is t c below e =
+    let one = count_by_more_yes is t.channels c _ below e in
+    let rest = sum_by-take-le (λ s. cond (is s) 1 0) t.channels (c + 1) in
+    omega arith

@@ -11,7 +11,7 @@ use Rattle.kpn_answers.specs.Refusal.{status_of}
 pub data Concludes {O E : Type 0} (contents : O → Option (List ℕ)) (IsRight : List ℕ → (status : ℕ) → Type 0)
     (HasCause : Refusal → Type 0)
     (out written : O) (err told : E) (status : ℕ) : Type 0 where
-  -- a text that is right under the status went out whole, and nothing was told
+  -- a text that is right under the status went out whole, and nothing was reported
   answered : (text : List ℕ) → IsRight text status → Appends (contents out) (contents written) text → told ≡ err →
       Concludes contents IsRight HasCause out written err told status
   -- nothing went out, and the status is that of a refusal whose cause stands
@@ -32,7 +32,7 @@ abbrev pub Answers : {O E : Type 0} → (contents : O → Option (List ℕ)) (Is
 Answers contents IsRight HasCause out written err told status =
     Concludes contents (IsSuccess IsRight) HasCause out written err told status
 
--- this text goes out whole under the status that is wanted, and nothing is told; or it can't be written
+-- this text goes out whole under the status that is wanted, and nothing is reported; or it can't be written
 pub data GoesOut {O E : Type 0} (contents : O → Option (List ℕ)) (text : List ℕ) (wanted : ℕ) (out written : O)
     (err told : E) (status : ℕ) : Type 0 where
   sent : Appends (contents out) (contents written) text → told ≡ err → status ≡ wanted →

@@ -1,4 +1,4 @@
--- Fault lines: how the program tells a fault on standard error, without the line feed after it.
+-- Fault lines: how the program reports a fault on standard error, without the line feed after it.
 use Rattle.std.specs.Prelude.{ℕ, List, [], ◌++◌, Option, Some, None, codes}
 use Rattle.std.specs.Fmt.{decimal}
 use Rattle.kpn_answers.specs.declared.fault_line.FaultLine.{FaultLine}
@@ -14,15 +14,15 @@ use Rattle.kpn_text.specs.declared.fault.TextFault.{TextFault}
 use Rattle.kpn_text.specs.declared.fault.TextFault.TheVariants as text
 use Rattle.kpn_trace_text.specs.declared.fault.TraceFault.{TraceFault}
 use Rattle.kpn_trace_text.specs.declared.fault.TraceFault.TheVariants as trace
-use Rattle.kpn_answers.specs.declared.sources.SourceFault.{SourceFault}
-use Rattle.kpn_answers.specs.declared.sources.SourceFault.TheVariants as source
+use Rattle.kpn_answers.specs.declared.sources.NameFault.{NameFault}
+use Rattle.kpn_answers.specs.declared.sources.NameFault.TheVariants as name_of
 
--- ` at PLACE` where a fault has a place
+-- ` at PLACE` if a fault has a place
 abbrev pub place_text : Option ℕ → List ℕ
 place_text None = []
 place_text (Some place) = codes " at " ++ decimal place
 
--- `kpn: NUMBER NAME`, and ` at PLACE` where the fault has a place
+-- `kpn: NUMBER NAME`, and ` at PLACE` if the fault has a place
 abbrev pub fault_line : (number : ℕ) (name : List ℕ) (place : Option ℕ) → List ℕ
 fault_line number name place = codes "kpn: " ++ decimal number ++ codes " " ++ name ++ place_text place
 
@@ -77,13 +77,13 @@ trace_fault_line (trace.BadEvent line) = fault_line 30 (codes "BadEvent") (Some 
 trace_fault_line trace.BadHead = fault_line 31 (codes "BadHead") None
 trace_fault_line trace.NoMemory = fault_line 32 (codes "NoMemory") None
 
--- an option names no source, or one that was named before
-abbrev pub source_fault_line : SourceFault → List ℕ
-source_fault_line (source.Unknown option) = fault_line 22 (codes "UnknownName") (Some option)
-source_fault_line (source.Double option) = fault_line 23 (codes "DoubleName") (Some option)
+-- an option names no end of the network, or one that an earlier option names
+abbrev pub name_fault_line : NameFault → List ℕ
+name_fault_line (name_of.Unknown option) = fault_line 22 (codes "UnknownName") (Some option)
+name_fault_line (name_of.Double option) = fault_line 23 (codes "DoubleName") (Some option)
 
 -- ---- scaffolding
 
--- what is told of a fault line that the code has made
+-- the text of a fault line that the code has made
 abbrev pub told : FaultLine → List ℕ
 told fault = fault_line fault.number fault.name.now fault.place

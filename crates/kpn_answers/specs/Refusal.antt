@@ -1,4 +1,4 @@
--- Refusals: the line that tells each, and the status that the program then ends with.
+-- Refusals: the line that reports each, and the status that the program then ends with.
 use Rattle.std.specs.Prelude.{ℕ, Bool, true, false, if◌then◌else◌, List, None, codes}
 use Rattle.kpn_items.specs.declared.fault.ItemFault.TheVariants as item
 use Rattle.kpn_items.specs.declared.fault.WriteFault.TheVariants as write
@@ -8,8 +8,8 @@ use Rattle.kpn_text.specs.declared.fault.TextFault.{TextFault}
 use Rattle.kpn_text.specs.declared.fault.TextFault.TheVariants as text
 use Rattle.kpn_trace_text.specs.declared.fault.TraceFault.TheVariants as trace
 use Rattle.kpn_answers.specs.declared.refusal.Refusal.{Refusal}
-use Rattle.kpn_answers.specs.declared.refusal.Refusal.TheVariants.{NotText, UnknownProcess, SourceWord, TraceWord, Input, Description, Sources, Output, Trace, NoMemoryToAudit, PolicyDiffers, Threads, Abandoned, Foreign, NoMemory}
-use Rattle.kpn_answers.specs.FaultLine.{fault_line, input_fault_line, output_fault_line, text_fault_line, source_fault_line, trace_fault_line}
+use Rattle.kpn_answers.specs.declared.refusal.Refusal.TheVariants.{NotText, UnknownProcess, SourceWord, TraceWord, SinkWord, Input, Description, Names, Output, Trace, NoMemoryToAudit, PolicyDiffers, Threads, Abandoned, Foreign, NoMemory}
+use Rattle.kpn_answers.specs.FaultLine.{fault_line, input_fault_line, output_fault_line, text_fault_line, name_fault_line, trace_fault_line}
 
 -- the line, without its line feed
 abbrev pub refusal_line : Refusal → List ℕ
@@ -17,9 +17,10 @@ refusal_line NotText = codes "kpn: usage: words of UTF-8 text"
 refusal_line UnknownProcess = codes "kpn: usage: copy, double or sum"
 refusal_line SourceWord = codes "kpn: usage: --source NAME=FILE"
 refusal_line TraceWord = codes "kpn: usage: --trace OUT, a file that is no input and no other output"
+refusal_line SinkWord = codes "kpn: usage: --sink NAME=OUT, a file that is no input and no other output"
 refusal_line (Input fault) = input_fault_line fault
 refusal_line (Description fault) = text_fault_line fault
-refusal_line (Sources fault) = source_fault_line fault
+refusal_line (Names fault) = name_fault_line fault
 refusal_line (Output fault) = output_fault_line fault
 refusal_line (Trace fault) = trace_fault_line fault
 refusal_line NoMemoryToAudit = fault_line 51 (codes "NoMemory") None
@@ -43,6 +44,7 @@ status_of NotText = 2
 status_of UnknownProcess = 2
 status_of SourceWord = 2
 status_of TraceWord = 2
+status_of SinkWord = 2
 status_of (Input item.NoMemory) = 6
 status_of (Description fault) = if wants_memory fault then 6 else 1
 status_of (Trace trace.NoMemory) = 6

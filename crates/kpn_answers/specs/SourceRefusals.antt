@@ -1,10 +1,11 @@
--- Scaffolding: why `--source` options are refused, stage by stage: their words, the names in them, the files in them.
+-- Scaffolding: why options are refused, stage by stage: their words, the names in them, the files in them.
 use Rattle.std.specs.Prelude.{◌≡◌, ℕ, List, Err, ⊤}
 use Rattle.std.specs.List.{Any}
 use Rattle.kpn_text.specs.Document.{Document}
 use Rattle.kpn_answers.specs.declared.refusal.Refusal.{Refusal}
-use Rattle.kpn_answers.specs.declared.refusal.Refusal.TheVariants.{SourceWord, Input, Sources, NoMemory}
-use Rattle.kpn_answers.specs.Sources.{LacksEquals, sources_named, IsFaultOfFile, IsFaultOfItems}
+use Rattle.kpn_answers.specs.declared.refusal.Refusal.TheVariants.{SourceWord, SinkWord, Input, Names, NoMemory}
+use Rattle.kpn_answers.specs.declared.sources.Ends.{Ends}
+use Rattle.kpn_answers.specs.Sources.{LacksEquals, ends_named, IsFaultOfFile, IsFaultOfItems}
 use Rattle.kpn_answers.specs.Shelf.{Loads}
 
 -- a word has no `=`
@@ -13,11 +14,17 @@ IsRefusalOfWords words SourceWord = Any LacksEquals words
 IsRefusalOfWords words NoMemory = ⊤
 IsRefusalOfWords words other = ⊥
 
--- a name is no source, or was named before
-abbrev pub IsRefusalOfNames : Document → (names : List (List ℕ)) → Refusal → Type 0
-IsRefusalOfNames d names (Sources fault) = sources_named d names ≡ Err fault
-IsRefusalOfNames d names NoMemory = ⊤
-IsRefusalOfNames d names other = ⊥
+-- the same for words behind `--sink`
+abbrev pub IsRefusalOfSinkWords : (words : List (List ℕ)) → Refusal → Type 0
+IsRefusalOfSinkWords words SinkWord = Any LacksEquals words
+IsRefusalOfSinkWords words NoMemory = ⊤
+IsRefusalOfSinkWords words other = ⊥
+
+-- a name is no such end, or was named before
+abbrev pub IsRefusalOfNames : Ends → Document → (names : List (List ℕ)) → Refusal → Type 0
+IsRefusalOfNames ends d names (Names fault) = ends_named ends d names ≡ Err fault
+IsRefusalOfNames ends d names NoMemory = ⊤
+IsRefusalOfNames ends d names other = ⊥
 
 -- a file gives no items
 abbrev pub IsRefusalOfFile : (may_give : Loads) (file : List ℕ) → Refusal → Type 0

@@ -8,7 +8,7 @@ use crate::refusal::Refusal;
 use kpn_items::WriteFault;
 use std::io::Write;
 
-/// Writes a text that goes out under status 0, or tells why there is none. It gives the status that
+/// Writes a text that goes out under status 0, or reports why there is none. It returns the status that
 /// the program ends with.
 pub fn give<O: Write, E: Write>(answer: Result<Vec<u8>, Refusal>, out: &mut O, err: &mut E) -> u8
     ensures { MatchResult answer
@@ -22,14 +22,14 @@ pub fn give<O: Write, E: Write>(answer: Result<Vec<u8>, Refusal>, out: &mut O, e
     send(&text, 0, out, err)
 }
 
-/// A text that is to go out, and the status that the program ends with where it went out whole.
+/// A text that is to go out, and the status that the program ends with if it went out whole.
 #[derive(Debug, Drop)]
 pub struct Conclusion {
     pub text: Vec<u8>,
     pub status: u8,
 }
 
-/// Writes a text that goes out under a status of its own, or tells why there is none. It gives the
+/// Writes a text that goes out under a status of its own, or reports why there is none. It returns the
 /// status that the program ends with.
 pub fn conclude<O: Write, E: Write>(
     answer: Result<Conclusion, Refusal>,

@@ -7,8 +7,8 @@ use crate::shelf::Shelf;
 use kpn_text::{Document, read_network};
 use std::alloc::Global;
 
-/// The document that a file spells. A file that can't be read is refused as the shelf refuses it,
-/// a text that spells none with the fault of that text.
+/// The document that a file spells. It refuses a file that can't be read as the shelf does,
+/// and a text that spells none with the fault of that text.
 pub fn load_document<S: Shelf>(alloc: Global, shelf: &S, file: &str) -> Result<Document, Refusal>
     ensures ok { IfOk result (IsDescribed (S.may_give shelf.now) file.now) }
     ensures refused { IfErr result (IsRefusalOfDescription (S.may_give shelf.now) file.now) }

@@ -1,8 +1,8 @@
-//! Fault lines: how the program tells a fault on standard error.
+//! Fault lines: how the program reports a fault on standard error.
 ghost use Rattle.std.specs.Prelude.{◌≡◌, Some, None};
-ghost use Rattle.kpn_answers.specs.FaultLine.{told, input_fault_line, output_fault_line, program_fault_line, net_fault_line, text_fault_line, source_fault_line, trace_fault_line};
+ghost use Rattle.kpn_answers.specs.FaultLine.{told, input_fault_line, output_fault_line, program_fault_line, net_fault_line, text_fault_line, name_fault_line, trace_fault_line};
 
-use crate::sources::SourceFault;
+use crate::sources::NameFault;
 use kpn_items::{ItemFault, WriteFault};
 use kpn_lang::ProgramFault;
 use kpn_net::NetFault;
@@ -10,14 +10,14 @@ use kpn_text::TextFault;
 use kpn_trace_text::TraceFault;
 use std::fmt;
 
-/// A fault as the program tells it: `kpn: NUMBER NAME`, and ` at PLACE` where it has a place.
+/// A fault as the program reports it: `kpn: NUMBER NAME`, and ` at PLACE` if it has a place.
 #[derive(Clone, Copy, Debug)]
 pub(crate) struct FaultLine {
     /// The number of the fault.
     pub number: u8,
     /// The name of the fault.
     pub name: &'static str,
-    /// Where it lies, if it has a place: a line, counted from 1, or else a byte, a process, an
+    /// The place, if it has one: a line, counted from 1, or else a byte, a process, an
     /// instance, a channel or an option, counted from 0.
     pub place: Option<usize>,
 }
@@ -60,7 +60,7 @@ impl FaultLine {
         }
     }
 
-    /// How a fault of an input is told.
+    /// How the program reports a fault of an input.
     pub(crate) fn of_input(fault: &ItemFault) -> FaultLine
         ensures { told result ≡ input_fault_line fault.now }
     {
@@ -71,7 +71,7 @@ impl FaultLine {
         }
     }
 
-    /// How a fault of an output is told.
+    /// How the program reports a fault of an output.
     pub(crate) fn of_output(fault: &WriteFault) -> FaultLine
         ensures { told result ≡ output_fault_line fault.now }
     {
@@ -81,7 +81,7 @@ impl FaultLine {
         }
     }
 
-    /// How it is told that the program of a process breaks a rule.
+    /// How the program reports that the program of a process breaks a rule.
     pub(crate) fn of_program(process: usize, fault: ProgramFault) -> FaultLine
         ensures { told result ≡ program_fault_line process fault }
     {
@@ -96,7 +96,7 @@ impl FaultLine {
         }
     }
 
-    /// How it is told that tables break a rule of networks.
+    /// How the program reports that tables break a rule of networks.
     pub(crate) fn of_net(fault: NetFault) -> FaultLine
         ensures { told result ≡ net_fault_line fault }
     {
@@ -114,7 +114,7 @@ impl FaultLine {
         }
     }
 
-    /// How it is told that a text is no description of a network.
+    /// How the program reports that a text is no description of a network.
     pub(crate) fn of_text(fault: TextFault) -> FaultLine
         ensures { told result ≡ text_fault_line fault }
     {
@@ -130,7 +130,7 @@ impl FaultLine {
         }
     }
 
-    /// How it is told that bytes are no trace.
+    /// How the program reports that bytes are no trace.
     pub(crate) fn of_trace(fault: &TraceFault) -> FaultLine
         ensures { told result ≡ trace_fault_line fault.now }
     {
@@ -141,13 +141,13 @@ impl FaultLine {
         }
     }
 
-    /// How it is told that an option names no source, or one that was named before.
-    pub(crate) fn of_source(fault: SourceFault) -> FaultLine
-        ensures { told result ≡ source_fault_line fault }
+    /// How the program reports that an option names no end of a network, or one that an earlier option names.
+    pub(crate) fn of_name(fault: NameFault) -> FaultLine
+        ensures { told result ≡ name_fault_line fault }
     {
         match fault {
-            SourceFault::Unknown(option) => FaultLine::at(22, "UnknownName", option),
-            SourceFault::Double(option) => FaultLine::at(23, "DoubleName", option),
+            NameFault::Unknown(option) => FaultLine::at(22, "UnknownName", option),
+            NameFault::Double(option) => FaultLine::at(23, "DoubleName", option),
         }
     }
 }

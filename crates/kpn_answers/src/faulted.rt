@@ -1,4 +1,4 @@
-//! The line that tells of a process that ended by a fault.
+//! The line of a process that ended by a fault.
 ghost use Rattle.std.specs.Prelude.{◌≡◌, ◌++◌, OnOk};
 ghost use Rattle.kpn_answers.specs.Faulted.{faulted_line};
 
@@ -6,7 +6,7 @@ use kpn_trace::How;
 use kpn_trace_text::how_word;
 use std::alloc::AllocError;
 
-/// `fault NAME CAUSE`, and a line feed. The word for the cause is that of a trace. Ask this only of an end by a fault.
+/// `fault NAME CAUSE`, and a line feed. The word for the cause is that of a trace. Call it only for an end by a fault.
 pub fn push_faulted(text: &mut Vec<u8>, name: &[u8], how: How) -> Result<(), AllocError>
     ensures { OnOk result (text.new.items ≡ text.old.items ++ faulted_line name.now how) }
 {

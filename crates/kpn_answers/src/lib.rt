@@ -1,4 +1,4 @@
-//! What all commands of the program share: refusals with the lines and statuses that tell them, the
+//! What all commands of the program share: refusals with their lines and statuses, the
 //! shelf of files, descriptions and the lists of sources that are loaded from it, lines that several
 //! of them write, and answers, which are written whole.
 #![tactic(auto)]

@@ -1,11 +1,11 @@
-//! Refusals: why a command gives no answer, how that is told, and the status that the program then
+//! Refusals: why a command gives no answer, the line that reports it, and the status that the program then
 //! ends with.
 ghost use Rattle.std.specs.Prelude.{◌≡◌, ◌++◌, [], ◌∷◌, OnOk};
 ghost use Rattle.std.specs.Io.KnownBytes.{Appends};
 ghost use Rattle.kpn_answers.specs.Refusal.{wants_memory};
 
 use crate::fault_line::FaultLine;
-use crate::sources::SourceFault;
+use crate::sources::NameFault;
 use kpn_items::{ItemFault, WriteFault};
 use kpn_lang::ProgramFault;
 use kpn_net::NetFault;
@@ -26,14 +26,16 @@ pub enum Refusal {
     SourceWord,
     /// The word behind `--trace` names an input, standard output or standard error.
     TraceWord,
+    /// A word behind `--sink` has no `=`, or names a file that is an input or another output.
+    SinkWord,
     /// An input or a file could not be read, or spells no items, or memory was refused while it was
     /// read.
     Input(ItemFault),
     /// A text is no description of a network.
     Description(TextFault),
-    /// A `--source` option names no source of the network, or one that was named before.
-    Sources(SourceFault),
-    /// The output or the trace could not be written, or memory was refused for that.
+    /// A `--source` option names no source of the network, a `--sink` option no sink, or one that an earlier one names.
+    Names(NameFault),
+    /// The output or a file could not be written, or memory was refused for that.
     Output(WriteFault),
     /// Bytes are no trace, or memory was refused while they were read.
     Trace(TraceFault),
@@ -90,9 +92,15 @@ impl fmt::Display for Refusal {
                     "kpn: usage: --trace OUT, a file that is no input and no other output"
                 )
             }
+            Refusal::SinkWord => {
+                write!(
+                    f,
+                    "kpn: usage: --sink NAME=OUT, a file that is no input and no other output"
+                )
+            }
             Refusal::Input(fault) => write!(f, "{}", FaultLine::of_input(fault)),
             Refusal::Description(fault) => write!(f, "{}", FaultLine::of_text(*fault)),
-            Refusal::Sources(fault) => write!(f, "{}", FaultLine::of_source(*fault)),
+            Refusal::Names(fault) => write!(f, "{}", FaultLine::of_name(*fault)),
             Refusal::Output(fault) => write!(f, "{}", FaultLine::of_output(fault)),
             Refusal::Trace(fault) => write!(f, "{}", FaultLine::of_trace(fault)),
             Refusal::NoMemoryToAudit => write!(f, "{}", FaultLine::new(51, "NoMemory")),
@@ -115,11 +123,11 @@ impl Refusal {
     {
         match self {
             Refusal::NotText | Refusal::UnknownProcess => 2,
-            Refusal::SourceWord | Refusal::TraceWord => 2,
+            Refusal::SourceWord | Refusal::TraceWord | Refusal::SinkWord => 2,
             Refusal::Input(ItemFault::BadItem(_) | ItemFault::Read) => 1,
             Refusal::Description(fault) if !is_want_of_memory(*fault) => 1,
             Refusal::Trace(TraceFault::BadHead | TraceFault::BadEvent(_)) => 1,
-            Refusal::Sources(_) | Refusal::Output(WriteFault::Write) => 1,
+            Refusal::Names(_) | Refusal::Output(WriteFault::Write) => 1,
             Refusal::PolicyDiffers => 1,
             Refusal::Input(ItemFault::NoMemory) | Refusal::Description(_) => 6,
             Refusal::Trace(TraceFault::NoMemory) | Refusal::Output(WriteFault::NoMemory) => 6,
@@ -128,7 +136,7 @@ impl Refusal {
         }
     }
 
-    /// Writes the one line that tells the refusal.
+    /// Writes the one line that reports the refusal.
     pub fn tell<E: Write>(&self, err: &mut E) -> Result<(), WriteFault>
         ensures { OnOk result
             (Appends (E.contents err.old) (E.contents err.new) (refusal_line self.now ++ 10 ∷ [])) }
@@ -136,8 +144,8 @@ impl Refusal {
         writeln!(err, "{self}").map_err(|_| WriteFault::Write)
     }
 
-    /// Tells the refusal and gives its status. Where standard error takes nothing, the status alone
-    /// tells it.
+    /// Reports the refusal and returns its status. If standard error takes nothing, only the status
+    /// reports it.
     pub fn report<E: Write>(&self, err: &mut E) -> u8
         ensures { result ≡ status_of self.now }
     {

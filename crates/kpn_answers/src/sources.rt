@@ -1,39 +1,49 @@
-//! The `--source NAME=FILE` options of a command line, and the lists that the sources of a network
-//! are given by them.
-ghost use Rattle.std.specs.Prelude.{◌≡◌, ◌<◌, ◌++◌, ◌∷◌, [], nat_eq, Ok, map, length, replicate, IfOk, IfErr, IfSome, MatchOption, MatchResult, All};
+//! The options `--source NAME=FILE` and `--sink NAME=FILE` of a command line: each names a file for an end of a
+//! network. And the lists that the sources get from such files.
+ghost use Rattle.std.specs.Prelude.{◌≡◌, ◌<◌, ◌++◌, ◌∷◌, [], nat_eq, Ok, map, length, replicate, IfOk, IfErr, OnOk, IfSome, MatchOption, MatchResult, All};
 ghost use Rattle.std.specs.List.{list_any};
-ghost use Rattle.kpn_net.specs.Iteration.{sources};
-ghost use Rattle.kpn_answers.specs.Sources.{HasEquals, LacksEquals, name_in, file_in, source_number, with_source, sources_named, AreGiven, IsItemFile};
-ghost use Rattle.kpn_answers.specs.SourceRefusals.{IsRefusalOfWords, IsRefusalOfNames, IsRefusalOfFile, IsRefusalOfItems};
+ghost use Rattle.kpn_net.specs.Tables.{channel_at};
+ghost use Rattle.kpn_answers.specs.Sources.{HasEquals, LacksEquals, name_in, file_in, is_end, ends_of, end_number, with_end, ends_named, AreGiven, IsItemFile};
+ghost use Rattle.kpn_answers.specs.SourceRefusals.{IsRefusalOfWords, IsRefusalOfSinkWords, IsRefusalOfNames, IsRefusalOfFile, IsRefusalOfItems};
 
 use crate::refusal::Refusal;
 use crate::shelf::Shelf;
 use kpn_items::items_of;
 use kpn_lang::Sequence;
+use kpn_net::Network;
 use kpn_text::Document;
 use std::alloc::{AllocError, Global};
 
-/// A `--source` option: the name of a source, and the name of the file with its items.
+/// The ends of a network that options name.
 #[derive(Clone, Copy, Debug)]
-pub(crate) struct SourceOption<'a> {
+pub enum Ends {
+    /// The sources, by `--source`.
+    Sources,
+    /// The sinks, by `--sink`.
+    Sinks,
+}
+
+/// An option: the name of an end of a network, and the name of a file.
+#[derive(Clone, Copy, Debug)]
+pub struct FileOption<'a> {
     pub name: &'a str,
     pub file: &'a str,
 }
 
-/// A source of a network, by its number among the sources, which stand in order of their channels, and
-/// the name of the file with its items.
+/// An end of a network by its number among the sources or among the sinks, which both stand in order of their
+/// channels, and the name of the file that an option gives it.
 #[derive(Clone, Copy, Debug)]
-pub(crate) struct Feed<'a> {
-    pub source: usize,
+pub struct NamedEnd<'a> {
+    pub number: usize,
     pub file: &'a str,
 }
 
 /// Why the names of options are refused. Options are counted from 0.
 #[derive(Clone, Copy, Debug, PartialEq, Eq)]
-pub enum SourceFault {
-    /// 22: this option names no source of the network.
+pub enum NameFault {
+    /// 22: this option names no such end of the network.
     Unknown(usize),
-    /// 23: this option names a source that an earlier one names.
+    /// 23: this option names an end that an earlier one names.
     Double(usize),
 }
 
@@ -42,7 +52,7 @@ pub enum SourceFault {
 pub(crate) fn options_of<'a>(
     alloc: Global,
     words: &[&'a str],
-) -> Result<Vec<SourceOption<'a>>, Refusal>
+) -> Result<Vec<FileOption<'a>>, Refusal>
     ensures names { IfOk result (λ options.
         map (λ o. o.name.now) options.items ≡ map (λ word. name_in word.now) words.now) }
     ensures files { IfOk result (λ options.
@@ -60,83 +70,101 @@ pub(crate) fn options_of<'a>(
     Ok(options)
 }
 
+/// The same for words behind `--sink`. A word without `=` is refused as `SinkWord`.
+pub fn sink_options_of<'a>(alloc: Global, words: &[&'a str]) -> Result<Vec<FileOption<'a>>, Refusal>
+    ensures names { IfOk result (λ options.
+        map (λ o. o.name.now) options.items ≡ map name_in (map (λ word. word.now) words.now)) }
+    ensures files { IfOk result (λ options.
+        map (λ o. o.file.now) options.items ≡ map file_in (map (λ word. word.now) words.now)) }
+    ensures cut { OnOk result (All HasEquals (map (λ word. word.now) words.now)) }
+    ensures refused { IfErr result (IsRefusalOfSinkWords (map (λ word. word.now) words.now)) }
+{
+    match options_of(alloc, words) {
+        Ok(options) => Ok(options),
+        Err(Refusal::SourceWord) => Err(Refusal::SinkWord),
+        Err(_) => Err(Refusal::NoMemory),
+    }
+}
+
 // The option that a word spells.
-fn option_of(word: &str) -> Option<SourceOption<'_>>
+fn option_of(word: &str) -> Option<FileOption<'_>>
     ensures { MatchOption result (LacksEquals word.now) (λ option. HasEquals word.now
         × (option.name.now ≡ name_in word.now) × (option.file.now ≡ file_in word.now)) }
 {
     let (name, file) = word.split_once('=')?;
-    Some(SourceOption { name, file })
+    Some(FileOption { name, file })
 }
 
-/// The sources of a network that options name, in the order of the options. The first option that
+/// The ends of a network that options name, in the order of the options. The first option that
 /// names none, or one that an earlier option names, is refused.
 #[tactic(auto, unfolding(kpn_tokens::specs::Results::and_then))]
-pub(crate) fn feeds_of<'a>(
+pub(crate) fn ends_of<'a>(
     alloc: Global,
     document: &Document,
-    options: &[SourceOption<'a>],
-) -> Result<Vec<Feed<'a>>, Refusal>
-    ensures named { IfOk result (λ feeds.
-        sources_named document.now (map (λ o. o.name.now) options.now)
-        ≡ Ok (map (λ f. f.source) feeds.items)) }
-    ensures files { IfOk result (λ feeds.
-        map (λ f. f.file.now) feeds.items ≡ map (λ o. o.file.now) options.now) }
-    ensures there { IfOk result (λ feeds.
-        All (λ f. f.source < sources document.now.tables) feeds.items) }
+    ends: Ends,
+    options: &[FileOption<'a>],
+) -> Result<Vec<NamedEnd<'a>>, Refusal>
+    ensures named { IfOk result (λ named.
+        ends_named ends document.now (map (λ o. o.name.now) options.now)
+        ≡ Ok (map (λ e. e.number) named.items)) }
+    ensures files { IfOk result (λ named.
+        map (λ e. e.file.now) named.items ≡ map (λ o. o.file.now) options.now) }
+    ensures there { IfOk result (λ named.
+        All (λ e. e.number < ends_of ends document.now.tables) named.items) }
     ensures refused { IfErr result
-        (IsRefusalOfNames document.now (map (λ o. o.name.now) options.now)) }
+        (IsRefusalOfNames ends document.now (map (λ o. o.name.now) options.now)) }
 {
-    let mut feeds = Vec::new(alloc);
+    let mut named = Vec::new(alloc);
     for option in options {
-        let feed = match feed_of(document, &feeds, option) {
-            Ok(feed) => feed,
-            Err(fault) => return Err(Refusal::Sources(fault)),
+        let end = match end_of(document, ends, &named, option) {
+            Ok(end) => end,
+            Err(fault) => return Err(Refusal::Names(fault)),
         };
-        feeds.push(feed)?;
+        named.push(end)?;
     }
-    Ok(feeds)
+    Ok(named)
 }
 
-// The source that an option names, where these were named before.
-fn feed_of<'a>(
+// The end that an option names, if these were named before.
+fn end_of<'a>(
     document: &Document,
-    before: &[Feed<'a>],
-    option: &SourceOption<'a>,
-) -> Result<Feed<'a>, SourceFault>
-    ensures source { let named = map (λ f. f.source) before.now in MatchResult result
-        (λ feed. with_source named (source_number document.now option.now.name.now)
-        ≡ Ok (named ++ feed.source ∷ []))
-        (λ fault. with_source named (source_number document.now option.now.name.now) ≡ Err fault) }
-    ensures file { IfOk result (λ feed. feed.file.now ≡ option.now.file.now) }
-    ensures there { IfOk result (λ feed. feed.source < sources document.now.tables) }
+    ends: Ends,
+    before: &[NamedEnd<'a>],
+    option: &FileOption<'a>,
+) -> Result<NamedEnd<'a>, NameFault>
+    ensures number { let named = map (λ e. e.number) before.now in MatchResult result
+        (λ end. with_end named (end_number ends document.now option.now.name.now)
+        ≡ Ok (named ++ end.number ∷ []))
+        (λ fault. with_end named (end_number ends document.now option.now.name.now) ≡ Err fault) }
+    ensures file { IfOk result (λ end. end.file.now ≡ option.now.file.now) }
+    ensures there { IfOk result (λ end. end.number < ends_of ends document.now.tables) }
 {
-    let Some(source) = number_of(document, option.name) else {
-        return Err(SourceFault::Unknown(before.len()));
+    let Some(number) = number_of(document, ends, option.name) else {
+        return Err(NameFault::Unknown(before.len()));
     };
-    if is_named(before, source) {
-        return Err(SourceFault::Double(before.len()));
+    if is_named(before, number) {
+        return Err(NameFault::Double(before.len()));
     }
     let file = option.file;
-    Ok(Feed { source, file })
+    Ok(NamedEnd { number, file })
 }
 
-// Whether one of these is that source.
-fn is_named(feeds: &[Feed<'_>], source: usize) -> bool
-    ensures { result ≡ list_any (λ f. nat_eq f.source source) feeds.now }
+// Whether one of these has that number.
+fn is_named(named: &[NamedEnd<'_>], number: usize) -> bool
+    ensures { result ≡ list_any (λ e. nat_eq e.number number) named.now }
 {
-    feeds.iter().any(|feed| feed.source == source)
+    named.iter().any(|end| end.number == number)
 }
 
-// The number of the source with this name among the sources.
-fn number_of(document: &Document, name: &str) -> Option<usize>
-    ensures number { result ≡ source_number document.now name.now }
-    ensures there { IfSome result (λ source. source < sources document.now.tables) }
+// The number of the end with this name among these ends.
+fn number_of(document: &Document, ends: Ends, name: &str) -> Option<usize>
+    ensures number { result ≡ end_number ends document.now name.now }
+    ensures there { IfSome result (λ number. number < ends_of ends document.now.tables) }
 {
     let network = document.network();
     let mut number = 0;
     for channel in 0..network.channels() {
-        if network.is_source(channel) {
+        if is_end(network, ends, channel) {
             if name.as_bytes() == document.channel_name(channel) {
                 return Some(number);
             }
@@ -146,25 +174,35 @@ fn number_of(document: &Document, name: &str) -> Option<usize>
     None
 }
 
-/// A list for each of so many sources: the items of the files, which are read in this order, and the
+// Whether a channel is one of these ends.
+fn is_end(network: &Network, ends: Ends, channel: usize) -> bool
+    ensures { result ≡ is_end ends (channel_at network.now channel) }
+{
+    match ends {
+        Ends::Sources => network.is_source(channel),
+        Ends::Sinks => network.is_sink(channel),
+    }
+}
+
+/// A list for each of so many sources: the items of the files, which it reads in this order, and the
 /// empty list for sources without a file.
 pub(crate) fn lists_of<S: Shelf>(
     alloc: Global,
     shelf: &S,
     count: usize,
-    feeds: &[Feed<'_>],
+    named: &[NamedEnd<'_>],
 ) -> Result<Vec<Sequence<i64>>, Refusal>
-    requires { All (λ f. f.source < count) feeds.now }
+    requires { All (λ e. e.number < count) named.now }
     ensures ok { IfOk result (λ lists.
-        AreGiven (S.may_give shelf.now) count (map (λ f. f.source) feeds.now)
-        (map (λ f. f.file.now) feeds.now) lists.items) }
+        AreGiven (S.may_give shelf.now) count (map (λ e. e.number) named.now)
+        (map (λ e. e.file.now) named.now) lists.items) }
     ensures length { IfOk result (λ lists. length lists.items ≡ count) }
     ensures refused { IfErr result
-        (IsRefusalOfItems (S.may_give shelf.now) (map (λ f. f.file.now) feeds.now)) }
+        (IsRefusalOfItems (S.may_give shelf.now) (map (λ e. e.file.now) named.now)) }
 {
     let mut lists = empty_lists(alloc, count)?;
-    for feed in feeds {
-        lists[feed.source] = load_items(alloc, shelf, feed.file)?;
+    for end in named {
+        lists[end.number] = load_items(alloc, shelf, end.file)?;
     }
     Ok(lists)
 }

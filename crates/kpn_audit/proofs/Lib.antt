@@ -6,3 +6,4 @@ pub mod Stopping
 pub mod Summed
 pub mod Replaying
 pub mod Telling
+pub mod SceneAt

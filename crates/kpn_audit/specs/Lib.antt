@@ -2,3 +2,4 @@ pub mod Place
 pub mod Stored
 pub mod Audit
 pub mod Judged
+pub mod Scene

@@ -3,6 +3,7 @@ ghost use Rattle.std.specs.Prelude.{◌≡◌, ◌⊎◌, ◌↔◌, ℕ, true, 
 ghost use Rattle.kpn_trace.specs.Legal.{Legal};
 ghost use Rattle.kpn_configuration.specs.Run.{IsRun};
 ghost use Rattle.kpn_audit.specs.Audit.{IsAudit, AreLeast, AreWithinSteps, IsFault, IsRefusal};
+ghost use Rattle.kpn_audit.specs.Judged.{Owes};
 ghost use Rattle.kpn_audit.specs.Stored.{Differs, history_of, tables_for, history_in};
 
 use crate::findings::{Audit, AuditFault};
@@ -10,7 +11,7 @@ use crate::judged::Judged;
 use crate::judging::judge;
 use crate::stored::told;
 use crate::summary::summary;
-use kpn_configuration::Configuration;
+use kpn_configuration::{Configuration, OwedGrowth};
 use kpn_net::{Growth, Network, Policy};
 use kpn_trace::{Event, Trace, Version};
 use std::alloc::Allocator;
@@ -93,20 +94,29 @@ fn audit_events<A: Allocator + Copy>(
         (fault ≡ AuditFault.NoMemory) ⊎ ((k : ℕ) × (fault ≡ AuditFault.Budget k))) }
 {
     network.known();
-    let configuration = replay(alloc, network, version, events, quota)?;
-    Ok(summary(alloc, network, configuration)?)
+    let replayed = replay(alloc, network, version, events, quota)?;
+    Ok(summary(alloc, network, replayed.configuration)?)
+}
+
+/// What a replay leads to: a configuration, and what is owed then.
+#[derive(Drop)]
+pub(crate) struct Replayed<A: Allocator> {
+    pub configuration: Configuration<A>,
+    pub owed: Option<OwedGrowth>,
 }
 
 /// Replays events of this version on a configuration of its own, from the start.
-fn replay<A: Allocator + Copy>(
+pub(crate) fn replay<A: Allocator + Copy>(
     alloc: A,
     network: &Network,
     version: Version,
     events: &[Event],
     quota: u64,
-) -> Result<Configuration<A>, AuditFault>
+) -> Result<Replayed<A>, AuditFault>
     ensures run { IfOk result (λ made.
-        IsRun network.now (history_of version network.now events.now) made) }
+        IsRun network.now (history_of version network.now events.now) made.configuration) }
+    ensures owes { let H = history_of version network.now events.now in
+        IfOk result (λ made. Owes network.now H made.configuration made.owed) }
     ensures within { let H = history_of version network.now events.now in
         IfOk result (λ made. AreWithinSteps network.now H quota (length H)) }
     ensures refused { let H = history_of version network.now events.now in
@@ -123,5 +133,8 @@ fn replay<A: Allocator + Copy>(
             Judged::Budget => return Err(AuditFault::Budget(k)),
         }
     }
-    Ok(configuration)
+    Ok(Replayed {
+        configuration,
+        owed,
+    })
 }

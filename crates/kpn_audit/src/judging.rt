@@ -30,7 +30,7 @@ fn are_numbers(network: &Network, p: u16, c: u16) -> bool
 }
 
 /// Whether the numbers of the event are numbers of the network.
-fn has_numbers(network: &Network, event: Event) -> bool
+pub(crate) fn has_numbers(network: &Network, event: Event) -> bool
     ensures { IsTrue result ↔ HasNumbers network.now event }
 {
     match event {
@@ -44,7 +44,7 @@ fn has_numbers(network: &Network, event: Event) -> bool
 }
 
 /// The process that an event is of, if it is one of a process.
-fn process_of(event: Event) -> Option<usize>
+pub(crate) fn process_of(event: Event) -> Option<usize>
     ensures some { IfSome result (λ p. is_of p event ≡ true) }
     ensures none { IfNone result (is_of_process event ≡ false) }
 {

@@ -11,9 +11,14 @@ pub mod laws;
 mod outside;
 mod ports;
 mod processes;
+mod scene;
+mod scenes;
+mod seeing;
 mod stepping;
 mod stored;
 mod summary;
 
 pub use auditor::audit;
 pub use findings::{Audit, AuditFault};
+pub use scene::{Doing, GrowthOwed, Scene, Side};
+pub use scenes::scene_before;

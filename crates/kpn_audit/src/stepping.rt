@@ -40,7 +40,7 @@ fn part_of(remaining: u64) -> u32
 
 /// Steps process `p` on from its frame until it stops, or until `quota` steps were made, which is a pause. Paused it
 /// has made them all.
-fn step_on<A: Allocator>(
+pub(crate) fn step_on<A: Allocator>(
     configuration: &mut Configuration<A>,
     network: &Network,
     p: usize,

@@ -12,11 +12,7 @@ use std::alloc::{AllocError, Global};
 
 /// `legal`, whether the journals are exact, and a line for each channel in order of number: `NAME cap N:`, or `NAME:`
 /// for a source, and its journal. There is a capacity for each journal.
-pub(crate) fn text_of(
-    alloc: Global,
-    document: &Document,
-    audit: &Audit,
-) -> Result<Vec<u8>, AllocError>
+pub fn text_of(alloc: Global, document: &Document, audit: &Audit) -> Result<Vec<u8>, AllocError>
     requires channels { length audit.now.journals ≤ length document.now.tables.channels }
     requires caps { length audit.now.caps ≡ length audit.now.journals }
     ensures { IfOk result (λ text.
@@ -86,7 +82,7 @@ fn push_cap(text: &mut Vec<u8>, cap: Option<u32>) -> Result<(), AllocError>
 }
 
 /// `WORD at K` of a finding at event K, and a line feed.
-pub(crate) fn finding_text(alloc: Global, word: &str, k: usize) -> Result<Vec<u8>, AllocError>
+pub fn finding_text(alloc: Global, word: &str, k: usize) -> Result<Vec<u8>, AllocError>
     ensures { IfOk result (λ text. text.items ≡ finding_line word.now k) }
 {
     Ok(format!(in alloc; "{word} at {k}\n")?.into_bytes())

@@ -1,7 +1,7 @@
 //! `kpn audit FILE TRACE` audits a trace against the network of a description.
 #![tactic(auto)]
 
-mod audit_text;
+pub mod audit_text;
 pub mod auditing;
 mod command;
 

@@ -12,13 +12,13 @@ use std::sync::Wait;
 use std::thread::Threads;
 use std::time::Clock;
 
-/// The program over a shelf of files, an input, an output and a place for faults. The first of the
-/// words is the name that the program was called by. It answers the status that the program ends
-/// with: 0 for success and for help, 1 for a refused input, a device's fault or an illegal trace, 2 for
-/// words that are not understood, 3 for a run that has clogged, 4 for one that has jammed, 5 for one
-/// that was stopped or an audit without steps left, 6 for want of memory, 7 for what befell workers.
+/// The program over a shelf of files, an input, an output and a place for faults. The first of the words is the name
+/// that the user called the program by. It returns the status of the program: 0 for success and for help, 1 for a
+/// refused input, a device that fails or an illegal trace, 2 for words that are not understood, 3 for a run that has
+/// clogged, 4 for one that has jammed, 5 for one that has stopped or an audit without steps left, 6 for want of memory, 7
+/// for workers that came to no outcome.
 ///
-/// `command_here`, which always returns, does all but a run by workers: only that may wait.
+/// `command_here` does everything except a run by workers, and always returns. Only a run by workers may wait.
 pub fn command<R: Threads + Wait + Clock + Sync, S: Shelf, I: Read, O: Write, E: Write>(
     rt: &R,
     alloc: Global,

@@ -1,8 +1,8 @@
-//! All that the program does on the thread that reads the words: anything but a run by workers.
-ghost use Rattle.std.specs.Prelude.{◌≡◌, map};
+//! All that the program does on the thread that reads the words: everything except a run by workers.
+ghost use Rattle.std.specs.Prelude.{◌≡◌, map, option_map};
 ghost use Rattle.std.specs.String.{string_bytes};
 ghost use Rattle.kpn_words.specs.Asked.{IsAsked};
-ghost use Rattle.kpn_cli.specs.Command.{ComesTo, run_of, tables_of};
+ghost use Rattle.kpn_cli.specs.Command.{ComesTo, Explains, run_of, tables_of};
 
 use crate::told::{refuse, text_of};
 use kpn_alone_command::alone_command;
@@ -11,6 +11,8 @@ use kpn_answers::shelf::Shelf;
 use kpn_audit_command::audit_command;
 use kpn_description_commands::{check_command, print_command, rounds_command};
 use kpn_draw_command::draw_command;
+use kpn_explain_command::{explain_command, explain_items_command};
+use kpn_explain_trace::explain_trace_command;
 use kpn_limits::USUAL_COUNT;
 use kpn_report::Limits;
 use kpn_run_command::{RunRequest, run_command};
@@ -22,17 +24,17 @@ use std::io::{Read, Write};
 // How many steps a process of a run makes at most before it is the turn of the next.
 const QUOTA: u32 = 1_000;
 
-/// How far a command line was carried out on the thread that reads it.
+/// How far the thread that reads a command line carries it out.
 #[derive(Drop)]
 pub enum Progress<'a> {
-    /// It was carried out, and the program ends with this status.
+    /// It is carried out, and the program ends with this status.
     Ended(u8),
-    /// It asks for a run by so many workers, which is yet to be made.
+    /// It asks for a run by so many workers. Nothing of it is done yet.
     NeedsWorkers(RunRequest<'a>, usize),
 }
 
-/// The program without its workers: it carries out anything but a run by workers, which it hands back.
-/// It has no handle by which it might wait, so it returns whatever the words are.
+/// The program without its workers. It carries out everything except a run by workers, which it hands back. It has no
+/// handle by which it might wait, so it returns whatever the words are.
 pub fn command_here<'a, S: Shelf, I: Read, O: Write, E: Write>(
     alloc: Global,
     words: &'a [String],
@@ -50,7 +52,7 @@ pub fn command_here<'a, S: Shelf, I: Read, O: Write, E: Write>(
     }
 }
 
-// Answers what the words ask for by the command that they name, or by help.
+// Carries out the command that the words name, or gives help.
 fn answer<'a, S: Shelf, I: Read, O: Write, E: Write>(
     alloc: Global,
     words: &'a [String],
@@ -64,12 +66,18 @@ fn answer<'a, S: Shelf, I: Read, O: Write, E: Write>(
     ensures { ComesTo S.may_give S.may_alias I.remaining O.contents (map string_bytes words.now)
         shelf.old shelf.new input.old input.new out.old out.new err.old err.new result }
 {
-    // Only the contract names the words.
+    // Only the contract uses the words.
     let _ = &words;
     match request {
         Request::Help(text) => Progress::Ended(give(text_of(alloc, &text), out, err)),
         Request::Alone(name) => { Progress::Ended(alone_command(alloc, name, input, out, err)) }
         Request::Check(file) => Progress::Ended(check_command(alloc, file, shelf, out, err)),
+        Request::Explain { file, trace, steps } => {
+            Progress::Ended(explain(alloc, file, trace, steps, shelf, out, err))
+        }
+        Request::ExplainItems(file) => {
+            Progress::Ended(explain_items_command(alloc, file, shelf, out, err))
+        }
         Request::Print(file) => Progress::Ended(print_command(alloc, file, shelf, out, err)),
         Request::Draw { file, trace } => {
             Progress::Ended(draw_command(alloc, file, trace, USUAL_COUNT, shelf, out, err))
@@ -98,7 +106,26 @@ fn answer<'a, S: Shelf, I: Read, O: Write, E: Write>(
     }
 }
 
-// The tables that are asked for: one for other programs, or those for people.
+// Explains a description, or a trace of its network.
+fn explain<S: Shelf, O: Write, E: Write>(
+    alloc: Global,
+    file: &str,
+    trace: Option<&str>,
+    steps: u64,
+    shelf: &S,
+    out: &mut O,
+    err: &mut E,
+) -> u8
+    ensures { Explains O.contents (S.may_give shelf.now) file.now
+        (option_map (λ name. name.now) trace.entry) steps out.old out.new err.old err.new result }
+{
+    match trace {
+        Some(trace) => explain_trace_command(alloc, file, trace, steps, shelf, out, err),
+        None => explain_command(alloc, file, shelf, out, err),
+    }
+}
+
+// The tables that the words ask for: one for other programs, or those for people.
 fn tables_of(tsv: Option<Tsv>) -> StatsTables
     ensures { result ≡ tables_of tsv }
 {
@@ -109,13 +136,14 @@ fn tables_of(tsv: Option<Tsv>) -> StatsTables
     }
 }
 
-// The run that these words ask for, whose quota is that of the program.
+// The run that these words ask for, with the quota of the program.
 fn asked_run<'a>(words: RunWords<'a>) -> RunRequest<'a>
     ensures { result ≡ run_of words.entry }
 {
     RunRequest {
         file: words.file,
         sources: words.sources,
+        sinks: words.sinks,
         limits: Limits {
             commits: words.commits,
             take: words.take,

@@ -1,4 +1,4 @@
-//! What `clap` has to say of the words.
+//! What `clap` says of the words.
 ghost use Rattle.std.specs.Prelude.{◌≡◌, IfErr};
 ghost use Rattle.kpn_answers.specs.Refusal.{status_of};
 ghost use Rattle.kpn_cli.specs.Command.{fault_status};
@@ -10,21 +10,21 @@ use std::alloc::Global;
 use std::io;
 use std::io::Write;
 
-/// Tells how words are used, or that there is no memory to read them, and gives the status of that.
+/// Reports how to use the words, or that there is no memory to read them, and returns the status.
 pub(crate) fn refuse<E: Write>(fault: &WordsFault, err: &mut E) -> u8
     ensures { result ≡ fault_status fault.now }
 {
     match fault {
         WordsFault::NoMemory => Refusal::NoMemory.report(err),
         WordsFault::Usage(text) => {
-            let _ = tell(err, text);
+            let _ = report(err, text);
             2
         }
     }
 }
 
 // Writes a text where faults go, and flushes it.
-fn tell<E: Write>(err: &mut E, text: &Error) -> io::Result<()> {
+fn report<E: Write>(err: &mut E, text: &Error) -> io::Result<()> {
     write!(err, "{text}")?;
     err.flush()
 }

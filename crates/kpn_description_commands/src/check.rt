@@ -5,7 +5,7 @@ ghost use Rattle.kpn_answers.specs.Description.{IsRefusalOfCommand};
 ghost use Rattle.kpn_description_commands.specs.CheckText.{check_text};
 ghost use Rattle.kpn_description_commands.specs.TextOf.{IsTextOf};
 
-use crate::check_text::text_of;
+use crate::check_text::check_line;
 use kpn_answers::answer::give;
 use kpn_answers::description::load_document;
 use kpn_answers::refusal::Refusal;
@@ -35,6 +35,6 @@ fn answer<S: Shelf>(alloc: Global, file: &str, shelf: &S) -> Result<Vec<u8>, Ref
     ensures refused { IfErr result (IsRefusalOfCommand (S.may_give shelf.now) file.now) }
 {
     let document = load_document(alloc, shelf, file)?;
-    let text = text_of(alloc, &document)?;
+    let text = check_line(alloc, &document)?;
     Ok(text)
 }

@@ -6,7 +6,7 @@ use kpn_text::Document;
 use std::alloc::{AllocError, Global};
 
 /// `ok: P processes, I instances, C channels`, and a line feed.
-pub fn text_of(alloc: Global, document: &Document) -> Result<Vec<u8>, AllocError>
+pub fn check_line(alloc: Global, document: &Document) -> Result<Vec<u8>, AllocError>
     ensures { IfOk result (λ text. text.items ≡ check_text document.now) }
 {
     let network = document.network();

@@ -9,5 +9,6 @@ mod rounds;
 mod rounds_text;
 
 pub use check::check_command;
+pub use check_text::check_line;
 pub use print::print_command;
 pub use rounds::rounds_command;

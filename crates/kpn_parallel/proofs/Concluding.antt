@@ -1,4 +1,4 @@
--- What is told of a run, the journals of whose sources are their lists, is what a report promises.
+-- What is known of a run is what a report promises, if the journals of its sources are their lists.
 use Rattle.std.proofs.Common.{◌≡◌, ℕ, ◌<◌, true, ℤ, List, [], length, get_or, Some, sym, subst, ◌∙◌}
 use Rattle.kpn_net.specs.Tables.{Tables}
 use Rattle.kpn_net.specs.Iteration.{AgreeOnSources, given_by}

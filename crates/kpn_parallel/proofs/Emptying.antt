@@ -1,4 +1,4 @@
--- What is taken from a sink keeps the network and who is held.
+-- What is taken from a sink keeps the network and the processes that are held.
 use Rattle.std.proofs.Common.{◌≡◌, ℕ, ℤ, Option, Some, None, ap, ◌∙◌}
 use Rattle.kpn_book.specs.Book.{Book}
 use Rattle.kpn_book.specs.Kept.{IsBook}

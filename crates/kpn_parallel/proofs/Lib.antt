@@ -2,3 +2,4 @@ mod Feeding
 mod Release
 mod Emptying
 mod Concluding
+mod Recorded

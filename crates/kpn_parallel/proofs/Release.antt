@@ -1,4 +1,4 @@
--- Who is put back is not held, and nobody is who was not.
+-- A process that is put back is not held, and no other is that was not.
 use Rattle.std.proofs.Common.{◌≡◌, ℕ, ◌<◌, false, cond, List, length, set, get_or, count_by, refl, ap, ◌∙◌, subst, inl, inr, arith}
 use Rattle.std.proofs.lemmas.Bool.{cases_eq}
 use Rattle.std.proofs.lemmas.List.{length-set, get_or-set_same, get_or-set_other, get_or_default}

@@ -14,7 +14,7 @@ abbrev pub IsNoneHeldBelow : Book → (k : ℕ) → Type 0
 IsNoneHeldBelow b k = (q : ℕ) → q < k → q < length b.schedule.states
     → is_held (state_at b.schedule.states q) ≡ false
 
--- the network is the same, process p is not held, and nobody is who was not
+-- the network is the same, process p is not held, and no other process is that was not
 pub record Releases (p : ℕ) (before after : Book) : Type 0 where
   pub tables : after.tables ≡ before.tables
   pub processes : length after.schedule.states ≡ length before.schedule.states

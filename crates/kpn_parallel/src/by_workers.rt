@@ -3,19 +3,17 @@ ghost use Rattle.std.specs.Prelude.{◌≡◌, ◌<◌, ◌≤◌, length, IfOk}
 ghost use Rattle.kpn_net.specs.Iteration.{sources};
 ghost use Rattle.kpn_report.specs.Reports.{AreSupplied, IsReport, events_of};
 
+use crate::beside::{Ran, run_beside};
 use crate::ending::conclude;
 use crate::fault::RunFault;
-use crate::serving::Outside;
-use crate::threads::{have_abandoned, lack_memory, work_side_by_side};
+use crate::serving::{Nobody, Serving};
 use kpn_lang::Sequence;
 use kpn_limits::MAX_WORKERS;
 use kpn_net::Network;
-use kpn_pool::{Gate, Job, Opened, Shared, gather};
+use kpn_pool::{Gate, Refused};
 use kpn_report::{Limits, Report};
 use std::alloc::Global;
-use std::marker::Brand;
 use std::sync::Wait;
-use std::sync::ledger::Blank;
 use std::thread::Threads;
 use std::time::Clock;
 
@@ -46,50 +44,23 @@ pub fn run<R: Threads + Wait + Clock + Sync, G: Gate>(
     ensures supplied { IfOk result (λ report.
         AreSupplied network.now lists.now (events_of report)) }
 {
-    let blank = Blank::new(workers as u64);
-    run_job::<Brand, R, G>(rt, alloc, blank, network, lists, workers, gate, limits)
-}
-
-/// Runs the network, whose commits are counted in the ledger that the blank makes.
-fn run_job<J: Job + Send + Sync, R: Threads + Wait + Clock + Sync, G: Gate>(
-    rt: &R,
-    alloc: Global,
-    blank: Blank,
-    network: &Network,
-    lists: &[Sequence<i64>],
-    workers: usize,
-    gate: &G,
-    limits: &Limits,
-) -> Result<Report, RunFault>
-    requires ledger { (blank.name ≡ J.name) × (blank.parts ≡ J.parts) }
-    requires network { network.now ≡ J.network }
-    requires lists { length lists.now ≡ sources J.network }
-    requires workers { (workers ≡ J.parts) × (0 < workers) × (workers ≤ MAX_WORKERS) }
-    ensures report { IfOk result (λ report. IsReport J.network lists.now limits.now report) }
-    ensures supplied { IfOk result (λ report.
-        AreSupplied J.network lists.now (events_of report)) }
-{
-    let Opened {
-        shared,
-        workers: seats,
-        sources,
-        sinks,
-    } = Shared::<J>::new(alloc, blank, network, workers, limits.commits)?;
-    let outside = Outside {
-        sources,
-        lists,
-        sinks,
-        wanted: limits.take,
+    let serving = Serving::new(lists, limits.take);
+    let nobody: &[Nobody] = &[];
+    let ran = run_beside(rt, alloc, network, workers, gate, limits, serving, nobody)?;
+    let Ran {
+        book,
+        client,
+        fault,
+        ..
+    } = ran;
+    let abandoned = match fault {
+        Some(RunFault::Abandoned) => true,
+        Some(fault) => return Err(fault),
+        None => false,
     };
-    let quota = limits.quota.max(1);
-    let ended = work_side_by_side(rt, alloc, &shared, seats, gate, quota, outside)?;
-    if !ended.had_threads {
-        return Err(RunFault::Threads);
-    }
-    if lack_memory(&ended) {
+    let served = client.served();
+    if matches!(served, Err(Refused::NoMemory)) {
         return Err(RunFault::NoMemory);
     }
-    let abandoned = have_abandoned(ended.seats.as_slice());
-    let book = gather(shared, ended.seats);
-    conclude(alloc, book, lists, limits, abandoned, ended.served)
+    conclude(alloc, book, lists, limits, abandoned, served)
 }

@@ -70,7 +70,7 @@ fn put_back_held(book: &mut Book<'_>)
 fn release(book: &mut Book<'_>, p: usize)
     ensures { Releases p book.old book.new }
 {
-    // where it is not held this is refused, and nothing changes
+    // if it is not held, this is refused, and nothing changes
     let _ = book.put_back(p);
 }
 

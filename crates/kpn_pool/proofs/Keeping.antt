@@ -1,4 +1,4 @@
--- The calls of the outside keep the network and the number of commits, and what they tell of the network.
+-- The calls of the outside keep the network and the number of commits, and what they say of the network.
 use Rattle.std.proofs.Common.{◌≡◌, ℕ, Bool, true, false, ℤ, List, ◌∷◌, ◌++◌, Option, Some, None, ap, sym, subst}
 use Rattle.kpn_lang.specs.Prefix.{IsPrefix}
 use Rattle.kpn_lang.proofs.Prefixes.{IsPrefix-from_rest}
@@ -42,7 +42,7 @@ pub leaves : (left : Bool) (c : ℕ) (before after : Book) → leaves_by left c 
 leaves true c before after h = stays before after h
 leaves false c before after h = happens _ before after h
 
--- ---- what a call tells of the network, whatever has happened
+-- ---- what a call says of the network, whatever has happened
 
 module _ (t : Tables) (b : Book) (same : b.tables ≡ t) (c : ℕ) where
   pub there : (is_end : ChannelSpec → Bool) (is : Bool) → is_end (channel_at b.tables c) ≡ is

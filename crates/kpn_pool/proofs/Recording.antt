@@ -28,7 +28,7 @@ happen_more : (es fs : List Event) (a b c : Book) → AllHappen es a b → AllHa
 happen_more [] fs a b c first rest = subst (λ x. AllHappen fs x c) first rest
 happen_more (e ∷ es) fs a b c first rest = (first.0, first.1, happen_more es fs first.0 b c first.2 rest)
 
--- the same of events that follow, where some and then more are all
+-- the same of events that follow, if some and then more are all
 module _ (follow : List Event → Book → Book → Type 0)
     (more : (es fs : List Event) (a b c : Book) → follow es a b → follow fs b c → follow (es ++ fs) a c) where
   events_more : (event_of : ℕ → ℤ → Event) (m n : ℕ) (xs ys : List ℤ) (a b c : Book) → n ≡ m
@@ -42,7 +42,7 @@ items_more : (r s t : EndSeat) (xs ys : List ℤ) → s.items ≡ r.items ++ xs 
     → t.items ≡ r.items ++ (xs ++ ys)
 items_more r s t xs ys first rest = rest ∙ ap (λ zs. zs ++ ys) first ∙ append_assoc r.items xs ys
 
--- where a call is refused the seat and the desk are as before
+-- if a call is refused, the seat and the desk are as before
 pub as_before : (P : EndSeat → Book → Type 0) (s t : EndSeat) (d e : Desk) → t ≡ s → e ≡ d → P s d.book → P t e.book
 as_before P s t d e seat desk holds =
     subst (λ x. P x e.book) (sym seat) (subst (λ (x : Desk). P s x.book) (sym desk) holds)
@@ -171,7 +171,7 @@ pub takes_on : (item : Option ℤ) (r s t : EndSeat) (a b c : Book) → TakesFir
     → Takes s.channel item b c → TakesFirst r t a c
 takes_on item r s t a b c so_far is takes = taken_then r s t a b c so_far (taken_once item s t b c is takes)
 
--- where an item was taken less is left of the channel
+-- if an item was taken, less is left of the channel
 pub less_left : (item : Option ℤ) (c : ℕ) (a b : Book) → Takes c item a b → is_some item ≡ true
     → length (unread (channel_in b.configuration c)) < length (unread (channel_in a.configuration c))
 less_left (Some v) c a b takes some = let long = ap length (first_unread c v a b takes) in omega arith
@@ -185,7 +185,7 @@ taken_less item s t a b is takes some =
     subst (λ n. length (unread (channel_in b.configuration n)) < length (unread (channel_in a.configuration s.channel)))
     (sym (taken_once item s t a b is takes).channel) (less_left item s.channel a b takes some)
 
--- where none was taken none is left
+-- if none was taken, none is left
 pub taken_last : (item : Option ℤ) (r s : EndSeat) (a b : Book) → s.channel ≡ r.channel → Takes s.channel item a b
     → is_some item ≡ false → unread (channel_in b.configuration r.channel) ≡ []
 taken_last None r s a b channel takes none =

@@ -1,11 +1,12 @@
 -- The seats of the outside, channel by channel, and item by item.
-use Rattle.std.proofs.Common.{◌≡◌, ℕ, ◌+◌, ◌<◌, ℤ, pos, Bool, cond, List, [], ◌∷◌, ◌++◌, length, map, take, get_or, zero, suc, refl, sym, ap, ◌∙◌, arith}
+use Rattle.std.proofs.Common.{◌≡◌, ◌≢◌, ℕ, ◌+◌, ◌<◌, ◌≤◌, ℤ, pos, Bool, cond, List, [], ◌∷◌, ◌++◌, length, map, take, get_or, zero, suc, refl, sym, ap, ◌∙◌, subst, arith}
 use Rattle.std.specs.Prelude.{slice_set}
-use Rattle.std.proofs.lemmas.List.{take_more, append_assoc}
-use Rattle.std.specs.List.{filter, range_with_len}
+use Rattle.std.proofs.lemmas.List.{take_more, take_all, append_assoc}
+use Rattle.std.proofs.lemmas.List.Elements.{All-more}
+use Rattle.std.specs.List.{All, filter, range_with_len}
 use Rattle.std.proofs.lemmas.List.FromFn.{filter_of_map_range_with_len_more}
 use Rattle.kpn_pool.specs.Desk.{Desk, with_book}
-use Rattle.kpn_pool.specs.OutsideSeats.{EndSeat, new_end, with_item, TakesMore, HaveTaken}
+use Rattle.kpn_pool.specs.OutsideSeats.{EndSeat, new_end, with_item, HasNoSeat, TakesMore, HaveTaken}
 use Rattle.kpn_lang.proofs.Prefixes.{IsPrefix-refl, IsPrefix-trans}
 
 -- one channel more is looked at
@@ -36,7 +37,7 @@ still_with_book a b d first then = then ∙ ap (with_book d.book) first
 
 -- ---- many seats
 
-takes_more : (a b c : EndSeat) → TakesMore a b → TakesMore b c → TakesMore a c
+pub takes_more : (a b c : EndSeat) → TakesMore a b → TakesMore b c → TakesMore a c
 takes_more a b c first rest = record {
   channel = rest.channel ∙ first.channel;
   items = IsPrefix-trans a.items b.items c.items first.items rest.items;
@@ -56,3 +57,20 @@ taken_at [] [] i s d below so_far more = absurd (omega (arith, below))
 taken_at (b ∷ before) (t ∷ seats) zero s d below so_far more = (takes_more b t s so_far.0 more, so_far.1)
 taken_at (b ∷ before) (t ∷ seats) (suc i) s d below so_far more =
     (so_far.0, taken_at before seats i s d (omega (arith, below)) so_far.1 more)
+
+-- ---- a seat that is found by its channel
+
+-- one seat more is not that of this channel
+pub none_more : (channel : ℕ) (seats : List EndSeat) (i : ℕ) (seat : EndSeat) → i < length seats
+    → seat ≡ get_or seats i seat → seat.channel ≢ channel
+    → All (λ (e : EndSeat). e.channel ≢ channel) (take i seats)
+    → All (λ (e : EndSeat). e.channel ≢ channel) (take (i + 1) seats)
+none_more channel seats i seat below at other so_far =
+    All-more (λ (e : EndSeat). e.channel ≢ channel) seats i seat below so_far
+    (subst (λ (e : EndSeat). e.channel ≢ channel) at other)
+
+-- none of them is
+pub none_there : (channel : ℕ) (seats : List EndSeat) (n : ℕ) → length seats ≤ n
+    → All (λ (e : EndSeat). e.channel ≢ channel) (take n seats) → HasNoSeat channel seats
+none_there channel seats n all none =
+    subst (All (λ (e : EndSeat). e.channel ≢ channel)) (take_all n seats all) none

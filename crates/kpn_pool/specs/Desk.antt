@@ -7,7 +7,7 @@ use Rattle.kpn_book.specs.Kept.{IsBook}
 use Rattle.kpn_pool.specs.declared.seat.Why.{Why}
 use Rattle.kpn_pool.specs.declared.seat.Why.TheVariants.{Halted, Settled, Limit}
 
--- the book of the run, the total of the ledger in which commits are counted, and the mark that the workers shall end
+-- the book of the run, the total of the ledger in which commits are counted, and the mark that the workers have to end
 pub record Desk : Type 0 where
   pub book : Book
   pub total : ℕ
@@ -29,18 +29,18 @@ with_book book d = record d { book = book }
 abbrev pub with_commit : Book → Desk → Desk
 with_commit book d = record d { book = book; total = d.total + 1 }
 
--- the workers shall end
+-- the workers have to end
 abbrev pub halted : Desk → Desk
 halted d = record d { halts = true }
 
 -- ---- why a worker ends
 
--- the run goes on: the workers are not told to end, and something can still happen
+-- the run goes on: the workers do not have to end, and something can still happen
 pub record IsOngoing (d : Desk) : Type 0 where
   pub on : d.halts ≡ false
   pub unsettled : ¬ IsSettled d.book.tables d.book.history
 
--- why a worker ends instead of a claim, where this many commits are allowed: it is told to; else the run is settled;
+-- why a worker ends instead of a claim, where this many commits are allowed: it has to; else the run is settled;
 -- else the commits have reached that number
 abbrev pub IsReason : Desk → (most : ℕ) → Option Why → Type 0
 IsReason d most (Some Halted) = d.halts ≡ true

@@ -1,6 +1,6 @@
--- What who feeds a source, or takes from a sink, knows of its own calls.
+-- What a seat that feeds a source, or takes from a sink, knows of its own calls.
 use Rattle.std.specs.Prelude.{◌≡◌, ◌≢◌, ℕ, ℤ, Bool, true, false, List, [], ◌∷◌, ◌++◌, map, take, slice_get, Option, Some, None}
-use Rattle.std.specs.List.{filter}
+use Rattle.std.specs.List.{filter, remove, All}
 use Rattle.kpn_lang.specs.Prefix.{IsPrefix}
 use Rattle.kpn_net.specs.declared.tables.ChannelSpec.{ChannelSpec}
 use Rattle.kpn_net.specs.Tables.{Tables, channel_at}
@@ -41,6 +41,17 @@ abbrev pub with_taken : Option ℤ → EndSeat → EndSeat
 with_taken None s = s
 with_taken (Some item) s = with_item item s
 
+-- the seat of this channel is one of these, and the others stay in their order
+pub record GivesSeat (channel : ℕ) (seat : EndSeat) (before after : List EndSeat) : Type 0 where
+  pub is : seat.channel ≡ channel
+  pub place : ℕ
+  pub there : slice_get before place ≡ Some seat
+  pub others : after ≡ remove before place
+
+-- none of these seats is that of this channel
+abbrev pub HasNoSeat : (channel : ℕ) → List EndSeat → Type 0
+HasNoSeat channel seats = All (λ seat. seat.channel ≢ channel) seats
+
 -- ---- many items in one call
 
 -- The items that the seat has more than before are recorded in the book, each by its event, in order. `follow` says
@@ -77,7 +88,7 @@ HaveTaken [] [] = Unit {0}
 HaveTaken (x ∷ xs) (y ∷ ys) = TakesMore x y × HaveTaken xs ys
 HaveTaken xs ys = ⊥
 
--- ---- why a call of the outside may be refused, whatever has happened: `is_there` tells whether the network has a
+-- ---- why a call of the outside may be refused, whatever has happened: `is_there` says whether the network has a
 -- source, or a sink, with its number
 
 -- feeding this item to a source
@@ -101,7 +112,8 @@ MayRefuseTake is_there SinkLeft = is_there ≡ true
 MayRefuseTake is_there NoMemory = is_there ≡ true
 MayRefuseTake is_there other = ⊥
 
--- a snapshot for who has fed these items to a source: a seat of another run has fed something, or has no such source
+-- a snapshot for a seat that has fed these items to a source: if the seat is of another run, it has fed something, or
+-- has no such source
 abbrev pub MayRefuseSnapshot : (is_there : Bool) → (fed : List ℤ) → SnapFault → Type 0
 MayRefuseSnapshot is_there fed Foreign = is_there ≡ true → fed ≢ []
 MayRefuseSnapshot is_there fed snap_fault.NoMemory = is_there ≡ true

@@ -62,7 +62,7 @@ impl<'n, J: Job> Batch<'n, J> {
         self.held
     }
 
-    /// Claims a worker's share of those that are ready, at most 8. Tells whether there is one.
+    /// Claims a worker's share of those that are ready, at most 8. Returns whether there is one.
     pub(crate) fn claim<A: Allocator>(&mut self, desk: &mut Desk<'n, J, A>) -> bool
         ensures { InTurn Claims (take self.new.held self.new.turns) desk.old.book desk.new.book }
     {
@@ -79,7 +79,7 @@ impl<'n, J: Job> Batch<'n, J> {
     }
 
     /// Commits the steps that the gate has let through, in order, until memory is refused, and puts the others back, in
-    /// order. Tells why the worker ends, if there are such: where memory was refused all workers shall end.
+    /// order. Returns why the worker ends, if there are such. If memory was refused, all workers have to end.
     pub(crate) fn settle<A: Allocator + Copy>(
         &self,
         desk: &mut Desk<'n, J, A>,
@@ -103,7 +103,7 @@ impl<'n, J: Job> Batch<'n, J> {
     }
 }
 
-/// Claims a process for each of the first turns, so many at most. Tells how many there were.
+/// Claims a process for each of the first turns, so many at most. Returns how many there were.
 fn claim_each<'n, J: Job, A: Allocator>(
     desk: &mut Desk<'n, J, A>,
     turns: &mut [Turn<'n, J>],
@@ -122,7 +122,8 @@ fn claim_each<'n, J: Job, A: Allocator>(
     most
 }
 
-/// Steps each of the first turns and asks the gate for it. Tells how many it lets through before it ends the worker.
+/// Steps each of the first turns and asks the gate for it. Returns how many it lets through before it ends the
+/// worker.
 fn step_each<J: Job, G: Gate>(
     gate: &G,
     worker: usize,
@@ -143,7 +144,7 @@ fn step_each<J: Job, G: Gate>(
     held
 }
 
-/// Commits each turn. Tells for how many there was memory.
+/// Commits each turn. Returns for how many there was memory.
 fn commit_each<'n, J: Job, A: Allocator + Copy>(
     desk: &mut Desk<'n, J, A>,
     seat: &mut WorkerSeat<J>,

@@ -1,4 +1,4 @@
-//! Who of the workers steps processes, who looks on and who rests: the whole policy of a run.
+//! Which workers step processes, which look on and which rest: the whole policy of a run.
 //!
 //! | A worker | since | until |
 //! |---|---|---|
@@ -14,8 +14,8 @@
 //! vain: nobody has committed since it left the lock, so the gate or long turns hold those that are busy.
 //!
 //! **No notification is lost.** A worker is counted as one that rests, or as one that was notified, under the lock. A
-//! `Condvar` that is notified once the lock is free wakes who began to rest before that. So each one that is counted as
-//! notified comes.
+//! `Condvar` that is notified once the lock is free wakes a worker that began to rest before that. So each one that is
+//! counted as notified comes.
 //!
 //! **No process that is ready waits for longer than a short rest**, unless all workers are busy. It becomes ready in
 //! one of these ways:
@@ -25,8 +25,8 @@
 //! - By a call of the outside. That notifies somebody, unless somebody looks on or was notified.
 //! - At the start, when each worker comes by itself.
 //!
-//! Who keeps watch rests for a short time. Then the others have committed, and so are there to take the process up, or
-//! this one has waited in vain and joins, and by its claim sees to the next process.
+//! The worker that keeps watch rests for a short time. Then the others have committed, and so are there to take the
+//! process up, or this one has waited in vain and joins, and by its claim sees to the next process.
 ghost use Rattle.std.specs.Prelude.{◌≡◌, max};
 ghost use Rattle.kpn_pool.specs.Batch.{share_of};
 
@@ -60,6 +60,15 @@ const WATCH: u64 = 40;
 
 // For how many milliseconds the others rest. They are notified when they are needed.
 const REST: u64 = 1_000;
+
+/// What somebody outside waits for.
+#[derive(Clone, Copy)]
+pub(crate) enum Need {
+    /// A sink has an item.
+    Item { sink: usize },
+    /// A source has fewer unread items than the bound, or its reader has ended.
+    Room { source: usize, bound: usize },
+}
 
 /// What a worker knows of its turn.
 #[derive(Clone, Copy)]
@@ -95,7 +104,7 @@ impl Pace {
         self.begun?.elapsed(rt).ok()
     }
 
-    /// Whether nobody has committed since the turn began, where there are now so many commits.
+    /// Whether nobody has committed since the turn began, if there are now so many commits.
     pub(crate) fn is_alone(&self, commits: u64) -> bool {
         self.commits == commits
     }
@@ -121,7 +130,11 @@ pub(crate) struct Crew {
     away: u32,
     // somebody outside sleeps until the outside is called
     is_awaited: bool,
-    // who lets the lock go next is to call the outside
+    // somebody of those sleeps until a sink has an item
+    awaits_item: bool,
+    // somebody of those sleeps until a source has room
+    awaits_room: bool,
+    // the next one that lets the lock go is to call the outside
     owes_call: bool,
 }
 
@@ -145,7 +158,7 @@ impl Crew {
         self.working == 0
     }
 
-    /// Whether a worker may join where so many processes are ready. One that has waited in vain may.
+    /// Whether a worker may join if so many processes are ready. One that has waited in vain may.
     pub(crate) fn has_place(&self, ready: usize, in_vain: bool) -> bool {
         ready > 0 && (in_vain || self.busy < self.paying())
     }
@@ -160,7 +173,7 @@ impl Crew {
         self.busy = self.busy.saturating_add(1);
     }
 
-    /// How many processes a worker claims where so many are ready: its part of them, but no more than a batch.
+    /// How many processes a worker claims if so many are ready: its part of them, but no more than a batch.
     pub(crate) fn share(&self, ready: usize) -> usize
         ensures { result ≡ share_of (max self.now.workers 1) ready }
     {
@@ -181,7 +194,7 @@ impl Crew {
         }
     }
 
-    /// A worker looks on from now on. If nobody is busy, the outside is told: who looks on hopes for its call.
+    /// A worker looks on from now on. If nobody is busy, the outside is called, since the worker hopes for its call.
     pub(crate) fn look_on(&mut self) {
         self.looking = self.looking.saturating_add(1);
         if self.is_idle() {
@@ -194,8 +207,8 @@ impl Crew {
         self.looking = self.looking.saturating_sub(1);
     }
 
-    /// A worker rests from now on, of which the outside is told: it may be the last one that is not held. Tells whether
-    /// it keeps watch, which one of them does while somebody is busy.
+    /// A worker rests from now on, and the outside is called: this may be the last one that is not held. Returns
+    /// whether it keeps watch, which one of them does while somebody is busy.
     pub(crate) fn rest(&mut self) -> bool {
         self.resting = self.resting.saturating_add(1);
         self.owes_call = true;
@@ -216,14 +229,14 @@ impl Crew {
         }
     }
 
-    /// A worker has ended, of which the outside is told.
+    /// A worker has ended, and the outside is called.
     pub(crate) fn end(&mut self) {
         self.working = self.working.saturating_sub(1);
         self.owes_call = true;
     }
 
-    /// A worker claims or ends, or a call of the outside was made, and so many processes are left ready. Tells whether
-    /// one of those that rest is to be notified, and counts it.
+    /// A worker claims or ends, or a call of the outside was made, and so many processes are left ready. Returns
+    /// whether one of those that rest is to be notified, and counts it.
     pub(crate) fn notify(&mut self, ready: usize, is_call: bool) -> bool {
         let are_more = ready > mem::replace(&mut self.left, ready);
         let coming = self.looking.saturating_add(self.notified);
@@ -243,14 +256,40 @@ impl Crew {
         Crew::rest_of(!self.is_idle())
     }
 
-    /// There is something for the outside: whoever lets the lock go next is to call it.
+    /// Somebody outside sleeps from now on, until the outside is called or this time is over, and needs this.
+    pub(crate) fn await_need(&mut self, need: Need) -> Duration {
+        self.is_awaited = true;
+        match need {
+            Need::Item { .. } => self.awaits_item = true,
+            Need::Room { .. } => self.awaits_room = true,
+        }
+        Duration::from_millis(REST)
+    }
+
+    /// Whether somebody outside sleeps until a sink has an item.
+    pub(crate) fn awaits_item(&self) -> bool {
+        self.awaits_item
+    }
+
+    /// Whether somebody outside sleeps until a source has room.
+    pub(crate) fn awaits_room(&self) -> bool {
+        self.awaits_room
+    }
+
+    /// There is something for the outside: the next one that lets the lock go is to call it.
     pub(crate) fn owe_call(&mut self) {
         self.owes_call = true;
     }
 
-    /// The lock is let go. Tells whether the outside is to be called, which is so if somebody sleeps there, and strikes
-    /// that out.
+    /// The lock is let go. Returns whether the outside is to be called: there is something for it, and somebody sleeps
+    /// there. All that sleep there then wake, so nobody is awaited any more.
     pub(crate) fn call(&mut self) -> bool {
-        mem::replace(&mut self.owes_call, false) && mem::replace(&mut self.is_awaited, false)
+        let calls = mem::replace(&mut self.owes_call, false) && self.is_awaited;
+        if calls {
+            self.is_awaited = false;
+            self.awaits_item = false;
+            self.awaits_room = false;
+        }
+        calls
     }
 }

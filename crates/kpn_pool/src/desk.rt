@@ -7,25 +7,25 @@ ghost use Rattle.kpn_pool.specs.Desk.{halted, IsReason};
 ghost use Rattle.kpn_book.specs.Snapshot.{ShowsARun, ShowsJournals, IsBelowKahn, IsKahnAtRest};
 ghost use Rattle.kpn_pool.specs.Invariant.{AreBelowLeast, AreReadThenQueued, AreWithinCapacity, AreBlockedCounts, AreOwedGrowths, AreLeastWhenQuiet, HasNoneLeftToGrow, HasNoneLeftAtStop};
 
-use crate::crew::Crew;
+use crate::crew::{Crew, Need};
 use crate::job::Job;
 use crate::outside_seats::SinkSeat;
 use crate::seat::Why;
 use kpn_book::laws::{a_quiet_book, growths, journals, the_history};
-use kpn_book::{Book, Counts, Event, View};
+use kpn_book::{Book, Counts, Done, Event, Refused, View};
 use kpn_net::Network;
 use std::alloc::{AllocError, Allocator, Global};
 use std::marker::Model;
 use std::sync::ledger;
 use std::sync::ledger::Share;
 
-/// The book of a run, the mark that the workers shall end, and the total of the ledger in which commits are counted.
+/// The book of a run, the mark that the workers have to end, and the total of the ledger in which commits are counted.
 #[derive(Drop)]
 pub struct Desk<'n, J: Job, A: Allocator = Global> {
     pub(crate) book: Book<'n, A>,
     pub(crate) total: ledger::Book<J>,
     halts: bool,
-    // no contract sees who of the workers steps and who rests
+    // no contract sees which workers step and which rest
     pub(crate) crew: Crew,
 }
 
@@ -67,7 +67,7 @@ impl<'n, J: Job, A: Allocator + Copy> Desk<'n, J, A> {
 }
 
 impl<'n, J: Job, A: Allocator> Desk<'n, J, A> {
-    /// Does nothing. It tells a caller's proof what holds whenever the lock is free: the book is one of the run's
+    /// Does nothing. A caller's proof learns from it what holds whenever the lock is free: the book is one of the run's
     /// network, the ledger's total is the number of its commits, and each journal is a prefix of Kahn's least solution
     /// for the items fed so far, and is what was read followed by what is queued, within capacity; the counts of
     /// blocked processes are exact; each growth took the smallest awaited full channel of a blocked cycle or of a
@@ -106,7 +106,7 @@ impl<'n, J: Job, A: Allocator> Desk<'n, J, A> {
     }
 
     /// The run as it is seen at this moment: a legal history that owes no growth agrees with it; each journal is a
-    /// prefix of the least solution for what was fed, and is that solution where each process has ended or waits on an
+    /// prefix of the least solution for what was fed, and is that solution if each process has ended or waits on an
     /// empty channel. The error is that memory ran out.
     #[tactic(auto, using(kpn_book::proofs::Snapshots::run_of, kpn_book::proofs::Snapshots::below_of, kpn_book::proofs::Snapshots::shows_journals))]
     pub fn snapshot<B: Allocator + Copy>(&self, alloc: B) -> Result<View<B>, AllocError>
@@ -125,8 +125,8 @@ impl<'n, J: Job, A: Allocator> Desk<'n, J, A> {
         Ok(view)
     }
 
-    /// Why a worker ends here instead of a claim, where `most` commits are allowed: it is told to; else nothing more
-    /// can happen; else the commits have reached that number.
+    /// Why a worker ends here instead of a claim, if `most` commits are allowed: it has to; else nothing more can
+    /// happen; else the commits have reached that number.
     pub fn reason_to_end(&self, most: u64) -> Option<Why>
         ensures { IsReason self.now most result }
     {
@@ -152,7 +152,7 @@ impl<'n, J: Job, A: Allocator> Desk<'n, J, A> {
         self.crew.has_place(self.ready(), false) || self.reason_to_end(most).is_some()
     }
 
-    /// Whether a channel is a sink that is half full, or, where one item is enough, has that.
+    /// Whether a channel is a sink that is half full, or, if one item is enough, has that.
     #[tactic(auto, using(kpn_net::proofs::Networks::sink_there))]
     fn is_filled(&self, c: usize, is_one_enough: bool) -> bool {
         let network = self.book.network();
@@ -176,18 +176,60 @@ impl<'n, J: Job, A: Allocator> Desk<'n, J, A> {
                 .any(|seat| self.is_filled(seat.channel(), is_idle))
     }
 
-    /// Notes that the outside is to be called, if the last event has put an item on a sink that is half full.
-    pub(crate) fn note_filled(&mut self)
-        ensures { self.new ≡ self.old }
-    {
-        if let Some(Event::Put(_, c, _)) = self.book.history().last() {
-            if self.is_filled(usize::from(c), false) {
-                self.crew.owe_call();
+    /// Whether a call that needs this has to wait: it is not there, some worker has not ended, and the call is not
+    /// refused.
+    #[tactic(auto, using(kpn_net::proofs::Networks::sink_there))]
+    pub(crate) fn has_to_wait(&self, need: Need) -> bool {
+        if self.crew.has_ended() {
+            return false;
+        }
+        match need {
+            Need::Item { sink } => {
+                self.book.network().is_sink(sink) && !self.book.has_item(sink)
+            }
+            Need::Room { source, bound } => {
+                matches!(
+                    self.book.feed_fault(source, 0, bound),
+                    Some(Refused::Full(_))
+                )
             }
         }
     }
 
-    /// The workers shall end.
+    /// Whether the last event was a put that the outside is to take: its sink is half full, or somebody waits for an
+    /// item.
+    fn has_filled(&self) -> bool {
+        match self.book.history().last() {
+            Some(Event::Put(_, c, _)) => self.is_filled(usize::from(c), self.crew.awaits_item()),
+            _ => false,
+        }
+    }
+
+    /// Whether the last event has read from a source.
+    fn has_drained(&self) -> bool {
+        match self.book.history().last() {
+            Some(Event::Get(_, c, _)) => self.book.network().is_source(usize::from(c)),
+            _ => false,
+        }
+    }
+
+    /// Notes that the outside is to be called, if a commit that did this may have ended its wait: it has put an item on
+    /// a sink that is half full or awaited, or has made room at a source that is awaited.
+    pub(crate) fn note(&mut self, done: Done)
+        ensures { self.new ≡ self.old }
+    {
+        let owes = match done {
+            Done::Put => self.has_filled(),
+            Done::Got(_) => self.crew.awaits_room() && self.has_drained(),
+            Done::Ended => self.crew.awaits_room(),
+            _ => false,
+        };
+        if owes {
+            self.crew.owe_call();
+        }
+    }
+
+    /// The workers have to end.
     pub fn halt(&mut self)
         ensures { self.new ≡ halted self.old }
     {

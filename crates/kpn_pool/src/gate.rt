@@ -14,7 +14,8 @@ pub enum Go {
 pub trait Gate: Sync {
     /// Whether this worker, which has stepped this process, goes on. Both are numbers from 0. However long the answer
     /// takes, other workers go on with other processes. A worker claims up to eight at once, and asks for each in the
-    /// order of its claims: so who waits here for one that the same worker asks for later never meets it.
+    /// order of its claims: so a gate that waits here for one that the same worker asks for later never meets
+    /// it.
     fn between(&self, worker: usize, process: usize) -> Go;
 }
 

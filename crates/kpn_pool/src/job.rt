@@ -10,8 +10,8 @@ use std::sync::ledger::Ledger;
 
 /// Names one run: its ledger, in which commits are counted and which has a part for each worker, and its network.
 ///
-/// No value of it is made. Who opens a run calls a function of its own over `J: Job` with `Brand` for `J`, and its
-/// proof picks the members there.
+/// No value of it is made. A caller opens a run in a function of its own over `J: Job`, which it calls with `Brand` for
+/// `J`. The proof of the call picks the members.
 pub trait Job: Ledger {
     /// The network of the run, by value.
     ghost network: { Tables };

@@ -1,21 +1,55 @@
-//! The seats of the outside, as a run is opened.
-ghost use Rattle.std.specs.Prelude.{◌≡◌, ◌<◌, ◌∷◌, [], ◌++◌, length, IfOk, if◌then◌else◌};
+//! The seats of the outside, as a run is opened, and how they are found by channel.
+ghost use Rattle.std.specs.Prelude.{◌≡◌, ◌<◌, ◌∷◌, [], ◌++◌, length, IfOk, IfSome, IfNone, if◌then◌else◌};
 ghost use Rattle.kpn_net.specs.Tables.{channel_at, is_source, is_sink};
-ghost use Rattle.kpn_pool.specs.OutsideSeats.{new_end, new_ends};
+ghost use Rattle.kpn_pool.specs.OutsideSeats.{new_end, new_ends, GivesSeat, HasNoSeat};
 
 use crate::outside_seats::{SinkSeat, SourceSeat};
 use kpn_net::Network;
-use std::alloc::{AllocError, Allocator};
+use std::alloc::{AllocError, Allocator, Global};
 
-/// A seat for each source and for each sink of a network, in order of number.
+/// The seats of some sources and of some sinks, in order of number.
 #[derive(Drop)]
-pub(crate) struct EndSeats<A: Allocator> {
+pub struct EndSeats<A: Allocator = Global> {
     pub sources: Vec<SourceSeat<A>, A>,
     pub sinks: Vec<SinkSeat<A>, A>,
 }
 
-/// The seats of the outside. The error is that memory ran out.
-pub(crate) fn end_seats<A: Allocator + Copy>(
+impl<A: Allocator> EndSeats<A> {
+    /// Takes the seat of a source from these, and returns it. It returns `None` only if it is not among them.
+    pub fn take_source(&mut self, channel: usize) -> Option<SourceSeat<A>>
+        ensures some { IfSome result (λ seat.
+            GivesSeat channel seat self.old.sources.items self.new.sources.items) }
+        ensures none { IfNone result (HasNoSeat channel self.old.sources.items) }
+        ensures same { IfNone result (self.new.sources.items ≡ self.old.sources.items) }
+        ensures sinks { self.new.sinks ≡ self.old.sinks }
+    {
+        'seats: for i in 0..self.sources.len() {
+            if self.sources[i].channel() == channel {
+                return Some(self.sources.remove(i));
+            }
+        }
+        None
+    }
+
+    /// Takes the seat of a sink from these, and returns it. It returns `None` only if it is not among them.
+    pub fn take_sink(&mut self, channel: usize) -> Option<SinkSeat<A>>
+        ensures some { IfSome result (λ seat.
+            GivesSeat channel seat self.old.sinks.items self.new.sinks.items) }
+        ensures none { IfNone result (HasNoSeat channel self.old.sinks.items) }
+        ensures same { IfNone result (self.new.sinks.items ≡ self.old.sinks.items) }
+        ensures sources { self.new.sources ≡ self.old.sources }
+    {
+        'seats: for i in 0..self.sinks.len() {
+            if self.sinks[i].channel() == channel {
+                return Some(self.sinks.remove(i));
+            }
+        }
+        None
+    }
+}
+
+/// A seat for each source and for each sink of a network. The error is that memory ran out.
+pub fn end_seats<A: Allocator + Copy>(
     alloc: A,
     network: &Network,
 ) -> Result<EndSeats<A>, AllocError>

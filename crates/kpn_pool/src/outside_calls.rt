@@ -1,17 +1,19 @@
-//! The calls of the outside on a shared desk. Each waits for the lock alone.
-ghost use Rattle.std.specs.Prelude.{◌≡◌, ◌<◌, ◌++◌, length, IfOk, IfErr, OnErr, OnOk, IsTrue, true};
+//! The calls of the outside on a shared desk. Each waits for the lock, and only those that say so wait for more.
+ghost use Rattle.std.specs.Prelude.{◌≡◌, ◌<◌, ◌≤◌, ◌++◌, length, take, IfOk, IfErr, OnErr, OnOk, IsTrue, true};
 ghost use Rattle.kpn_lang.specs.Prefix.{IsPrefix};
 ghost use Rattle.kpn_net.specs.Tables.{channel_at, is_source, is_sink};
 ghost use Rattle.kpn_pool.specs.declared.outside_calls.SnapFault.TheVariants.{NoMemory};
-ghost use Rattle.kpn_pool.specs.OutsideSeats.{with_item, with_taken, HaveTaken, FeedsUntil, MayRefuseFeed, MayRefuseEnd, MayRefuseTake, MayRefuseSnapshot};
+ghost use Rattle.kpn_pool.specs.OutsideSeats.{with_item, with_taken, HaveTaken, TakesMore, FeedsUntil, MayRefuseFeed, MayRefuseEnd, MayRefuseTake, MayRefuseSnapshot};
 ghost use Rattle.kpn_book.specs.Snapshot.{ShowsARun, shown_on, IsBelowKahn, IsKahnAtRest};
 
+use crate::crew::Need;
+use crate::desk::Desk;
 use crate::job::Job;
 use crate::outside_seats::{SinkSeat, SourceSeat, take_from_each};
 use crate::shared::Shared;
 use kpn_book::{Refused, View};
 use std::alloc::{AllocError, Allocator};
-use std::sync::Wait;
+use std::sync::{MutexGuard, Wait};
 use std::time::Clock;
 
 /// Why a seat is given no snapshot, with its number.
@@ -52,7 +54,7 @@ pub fn feed<J: Job, A: Allocator + Copy, B: Allocator, R: Wait>(
     fed
 }
 
-/// Feeds these items to the source of the seat, one after the other, under one hold of the lock. Where one is refused
+/// Feeds these items to the source of the seat, one after the other, under one hold of the lock. If one is refused,
 /// those before it were fed.
 pub fn feed_all<J: Job, A: Allocator + Copy, B: Allocator, R: Wait>(
     rt: &R,
@@ -91,7 +93,7 @@ pub fn close<J: Job, A: Allocator, B: Allocator, R: Wait>(
     closed
 }
 
-/// Takes the next item from the sink of the seat; none where nothing is unread.
+/// Takes the next item from the sink of the seat, or none if nothing is unread.
 pub fn take<J: Job, A: Allocator, B: Allocator, R: Wait>(
     rt: &R,
     shared: &Shared<'_, J, A>,
@@ -109,7 +111,7 @@ pub fn take<J: Job, A: Allocator, B: Allocator, R: Wait>(
     item
 }
 
-/// Takes all that is unread at the sinks of these seats, under one hold of the lock. Where it is refused what was taken
+/// Takes all that is unread at the sinks of these seats, under one hold of the lock. If it is refused, what was taken
 /// before that stays with the seats.
 pub fn take_each<J: Job, A: Allocator, B: Allocator, R: Wait>(
     rt: &R,
@@ -124,7 +126,7 @@ pub fn take_each<J: Job, A: Allocator, B: Allocator, R: Wait>(
     taken
 }
 
-/// Waits until it is time to take from a sink, and does what `take_each` does. Tells whether the run goes on: not if
+/// Waits until it is time to take from a sink, and does what `take_each` does. Returns whether the run goes on: not if
 /// all workers have ended.
 ///
 /// It is time once a sink of these seats is half full, or has an item while no worker is busy, and anyhow after some
@@ -142,6 +144,98 @@ pub fn take_when_due<J: Job, A: Allocator, B: Allocator, R: Wait + Clock>(
     shared.tell(desk);
     taken?;
     Ok(goes_on)
+}
+
+/// What a wait of the outside came to.
+#[derive(Clone, Copy, Debug, PartialEq, Eq)]
+pub enum Awaited {
+    /// There was something to take. More may come.
+    There,
+    /// All workers have ended. What they left was taken, and no more comes.
+    Ended,
+}
+
+/// Waits until the sink of the seat has an item or all workers have ended, and then takes all that is unread there,
+/// under one hold of the lock.
+///
+/// It sleeps until a worker puts an item on a sink or ends. It is refused as `take` is, and then does not wait. If it
+/// is refused, what was taken before that stays with the seat.
+pub fn take_when_there<J: Job, A: Allocator, B: Allocator, R: Wait + Clock>(
+    rt: &R,
+    shared: &Shared<'_, J, A>,
+    seat: &mut SinkSeat<B>,
+) -> Result<Awaited, Refused>
+    ensures taken { TakesMore seat.old seat.new }
+    ensures sink { OnOk result (is_sink (channel_at J.network seat.old.channel) ≡ true) }
+    ensures refused { IfErr result (λ cause.
+        MayRefuseTake (is_sink (channel_at J.network seat.old.channel)) cause) }
+{
+    let before = seat.taken().len();
+    // a sink that was left refuses here, and does not keep its seat waiting
+    let desk = shared.lock(rt);
+    let awaited = take_from(shared, desk, seat)?;
+    if awaited == Awaited::Ended || seat.taken().len() > before {
+        return Ok(awaited);
+    }
+    let sink = seat.channel();
+    let desk = shared.lock_when(rt, Need::Item { sink });
+    take_from(shared, desk, seat)
+}
+
+/// Takes all that is unread at the sink of the seat, and lets the desk go.
+fn take_from<'l, 'n, J: Job, A: Allocator, B: Allocator>(
+    shared: &'l Shared<'n, J, A>,
+    desk: MutexGuard<'l, Desk<'n, J, A>>,
+    seat: &mut SinkSeat<B>,
+) -> Result<Awaited, Refused>
+    ensures taken { TakesMore seat.old seat.new }
+    ensures sink { OnOk result (is_sink (channel_at J.network seat.old.channel) ≡ true) }
+    ensures refused { IfErr result (λ cause.
+        MayRefuseTake (is_sink (channel_at J.network seat.old.channel)) cause) }
+{
+    let mut desk = desk;
+    let has_ended = desk.crew.has_ended();
+    let taken = seat.take_all(&mut desk);
+    shared.tell(desk);
+    taken?;
+    Ok(if has_ended {
+        Awaited::Ended
+    } else {
+        Awaited::There
+    })
+}
+
+/// Waits until the source of the seat has room for an item under the bound or all workers have ended, and then feeds
+/// the first ones of these items, as many as there is room for, under one hold of the lock. Returns how many it fed: of
+/// some items none only if all workers have ended.
+///
+/// It sleeps until a worker reads from a source or ends. It is refused as `feed` is, but never as full, and then does
+/// not wait. If it is refused, the items before that were fed.
+pub fn feed_when_room<J: Job, A: Allocator + Copy, B: Allocator, R: Wait + Clock>(
+    rt: &R,
+    shared: &Shared<'_, J, A>,
+    seat: &mut SourceSeat<B>,
+    items: &[i64],
+    bound: usize,
+) -> Result<usize, Refused>
+    ensures channel { seat.new.channel ≡ seat.old.channel }
+    ensures fed { IfOk result (λ count. (count ≤ length items.now)
+        × (seat.new.items ≡ seat.old.items ++ take count items.now)) }
+    ensures before { IsPrefix seat.old.items seat.new.items }
+    ensures source { IfOk result (λ count. 0 < count
+        → is_source (channel_at J.network seat.old.channel) ≡ true) }
+    ensures refused { IfErr result (λ cause. FeedsUntil items.now seat.old seat.new (λ item.
+        MayRefuseFeed (is_source (channel_at J.network seat.old.channel)) item cause)) }
+{
+    let source = seat.channel();
+    let mut desk = shared.lock_when(rt, Need::Room { source, bound });
+    let before = seat.fed().len();
+    let fed = seat.feed_all(&mut desk, items, bound);
+    shared.tell(desk);
+    match fed {
+        Ok(()) | Err(Refused::Full(_)) => Ok(seat.fed().len() - before),
+        Err(refused) => Err(refused),
+    }
 }
 
 /// Leaves the sink of the seat: nothing is taken from it any more, and it is never full. A second time it changes
@@ -163,7 +257,7 @@ pub fn leave<J: Job, A: Allocator, B: Allocator, R: Wait>(
 
 /// The run as it is seen at one moment, with all that the seat has fed: a legal history of the run's network that owes
 /// no growth agrees with it; each journal is a prefix of the least solution for what was fed, and is that solution
-/// where each process has ended or waits on an empty channel.
+/// if each process has ended or waits on an empty channel.
 pub fn snapshot<J: Job, A: Allocator, B: Allocator, C: Allocator + Copy, R: Wait>(
     rt: &R,
     alloc: C,

@@ -1,4 +1,4 @@
-//! The seats of the outside: who feeds a source, and who takes from a sink.
+//! The seats of the outside, which feeds sources and takes from sinks.
 ghost use Rattle.std.specs.Prelude.{◌≡◌, ◌<◌, true, [], ◌++◌, length, IfOk, IfErr, OnErr, OnOk};
 ghost use Rattle.kpn_lang.specs.Prefix.{IsPrefix};
 ghost use Rattle.kpn_net.specs.Tables.{channel_at, is_source, is_sink};
@@ -16,7 +16,7 @@ use kpn_book::Refused;
 use std::alloc::{Allocator, Global};
 use std::marker::Model;
 
-/// The seat of who feeds a source: the channel's number, and the list of what this seat fed.
+/// A seat that feeds a source: the channel's number, and the list of what this seat fed.
 #[derive(Drop)]
 pub struct SourceSeat<A: Allocator = Global> {
     channel: usize,
@@ -85,8 +85,8 @@ impl<A: Allocator> SourceSeat<A> {
         Ok(())
     }
 
-    /// Feeds these items to the source, one after the other. Where one is refused, as the book refuses it, those before
-    /// it were fed.
+    /// Feeds these items to the source, one after the other. If one is refused, as the book refuses it, those before it
+    /// were fed.
     #[tactic(auto, using(crate::proofs::Keeping::begins))]
     pub fn feed_all<J: Job, B: Allocator + Copy>(
         &mut self,
@@ -131,7 +131,7 @@ impl<A: Allocator> SourceSeat<A> {
     }
 }
 
-/// The seat of who takes from a sink: the channel's number, and the list of what this seat took.
+/// A seat that takes from a sink: the channel's number, and the list of what this seat took.
 #[derive(Drop)]
 pub struct SinkSeat<A: Allocator = Global> {
     channel: usize,
@@ -171,7 +171,7 @@ impl<A: Allocator> SinkSeat<A> {
         self.taken.as_slice()
     }
 
-    /// Takes the next item from the sink; none where nothing is unread. It is refused as the book refuses it; memory is
+    /// Takes the next item from the sink, or none if nothing is unread. It is refused as the book refuses it; memory is
     /// wanted for the seat's own list too.
     #[tactic(auto, using(crate::proofs::Keeping::takes, crate::proofs::Keeping::there, crate::proofs::Keeping::take_refused))]
     pub fn take<J: Job, B: Allocator>(
@@ -202,7 +202,7 @@ impl<A: Allocator> SinkSeat<A> {
         Ok(item)
     }
 
-    /// Takes all that is unread at the sink. Where it is refused what was taken before that stays with the seat.
+    /// Takes all that is unread at the sink. If it is refused, what was taken before that stays with the seat.
     pub fn take_all<J: Job, B: Allocator>(
         &mut self,
         desk: &mut Desk<'_, J, B>,
@@ -243,7 +243,7 @@ impl<A: Allocator> SinkSeat<A> {
     }
 }
 
-/// Takes all that is unread at the sinks of these seats, one after the other. Where one is refused, as the book refuses
+/// Takes all that is unread at the sinks of these seats, one after the other. If one is refused, as the book refuses
 /// it, what was taken before that stays with the seats.
 pub(crate) fn take_from_each<J: Job, A: Allocator, B: Allocator>(
     desk: &mut Desk<'_, J, B>,

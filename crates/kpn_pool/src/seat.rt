@@ -18,13 +18,13 @@ use std::sync::ledger::Share;
 /// Why a worker ended.
 #[derive(Clone, Copy, Debug, PartialEq, Eq)]
 pub enum Why {
-    /// The workers were told to end.
+    /// The workers had to end.
     Halted,
     /// Nothing more can happen but that the outside leaves a sink.
     Settled,
     /// The commits have reached the number that is allowed.
     Limit,
-    /// The gate told this worker to drop its steps and to end.
+    /// The gate made this worker drop its steps and end.
     Abandoned,
     /// Memory ran out at a commit of this worker.
     NoMemory,

@@ -7,7 +7,7 @@ ghost use Rattle.kpn_book.specs.Kept.{IsBook};
 ghost use Rattle.kpn_book.specs.Snapshot.{ShowsARun, IsBelowKahn, IsKahnAtRest};
 ghost use Rattle.kpn_pool.specs.Seat.{AreNewSeats};
 
-use crate::crew::MOMENT;
+use crate::crew::{MOMENT, Need};
 use crate::desk::Desk;
 use crate::job::Job;
 use crate::opening::{EndSeats, end_seats};
@@ -30,9 +30,9 @@ const TRIES: u32 = 400;
 #[derive(Drop)]
 pub struct Shared<'n, J: Job, A: Allocator = Global> {
     desk: Mutex<Desk<'n, J, A>>,
-    // workers rest here
+    // the workers rest here
     changed: Condvar,
-    // who serves the sinks sleeps here
+    // the outside sleeps here
     called: Condvar,
     max_commits: u64,
 }
@@ -48,14 +48,14 @@ pub struct Opened<'n, J: Job, A: Allocator = Global> {
 }
 
 /// The desk of a run under its lock, which is free again once the look is dropped. Meanwhile all other calls on the run
-/// wait, also those of who has the look.
+/// wait, also those of the thread that has the look.
 #[derive(Drop)]
 pub struct Look<'l, 'n, J: Job, A: Allocator = Global> {
     desk: MutexGuard<'l, Desk<'n, J, A>>,
 }
 
 impl<'l, 'n, J: Job, A: Allocator> Look<'l, 'n, J, A> {
-    /// The desk as it is now. What holds of it `Desk::known` tells.
+    /// The desk as it is now. `Desk::known` says what holds of it.
     pub fn desk(&self) -> &Desk<'n, J, A> {
         &self.desk
     }
@@ -116,9 +116,9 @@ impl<'n, J: Job, A: Allocator> Shared<'n, J, A> {
         }
     }
 
-    /// The run as it is seen at one moment, or `None` where the lock is taken: a legal history, of the network that was
+    /// The run as it is seen at one moment, or `None` if the lock is taken: a legal history, of the network that was
     /// handed to `new`, that owes no growth agrees with it; each journal is a prefix of the least solution for what was
-    /// fed, and is that solution where each process has ended or waits on an empty channel. The error is that memory
+    /// fed, and is that solution if each process has ended or waits on an empty channel. The error is that memory
     /// ran out.
     pub fn try_snapshot<B: Allocator + Copy>(&self, alloc: B) -> Result<Option<View<B>>, AllocError>
         ensures run { IfOk result (λ found. IfSome found (λ view. ShowsARun J.network view)) }
@@ -134,8 +134,8 @@ impl<'n, J: Job, A: Allocator> Shared<'n, J, A> {
         Ok(Some(view))
     }
 
-    /// The desk, once nobody else has it. Others have it often and for a short time, so who asks for it tries for a
-    /// while before it sleeps.
+    /// The desk, once nobody else has it. Others have it often and for a short time, so this tries for a while before
+    /// it sleeps.
     pub(crate) fn lock<R: Wait>(&self, rt: &R) -> MutexGuard<'_, Desk<'n, J, A>> {
         for _ in 0..TRIES {
             if let Some(desk) = self.desk.try_lock() {
@@ -145,8 +145,8 @@ impl<'n, J: Job, A: Allocator> Shared<'n, J, A> {
         self.desk.lock(rt)
     }
 
-    /// The desk, once there is something to do there or the moment is over: for who takes from these sinks, or, if
-    /// there are none, for a worker.
+    /// The desk, once there is something to do there or the moment is over: to take from these sinks, or, if there are
+    /// none, for a worker.
     fn lock_in_moment<B: Allocator, R: Wait + Clock>(
         &self,
         rt: &R,
@@ -185,6 +185,24 @@ impl<'n, J: Job, A: Allocator> Shared<'n, J, A> {
             desk = self.called.wait_timeout(rt, desk, most).0;
         }
         desk
+    }
+
+    /// The desk, once a call that needs this does not have to wait any more. A worker that puts into a sink, makes
+    /// room at a source or ends wakes all that sleep here.
+    pub(crate) fn lock_when<R: Wait + Clock>(
+        &self,
+        rt: &R,
+        need: Need,
+    ) -> MutexGuard<'_, Desk<'n, J, A>> {
+        let mut desk = self.lock(rt);
+        for _ in rt.forever() {
+            if !desk.has_to_wait(need) {
+                return desk;
+            }
+            let most = desk.crew.await_need(need);
+            desk = self.called.wait_timeout(rt, desk, most).0;
+        }
+        unreachable!()
     }
 
     /// Lets the desk go after a call of the outside. Notifies a worker if the call has made a process ready, and all if

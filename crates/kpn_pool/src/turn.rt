@@ -7,7 +7,7 @@ ghost use Rattle.kpn_pool.specs.Batch.{Claims, MayCommit, CommitsOrDrops, PutsBa
 use crate::desk::Desk;
 use crate::job::Job;
 use crate::seat::WorkerSeat;
-use kpn_book::{Claim, Done, Refused};
+use kpn_book::{Claim, Refused};
 use kpn_step::{Advance, advance};
 use std::alloc::Allocator;
 use std::marker::{Model, PhantomData};
@@ -55,7 +55,7 @@ impl<'n, J: Job> Turn<'n, J> {
         }
     }
 
-    /// Claims the first process of the queue, which is held from now on. Tells whether there was one.
+    /// Claims the first process of the queue, which is held from now on. Returns whether there was one.
     pub(crate) fn claim<A: Allocator>(&mut self, desk: &mut Desk<'n, J, A>) -> bool
         ensures claims { (result ≡ true) → Claims self.new desk.old.book desk.new.book }
         ensures nobody { (result ≡ false) → ClaimsNobody desk.old.book × (desk.new ≡ desk.old) }
@@ -79,7 +79,7 @@ impl<'n, J: Job> Turn<'n, J> {
         true
     }
 
-    /// Makes at most `quota` steps of the process that is claimed. Tells which it is.
+    /// Makes at most `quota` steps of the process that is claimed. Returns which it is.
     pub(crate) fn step(&mut self, quota: u32) -> usize
         ensures claimed { self.new.claimed ≡ self.old.claimed }
         ensures process { result ≡ self.new.claimed }
@@ -95,7 +95,7 @@ impl<'n, J: Job> Turn<'n, J> {
         self.claimed
     }
 
-    /// Commits the steps. Tells whether there was memory for that.
+    /// Commits the steps. Returns whether there was memory for that.
     ///
     /// Steps of a process that is not held, or of another one, which nothing known behind a lock rules out, are
     /// dropped, and nothing is counted.
@@ -114,9 +114,7 @@ impl<'n, J: Job> Turn<'n, J> {
         };
         match seat.commit(desk, self.process, steps) {
             Ok(done) => {
-                if done == Done::Put {
-                    desk.note_filled();
-                }
+                desk.note(done);
                 true
             }
             Err(Refused::NoMemory) => false,
@@ -129,7 +127,7 @@ impl<'n, J: Job> Turn<'n, J> {
         ensures back { PutsBack self.now desk.old.book desk.new.book }
         ensures same { desk.new ≡ with_book desk.new.book desk.old }
     {
-        // refused only where nobody holds it: then it stands where it belongs
+        // this is refused only if nobody holds it, and then it is in its place
         let _ = desk.book.put_back(self.claimed);
         desk.book.known();
     }

@@ -3,4 +3,5 @@ pub mod ReportText
 pub mod States
 pub mod Target
 pub mod Reported
+pub mod Files
 pub mod Run

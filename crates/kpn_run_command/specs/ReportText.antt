@@ -45,7 +45,7 @@ fault_text name (state.Ended how.Done) = []
 fault_text name (state.Ended end) = faulted_line name end
 fault_text name other = []
 
--- `waits NAME CHANNEL` of a process that waits, and ` full` where it waits on a full channel
+-- `waits NAME CHANNEL` of a process that waits, and ` full` if it waits on a full channel
 abbrev pub wait_text : (channels : List (List ℕ)) (name : List ℕ) → State → List ℕ
 wait_text channels name (WaitsEmpty c) = codes "waits " ++ name ++ codes " " ++ name_at channels c ++ codes "\n"
 wait_text channels name (WaitsFull c) = codes "waits " ++ name ++ codes " " ++ name_at channels c ++ codes " full\n"
@@ -78,7 +78,7 @@ shows_sinks Ended = true
 shows_sinks Enough = true
 shows_sinks outcome = false
 
--- whether faults and waits are written: where nothing more can happen
+-- whether faults and waits are written: if nothing more can happen
 abbrev pub shows_processes : Outcome → Bool
 shows_processes Enough = false
 shows_processes Stopped = false

@@ -1,4 +1,4 @@
--- What was run, and the report of it; or why there is none.
+-- What was run, and the report; or why there is none.
 use Rattle.std.specs.Prelude.{◌⊎◌, ℕ, List, Option, IsSome, ⊤}
 use Rattle.kpn_report.specs.declared.outcome.Limits.{Limits}
 use Rattle.kpn_report.specs.Reports.{IsReport}
@@ -7,15 +7,16 @@ use Rattle.kpn_answers.specs.declared.refusal.Refusal.TheVariants.{Threads, Aban
 use Rattle.kpn_answers.specs.Inputs.{AreInputs}
 use Rattle.kpn_run_command.specs.declared.reporting.Reported.{Reported}
 use Rattle.kpn_answers.specs.Shelf.{Loads, Aliases}
-use Rattle.kpn_run_command.specs.Target.{IsUnprepared}
+use Rattle.kpn_run_command.specs.Target.{AreSinks, IsUnprepared}
 
--- the inputs that the words name, and a report of a run on them under these limits
-pub record IsReported (may_give : Loads) (file : List ℕ) (words : List (List ℕ)) (limits : Limits)
+-- the inputs and the sinks that the words name, and a report of a run under these limits
+pub record IsReported (may_give : Loads) (file : List ℕ) (words sinks : List (List ℕ)) (limits : Limits)
     (reported : Reported) : Type 0 where
   pub are_inputs : AreInputs may_give file words reported.inputs.document reported.inputs.given.items
+  pub are_sinks : AreSinks reported.inputs.document sinks reported.sinks.items
   pub is_report : IsReport reported.inputs.document.tables reported.inputs.given.items limits reported.report
 
--- why a run gives no report: there is no memory, or something befell the workers, where there are any
+-- why a run gives no report: there is no memory, or something befell the workers, if there are any
 abbrev pub IsRefusalOfReport : (workers : Option ℕ) → Refusal → Type 0
 IsRefusalOfReport workers NoMemory = ⊤
 IsRefusalOfReport workers Threads = IsSome workers
@@ -25,6 +26,6 @@ IsRefusalOfReport workers other = ⊥
 
 -- why there is no report: the run is not begun, or it gives none
 abbrev pub IsUnreported : (may_give : Loads) (may_alias : Aliases) (file : List ℕ) (words : List (List ℕ))
-    (trace : Option (List ℕ)) (workers : Option ℕ) → Refusal → Type 0
-IsUnreported may_give may_alias file words trace workers refusal =
-    IsUnprepared may_give may_alias file words trace refusal ⊎ IsRefusalOfReport workers refusal
+    (trace : Option (List ℕ)) (sinks : List (List ℕ)) (workers : Option ℕ) → Refusal → Type 0
+IsUnreported may_give may_alias file words trace sinks workers refusal =
+    IsUnprepared may_give may_alias file words trace sinks refusal ⊎ IsRefusalOfReport workers refusal

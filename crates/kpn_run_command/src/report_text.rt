@@ -56,7 +56,7 @@ fn word_of(outcome: Outcome) -> &'static str
     }
 }
 
-// What was taken from the sinks, where the outcome shows it.
+// What was taken from the sinks, if the outcome shows it.
 fn push_sinks(
     text: &mut Vec<u8>,
     document: &Document,
@@ -97,7 +97,7 @@ fn push_taken(
     Ok(())
 }
 
-// The list of a sink; none where there is no such sink.
+// The list of a sink; none if there is no such sink.
 fn items_of(taken: &[Sequence<i64>], sink: usize) -> &[i64]
     ensures { result.now ≡ slice_index_or taken.now sink [] }
 {
@@ -107,8 +107,8 @@ fn items_of(taken: &[Sequence<i64>], sink: usize) -> &[i64]
     }
 }
 
-// The first items, as many as are wanted at most.
-fn wanted_of(items: &[i64], wanted: Option<u64>) -> &[i64]
+/// The first items, as many as are wanted at most.
+pub(crate) fn wanted_of(items: &[i64], wanted: Option<u64>) -> &[i64]
     ensures { result.now ≡ wanted_of wanted items.now }
 {
     match wanted {
@@ -125,7 +125,7 @@ fn push_sink(text: &mut Vec<u8>, name: &[u8], items: &[i64]) -> Result<(), Alloc
     push_list(text, name, items)
 }
 
-// Which processes have faulted and which wait, where the outcome shows it.
+// Which processes have faulted and which wait, if the outcome shows it.
 fn push_processes(
     text: &mut Vec<u8>,
     document: &Document,

@@ -1,15 +1,16 @@
-//! A network is read and run: by the calling thread alone, or by workers on threads of their own.
+//! A network is read and run: by the calling thread, or by workers on threads of their own.
 ghost use Rattle.std.specs.Prelude.{◌≡◌, map, option_map, length, Some, None, IfOk, IfErr, OnOk};
 ghost use Rattle.kpn_net.specs.Iteration.{sources};
 ghost use Rattle.kpn_report.specs.Reports.{IsReport};
 ghost use Rattle.kpn_run_command.specs.Reported.{IsReported, IsRefusalOfReport, IsUnreported};
-ghost use Rattle.kpn_run_command.specs.Target.{IsNoInput};
+ghost use Rattle.kpn_run_command.specs.Target.{AreOutputsApart};
 
 use crate::request::RunRequest;
 use crate::target::prepare;
-use kpn_answers::inputs::Inputs;
+use kpn_answers::inputs::{Inputs, RunInputs};
 use kpn_answers::refusal::Refusal;
 use kpn_answers::shelf::Shelf;
+use kpn_answers::sources::NamedEnd;
 use kpn_lang::Sequence;
 use kpn_limits::MAX_WORKERS;
 use kpn_net::Network;
@@ -21,59 +22,84 @@ use std::sync::Wait;
 use std::thread::Threads;
 use std::time::Clock;
 
-/// What was run, and the report of it.
+/// What was run, the sinks that options name, and the report.
 #[derive(Drop)]
-pub(crate) struct Reported {
+pub(crate) struct Reported<'a> {
     pub(crate) inputs: Inputs,
+    pub(crate) sinks: Vec<NamedEnd<'a>>,
     pub(crate) report: Report,
 }
 
-/// Reads what is asked for, and runs it on the calling thread alone, which waits for nobody. Before the
-/// run it is tried whether its trace can be stored.
-pub(crate) fn report_here<S: Shelf>(
+/// Reads what is asked for, and runs it on the calling thread, which waits for nobody. Before the
+/// run it makes ready for the files that the run is to store.
+pub(crate) fn report_here<'a, S: Shelf>(
     alloc: Global,
-    request: &RunRequest<'_>,
+    request: &RunRequest<'a>,
     shelf: &S,
-) -> Result<Reported, Refusal>
+) -> Result<Reported<'a>, Refusal>
     ensures ok { IfOk result (IsReported (S.may_give shelf.now) request.now.file.now
-        (map (λ word. word.now) request.now.sources.items) request.now.limits) }
-    ensures apart { OnOk result (IsNoInput request.now.file.now
         (map (λ word. word.now) request.now.sources.items)
-        (option_map (λ name. name.now) request.now.trace)) }
+        (map (λ word. word.now) request.now.sinks.items) request.now.limits) }
+    ensures apart { OnOk result (AreOutputsApart request.now.file.now
+        (map (λ word. word.now) request.now.sources.items)
+        (option_map (λ name. name.now) request.now.trace)
+        (map (λ word. word.now) request.now.sinks.items)) }
     ensures refused { IfErr result (IsUnreported (S.may_give shelf.now) (S.may_alias shelf.now)
         request.now.file.now (map (λ word. word.now) request.now.sources.items)
-        (option_map (λ name. name.now) request.now.trace) None) }
+        (option_map (λ name. name.now) request.now.trace)
+        (map (λ word. word.now) request.now.sinks.items) None) }
 {
-    let inputs = prepare(alloc, request, shelf)?;
+    let RunInputs { inputs, sinks } = match prepare(alloc, request, shelf) {
+        Ok(loaded) => loaded,
+        Err(refusal) => return Err(refusal),
+    };
     let network = inputs.document.network();
-    let report = run_here(alloc, network, &inputs.given, &request.limits)?;
-    Ok(Reported { inputs, report })
+    match run_here(alloc, network, &inputs.given, &request.limits) {
+        Ok(report) => Ok(Reported {
+            inputs,
+            sinks,
+            report,
+        }),
+        Err(_) => Err(Refusal::NoMemory),
+    }
 }
 
 /// The same, but the run is made by workers.
-pub(crate) fn report_by_workers<R: Threads + Wait + Clock + Sync, S: Shelf>(
+pub(crate) fn report_by_workers<'a, R: Threads + Wait + Clock + Sync, S: Shelf>(
     rt: &R,
     alloc: Global,
-    request: &RunRequest<'_>,
+    request: &RunRequest<'a>,
     workers: usize,
     shelf: &S,
-) -> Result<Reported, Refusal>
+) -> Result<Reported<'a>, Refusal>
     ensures ok { IfOk result (IsReported (S.may_give shelf.now) request.now.file.now
-        (map (λ word. word.now) request.now.sources.items) request.now.limits) }
-    ensures apart { OnOk result (IsNoInput request.now.file.now
         (map (λ word. word.now) request.now.sources.items)
-        (option_map (λ name. name.now) request.now.trace)) }
+        (map (λ word. word.now) request.now.sinks.items) request.now.limits) }
+    ensures apart { OnOk result (AreOutputsApart request.now.file.now
+        (map (λ word. word.now) request.now.sources.items)
+        (option_map (λ name. name.now) request.now.trace)
+        (map (λ word. word.now) request.now.sinks.items)) }
     ensures refused { IfErr result (IsUnreported (S.may_give shelf.now) (S.may_alias shelf.now)
         request.now.file.now (map (λ word. word.now) request.now.sources.items)
-        (option_map (λ name. name.now) request.now.trace) (Some workers)) }
+        (option_map (λ name. name.now) request.now.trace)
+        (map (λ word. word.now) request.now.sinks.items) (Some workers)) }
 {
-    let inputs = prepare(alloc, request, shelf)?;
+    let RunInputs { inputs, sinks } = match prepare(alloc, request, shelf) {
+        Ok(loaded) => loaded,
+        Err(refusal) => return Err(refusal),
+    };
     let network = inputs.document.network();
-    let report = run_by_workers(rt, alloc, network, &inputs.given, workers, &request.limits)?;
-    Ok(Reported { inputs, report })
+    match run_by_workers(rt, alloc, network, &inputs.given, workers, &request.limits) {
+        Ok(report) => Ok(Reported {
+            inputs,
+            sinks,
+            report,
+        }),
+        Err(refusal) => Err(refusal),
+    }
 }
 
-// Runs a network by workers, of whom there is at least one and at most `MAX_WORKERS`.
+// Runs a network by workers: at least one, and at most `MAX_WORKERS`.
 fn run_by_workers<R: Threads + Wait + Clock + Sync>(
     rt: &R,
     alloc: Global,

@@ -1,10 +1,10 @@
--- The command line that the program understands, as a description that `clap` reads: the commands, the words of each
--- in their order, and its options. No word and no option has a rule on another.
+-- The command line of the program, as a description that `clap` reads: the commands, the words of each in their order,
+-- and its options. No word and no option has a rule about another.
 use Rattle.std.specs.Prelude.{◌≡◌, ℕ, pos, true, false, List, [], ◌∷◌, Some, codes}
 use Rattle.clap.specs.Walk.{Rule, rule_of}
 use Rattle.clap.specs.Simple.{App, app_of, new_app, new_rule, new_shape, on_top}
 use Rattle.clap.specs.declared.builder.command.Command.TheViews.{out-Command as fields_of}
-use Rattle.clap.specs.declared.builder.action.ArgAction.TheVariants.{Set, Append}
+use Rattle.clap.specs.declared.builder.action.ArgAction.TheVariants.{Set, Append, SetTrue}
 use Rattle.clap.specs.declared.builder.arg.Arg.{Arg}
 use Rattle.clap.specs.declared.builder.command.Command.{Command}
 use Rattle.clap.specs.declared.builder.value_parser.ValueParser.TheVariants as parser
@@ -13,17 +13,21 @@ use Rattle.clap.specs.declared.builder.value_parser.ValueParser.TheVariants as p
 abbrev pub optional_word : (id : List ℕ) → Rule
 optional_word id = record (new_rule id) { action = Some Set }
 
--- a word that has to be there
+-- a word that a command needs
 abbrev pub word : (id : List ℕ) → Rule
 word id = record (optional_word id) { required = true }
 
--- an option with a value, which may stand once
+-- an option with a value; it may stand once
 abbrev pub option : (id long : List ℕ) → Rule
 option id long = record (new_rule id) { long = Some long; value_names = 1; action = Some Set }
 
 -- an option whose value is a count of items, commits or steps
 abbrev pub count : (id long : List ℕ) → Rule
 count id long = record (option id long) { parser = Some (parser.Unsigned 1 1000000000) }
+
+-- an option without a value; it may stand once
+abbrev pub flag : (id long : List ℕ) → Rule
+flag id long = record (new_rule id) { long = Some long; action = Some SetTrue }
 
 abbrev pub file_word : Rule
 file_word = word (codes "FILE")
@@ -35,9 +39,13 @@ trace_word = word (codes "TRACE")
 abbrev pub rounds_word : Rule
 rounds_word = record (word (codes "N")) { parser = Some (parser.Signed (pos 0) (pos 1000)) }
 
--- which may be repeated
+-- the user may repeat it
 abbrev pub source_option : Rule
 source_option = record (option (codes "SOURCE") (codes "source")) { action = Some Append }
+
+-- the user may repeat it
+abbrev pub sink_option : Rule
+sink_option = record (option (codes "SINK") (codes "sink")) { action = Some Append }
 
 -- 1 to 16
 abbrev pub workers_option : Rule
@@ -59,6 +67,9 @@ steps_option = count (codes "STEPS") (codes "steps")
 abbrev pub table_option : Rule
 table_option = option (codes "TABLE") (codes "tsv")
 
+abbrev pub items_flag : Rule
+items_flag = flag (codes "ITEMS") (codes "items")
+
 -- a command with these words and options
 abbrev pub command : (name : List ℕ) → List Rule → App
 command name rules = on_top (λ shape. record shape { rules = rules }) (new_app name)
@@ -68,6 +79,10 @@ alone_words = command (codes "alone") (word (codes "NAME") ∷ [])
 
 abbrev pub check_words : App
 check_words = command (codes "check") (file_word ∷ [])
+
+abbrev pub explain_words : App
+explain_words =
+    command (codes "explain") (file_word ∷ optional_word (codes "TRACE") ∷ items_flag ∷ steps_option ∷ [])
 
 abbrev pub print_words : App
 print_words = command (codes "print") (file_word ∷ [])
@@ -81,7 +96,7 @@ rounds_words = command (codes "rounds") (file_word ∷ rounds_word ∷ source_op
 abbrev pub run_words : App
 run_words =
     command (codes "run")
-    (file_word ∷ source_option ∷ workers_option ∷ take_option ∷ commits_option ∷ trace_option ∷ [])
+    (file_word ∷ source_option ∷ sink_option ∷ workers_option ∷ take_option ∷ commits_option ∷ trace_option ∷ [])
 
 abbrev pub audit_words : App
 audit_words = command (codes "audit") (file_word ∷ trace_word ∷ steps_option ∷ [])
@@ -98,17 +113,17 @@ command_line = record {
     subcommand_required = true;
     arg_required_else_help = true;
   };
-  subs = alone_words.top ∷ check_words.top ∷ print_words.top ∷ draw_words.top ∷ rounds_words.top ∷ run_words.top
-      ∷ audit_words.top ∷ stats_words.top ∷ [];
+  subs = alone_words.top ∷ check_words.top ∷ explain_words.top ∷ print_words.top ∷ draw_words.top ∷ rounds_words.top
+      ∷ run_words.top ∷ audit_words.top ∷ stats_words.top ∷ [];
 }
 
 -- ---- scaffolding: what the code describes to `clap`
 
--- this word or option, which is one of its command alone
+-- this word or option, which belongs to its own command only
 abbrev pub IsArg : Rule → Arg → Type 0
 IsArg rule arg = (rule_of arg ≡ rule) × (arg.global ≡ false)
 
--- this command, each of whose words is one of it alone
+-- this command, all words of which belong to it only
 abbrev pub IsCommand : App → Command → Type 0
 IsCommand app command = (app_of command ≡ app) × ((fields_of command).has_globals ≡ false)
 
@@ -119,6 +134,6 @@ bare_command_line = record {
   subs = [];
 }
 
--- the words of `run` for what runs, and by whom
+-- the words of `run` for the network, its sources and sinks, and its workers
 abbrev pub run_inputs : App
-run_inputs = command (codes "run") (file_word ∷ source_option ∷ workers_option ∷ [])
+run_inputs = command (codes "run") (file_word ∷ source_option ∷ sink_option ∷ workers_option ∷ [])

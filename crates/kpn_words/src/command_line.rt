@@ -1,22 +1,24 @@
-//! The command line that the program understands, as it is described to `clap`.
+//! The description of the command line for `clap`.
 ghost use Rattle.std.specs.Prelude.{IfOk};
 ghost use Rattle.clap.specs.Words.{new_app};
 ghost use Rattle.kpn_words.specs.CommandLine.{IsArg, IsCommand, command_line, optional_word, word, option, count};
-ghost use Rattle.kpn_words.specs.CommandLine.{alone_words, check_words, print_words, draw_words, rounds_words};
+ghost use Rattle.kpn_words.specs.CommandLine.{alone_words, check_words, explain_words, print_words, draw_words};
+ghost use Rattle.kpn_words.specs.CommandLine.{rounds_words};
 ghost use Rattle.kpn_words.specs.CommandLine.{run_words, audit_words, stats_words, file_word};
-ghost use Rattle.kpn_words.specs.CommandLine.{rounds_word, source_option, workers_option, steps_option};
+ghost use Rattle.kpn_words.specs.CommandLine.{rounds_word, source_option, sink_option, workers_option};
+ghost use Rattle.kpn_words.specs.CommandLine.{steps_option, items_flag};
 ghost use Rattle.kpn_words.specs.CommandLine.{trace_word, run_inputs, bare_command_line};
 
 use crate::help::{
-    ALONE_HELP, AUDIT_HELP, CHECK_HELP, DRAW_HELP, PRINT_HELP, ROUNDS_HELP, RUN_HELP, STATS_HELP,
-    STATUSES,
+    ALONE_HELP, AUDIT_HELP, CHECK_HELP, DRAW_HELP, EXPLAIN_HELP, PRINT_HELP, ROUNDS_HELP, RUN_HELP,
+    STATS_HELP, STATUSES,
 };
 use clap::builder::ValueParser;
 use clap::{Arg, ArgAction, Command};
 use kpn_limits::{MAX_COUNT, MAX_ROUNDS, MAX_WORKERS};
 use std::alloc::{AllocError, Global};
 
-/// The version that `--version` tells.
+/// The version that `--version` writes.
 const VERSION: &str = "0.1.0";
 
 // The names of what words stand for.
@@ -27,6 +29,8 @@ pub(crate) const FILE: &str = "FILE";
 pub(crate) const ROUNDS: &str = "N";
 
 pub(crate) const SOURCE: &str = "SOURCE";
+
+pub(crate) const SINK: &str = "SINK";
 
 pub(crate) const WORKERS: &str = "WORKERS";
 
@@ -40,12 +44,15 @@ pub(crate) const STEPS: &str = "STEPS";
 
 pub(crate) const TABLE: &str = "TABLE";
 
+pub(crate) const ITEMS: &str = "ITEMS";
+
 // The commands and their words.
 pub(crate) fn program<'a>(alloc: Global) -> Result<Command<'a>, AllocError>
     ensures { IfOk result (IsCommand command_line) }
 {
     let program = bare_program(alloc).subcommand(alone_words(alloc)?)?;
     let program = program.subcommand(check_words(alloc)?)?;
+    let program = program.subcommand(explain_words(alloc)?)?;
     let program = program.subcommand(print_words(alloc)?)?;
     let program = program.subcommand(draw_words(alloc)?)?;
     let program = program.subcommand(rounds_words(alloc)?)?;
@@ -66,7 +73,7 @@ fn bare_program<'a>(alloc: Global) -> Command<'a>
         .arg_required_else_help(true)
 }
 
-// A command without words, and what help says above and below its words.
+// A command without words. Help says `about` above its words and `help` below them.
 fn command<'a>(
     alloc: Global,
     name: &'static str,
@@ -93,6 +100,24 @@ fn check_words<'a>(alloc: Global) -> Result<Command<'a>, AllocError>
 {
     let about = "Checks a description and counts its parts";
     command(alloc, "check", about, CHECK_HELP).arg(file_word(alloc))
+}
+
+// The words of `kpn explain`.
+fn explain_words<'a>(alloc: Global) -> Result<Command<'a>, AllocError>
+    ensures { IfOk result (IsCommand explain_words) }
+{
+    let about = "Says what is wrong with a file, shows the line, and advises what to do";
+    let file = word(
+        alloc,
+        FILE,
+        "The file of the description, or of items with --items",
+    );
+    let trace = "The file of a trace; without it only the description is explained";
+    command(alloc, "explain", about, EXPLAIN_HELP)
+        .arg(file)?
+        .arg(optional_word(alloc, TRACE, trace))?
+        .arg(items_word(alloc))?
+        .arg(steps_word(alloc))
 }
 
 // The words of `kpn print`.
@@ -139,7 +164,7 @@ fn run_words<'a>(alloc: Global) -> Result<Command<'a>, AllocError>
         .arg(option(alloc, TRACE, "trace", "OUT", trace))
 }
 
-// The words of `kpn run` for what runs, and by whom.
+// The words of `kpn run` for the network, its sources and sinks, and its workers.
 fn run_inputs<'a>(alloc: Global) -> Result<Command<'a>, AllocError>
     ensures { IfOk result (IsCommand run_inputs) }
 {
@@ -147,6 +172,7 @@ fn run_inputs<'a>(alloc: Global) -> Result<Command<'a>, AllocError>
     command(alloc, "run", about, RUN_HELP)
         .arg(file_word(alloc))?
         .arg(source_word(alloc))?
+        .arg(sink_word(alloc))?
         .arg(workers_word(alloc))
 }
 
@@ -201,6 +227,25 @@ fn source_word<'a>(alloc: Global) -> Arg<'a>
     option(alloc, SOURCE, "source", "NAME=FILE", help).action(ArgAction::Append)
 }
 
+// The `--sink` options of a command.
+fn sink_word<'a>(alloc: Global) -> Arg<'a>
+    ensures { IsArg sink_option result }
+{
+    let help =
+        "Stores what a sink received in the file OUT, which is no input, before the report is written; may be repeated";
+    option(alloc, SINK, "sink", "NAME=OUT", help).action(ArgAction::Append)
+}
+
+// The `--items` flag.
+fn items_word<'a>(alloc: Global) -> Arg<'a>
+    ensures { IsArg items_flag result }
+{
+    Arg::new(alloc, ITEMS)
+        .long("items")
+        .help("Reads FILE as a file of items, as sources have; then there is no TRACE")
+        .action(ArgAction::SetTrue)
+}
+
 // The word for the file of a description.
 fn file_word<'a>(alloc: Global) -> Arg<'a>
     ensures { IsArg file_word result }
@@ -224,7 +269,7 @@ fn steps_word<'a>(alloc: Global) -> Arg<'a>
     count(alloc, STEPS, "steps", "N", steps)
 }
 
-// A word that has to be there.
+// A word that a command needs.
 fn word<'a>(alloc: Global, id: &'static str, help: &'static str) -> Arg<'a>
     ensures { IsArg (word id.entry.now) result }
 {
@@ -238,7 +283,7 @@ fn optional_word<'a>(alloc: Global, id: &'static str, help: &'static str) -> Arg
     Arg::new(alloc, id).help(help).action(ArgAction::Set)
 }
 
-// An option with a value, which is called so in help.
+// An option with a value, and the name of the value in help.
 fn option<'a>(
     alloc: Global,
     id: &'static str,

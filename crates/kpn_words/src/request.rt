@@ -10,6 +10,14 @@ pub enum Request<'a> {
     Alone(&'a str),
     /// `check FILE`, with the name of the file.
     Check(&'a str),
+    /// `explain FILE` or `explain FILE TRACE`, with the most steps before an event.
+    Explain {
+        file: &'a str,
+        trace: Option<&'a str>,
+        steps: u64,
+    },
+    /// `explain FILE --items`.
+    ExplainItems(&'a str),
     /// `print FILE`.
     Print(&'a str),
     /// `draw FILE` or `draw FILE TRACE`.
@@ -53,26 +61,28 @@ pub enum Tsv {
     Processes,
 }
 
-/// What `kpn run` is given, but for its workers.
+/// What the words give to `kpn run`, except its workers.
 #[derive(Drop)]
 pub struct RunWords<'a> {
     pub file: &'a str,
     /// The words behind the `--source` options.
     pub sources: Vec<&'a str>,
+    /// The words behind the `--sink` options.
+    pub sinks: Vec<&'a str>,
     /// The most commits.
     pub commits: u64,
-    /// How many items are wanted of each sink.
+    /// How many items the run wants of each sink.
     pub take: Option<u64>,
     /// The file for the trace.
     pub trace: Option<&'a str>,
 }
 
-/// Why the words of a command line are not carried out.
+/// Why the program can't do what the words ask for.
 #[derive(Drop)]
 pub enum WordsFault {
-    /// They are not understood. The text says how words are used.
+    /// The words are not understood. The text says how to use them.
     Usage(Error),
-    /// Memory was refused.
+    /// There was no memory.
     NoMemory,
 }
 

@@ -6,10 +6,11 @@ ghost use Rattle.clap.specs.Words.{subcommand_rows_of};
 ghost use Rattle.kpn_words.specs.CommandLine.{command_line};
 ghost use Rattle.kpn_words.specs.Asked.{IsAsked, IsRefused, IsHelpOfKind, IsRefusalOfKind};
 ghost use Rattle.kpn_words.specs.Asked.{IsUsageIf, IsNoTable, Names, table_name};
-ghost use Rattle.kpn_words.specs.Asked.{text_for, texts_for};
+ghost use Rattle.kpn_words.specs.Asked.{text_for, texts_for, is_set};
 
 use crate::command_line::{
-    FILE, MAX_COMMITS, NAME, ROUNDS, SOURCE, STEPS, TABLE, TAKE, TRACE, WORKERS, program,
+    FILE, ITEMS, MAX_COMMITS, NAME, ROUNDS, SINK, SOURCE, STEPS, TABLE, TAKE, TRACE, WORKERS,
+    program,
 };
 use crate::request::{Request, RunWords, Tsv, WordsFault};
 use clap::error::ErrorKind;
@@ -17,7 +18,7 @@ use clap::{ArgMatches, Command, Error};
 use kpn_limits::USUAL_COUNT;
 use std::alloc::{AllocError, Global};
 
-/// What the words ask for, or why they are not carried out.
+/// What the words ask for, or why the program can't do it.
 pub fn read_words<'a>(alloc: Global, words: &'a [String]) -> Result<Request<'a>, WordsFault>
     ensures { MatchResult result (IsAsked (map string_bytes words.now)) (IsRefused (map string_bytes words.now)) }
 {
@@ -28,7 +29,7 @@ pub fn read_words<'a>(alloc: Global, words: &'a [String]) -> Result<Request<'a>,
     }
 }
 
-// What words ask for that `clap` matches with no command: help or the version, if anything.
+// What words ask for if `clap` matches them with no command: help or the version, or nothing.
 fn not_matched<'a>(error: Error) -> Result<Request<'a>, WordsFault>
     ensures { MatchResult result (IsHelpOfKind (kind_of error)) (IsRefusalOfKind (kind_of error)) }
 {
@@ -39,7 +40,7 @@ fn not_matched<'a>(error: Error) -> Result<Request<'a>, WordsFault>
     }
 }
 
-// What a command line asks for that was matched.
+// What a command line asks for if `clap` matches it.
 fn request_of<'a>(
     alloc: Global,
     program: &mut Command<'a>,
@@ -55,7 +56,7 @@ fn request_of<'a>(
     }
 }
 
-// What a command is asked for, by its name and what it is given.
+// What the words ask of a command, by its name and what they give to it.
 fn command_request<'a>(
     alloc: Global,
     program: &mut Command<'a>,
@@ -68,6 +69,7 @@ fn command_request<'a>(
     match command {
         "alone" => Ok(Request::Alone(required(program, given, NAME)?)),
         "check" => Ok(Request::Check(required(program, given, FILE)?)),
+        "explain" => explain_request(program, given),
         "print" => Ok(Request::Print(required(program, given, FILE)?)),
         "draw" => draw_request(program, given),
         "rounds" => rounds_request(alloc, program, given),
@@ -78,7 +80,7 @@ fn command_request<'a>(
     }
 }
 
-// Why words that name no command are not carried out.
+// The fault of words that name no command.
 fn without_command(program: &mut Command<'_>) -> WordsFault {
     match program.error(ErrorKind::MissingSubcommand, "a command is needed") {
         Ok(error) => WordsFault::Usage(error),
@@ -86,7 +88,7 @@ fn without_command(program: &mut Command<'_>) -> WordsFault {
     }
 }
 
-// A word that has to be there.
+// A word that the command needs.
 fn required<'a>(
     program: &mut Command<'a>,
     matches: &ArgMatches<'a>,
@@ -102,7 +104,51 @@ fn required<'a>(
     }
 }
 
-// What `kpn draw` is asked for.
+// What the words ask of `kpn explain`. Items have no trace.
+fn explain_request<'a>(
+    program: &mut Command<'a>,
+    explain: &ArgMatches<'a>,
+) -> Result<Request<'a>, WordsFault>
+    ensures { (words : List (List ℕ)) → Names words (codes "explain") (rows_of (found_of explain.now))
+        → MatchResult result (IsAsked words) (IsRefused words) }
+{
+    let file = required(program, explain, FILE)?;
+    let trace = explain.get_str(TRACE);
+    let steps = explain.get_one::<u64>(STEPS).unwrap_or(USUAL_COUNT);
+    if !is_set(explain, ITEMS) {
+        return Ok(Request::Explain { file, trace, steps });
+    }
+    match trace {
+        None => Ok(Request::ExplainItems(file)),
+        Some(_) => Err(items_with_trace(program)),
+    }
+}
+
+// Whether a flag is set.
+fn is_set(matches: &ArgMatches<'_>, id: &str) -> bool
+    ensures { result ≡ is_set id.now (rows_of (found_of matches.now)) }
+{
+    let Some(text) = matches.get_str(id) else {
+        return false;
+    };
+    match text {
+        "true" => true,
+        _ => false,
+    }
+}
+
+// The fault of words that give both items and a trace.
+fn items_with_trace(program: &mut Command<'_>) -> WordsFault {
+    match program.error(
+        ErrorKind::ArgumentConflict,
+        "with --items there is no TRACE",
+    ) {
+        Ok(error) => WordsFault::Usage(error),
+        Err(_) => WordsFault::NoMemory,
+    }
+}
+
+// What the words ask of `kpn draw`.
 fn draw_request<'a>(
     program: &mut Command<'a>,
     draw: &ArgMatches<'a>,
@@ -115,7 +161,7 @@ fn draw_request<'a>(
     Ok(Request::Draw { file, trace })
 }
 
-// What `kpn rounds` is asked for.
+// What the words ask of `kpn rounds`.
 fn rounds_request<'a>(
     alloc: Global,
     program: &mut Command<'a>,
@@ -130,11 +176,11 @@ fn rounds_request<'a>(
     Ok(Request::Rounds {
         file: required(program, rounds, FILE)?,
         n,
-        sources: sources_of(alloc, rounds)?,
+        sources: texts_of(alloc, rounds, SOURCE)?,
     })
 }
 
-// What `kpn run` is asked for.
+// What the words ask of `kpn run`.
 fn run_request<'a>(
     alloc: Global,
     program: &mut Command<'a>,
@@ -144,11 +190,13 @@ fn run_request<'a>(
         → MatchResult result (IsAsked words) (IsRefused words) }
 {
     let file = required(program, run, FILE)?;
-    let sources = sources_of(alloc, run)?;
+    let sources = texts_of(alloc, run, SOURCE)?;
+    let sinks = texts_of(alloc, run, SINK)?;
     let trace = run.get_str(TRACE);
     let words = RunWords {
         file,
         sources,
+        sinks,
         commits: run.get_one::<u64>(MAX_COMMITS).unwrap_or(USUAL_COUNT),
         take: run.get_one::<u64>(TAKE),
         trace,
@@ -159,7 +207,7 @@ fn run_request<'a>(
     }
 }
 
-// What `kpn audit` is asked for.
+// What the words ask of `kpn audit`.
 fn audit_request<'a>(
     program: &mut Command<'a>,
     audit: &ArgMatches<'a>,
@@ -174,7 +222,7 @@ fn audit_request<'a>(
     })
 }
 
-// What `kpn stats` is asked for.
+// What the words ask of `kpn stats`.
 fn stats_request<'a>(
     program: &mut Command<'a>,
     stats: &ArgMatches<'a>,
@@ -190,7 +238,7 @@ fn stats_request<'a>(
     })
 }
 
-// The table for other programs that is asked for, if any.
+// The table for other programs that the words ask for, if they do.
 fn table_of<'a>(
     program: &mut Command<'a>,
     stats: &ArgMatches<'a>,
@@ -209,7 +257,7 @@ fn table_of<'a>(
     }
 }
 
-// Why words that name no table are not carried out.
+// The fault of words that name no table.
 fn no_table(program: &mut Command<'_>) -> WordsFault {
     match program.error(ErrorKind::InvalidValue, "--tsv takes channels or processes") {
         Ok(error) => WordsFault::Usage(error),
@@ -217,10 +265,14 @@ fn no_table(program: &mut Command<'_>) -> WordsFault {
     }
 }
 
-// The words behind the `--source` options.
-fn sources_of<'a>(alloc: Global, matches: &ArgMatches<'a>) -> Result<Vec<&'a str>, AllocError>
-    ensures { IfOk result (λ sources. texts_for (codes "SOURCE") (rows_of (found_of matches.now))
-        ≡ map (λ source. source.now) sources.items) }
+// The words behind an option that the user may repeat.
+fn texts_of<'a>(
+    alloc: Global,
+    matches: &ArgMatches<'a>,
+    id: &str,
+) -> Result<Vec<&'a str>, AllocError>
+    ensures { IfOk result (λ texts. texts_for id.now (rows_of (found_of matches.now))
+        ≡ map (λ text. text.now) texts.items) }
 {
-    Vec::from_slice(alloc, matches.get_strs(SOURCE).unwrap_or(&[]))
+    Vec::from_slice(alloc, matches.get_strs(id).unwrap_or(&[]))
 }

@@ -42,7 +42,7 @@ impl MemoryShelf {
 impl Shelf for MemoryShelf {
     ghost may_give = { may_give_held };
 
-    /// What it holds; `Read` where it holds nothing under the name, or more than `MAX_INPUT_BYTES` bytes.
+    /// What it holds; `Read` if it holds nothing under the name, or more than `MAX_INPUT_BYTES` bytes.
     fn load(&self, alloc: Global, name: &str) -> Result<Vec<u8>, ItemFault>
         ensures given { IfOk result (λ bytes. held self.now name.now ≡ Some bytes.items) }
         ensures within { IfOk result (λ bytes. vec_len bytes ≤ MAX_INPUT_BYTES) }

@@ -1,4 +1,4 @@
-//! Where a path leads: to which file, by device and inode, or to which name in which folder.
+//! What a path leads to: a file, by device and inode, or a name in a folder.
 
 use std::fs;
 use std::fs::Metadata;
@@ -22,7 +22,7 @@ pub(super) struct Node {
 }
 
 impl Node {
-    /// The file that this is told of.
+    /// The file that this describes.
     pub(super) fn new(metadata: &Metadata) -> Node {
         Node {
             device: metadata.dev(),

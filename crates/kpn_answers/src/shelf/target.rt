@@ -1,5 +1,5 @@
 //! A file of the system that is ready to take what is stored. A plain file is not written itself: a new file beside it,
-//! its part file, takes its place once it holds everything. Who makes a part file keeps it locked.
+//! its part file, takes its place once it holds everything. The program that makes a part file keeps it locked.
 
 use crate::shelf::place::{Node, split};
 use std::alloc::AllocError;
@@ -61,6 +61,11 @@ impl Target {
     /// Whether this is the file for what is stored under the name.
     pub(super) fn is_of(&self, name: &str) -> bool {
         self.name.as_str() == name
+    }
+
+    /// The name under which it is to be stored.
+    pub(super) fn name(&self) -> &str {
+        self.name.as_str()
     }
 
     /// Opens the file for a name: a part file for one that is plain or not there yet, and else the file itself, as a
@@ -186,7 +191,7 @@ fn with_rights(file: File, rights: Option<Permissions>) -> io::Result<File> {
     Ok(file)
 }
 
-// Locks a file, and tells whether it still has its name then. It is refused where somebody else has locked it.
+// Locks a file, and returns whether it still has its name then. It fails if somebody else has locked it.
 fn is_locked<R: Files>(rt: &R, name: &str, file: &File) -> io::Result<bool> {
     file.try_lock()?;
     let own = Node::new(&file.metadata()?);
@@ -197,7 +202,7 @@ fn is_locked<R: Files>(rt: &R, name: &str, file: &File) -> io::Result<bool> {
     }
 }
 
-// Removes a part file that nobody has locked: who made it was killed.
+// Removes a part file that nobody has locked: the program that made it was killed.
 fn remove_old<R: Files<File = File>>(rt: &R, part: &str) -> io::Result<()> {
     let file = match OpenOptions::new().write(true).open(rt, part) {
         Ok(file) => file,

@@ -1,5 +1,5 @@
 //! The holds of a worker: each time it has the lock it commits what it has stepped, and claims the next process or
-//! waits. Whom it has to notify it notifies once the lock is free.
+//! waits. It notifies others once the lock is free.
 ghost use Rattle.std.specs.Prelude.{◌≡◌, ◌≤◌, false, IfNone, IsSome};
 ghost use Rattle.kpn_pool.specs.Seat.{ended};
 
@@ -14,7 +14,7 @@ use std::sync::{MutexGuard, Wait};
 use std::time::Clock;
 
 impl<'n, J: Job, A: Allocator> Shared<'n, J, A> {
-    /// Commits the batch of a worker, which becomes that of the next processes. Tells whether there are such: if not,
+    /// Commits the batch of a worker, which becomes that of the next processes. Returns whether there are such: if not,
     /// the worker ends.
     pub(crate) fn go_on<R: Wait + Clock>(
         &self,
@@ -48,7 +48,7 @@ impl<'n, J: Job, A: Allocator> Shared<'n, J, A> {
         true
     }
 
-    /// Waits until this worker is to claim a process. `None` where there is a reason to end before that. `in_vain` says
+    /// Waits until this worker is to claim a process. `None` if there is a reason to end before that. `in_vain` says
     /// that nobody has committed since the worker let the lock go.
     fn wait_for_work<'l, R: Wait + Clock>(
         &'l self,
@@ -100,7 +100,7 @@ impl<'n, J: Job, A: Allocator> Shared<'n, J, A> {
         desk
     }
 
-    /// A worker rests until it is notified or its time is over. Tells whether it was notified.
+    /// A worker rests until it is notified or its time is over. Returns whether it was notified.
     fn rest<'l, R: Wait + Clock>(
         &'l self,
         rt: &R,

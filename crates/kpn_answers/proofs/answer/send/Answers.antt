@@ -1,4 +1,4 @@
--- The text goes out, or it is told that it can't be written.
+-- The text goes out, or a refusal reports that it can't be written.
 use Rattle.std.proofs.Common.{refl}
 use Rattle.kpn_answers.specs.Answer.{sent, unsent}
 use Rattle.kpn_answers.proofs.answer.send.Goals as goal

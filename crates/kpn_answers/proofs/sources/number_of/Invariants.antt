@@ -1,14 +1,13 @@
--- The sources so far do not have the name.
+-- The ends so far do not have the name.
 use Rattle.std.proofs.Common.{◌≡◌, take, drop, count_by}
-use Rattle.kpn_net.specs.Tables.{is_source}
-use Rattle.kpn_answers.specs.Sources.{source_number, source_from}
+use Rattle.kpn_answers.specs.Sources.{is_end, end_number, end_from}
 use Rattle.kpn_answers.proofs.sources.number_of.Given as goal
 
 abbrev pub invariant-loop-channel : goal.invariant-loop-channel
 invariant-loop-channel l =
     let d = l.document in
     record {
-      later : source_number d l.name
-          ≡ source_from d.names.channels l.name l.number l.channel (drop l.channel d.tables.channels);
-      count : l.number ≡ count_by is_source (take l.channel d.tables.channels);
+      later : end_number l.ends d l.name
+          ≡ end_from (is_end l.ends) d.names.channels l.name l.number l.channel (drop l.channel d.tables.channels);
+      count : l.number ≡ count_by (is_end l.ends) (take l.channel d.tables.channels);
     }

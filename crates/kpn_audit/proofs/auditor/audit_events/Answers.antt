@@ -19,14 +19,14 @@ by_fault t H quota legal NoMemory at = inl refl
 by_fault t H quota legal (Budget k) at = inr (k, refl)
 by_fault t H quota legal PolicyDiffers at = absurd at
 
-pub returns-in_err-configuration-clause-accepted : goal.returns-in_err-configuration-clause-accepted
-returns-in_err-configuration-clause-accepted g c legal =
+pub returns-in_err-replayed-clause-accepted : goal.returns-in_err-replayed-clause-accepted
+returns-in_err-replayed-clause-accepted g c legal =
     let told = err_from_is_err_and c.from_residual.result c.from_residual.ensures.1 in
     rw (told.1, told.2)
-    (by_fault c.args.network.now (history_of c.args.version c.args.network.now c.args.events.now) c.args.quota legal c.in_err-configuration.field-0.0
-    c.in_err-configuration.ensures.refused)
+    (by_fault c.args.network.now (history_of c.args.version c.args.network.now c.args.events.now) c.args.quota legal c.in_err-replayed.field-0.0
+    c.in_err-replayed.ensures.refused)
 
 pub returns-clause-least : goal.returns-clause-least
 returns-clause-least g c =
     least_where_exact c.args.network.now c.known.ensures (history_of c.args.version c.args.network.now c.args.events.now) c.in_ok-summary.field-0
-    (c.in_ok-summary.ensures (history_of c.args.version c.args.network.now c.args.events.now) c.in_ok-configuration.ensures.run)
+    (c.in_ok-summary.ensures (history_of c.args.version c.args.network.now c.args.events.now) c.in_ok-replayed.ensures.run)

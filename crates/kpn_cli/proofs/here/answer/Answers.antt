@@ -1,4 +1,4 @@
--- Each command does what it does, and touches nothing else; a run by workers is handed back.
+-- Each command does its part and changes nothing else. A run by workers is handed back.
 use Rattle.std.proofs.Common.{◌≡◌, ℕ, List, Option, Some, None, Result, Ok, Err, IfOk, refl, sym, subst, map, option_map}
 use Rattle.std.specs.Bool.{⊤}
 use Rattle.std.specs.Borrow.{Bor}
@@ -14,7 +14,7 @@ use Rattle.kpn_answers.proofs.Answers.{answers_given}
 use Rattle.kpn_audit_command.specs.Answers.{IsRefusalOfAudit}
 use Rattle.kpn_stats_command.specs.declared.stats_text.StatsTables.{StatsTables}
 use Rattle.kpn_stats_command.specs.Answers.{AreStats}
-use Rattle.kpn_cli.specs.Command.{alone, check, print, draw, rounds, run, audit, stats, clap, help}
+use Rattle.kpn_cli.specs.Command.{alone, check, explain, explain_items, print, draw, rounds, run, audit, stats, clap, help}
 use Rattle.kpn_cli.specs.Command.{AsksForRunWithin, run_of}
 use Rattle.kpn_cli.proofs.here.answer.Goals as goal
 
@@ -28,6 +28,16 @@ returns-in-Check g c =
     check _ (subst (IsAsked (map string_bytes c.args.words.now)) c.in-Check.is c.requires) refl refl
     c.check_command.ensures
 
+pub returns-in-Explain : goal.returns-in-Explain
+returns-in-Explain g c =
+    explain _ _ _ (subst (IsAsked (map string_bytes c.args.words.now)) c.in-Explain.is c.requires) refl refl
+    c.explain.ensures
+
+pub returns-in-ExplainItems : goal.returns-in-ExplainItems
+returns-in-ExplainItems g c =
+    explain_items _ (subst (IsAsked (map string_bytes c.args.words.now)) c.in-ExplainItems.is c.requires) refl refl
+    c.explain_items_command.ensures
+
 pub returns-in-Print : goal.returns-in-Print
 returns-in-Print g c =
     print _ (subst (IsAsked (map string_bytes c.args.words.now)) c.in-Print.is c.requires) refl refl
@@ -38,7 +48,7 @@ returns-in-Draw g c =
     draw _ _ (subst (IsAsked (map string_bytes c.args.words.now)) c.in-Draw.is c.requires) refl refl
     c.draw_command.ensures
 
--- the words behind `--source` are handed on as a slice
+-- the words behind `--source` go on as a slice
 sources_handed : (asked : List (List ℕ)) (file : List ℕ) (n : ℕ) (sources slice : List (Bor (List ℕ)))
     → slice ≡ sources → AsksForRounds asked file n (map (λ source. source.now) sources)
     → AsksForRounds asked file n (map (λ source. source.now) slice)
@@ -51,20 +61,21 @@ returns-in-Rounds g c =
     (subst (IsAsked (map string_bytes c.args.words.now)) c.in-Rounds.is c.requires)) refl refl
     c.rounds_command.ensures
 
--- a run that was asked for is asked for with the program's quota
+-- the words ask for the run with the quota of the program
 within : (asked : List (List ℕ)) (words : RunWords) (request : RunRequest) (workers : Option ℕ)
     → request ≡ run_of words
-    → AsksForRun asked words.file.now (map (λ source. source.now) words.sources.items) words.commits words.take
+    → AsksForRun asked words.file.now (map (λ source. source.now) words.sources.items)
+    (map (λ sink. sink.now) words.sinks.items) words.commits words.take
     (option_map (λ name. name.now) words.trace) workers
     → AsksForRunWithin asked request.file.now (map (λ word. word.now) request.sources.items) request.limits
-    (option_map (λ name. name.now) request.trace) workers
+    (option_map (λ name. name.now) request.trace) (map (λ word. word.now) request.sinks.items) workers
 within asked words request workers same asks =
     subst (λ (r : RunRequest). AsksForRunWithin asked r.file.now (map (λ word. word.now) r.sources.items) r.limits
-    (option_map (λ name. name.now) r.trace) workers) (sym same) (asks, refl)
+    (option_map (λ name. name.now) r.trace) (map (λ word. word.now) r.sinks.items) workers) (sym same) (asks, refl)
 
 pub returns-in-Run : goal.returns-in-Run
 returns-in-Run g c =
-    run _ _ _ _ (within (map string_bytes c.args.words.now) c.in-Run.run' c.asked_run.result None c.asked_run.ensures
+    run _ _ _ _ _ (within (map string_bytes c.args.words.now) c.in-Run.run' c.asked_run.result None c.asked_run.ensures
     (subst (IsAsked (map string_bytes c.args.words.now)) c.in-Run.is c.requires)) refl c.run_command.ensures
 
 pub returns-in-RunByWorkers : goal.returns-in-RunByWorkers
@@ -83,7 +94,7 @@ returns-in-Audit g c =
     audit _ _ _ (subst (IsAsked (map string_bytes c.args.words.now)) c.in-Audit.is c.requires) refl refl
     c.audit_command.ensures
 
--- the tables that are written are those that are asked for
+-- the tables that are written are those that the words ask for
 of_tables : {O E : Type 0} (contents : O → Option (List ℕ)) (may_give : Loads) (file trace : List ℕ) (steps : ℕ)
     (tables asked : StatsTables) (out written : O) (err told : E) (status : ℕ) → tables ≡ asked
     → Concludes contents (AreStats may_give file trace steps tables) (IsRefusalOfAudit may_give file trace) out written

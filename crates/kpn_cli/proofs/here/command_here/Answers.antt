@@ -1,4 +1,4 @@
--- Words that are not understood are told so, and nothing else is touched.
+-- Words that are not understood are reported, and nothing else changes.
 use Rattle.std.proofs.Common.{◌≡◌, ℕ, List, Option, refl}
 use Rattle.kpn_words.specs.Asked.{IsRefused}
 use Rattle.kpn_words.specs.declared.request.WordsFault.{WordsFault}

@@ -1,4 +1,4 @@
--- What is told of the report is an answer, and so is that there is none.
+-- A report is an answer, and so is a refusal.
 use Rattle.std.proofs.Common.{refl}
 use Rattle.kpn_run_command.specs.Run.{with_report, without_report}
 use Rattle.kpn_run_command.proofs.run.run_command_by_workers.Goals as goal

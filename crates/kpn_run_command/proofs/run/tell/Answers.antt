@@ -1,23 +1,32 @@
--- What is concluded once the trace is stored, and that it is not, tell the report.
-use Rattle.std.proofs.Common.{◌≡◌, refl, option_map, subst}
-use Rattle.kpn_answers.specs.declared.refusal.Refusal.TheVariants.{NoMemory}
+-- The files are stored and the text goes out; or a file is not stored; or there is no memory for the texts.
+use Rattle.std.proofs.Common.{◌≡◌, List, Ok, refl, map, ap, subst, ◌∙◌}
+use Rattle.kpn_answers.specs.Refusal.{status_of}
 use Rattle.kpn_answers.proofs.Answers.{concludes_given}
-use Rattle.kpn_report.specs.Reports.{events_of}
-use Rattle.kpn_run_command.specs.Run.{IsReportText, IsStored, traced, untraced}
+use Rattle.kpn_run_command.specs.Files.{StoredFile, stored_as, AreStored, IsCutShort}
+use Rattle.kpn_run_command.specs.Run.{IsReportText, stored, cut_short, unmade}
 use Rattle.kpn_run_command.proofs.run.tell.Goals as goal
 
-pub returns-in-Ok : goal.returns-in-Ok
-returns-in-Ok g c =
-    traced
-    (subst
-    (λ t. IsStored g.S.Shelf.may_give (option_map (λ name. name.now) c.args.request.now.trace) t
-    (events_of c.args.reported.now.report) c.args.shelf.now c.store_trace.new.shelf)
-    c.network-network.ensures c.in-Ok.ensures.stored)
+pub returns-in-Ok-store_files : goal.returns-in-Ok-store_files
+returns-in-Ok-store_files g c =
+    stored
+    (subst (λ (fs : List StoredFile). AreStored g.S.Shelf.may_give fs c.args.shelf.now c.store_files.new.shelf)
+    (ap (map stored_as) c.deref.ensures.value ∙ c.in-Ok.ensures.ok) c.in-Ok-store_files.ensures.stored)
     (concludes_given g.O.Write.contents (IsReportText c.args.request.now.limits c.args.reported.now)
-    (λ refusal. refusal ≡ NoMemory)
+    (λ refusal. ⊥)
     c.args.out.now c.conclude.new.out c.args.err.now c.conclude.new.err c.conclude.result
-    c.conclusion_of.result (λ a. a.text.items) (λ a. a.status)
-    c.conclusion_of.ensures.ok c.conclusion_of.ensures.refused c.conclude.ensures)
+    (Ok c.in-Ok-conclusion_of.conclusion) (λ a. a.text.items) (λ a. a.status)
+    c.in-Ok-conclusion_of.ensures.ok tt c.conclude.ensures)
 
 pub returns-in-Err : goal.returns-in-Err
-returns-in-Err g c = untraced c.in-Err.refusal c.in-Err.ensures.refused refl c.report.ensures
+returns-in-Err g c = unmade refl refl (c.report.ensures ∙ ap status_of c.in-Err.ensures.refused)
+
+pub returns-in-Err-conclusion_of : goal.returns-in-Err-conclusion_of
+returns-in-Err-conclusion_of g c =
+    unmade refl refl (c.report-in-Err-conclusion_of.ensures ∙ ap status_of c.in-Err-conclusion_of.ensures.refused)
+
+pub returns : goal.returns
+returns g c =
+    cut_short c.in-Err-store_files.fault
+    (subst (λ (fs : List StoredFile). IsCutShort g.S.Shelf.may_give fs c.args.shelf.now c.store_files.new.shelf)
+    (ap (map stored_as) c.deref.ensures.value ∙ c.in-Ok.ensures.ok) c.in-Err-store_files.ensures.cut_short) refl
+    c.report-in-Err-store_files.ensures

@@ -1,4 +1,4 @@
--- Each word is the text that is given, and the number the one that is given.
+-- Each word is the text that the words give, and the number is theirs.
 use Rattle.std.proofs.Common.{◌∙◌, ap, sym, codes}
 use Rattle.std.specs.Prelude.{unwrap_or}
 use Rattle.std.specs.Str.Parse.{ParsesUnsigned, ExplainsUnsignedError, HasUnsignedDigitsIfOk}

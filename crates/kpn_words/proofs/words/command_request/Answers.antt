@@ -1,4 +1,4 @@
--- A command that is none of ours is asked for by no words.
+-- Words that name no command of the program ask for nothing.
 use Rattle.std.proofs.Common.{ℕ, List, inr}
 use Rattle.clap.specs.Matches.{found_of}
 use Rattle.clap.specs.Walk.{rows_of}
@@ -18,6 +18,7 @@ returns-in_default c = λ words names.
     (no_command words c.args.command.now (rows_of (found_of c.args.given.now)) names (
       c.in_default.not-alone,
       c.in_default.not-check,
+      c.in_default.not-explain,
       c.in_default.not-print,
       c.in_default.not-draw,
       c.in_default.not-rounds,

@@ -1,4 +1,4 @@
--- Each word is the text that is given.
+-- Each word is the text that the words give.
 use Rattle.std.proofs.Common.{codes}
 use Rattle.clap.specs.Matches.{found_of}
 use Rattle.kpn_words.proofs.Given.{text_given}

@@ -1,4 +1,4 @@
--- The word is the text that is given, and it is refused only if there is none.
+-- The word is the text that the words give. The fault comes only if there is none.
 use Rattle.std.proofs.Common.{◌∙◌, ap, option_map}
 use Rattle.clap.specs.Matches.{found_of}
 use Rattle.kpn_words.proofs.Given.{text_given}

@@ -1,4 +1,4 @@
--- Each word is the text that is given, and the number the one that is given; a number that is lacking is not given.
+-- Each word is the text that the words give, and the number is theirs. Without a number they ask for nothing.
 use Rattle.std.proofs.Common.{◌≡◌, ◌∙◌, ℕ, Option, Some, None, refl, inr, codes}
 use Rattle.std.specs.Str.Parse.{ParsesUnsigned, ExplainsUnsignedError, HasUnsignedDigitsIfOk}
 use Rattle.clap.specs.Matches.{found_of}
@@ -26,4 +26,4 @@ returns c = λ words names.
     (λ text r. ParsesUnsigned 32 10 text r × ExplainsUnsignedError 10 text r × HasUnsignedDigitsIfOk text r) 32
     (found_of c.args.rounds.now) (codes "N") c.get_one.result c.get_one.ensures.none
     (λ text given. c.get_one.ensures.value text given) (λ text r read. read.0) in
-    (_, names, c.in_ok-required.ensures, n ∙ c.in-Some.is, c.in_ok-sources_of.ensures)
+    (_, names, c.in_ok-required.ensures, n ∙ c.in-Some.is, c.in_ok-texts_of.ensures)

@@ -1,4 +1,4 @@
--- Each word is the text that is given, and each number the one that is given.
+-- Each word is the text that the words give, and each number is theirs.
 use Rattle.std.proofs.Common.{◌∙◌, ap, sym, codes}
 use Rattle.std.specs.Prelude.{unwrap_or}
 use Rattle.std.specs.Str.Parse.{ParsesUnsigned, ExplainsUnsignedError, HasUnsignedDigitsIfOk}
@@ -25,6 +25,7 @@ returns-in-None c = λ words names.
       names,
       c.in_ok-file.ensures,
       c.in_ok-sources.ensures,
+      c.in_ok-sinks.ensures,
       ap (λ n. unwrap_or n 10000000) commits ∙ sym c.unwrap_or.ensures,
       take,
       trace,
@@ -50,6 +51,7 @@ returns-in-Some c = λ words names.
       names,
       c.in_ok-file.ensures,
       c.in_ok-sources.ensures,
+      c.in_ok-sinks.ensures,
       ap (λ n. unwrap_or n 10000000) commits ∙ sym c.unwrap_or.ensures,
       take,
       trace,

@@ -1,4 +1,4 @@
--- Each word is the text that is given, and the number the one that is given; another word for a table asks for nothing.
+-- Each word is the text that the words give, and the number is theirs. Another word for a table asks for nothing.
 use Rattle.std.proofs.Common.{◌∙◌, ℕ, List, ap, sym, codes, inr}
 use Rattle.std.specs.Prelude.{unwrap_or}
 use Rattle.std.specs.Str.Parse.{ParsesUnsigned, ExplainsUnsignedError, HasUnsignedDigitsIfOk}

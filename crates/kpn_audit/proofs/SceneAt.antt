@@ -1,0 +1,38 @@
+-- What stands before an event of a stored trace.
+use Rattle.std.proofs.Common.{◌≡◌, ℕ, zero, suc, ◌<◌, List, [], ◌∷◌, ◌++◌, length, take, get_or, refl, ap, subst}
+use Rattle.kpn_net.specs.Tables.{Tables}
+use Rattle.kpn_trace.specs.declared.event.Event.{Event}
+use Rattle.kpn_trace.specs.declared.stored.Version.{Version}
+use Rattle.kpn_trace.specs.declared.stored.Version.TheVariants.{One, Two}
+use Rattle.kpn_audit.specs.declared.scene.Scene.{Scene}
+use Rattle.kpn_audit.specs.Stored.{told, told_behind, history_of, told_in}
+use Rattle.kpn_audit.specs.Scene.{IsScene, IsSceneAt}
+use Rattle.kpn_audit.proofs.Replaying.{event_at}
+use Rattle.kpn_audit.proofs.Telling.{told_there, is_there}
+
+-- the history of the first events is the beginning of the history of all
+take-told_behind : (t : Tables) (B events : List Event) (k : ℕ)
+    → told_behind t B (take k events) ≡ take k (told_behind t B events)
+take-told_behind t B events zero = refl
+take-told_behind t B [] (suc k) = refl
+take-told_behind t B (e ∷ events) (suc k) =
+    ap (λ H. told t B e ∷ H) (take-told_behind t (B ++ told t B e ∷ []) events k)
+
+take-history_of : (v : Version) (t : Tables) (events : List Event) (k : ℕ)
+    → history_of v t (take k events) ≡ take k (history_of v t events)
+take-history_of One t events k = take-told_behind t [] events k
+take-history_of Two t events k = refl
+
+pub scene_at : (v : Version) (t : Tables) (events : List Event) (k : ℕ) (d : Event) → k < length events
+    → (scene : Scene)
+    → IsScene t (history_of v t (take k events)) (told_in v t (history_of v t (take k events)) (get_or events k d)) scene
+    → IsSceneAt t (history_of v t events) k scene
+scene_at v t events k d below scene is =
+    let H = history_of v t events in
+    let e = told_in v t (take k H) (get_or events k d) in
+    record {
+      event = e;
+      there = event_at H k e d (is_there v t events k below) (told_there v t events k d e below refl);
+      is_scene =
+          subst (λ B. IsScene t B (told_in v t B (get_or events k d)) scene) (take-history_of v t events k) is;
+    }

@@ -1,0 +1,12 @@
+-- The growth that is owed is that of the history.
+use Rattle.std.proofs.Common.{subst}
+use Rattle.kpn_audit.specs.Judged.{Owes}
+use Rattle.kpn_audit.specs.Stored.{history_of}
+use Rattle.kpn_audit.proofs.scenes.scene_after.Goals as goal
+
+pub returns-in-Some : goal.returns-in-Some
+returns-in-Some g c =
+    let t = c.args.network.now in
+    let H = history_of c.args.version t c.args.before.now in
+    c.growth_owed.ensures H c.in_ok-replayed.ensures.run
+    (subst (λ owed. Owes t H c.in_ok-replayed.replayed.configuration owed) c.in-Some.is c.in_ok-replayed.ensures.owes)

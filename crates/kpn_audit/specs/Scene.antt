@@ -1,0 +1,88 @@
+-- What stands before an event of a trace: what its process is doing, or how its channel stands to the outside.
+use Rattle.std.specs.Prelude.{◌≡◌, ℕ, true, if◌then◌else◌, List, take, Some, slice_get, ⊤}
+use Rattle.kpn_net.specs.declared.wait.Wait.TheVariants.{Empty, Full}
+use Rattle.kpn_net.specs.Tables.{Tables, channel_at, is_source, is_sink, larger_capacity}
+use Rattle.kpn_chan.specs.Channel.{is_full, next_item}
+use Rattle.kpn_trace.specs.declared.event.Event.{Event}
+use Rattle.kpn_trace.specs.declared.event.Event.TheVariants.{Feed, Close, Take, Leave}
+use Rattle.kpn_trace.specs.declared.stored.Trace.{Trace}
+use Rattle.kpn_trace.specs.Talks.{is_of}
+use Rattle.kpn_trace.specs.Channels.{capacity_or_zero}
+use Rattle.kpn_trace.specs.Legal.{HasNumbers, OwesGrowth}
+use Rattle.kpn_trace.specs.Stops as owing
+use Rattle.kpn_configuration.specs.Configuration.{Configuration, channel_in, closed_in, wait_in, end_in}
+use Rattle.kpn_configuration.specs.Due.{Stands, ReadsFrom, WritesTo, stop_of}
+use Rattle.kpn_configuration.specs.Run.{IsRun}
+use Rattle.kpn_audit.specs.Stored.{tables_for, history_in}
+use Rattle.kpn_audit.specs.declared.scene.Scene.{Scene}
+use Rattle.kpn_audit.specs.declared.scene.Scene.TheVariants.{Owes, NotThere, Process, Outside, OwesNothing}
+use Rattle.kpn_audit.specs.declared.scene.GrowthOwed.{GrowthOwed}
+use Rattle.kpn_audit.specs.declared.scene.Doing.{Doing}
+use Rattle.kpn_audit.specs.declared.scene.Doing.TheVariants.{Ended, WaitsEmpty, WaitsFull, Reads, Writes, Ends, Elsewhere}
+use Rattle.kpn_audit.specs.declared.scene.Side.{Side}
+use Rattle.kpn_audit.specs.declared.scene.Side.TheVariants.{NoSource, Closed, Open, NoSink, Left, Next}
+
+-- what process p is doing in a configuration. Nothing is said of a process that is elsewhere
+abbrev pub IsDoing : Tables → Configuration → (p : ℕ) → Doing → Type 0
+IsDoing t s p (Ended how) = end_in s p ≡ Some how
+IsDoing t s p (WaitsEmpty c) = wait_in s p ≡ Empty c
+IsDoing t s p (WaitsFull c) = wait_in s p ≡ Full c
+IsDoing t s p (Reads c next) = ReadsFrom t s p c × (next ≡ next_item (channel_in s c))
+IsDoing t s p (Writes c v full) = WritesTo t s p c v × (full ≡ is_full (channel_in s c))
+IsDoing t s p (Ends how) = Stands t s p (stop_of how)
+IsDoing t s p Elsewhere = ⊤
+
+-- how channel c stands to the outside that feeds it
+abbrev pub source_side : Tables → Configuration → (c : ℕ) → Side
+source_side t s c =
+    if is_source (channel_at t c) then (if closed_in s c then Closed else Open) else NoSource
+
+-- how channel c stands to the outside that takes from it
+abbrev pub sink_side : Tables → Configuration → (c : ℕ) → Side
+sink_side t s c =
+    if is_sink (channel_at t c) then
+    (if (channel_in s c).is_retired then Left else Next (next_item (channel_in s c))) else NoSink
+
+-- how the channel of an event of the outside stands to it
+abbrev pub IsSide : Tables → Configuration → Event → (c : ℕ) → Side → Type 0
+IsSide t s (Feed d v) c side = (c ≡ d) × (side ≡ source_side t s c)
+IsSide t s (Close d) c side = (c ≡ d) × (side ≡ source_side t s c)
+IsSide t s (Take d v) c side = (c ≡ d) × (side ≡ sink_side t s c)
+IsSide t s (Leave d) c side = (c ≡ d) × (side ≡ sink_side t s c)
+IsSide t s event c side = ⊥
+
+-- a history owes this growth
+pub record IsOwedAfter (t : Tables) (H : List Event) (growth : GrowthOwed) : Type 0 where
+  pub owed : OwesGrowth t H growth.process growth.channel
+  pub capacity : growth.capacity ≡ larger_capacity t (capacity_or_zero t H growth.channel)
+
+-- the event is of process p, and a configuration to which the history leads shows what p is doing
+pub record IsOfProcess (t : Tables) (H : List Event) (event : Event) (p : ℕ) (doing : Doing) : Type 0 where
+  pub own : is_of p event ≡ true
+  pub seen : Configuration
+  pub run : IsRun t H seen
+  pub is_doing : IsDoing t seen p doing
+
+-- the event is of the outside, and a configuration to which the history leads shows how its channel stands
+pub record IsOfOutside (t : Tables) (H : List Event) (event : Event) (c : ℕ) (side : Side) : Type 0 where
+  pub seen : Configuration
+  pub run : IsRun t H seen
+  pub is_side : IsSide t seen event c side
+
+-- what stands after a history, before an event
+abbrev pub IsScene : Tables → List Event → Event → Scene → Type 0
+IsScene t H event (Owes growth) = IsOwedAfter t H growth
+IsScene t H event NotThere = ¬ HasNumbers t event
+IsScene t H event (Process p doing) = IsOfProcess t H event p doing
+IsScene t H event (Outside c side) = IsOfOutside t H event c side
+IsScene t H event OwesNothing = owing.OwesNothing t H
+
+-- what stands before event k of a history
+pub record IsSceneAt (t : Tables) (H : List Event) (k : ℕ) (scene : Scene) : Type 0 where
+  pub event : Event
+  pub there : slice_get H k ≡ Some event
+  pub is_scene : IsScene t (take k H) event scene
+
+-- what stands before event k of the history that a trace gives
+abbrev pub IsSceneBefore : {A : Type 0} → Tables → Trace A → (k : ℕ) → Scene → Type 0
+IsSceneBefore t trace k scene = IsSceneAt (tables_for t trace) (history_in t trace) k scene

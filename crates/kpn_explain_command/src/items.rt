@@ -1,0 +1,120 @@
+//! `kpn explain FILE --items` reads an item file, and counts its items or explains its first bad line.
+ghost use Rattle.std.specs.Prelude.{◌≡◌, ◌++◌, length, IfOk, IfErr, OnOk};
+ghost use Rattle.kpn_answers.specs.declared.refusal.Refusal.TheVariants.{NoMemory};
+ghost use Rattle.kpn_answers.specs.Answer.{Concludes};
+ghost use Rattle.kpn_explain_command.specs.Answers.{AreItemsExplained, IsRefusalOfItems};
+ghost use Rattle.kpn_explain_command.specs.ItemsText as spec;
+ghost use Rattle.kpn_places.specs.Lines as lines;
+
+use crate::explained::push_bracket;
+use crate::loading::load;
+use itoa::Buffer;
+use kpn_answers::answer::{Conclusion, conclude};
+use kpn_answers::refusal::Refusal;
+use kpn_answers::shelf::Shelf;
+use kpn_items::{ItemFault, items_of};
+use kpn_places::{line_start, push_excerpt, push_where};
+use std::alloc::{AllocError, Global};
+use std::io::Write;
+
+/// The command `kpn explain FILE --items` over a shelf, an output and a place for faults. It returns the exit status.
+pub fn explain_items_command<S: Shelf, O: Write, E: Write>(
+    alloc: Global,
+    file: &str,
+    shelf: &S,
+    out: &mut O,
+    err: &mut E,
+) -> u8
+    ensures { let may_give = S.may_give shelf.now in
+        Concludes O.contents (AreItemsExplained may_give file.now)
+        (IsRefusalOfItems may_give file.now) out.old out.new err.old err.new result }
+{
+    conclude(answer(alloc, file, shelf), out, err)
+}
+
+// What is said of a file.
+fn answer<S: Shelf>(alloc: Global, file: &str, shelf: &S) -> Result<Conclusion, Refusal>
+    ensures ok { IfOk result (λ made.
+        AreItemsExplained (S.may_give shelf.now) file.now made.text.items made.status) }
+    ensures refused { IfErr result (IsRefusalOfItems (S.may_give shelf.now) file.now) }
+{
+    let bytes = load(alloc, shelf, file)?;
+    let text = bytes.as_slice();
+    match items_of(alloc, text) {
+        Ok(items) => right(alloc, items.as_slice()),
+        Err(ItemFault::BadItem(line)) => wrong(alloc, file, text, line),
+        Err(_) => Err(Refusal::Input(ItemFault::NoMemory)),
+    }
+}
+
+// The line that counts the items.
+fn right(alloc: Global, items: &[i64]) -> Result<Conclusion, Refusal>
+    ensures ok { IfOk result (λ made.
+        (made.text.items ≡ spec.items_line (length items.now)) × (made.status ≡ 0)) }
+    ensures refused { IfErr result (λ refusal. refusal ≡ NoMemory) }
+{
+    let mut text = Vec::new(alloc);
+    push_items_line(&mut text, items.len())?;
+    Ok(Conclusion { text, status: 0 })
+}
+
+fn push_items_line(told: &mut Vec<u8>, items: usize) -> Result<(), AllocError>
+    ensures { OnOk result (told.new.items ≡ told.old.items ++ spec.items_line items) }
+{
+    let mut buffer = Buffer::new();
+    told.extend_from_slice(b"ok: ")?;
+    told.extend_from_slice(buffer.format(items).as_bytes())?;
+    told.extend_from_slice(b" items\n")?;
+    Ok(())
+}
+
+// The first bad line, explained.
+fn wrong(alloc: Global, file: &str, bytes: &[u8], line: usize) -> Result<Conclusion, Refusal>
+    ensures ok { IfOk result (λ made.
+        (made.text.items ≡ spec.explained_item file.now bytes.now line) × (made.status ≡ 1)) }
+    ensures refused { IfErr result (λ refusal. refusal ≡ NoMemory) }
+{
+    let mut text = Vec::new(alloc);
+    push_item_place(alloc, &mut text, file.as_bytes(), bytes, line)?;
+    push_item_advice(&mut text)?;
+    Ok(Conclusion { text, status: 1 })
+}
+
+fn push_item_place(
+    alloc: Global,
+    told: &mut Vec<u8>,
+    file: &[u8],
+    text: &[u8],
+    line: usize,
+) -> Result<(), AllocError>
+    ensures { OnOk result (told.new.items
+        ≡ told.old.items ++ spec.item_place file.now text.now line (lines.line_start text.now line)) }
+{
+    push_line_at(alloc, told, file, text, line, line_start(text, line))
+}
+
+fn push_line_at(
+    alloc: Global,
+    told: &mut Vec<u8>,
+    file: &[u8],
+    text: &[u8],
+    line: usize,
+    at: usize,
+) -> Result<(), AllocError>
+    ensures { OnOk result (told.new.items
+        ≡ told.old.items ++ spec.item_place file.now text.now line at) }
+{
+    push_where(told, file, text, at)?;
+    told.extend_from_slice(b"this line spells no item")?;
+    push_bracket(alloc, told, &Refusal::Input(ItemFault::BadItem(line)))?;
+    push_excerpt(told, text, at)?;
+    Ok(())
+}
+
+fn push_item_advice(told: &mut Vec<u8>) -> Result<(), AllocError>
+    ensures { OnOk result (told.new.items ≡ told.old.items ++ spec.item_advice) }
+{
+    told.extend_from_slice(
+        b"Write one item on each line: an optional `-` and 1 to 19 digits, and nothing else.\n",
+    )
+}

@@ -1,0 +1,14 @@
+//! `kpn explain FILE` and `kpn explain FILE --items`: what is wrong with a description or an item file, where, and what
+//! helps.
+#![tactic(auto)]
+
+mod cases;
+mod choices;
+mod description;
+mod explained;
+mod items;
+mod loading;
+mod sentences;
+
+pub use description::explain_command;
+pub use items::explain_items_command;

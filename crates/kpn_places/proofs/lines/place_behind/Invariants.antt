@@ -1,0 +1,13 @@
+-- The bytes that remain lead from here to the same place as all of them.
+use Rattle.std.proofs.Common.{◌≡◌, ◌≤◌, ◌+◌, drop, fold}
+use Rattle.kpn_places.specs.Lines.{next_place, place_behind}
+use Rattle.kpn_places.proofs.lines.place_behind.Given as goal
+
+abbrev pub invariant-loop-byte : goal.invariant-loop-byte
+invariant-loop-byte l = record {
+  whole : fold next_place (record { line = l.line; column = l.column }) (drop l.byte-index l.text)
+      ≡ place_behind l.text;
+  lines : l.line ≤ l.byte-index + 1;
+  some : 1 ≤ l.column;
+  columns : l.column ≤ l.byte-index + 1;
+}

@@ -1,0 +1,5 @@
+pub mod Lines
+pub mod Excerpt
+pub mod Spots
+pub mod Names
+pub mod Concerned

@@ -1,0 +1,42 @@
+-- Lines and columns of a text, and the two parts of the line at a byte.
+use Rattle.std.specs.Prelude.{ℕ, ◌+◌, ◌-◌, ◌==◌, nat_eq, if◌then◌else◌, List, [], ◌∷◌, length, take, drop, fold, Option, Some, None, position}
+use Rattle.kpn_places.specs.declared.lines.Place.{Place}
+
+abbrev pub first_place : Place
+first_place = record { line = 1; column = 1 }
+
+-- the place behind a byte: a line feed ends its line
+abbrev pub next_place : Place → (byte : ℕ) → Place
+next_place p b =
+    if b == 10 then record { line = p.line + 1; column = 1 } else record { line = p.line; column = p.column + 1 }
+
+-- the place behind a text
+abbrev pub place_behind : (text : List ℕ) → Place
+place_behind text = fold next_place first_place text
+
+-- the place of this byte of a text, or of its end
+abbrev pub place_at : (text : List ℕ) (at : ℕ) → Place
+place_at text at = place_behind (take at text)
+
+-- the bytes of the last line of a text, of which the column counts one more
+abbrev pub last_line : (text : List ℕ) → List ℕ
+last_line text = drop (length text + 1 - (place_behind text).column) text
+
+-- a front of a text, up to where something was found
+abbrev pub up_to : Option ℕ → (text : List ℕ) → List ℕ
+up_to None text = text
+up_to (Some end) text = take end text
+
+-- the first line of a text, without its line feed
+abbrev pub first_line : (text : List ℕ) → List ℕ
+first_line text = up_to (position (λ b. b == 10) text) text
+
+-- the byte behind so many line feeds, or the end of the text
+abbrev pub behind_feeds : (feeds : ℕ) (text : List ℕ) → ℕ
+behind_feeds feeds [] = 0
+behind_feeds feeds (b ∷ bs) =
+    if nat_eq feeds 0 then 0 else 1 + behind_feeds (if b == 10 then feeds - 1 else feeds) bs
+
+-- the byte at which the line of this number begins, if lines are counted from 1
+abbrev pub line_start : (text : List ℕ) (line : ℕ) → ℕ
+line_start text line = behind_feeds (line - 1) text

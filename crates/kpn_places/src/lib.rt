@@ -1,0 +1,15 @@
+//! Places in texts: lines and columns, the line of a text with a caret under a place, and the places in a description
+//! that a fault concerns.
+#![tactic(auto)]
+
+mod concerned;
+mod excerpt;
+mod lines;
+mod names;
+mod spots;
+
+pub use concerned::{Places, concerned_places};
+pub use excerpt::{push_excerpt, push_where};
+pub use lines::{Place, front, line_start, place_at};
+pub use names::name_at;
+pub use spots::{Spot, spot_at};

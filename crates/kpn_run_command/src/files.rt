@@ -1,0 +1,180 @@
+//! The files that a run stores: its trace in version 2, and what its sinks received. It makes all their texts before it
+//! stores the first.
+ghost use Rattle.std.specs.Prelude.{◌≡◌, ◌++◌, ◌∷◌, [], map, option_map, IfOk, IfErr, OnOk, OnErr};
+ghost use Rattle.kpn_items.specs.ItemFile.{item_text};
+ghost use Rattle.kpn_trace_text.specs.TraceText.{trace_text};
+ghost use Rattle.kpn_run_command.specs.Files.{stored_as, trace_files, file_for, sink_file, sink_files, files_of, AreStored, IsCutShort};
+
+use crate::report_text::wanted_of;
+use crate::reporting::Reported;
+use crate::request::RunRequest;
+use kpn_answers::refusal::Refusal;
+use kpn_answers::shelf::Shelf;
+use kpn_answers::sources::NamedEnd;
+use kpn_items::{WriteFault, write_items};
+use kpn_lang::Sequence;
+use kpn_net::Network;
+use kpn_trace::{History, Version};
+use kpn_trace_text::write_trace;
+use std::alloc::Global;
+
+// How many bytes are reserved for each line. The longest has 37 with its line feed: a `put` of the least item, if the
+// two numbers are 65535.
+const LINE: usize = 40;
+
+/// A file to be stored: its name, and what it is to hold.
+#[derive(Drop)]
+pub(crate) struct OutputFile<'a> {
+    pub(crate) name: &'a str,
+    pub(crate) bytes: Vec<u8>,
+}
+
+/// The files that a run stores, in the order in which it stores them.
+pub(crate) fn files_of<'a>(
+    alloc: Global,
+    request: &RunRequest<'a>,
+    reported: &Reported<'a>,
+) -> Result<Vec<OutputFile<'a>>, Refusal>
+    ensures ok { IfOk result (λ files. map stored_as files.items ≡ files_of
+        (option_map (λ name. name.now) request.now.trace) request.now.limits.take reported.now) }
+    ensures refused { IfErr result (λ refusal. refusal ≡ Refusal.NoMemory) }
+{
+    let network = reported.inputs.document.network();
+    let history = &reported.report.history;
+    let taken = reported.report.taken.as_slice();
+    let mut files = Vec::new(alloc);
+    push_trace(alloc, &mut files, request.trace, network, history)?;
+    push_sinks(
+        alloc,
+        &mut files,
+        &reported.sinks,
+        request.limits.take,
+        taken,
+    )?;
+    Ok(files)
+}
+
+// The file of the trace, if one was asked for.
+fn push_trace<'a>(
+    alloc: Global,
+    files: &mut Vec<OutputFile<'a>>,
+    trace: Option<&'a str>,
+    network: &Network,
+    history: &History,
+) -> Result<(), Refusal>
+    ensures ok { OnOk result (map stored_as files.new.items ≡ map stored_as files.old.items
+        ++ trace_files (option_map (λ name. name.now) trace.entry) network.now
+        history.now.events) }
+    ensures refused { IfErr result (λ refusal. refusal ≡ Refusal.NoMemory) }
+{
+    let Some(name) = trace else {
+        return Ok(());
+    };
+    let bytes = text_of(alloc, network, history)?;
+    push_file(files, name, bytes)
+}
+
+// One more file.
+fn push_file<'a>(
+    files: &mut Vec<OutputFile<'a>>,
+    name: &'a str,
+    bytes: Vec<u8>,
+) -> Result<(), Refusal>
+    ensures ok { OnOk result (map stored_as files.new.items ≡ map stored_as files.old.items
+        ++ record { name = name.now; bytes = bytes.items } ∷ []) }
+    ensures refused { IfErr result (λ refusal. refusal ≡ Refusal.NoMemory) }
+{
+    files.push(OutputFile { name, bytes })?;
+    Ok(())
+}
+
+// The text of a trace. There is room for each line before the first is made.
+fn text_of(alloc: Global, network: &Network, history: &History) -> Result<Vec<u8>, Refusal>
+    ensures ok { let t = network.now in IfOk result (λ text.
+        text.items ≡ trace_text Version.Two t.policy t.growth history.now.events) }
+    ensures refused { IfErr result (λ refusal. refusal ≡ Refusal.NoMemory) }
+{
+    let lines = history.len().saturating_add(2);
+    let mut text = Vec::with_capacity(alloc, lines.saturating_mul(LINE))?;
+    match write_trace(&mut text, network.policy(), network.growth(), history) {
+        Ok(()) => Ok(text),
+        Err(_) => Err(Refusal::NoMemory),
+    }
+}
+
+// The file of each sink that an option names, in order of the sinks. What the sinks received is given in this order.
+fn push_sinks<'a>(
+    alloc: Global,
+    files: &mut Vec<OutputFile<'a>>,
+    sinks: &[NamedEnd<'a>],
+    wanted: Option<u64>,
+    taken: &[Sequence<i64>],
+) -> Result<(), Refusal>
+    ensures ok { OnOk result (map stored_as files.new.items ≡ map stored_as files.old.items
+        ++ sink_files sinks.now wanted 0 taken.now) }
+    ensures refused { IfErr result (λ refusal. refusal ≡ Refusal.NoMemory) }
+{
+    for sink in 0..taken.len() {
+        let items = wanted_of(taken[sink].as_slice(), wanted);
+        push_sink(alloc, files, file_of(sinks, sink), items)?;
+    }
+    Ok(())
+}
+
+// The file of a sink with these items, if an option names it.
+fn push_sink<'a>(
+    alloc: Global,
+    files: &mut Vec<OutputFile<'a>>,
+    file: Option<&'a str>,
+    items: &[i64],
+) -> Result<(), Refusal>
+    ensures ok { OnOk result (map stored_as files.new.items ≡ map stored_as files.old.items
+        ++ sink_file (option_map (λ name. name.now) file.entry) items.now) }
+    ensures refused { IfErr result (λ refusal. refusal ≡ Refusal.NoMemory) }
+{
+    let Some(name) = file else {
+        return Ok(());
+    };
+    let bytes = items_text(alloc, items)?;
+    push_file(files, name, bytes)
+}
+
+// The file that an option gives the sink of this number.
+fn file_of<'a>(sinks: &[NamedEnd<'a>], number: usize) -> Option<&'a str>
+    ensures { option_map (λ name. name.now) result ≡ file_for sinks.now number }
+{
+    for sink in sinks {
+        if sink.number == number {
+            return Some(sink.file);
+        }
+    }
+    None
+}
+
+// The text of an item file.
+fn items_text(alloc: Global, items: &[i64]) -> Result<Vec<u8>, Refusal>
+    ensures ok { IfOk result (λ text. text.items ≡ item_text items.now) }
+    ensures refused { IfErr result (λ refusal. refusal ≡ Refusal.NoMemory) }
+{
+    let mut text = Vec::new(alloc);
+    match write_items(&mut text, items) {
+        Ok(()) => Ok(text),
+        Err(_) => Err(Refusal::NoMemory),
+    }
+}
+
+/// Stores files in their order. If one can't be stored, those before it stay, and it stores none of those behind it.
+pub(crate) fn store_files<S: Shelf>(
+    shelf: &mut S,
+    files: &[OutputFile<'_>],
+) -> Result<(), WriteFault>
+    ensures stored { OnOk result
+        (AreStored S.may_give (map stored_as files.now) shelf.old shelf.new) }
+    ensures cut_short { OnErr result
+        (IsCutShort S.may_give (map stored_as files.now) shelf.old shelf.new) }
+{
+    for file in files {
+        shelf.store(file.name, &file.bytes)?;
+    }
+    Ok(())
+}
