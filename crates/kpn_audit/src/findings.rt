@@ -7,6 +7,7 @@ use kpn_lang::Sequence;
 use kpn_net::Wait;
 use kpn_trace::How;
 use std::alloc::{AllocError, Allocator, Global};
+use thiserror::Error;
 
 /// What stands after a legal history. Each list has an entry for each channel, or for each process, in order of number.
 #[derive(Debug, Drop)]
@@ -26,15 +27,19 @@ pub struct Audit<A: Allocator = Global> {
 }
 
 /// Why a trace is not accepted, with its number.
-#[derive(Clone, Copy, Debug, PartialEq, Eq)]
+#[derive(Clone, Copy, Debug, PartialEq, Eq, Error)]
 pub enum AuditFault {
     /// 50: this event, counted from 0, is the first after which no legal history goes on.
+    #[error("event {0} makes the trace illegal")]
     Illegal(usize),
     /// 51: memory ran out.
+    #[error("memory ran out")]
     NoMemory,
     /// 52: the process of this event used up its steps before it came to the event.
+    #[error("the process of event {0} used up its steps before it came to the event")]
     Budget(usize),
     /// 53: the policy or the growth of the trace is not that of the network. Looked for first.
+    #[error("the policy or the growth of the trace is not that of the network")]
     PolicyDiffers,
 }
 

@@ -3,6 +3,7 @@ ghost use Rattle.std.specs.Prelude.{◌≡◌};
 ghost use Rattle.kpn_book.specs.declared.answers.Refused.TheVariants.{NoMemory};
 
 use std::alloc::AllocError;
+use thiserror::Error;
 
 /// What a commit has done.
 #[derive(Clone, Copy, Debug, PartialEq, Eq)]
@@ -22,21 +23,28 @@ pub enum Done {
 }
 
 /// Why a call was refused, with its number. The book is then as before.
-#[derive(Clone, Copy, Debug, PartialEq, Eq)]
+#[derive(Clone, Copy, Debug, PartialEq, Eq, Error)]
 pub enum Refused {
     /// 40: the process is not held, or no process has this number.
+    #[error("the process is not held, or no process has this number")]
     NotHeld,
     /// 41: the steps are of another program, or began at another frame.
+    #[error("the steps are of another program, or began at another frame")]
     Stranger,
     /// 42: memory ran out.
+    #[error("memory ran out")]
     NoMemory,
     /// 43: no source, or no sink, has this number.
+    #[error("no source, or no sink, has this number")]
     NoSuchEnd,
     /// 44: the source is closed.
+    #[error("the source is closed")]
     SourceClosed,
     /// 45: as many items as the bound are unread; the item comes back.
+    #[error("the source has as many unread items as its bound, and gives item {0} back")]
     Full(i64),
     /// 46: the sink was left.
+    #[error("the sink was left")]
     SinkLeft,
 }
 

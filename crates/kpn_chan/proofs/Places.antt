@@ -1,5 +1,6 @@
 -- Where the items of a list in chunks are.
-use Rattle.std.specs.Prelude.{◌≡◌, ℕ, zero, suc, ◌+◌, ◌-◌, ◌*◌, ◌/◌, ◌%◌, ◌<◌, ◌≤◌, ℤ, List, [], ◌∷◌, ◌++◌, length, take, drop, get_or, slice_get, Some, Vec, ◌^◌, refl}
+use Rattle.std.specs.Prelude.{◌≡◌, ℕ, zero, suc, ◌+◌, ◌-◌, ◌*◌, ◌/◌, ◌%◌, ◌<◌, ◌≤◌, ℤ, Bool, true, false, List, [], ◌∷◌, ◌++◌, length, take, drop, get_or, slice_get, Some, Vec, ◌^◌, refl}
+use Rattle.std.specs.Bool.{Decides}
 use Rattle.std.specs.List.{flat_map}
 use Rattle.std.proofs.Common.{arith, sym, ap, ◌∙◌, length-drop}
 use Rattle.std.proofs.Math.Seq.{drop-append-add, take-append_seam}
@@ -185,3 +186,9 @@ at_place_of_beginning (x ∷ xs) (y ∷ l) is zero below = let same : x ≡ y = 
 at_place_of_beginning (x ∷ xs) (y ∷ l) is (suc k) below =
     let rest : xs ≡ take (length xs) l = cc in
     at_place_of_beginning xs l rest k (omega (arith, below))
+
+-- two tests of one fact give the same answer
+pub tests_agree : {P : Type 0} (r t : Bool) → Decides r P → Decides t P → r ≡ t
+tests_agree true t first second = sym (second.1 (first.0 refl))
+tests_agree false true first second = first.1 (second.0 refl)
+tests_agree false false first second = refl

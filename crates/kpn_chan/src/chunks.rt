@@ -117,6 +117,33 @@ impl<A: Allocator> Chunks<A> {
         true
     }
 
+    /// Whether two lists have the same items.
+    pub(crate) fn has_items_of(&self, other: &Chunks<A>) -> bool
+        requires counted { IsCounted self.now }
+        requires other_counted { IsCounted other.now }
+        ensures { IsTrue result ↔ (items_of self.now ≡ items_of other.now) }
+    {
+        if self.len() != other.len() {
+            return false;
+        }
+        'items: for place in 0..self.len() {
+            if !self.agrees_at(place, other) {
+                return false;
+            }
+        }
+        true
+    }
+
+    /// Whether two lists have the same item at a place, or both have none there.
+    fn agrees_at(&self, place: usize, other: &Chunks<A>) -> bool
+        requires counted { IsCounted self.now }
+        requires other_counted { IsCounted other.now }
+        ensures { IsTrue result
+            ↔ (slice_get (items_of self.now) place ≡ slice_get (items_of other.now) place) }
+    {
+        self.at(place) == other.at(place)
+    }
+
     /// Whether this item is at a place.
     fn has_at(&self, place: usize, item: &i64) -> bool
         requires { IsCounted self.now }

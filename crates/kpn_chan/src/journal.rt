@@ -1,5 +1,9 @@
 //! All items that were ever put on a channel, once they have left it or were copied.
 ghost use Rattle.std.specs.Prelude.{◌≡◌, ◌↔◌, ◌<◌, ◌≤◌, ◌^◌, length, take, drop, IsTrue, IfOk, slice_get};
+ghost use Rattle.std.specs.Cmp.Lexicographic.{pointwise};
+ghost use Rattle.std.specs.Cmp.Rules.{comparing};
+ghost use Rattle.std.specs.Ordering.{int_eq};
+ghost use Rattle.std.proofs.Common.{rules};
 ghost use Rattle.kpn_chan.specs.Chunks.{items_of, IsCounted};
 
 use crate::chunks::Chunks;
@@ -21,6 +25,21 @@ impl<A: Allocator> Model for Journal<A> {
     ghost view = { λ j. items_of j.chunks };
 
     ghost invariant = { λ j. IsCounted j.chunks };
+}
+
+/// Journals are equal if they have the same items in the same order, whatever their pieces are.
+impl<A: Allocator> PartialEq for Journal<A> {
+    ghost eq = { pointwise int_eq };
+
+    ghost laws = { Prim.search (comparing, rules) };
+
+    fn eq(&self, other: &Self) -> bool {
+        self.chunks.has_items_of(&other.chunks)
+    }
+}
+
+impl<A: Allocator> Eq for Journal<A> {
+    ghost laws = { Prim.search (comparing, rules) };
 }
 
 impl<A: Allocator + Copy> Journal<A> {

@@ -1,10 +1,13 @@
 //! A small list type over `Vec` that contracts see as a list: for fields, and for lists inside lists.
 ghost use Rattle.std.specs.Prelude.{◌≡◌, ◌+◌, ◌^◌, ◌<◌, [], ◌∷◌, ◌++◌, length, OnSome, slice_get, if◌then◌else◌, is_ok, IfErr};
 ghost use Rattle.std.specs.Cmp.Lexicographic.{pointwise, lists_per, lists_equiv};
+ghost use Rattle.std.specs.Iterator.Adapters.{IterYieldsInOrder};
+ghost use Rattle.std.specs.Slice.Iter.{iter_rest};
 ghost use Rattle.kpn_lang.specs.Lists.{remaining, next_at, without_next};
 
 use std::alloc::{AllocFailed, Allocator, Global};
 use std::marker::Model;
+use std::slice;
 
 /// A list of items. It is made from a `Vec` without taking memory.
 #[derive(Debug, Drop)]
@@ -57,6 +60,15 @@ impl<T, A: Allocator> Sequence<T, A> {
         ensures { result.now ≡ self.now }
     {
         self.items.as_slice()
+    }
+
+    /// An iterator over the items in order.
+    pub fn iter(&self) -> slice::Iter<'_, T>
+        ensures rest { iter_rest result ≡ self.now }
+        ensures bound { length (iter_rest result) < 2 ^ 64 }
+        ensures runs { IterYieldsInOrder T }
+    {
+        self.items.as_slice().iter()
     }
 
     /// Puts an item at the end. If memory ran out, the error returns the item, and the list is as before.

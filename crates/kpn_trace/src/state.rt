@@ -1,4 +1,6 @@
 //! What a run shows at one moment.
+ghost use Rattle.std.specs.Prelude.{◌≡◌, option_copied, slice_get};
+
 use crate::event::How;
 use kpn_chan::Journal;
 use kpn_lang::Sequence;
@@ -33,7 +35,7 @@ pub struct Counts {
 
 /// What a run shows at one moment. The first four lists have an entry for each channel, `states` has one for each
 /// process.
-#[derive(Debug, Drop)]
+#[derive(Debug, Drop, PartialEq, Eq)]
 pub struct View<A: Allocator = Global> {
     /// All items that were written on the channel, in order.
     pub journals: Sequence<Journal<A>, A>,
@@ -46,6 +48,22 @@ pub struct View<A: Allocator = Global> {
     /// The state of each process.
     pub states: Sequence<State, A>,
     pub counts: Counts,
+}
+
+impl<A: Allocator> View<A> {
+    /// All items that were written on a channel, or `None` if no channel has this number.
+    pub fn journal(&self, channel: usize) -> Option<&Journal<A>>
+        ensures { option_copied result ≡ slice_get self.now.journals channel }
+    {
+        self.journals.as_slice().get(channel)
+    }
+
+    /// The state of a process, or `None` if no process has this number.
+    pub fn state(&self, process: usize) -> Option<State>
+        ensures { result ≡ slice_get self.now.states process }
+    {
+        self.states.as_slice().get(process).copied()
+    }
 }
 
 /// How a run has come to a stop, once no growth is owed and nothing more can happen except that the outside leaves a
