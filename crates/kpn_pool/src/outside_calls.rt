@@ -15,13 +15,16 @@ use kpn_book::{Refused, View};
 use std::alloc::{AllocError, Allocator};
 use std::sync::{MutexGuard, Wait};
 use std::time::Clock;
+use thiserror::Error;
 
 /// Why a seat is given no snapshot, with its number.
-#[derive(Clone, Copy, Debug, PartialEq, Eq)]
+#[derive(Clone, Copy, Debug, PartialEq, Eq, Error)]
 pub enum SnapFault {
     /// 47: there is no such source, or what the seat fed does not begin its journal: the seat is one of another run.
+    #[error("the seat is one of another run")]
     Foreign,
     /// 42: memory ran out.
+    #[error("memory ran out")]
     NoMemory,
 }
 
