@@ -1,3 +1,4 @@
 pub mod Answers
 pub mod SourceLemmas
 pub mod InputLemmas
+pub mod PieceLemmas

@@ -9,6 +9,7 @@ mod fault_line;
 pub mod faulted;
 pub mod inputs;
 pub mod list_text;
+pub mod pieces;
 pub mod refusal;
 pub mod shelf;
 pub mod sources;

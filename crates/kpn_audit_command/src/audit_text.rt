@@ -5,6 +5,7 @@ ghost use Rattle.kpn_answers.specs.ListText.{items_text};
 ghost use Rattle.kpn_audit_command.specs.AuditText.{audit_text, exact_line, cap_text, journal_line, finding_line};
 
 use kpn_answers::list_text::push_spaced_items;
+use kpn_answers::pieces::push_number;
 use kpn_audit::Audit;
 use kpn_chan::Journal;
 use kpn_text::Document;
@@ -73,12 +74,10 @@ fn push_journal(text: &mut Vec<u8>, journal: &Journal) -> Result<(), AllocError>
 fn push_cap(text: &mut Vec<u8>, cap: Option<u32>) -> Result<(), AllocError>
     ensures { OnOk result (text.new.items ≡ text.old.items ++ cap_text cap) }
 {
-    let Some(cap) = cap else {
-        return Ok(());
-    };
-    let mut buffer = itoa::Buffer::new();
-    text.extend_from_slice(b" cap ")?;
-    text.extend_from_slice(buffer.format(cap).as_bytes())
+    match cap {
+        Some(cap) => push_number(text, b" cap ", cap as usize, b""),
+        None => Ok(()),
+    }
 }
 
 /// `WORD at K` of a finding at event K, and a line feed.

@@ -5,6 +5,5 @@
 mod command;
 mod drawing;
 mod found;
-mod pieces;
 
 pub use command::draw_command;

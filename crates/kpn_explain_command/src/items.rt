@@ -8,8 +8,8 @@ ghost use Rattle.kpn_places.specs.Lines as lines;
 
 use crate::explained::push_bracket;
 use crate::loading::load;
-use itoa::Buffer;
 use kpn_answers::answer::{Conclusion, conclude};
+use kpn_answers::pieces::push_number;
 use kpn_answers::refusal::Refusal;
 use kpn_answers::shelf::Shelf;
 use kpn_items::{ItemFault, items_of};
@@ -54,18 +54,8 @@ fn right(alloc: Global, items: &[i64]) -> Result<Conclusion, Refusal>
     ensures refused { IfErr result (λ refusal. refusal ≡ NoMemory) }
 {
     let mut text = Vec::new(alloc);
-    push_items_line(&mut text, items.len())?;
+    push_number(&mut text, b"ok: ", items.len(), b" items\n")?;
     Ok(Conclusion { text, status: 0 })
-}
-
-fn push_items_line(told: &mut Vec<u8>, items: usize) -> Result<(), AllocError>
-    ensures { OnOk result (told.new.items ≡ told.old.items ++ spec.items_line items) }
-{
-    let mut buffer = Buffer::new();
-    told.extend_from_slice(b"ok: ")?;
-    told.extend_from_slice(buffer.format(items).as_bytes())?;
-    told.extend_from_slice(b" items\n")?;
-    Ok(())
 }
 
 // The first bad line, explained.

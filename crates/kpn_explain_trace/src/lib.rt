@@ -3,7 +3,7 @@
 #![tactic(auto)]
 
 mod command;
-mod pieces;
+mod names;
 mod text;
 mod words;
 

@@ -2,7 +2,8 @@
 ghost use Rattle.std.specs.Prelude.{◌≡◌, ◌++◌, OnOk};
 ghost use Rattle.kpn_explain_trace.specs.Words as spec;
 
-use crate::pieces::{push_between, push_channel, push_item, push_number, push_process};
+use crate::names::{push_channel, push_process};
+use kpn_answers::pieces::{push_between, push_item, push_number};
 use kpn_audit::{Doing, GrowthOwed, Scene, Side};
 use kpn_text::Document;
 use kpn_trace::{Event, How, Version};

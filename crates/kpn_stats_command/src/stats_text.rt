@@ -1,11 +1,11 @@
 //! The text that `kpn stats` writes of a legal history.
 ghost use Rattle.std.specs.Prelude.{◌≡◌, ◌++◌, ◌<◌, length, map, IfOk, OnOk};
-ghost use Rattle.std.specs.Fmt.{decimal};
 ghost use Rattle.kpn_names.specs.Names.{name_at};
 ghost use Rattle.kpn_stats_command.specs.StatsText.{stats_text, people_text, number_cell, channel_heading, channel_row, channel_rows, process_heading, process_row, process_rows, end_cell, advice, advice_line, advice_for, row_of};
 
 use crate::figures::{ChannelFigures, Figures, ProcessFigures};
 use crate::table::{Row, push_aligned, push_tabbed};
+use kpn_answers::pieces::push_number;
 use kpn_audit::Audit;
 use kpn_lang::Sequence;
 use kpn_net::Wait;
@@ -372,20 +372,4 @@ fn push_advice_for(
             b", since its writer waited for room\n",
         )
     }
-}
-
-// A number between two texts.
-fn push_number(
-    text: &mut Vec<u8>,
-    before: &[u8],
-    number: usize,
-    behind: &[u8],
-) -> Result<(), AllocError>
-    ensures { OnOk result (text.new.items
-        ≡ text.old.items ++ (before.now ++ decimal number ++ behind.now)) }
-{
-    let mut buffer = itoa::Buffer::new();
-    text.extend_from_slice(before)?;
-    text.extend_from_slice(buffer.format(number).as_bytes())?;
-    text.extend_from_slice(behind)
 }

@@ -1,6 +1,6 @@
 -- Each finding has its text under its status.
 use Rattle.std.proofs.Common.{subst}
-use Rattle.kpn_audit_command.specs.Answers.{IsFinding, IsNoFinding}
+use Rattle.kpn_audit_command.specs.Answers.{IsFinding}
 use Rattle.kpn_audit_command.proofs.Found.{journals_within, concludes_legal, concludes_other}
 use Rattle.kpn_audit_command.proofs.command.conclusion.Goals as goal
 

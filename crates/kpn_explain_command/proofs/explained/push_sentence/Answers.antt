@@ -1,9 +1,9 @@
 -- The pieces of the sentence.
 use Rattle.std.proofs.Common.{◌++◌, ap, ◌∙◌}
+use Rattle.kpn_answers.proofs.PieceLemmas.{three_pieces}
 use Rattle.kpn_places.specs.Names.{name_at}
 use Rattle.kpn_explain_command.specs.ExplainText.{subject, alternatives}
 use Rattle.kpn_explain_command.specs.Sentences.{said}
-use Rattle.kpn_explain_command.proofs.Pieces.{three_pieces}
 use Rattle.kpn_explain_command.proofs.explained.push_sentence.Goals as goal
 
 pub returns : goal.returns

@@ -2,9 +2,9 @@
 use Rattle.std.proofs.Common.{codes}
 use Rattle.kpn_items.specs.declared.fault.ItemFault.TheVariants.{BadItem}
 use Rattle.kpn_answers.specs.declared.refusal.Refusal.TheVariants.{Input}
+use Rattle.kpn_answers.proofs.PieceLemmas.{four_pieces}
 use Rattle.kpn_places.specs.Excerpt.{where_text, excerpt}
 use Rattle.kpn_explain_command.specs.ExplainText.{bracket}
-use Rattle.kpn_explain_command.proofs.Pieces.{four_pieces}
 use Rattle.kpn_explain_command.proofs.items.push_line_at.Goals as goal
 
 pub returns : goal.returns
