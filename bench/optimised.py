@@ -1,10 +1,10 @@
 #!/usr/bin/env python3
-"""Makes an optimised build of the program `kpn` that is not proved, so that a change can be measured before its proof.
+"""Makes an optimised build of a program that is not proved, so that a change can be measured before its proof.
 
 It takes the module that `rt try` passes to the compiler, leaves out the checks of an unproved build, and gives each
 function the attribute for inlining that its source has. Then it compiles the module as a proved program is compiled.
-The number of machine instructions a commit is within 5 % of the proved program's. It takes some four minutes. The word
-names the file to make.
+The number of machine instructions a commit is within 5 % of the proved program's. It takes some four minutes. The first
+word names the file to make, and a second one the crate, if it is not `kpn`.
 """
 import collections
 import os
@@ -35,8 +35,8 @@ LINK = ['-m', 'elf_x86_64', '-pie', '--dynamic-linker', '/lib64/ld-linux-x86-64.
         '-z', 'now', '-z', 'noexecstack', '--eh-frame-hdr', '--gc-sections', '--no-dependent-libraries']
 
 
-def keep_module(folder):
-    """Runs `rt try` with a compiler that keeps the module of the program, and returns its file."""
+def keep_module(folder, crate):
+    """Runs `rt try` in a crate with a compiler that keeps the module of the program, and returns its file."""
     kept, toolchain = folder / 'program.bc', folder / 'toolchain'
     (toolchain / 'bin').mkdir(parents=True)
     (toolchain / 'lib').symlink_to(LIBRARIES)
@@ -54,7 +54,7 @@ def keep_module(folder):
         return start(words, *rest, **named)
 
     subprocess.Popen = start_with
-    os.chdir(TOP / 'crates/kpn')
+    os.chdir(TOP / 'crates' / crate)
     sys.path.insert(0, str(KIT / 'bin'))
     sys.argv = ['rt', 'try', '--', 'help']
     try:
@@ -107,12 +107,12 @@ def compile_module(folder, module, program):
 
 
 def main():
-    if len(sys.argv) != 2:
+    if len(sys.argv) not in (2, 3):
         sys.exit(__doc__)
-    program = pathlib.Path(sys.argv[1]).resolve()
+    program, crate = pathlib.Path(sys.argv[1]).resolve(), (sys.argv[2:] or ['kpn'])[0]
     folder = pathlib.Path(tempfile.mkdtemp())
     try:
-        compile_module(folder, keep_module(folder), program)
+        compile_module(folder, keep_module(folder, crate), program)
     finally:
         shutil.rmtree(folder)
 
