@@ -430,24 +430,24 @@ def a_link_to_a_file_that_is_not_there(folder):
 # ---- the file is tried before the run
 
 def long_run(folder):
-    """The words of a run of half a second or more, which would store its trace at its end."""
+    """The words of a run of two seconds or more, which would store its trace at its end."""
     shutil.copy(DATA / 'worked/spin.kpn', folder / 'spin.kpn')
     commits = 100
     while True:
         words = 'spin.kpn', '--max-commits', str(commits)
         before = time.monotonic()
         run(folder, *words)
-        if time.monotonic() - before > 0.5:
+        if time.monotonic() - before > 2:
             return words
         commits *= 4
 
 
 def at_once(folder, *words, wanted=(b'', WRITE, 1)):
-    """The answer comes in less time than half of the run takes."""
+    """The answer comes in less time than a quarter of the run takes, on a busy machine too."""
     before = time.monotonic()
     expect(run(folder, *words), wanted)
     took = time.monotonic() - before
-    if took > 0.25:
+    if took > 0.5:
         raise AssertionError(f'{took:.2f} seconds')
 
 
