@@ -70,6 +70,15 @@ pub(crate) enum Need {
     Room { source: usize, bound: usize },
 }
 
+/// What a wait of the outside came to.
+#[derive(Clone, Copy, Debug, PartialEq, Eq)]
+pub enum Awaited {
+    /// There was something to take. More may come.
+    There,
+    /// All workers have ended. What they left was taken, and no more comes.
+    Ended,
+}
+
 /// What a worker knows of its turn.
 #[derive(Clone, Copy)]
 pub(crate) struct Pace {
