@@ -3,7 +3,7 @@ ghost use Rattle.std.specs.Prelude.{◌≡◌, true, false, IfOk, IfSome};
 ghost use Rattle.kpn_trace.specs.declared.state.Counts.{Counts as Tally};
 ghost use Rattle.kpn_trace.specs.Views.{Agrees, AreCounts};
 ghost use Rattle.kpn_book.specs.Kept.{IsBook};
-ghost use Rattle.kpn_pool.specs.declared.crew.Awaited.TheVariants.{There};
+ghost use Rattle.kpn_pool.specs.declared.crew.Awaited.TheVariants.{There, Ended};
 ghost use Rattle.kpn_pool.specs.declared.crew.Need.TheVariants.{Item, Room};
 ghost use Rattle.kpn_pool.specs.Desk.{halted, IsReason};
 ghost use Rattle.kpn_pool.specs.Waiting.{IsMet};
@@ -28,7 +28,7 @@ pub struct Desk<'n, J: Job, A: Allocator = Global> {
     pub(crate) book: Book<'n, A>,
     pub(crate) total: ledger::Book<J>,
     halts: bool,
-    // no contract sees which workers step and which rest
+    // no contract sees which workers step and which rest, only how many have not ended
     pub(crate) crew: Crew,
 }
 
@@ -41,10 +41,20 @@ impl<'n, J: Job, A: Allocator> Model for Desk<'n, J, A> {
 
     ghost coded = { Prim.hlevel (codes, parts_code) };
 
-    ghost view = { λ d. record { book = d.book; total = d.total.total; halts = d.halts } };
+    ghost view = { λ d. record {
+      book = d.book;
+      total = d.total.total;
+      halts = d.halts;
+      working = d.crew.working;
+    } };
 
     ghost invariant = { λ d.
-        IsDesk J.network (record { book = d.book; total = d.total.total; halts = d.halts }) };
+        IsDesk J.network (record {
+          book = d.book;
+          total = d.total.total;
+          halts = d.halts;
+          working = d.crew.working;
+        }) };
 }
 
 impl<'n, J: Job, A: Allocator + Copy> Desk<'n, J, A> {
@@ -182,7 +192,9 @@ impl<'n, J: Job, A: Allocator> Desk<'n, J, A> {
     /// What a wait for this has come to, or `None` if it goes on: all workers have ended, or the call that needs this
     /// finds it or is refused.
     pub(crate) fn awaited(&self, need: Need) -> Option<Awaited>
-        ensures { IfSome result (λ awaited. (awaited ≡ There) → IsMet J.network need self.now.book) }
+        ensures there { IfSome result (λ awaited. (awaited ≡ There)
+            → IsMet J.network need self.now.book) }
+        ensures ended { IfSome result (λ awaited. (awaited ≡ Ended) → self.now.working ≡ 0) }
     {
         if self.crew.has_ended() {
             return Some(Awaited::Ended);

@@ -230,16 +230,12 @@ pub fn feed_when_room<J: Job, A: Allocator + Copy, B: Allocator, R: Wait + Clock
         MayRefuseFeed (is_source (channel_at J.network seat.old.channel)) item cause)) }
 {
     let source = seat.channel();
-    let (desk, awaited) = shared.lock_when(rt, Need::Room { source, bound });
-    let fed = feed_first(shared, desk, seat, items, bound);
-    // of some items none only if all workers have ended
-    let holds = awaited == Awaited::Ended || items.is_empty() || !matches!(fed, Ok(0));
-    prove!(holds);
-    fed
+    let (desk, _) = shared.lock_when(rt, Need::Room { source, bound });
+    feed_first(shared, desk, seat, items, bound)
 }
 
 /// Feeds the first ones of these items, as many as there is room for, and lets the desk go. Returns how many it fed: of
-/// some items none only if the source is full.
+/// some items none only if all workers have ended.
 fn feed_first<'l, 'n, J: Job, A: Allocator + Copy, B: Allocator>(
     shared: &'l Shared<'n, J, A>,
     desk: MutexGuard<'l, Desk<'n, J, A>>,
@@ -247,12 +243,14 @@ fn feed_first<'l, 'n, J: Job, A: Allocator + Copy, B: Allocator>(
     items: &[i64],
     bound: usize,
 ) -> Result<usize, Refused>
+    requires room { IsFullSource seat.old.channel bound (mutex_guard_value desk).book
+        → (mutex_guard_value desk).working ≡ 0 }
     ensures channel { seat.new.channel ≡ seat.old.channel }
     ensures fed { IfOk result (λ count. (count ≤ length items.now)
         × (seat.new.items ≡ seat.old.items ++ take count items.now)) }
     ensures before { IsPrefix seat.old.items seat.new.items }
     ensures none { IfOk result (λ count. (count ≡ 0) → 0 < length items.now
-        → IsFullSource seat.old.channel bound (mutex_guard_value desk.entry).book) }
+        → (mutex_guard_value desk.entry).working ≡ 0) }
     ensures source { OnOk result (0 < length items.now
         → is_source (channel_at J.network seat.old.channel) ≡ true) }
     ensures refused { IfErr result (λ cause. FeedsUntil items.now seat.old seat.new (λ item.

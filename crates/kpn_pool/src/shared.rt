@@ -5,7 +5,7 @@ ghost use Rattle.kpn_net.specs.Tables.{is_source, is_sink};
 ghost use Rattle.kpn_pool.specs.OutsideSeats.{new_ends};
 ghost use Rattle.kpn_book.specs.Kept.{IsBook};
 ghost use Rattle.kpn_book.specs.Snapshot.{ShowsARun, IsBelowKahn, IsKahnAtRest};
-ghost use Rattle.kpn_pool.specs.declared.crew.Awaited.TheVariants.{There};
+ghost use Rattle.kpn_pool.specs.declared.crew.Awaited.TheVariants.{There, Ended};
 ghost use Rattle.kpn_pool.specs.Seat.{AreNewSeats};
 ghost use Rattle.kpn_pool.specs.Waiting.{IsMet};
 ghost use Rattle.std.specs.Sync.Mutex.{mutex_guard_value};
@@ -197,7 +197,9 @@ impl<'n, J: Job, A: Allocator> Shared<'n, J, A> {
         rt: &R,
         need: Need,
     ) -> (MutexGuard<'_, Desk<'n, J, A>>, Awaited)
-        ensures { (result.1 ≡ There) → IsMet J.network need (mutex_guard_value result.0).book }
+        ensures there { (result.1 ≡ There)
+            → IsMet J.network need (mutex_guard_value result.0).book }
+        ensures ended { (result.1 ≡ Ended) → (mutex_guard_value result.0).working ≡ 0 }
     {
         let mut desk = self.lock(rt);
         for _ in rt.forever() {
