@@ -7,11 +7,13 @@ use Rattle.kpn_book.specs.Kept.{IsBook}
 use Rattle.kpn_pool.specs.declared.seat.Why.{Why}
 use Rattle.kpn_pool.specs.declared.seat.Why.TheVariants.{Halted, Settled, Limit}
 
--- the book of the run, the total of the ledger in which commits are counted, and the mark that the workers have to end
+-- the book of the run, the total of the ledger in which commits are counted, the mark that the workers have to end, and
+-- how many of them have not ended
 pub record Desk : Type 0 where
   pub book : Book
   pub total : ℕ
   pub halts : Bool
+  pub working : ℕ
 
 -- a desk of the run of a network: the book is one of this network, and the total is the number of its commits
 pub record IsDesk (t : Tables) (d : Desk) : Type 0 where

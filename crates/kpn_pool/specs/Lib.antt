@@ -3,3 +3,4 @@ pub mod Seat
 pub mod Invariant
 pub mod OutsideSeats
 pub mod Batch
+pub mod Waiting

@@ -27,7 +27,7 @@
 //!
 //! The worker that keeps watch rests for a short time. Then the others have committed, and so are there to take the
 //! process up, or this one has waited in vain and joins, and by its claim sees to the next process.
-ghost use Rattle.std.specs.Prelude.{◌≡◌, max};
+ghost use Rattle.std.specs.Prelude.{◌≡◌, true, max};
 ghost use Rattle.kpn_pool.specs.Batch.{share_of};
 
 use std::mem;
@@ -68,6 +68,15 @@ pub(crate) enum Need {
     Item { sink: usize },
     /// A source has fewer unread items than the bound, or its reader has ended.
     Room { source: usize, bound: usize },
+}
+
+/// What a wait of the outside came to.
+#[derive(Clone, Copy, Debug, PartialEq, Eq)]
+pub enum Awaited {
+    /// There was something to take. More may come.
+    There,
+    /// All workers have ended. What they left was taken, and no more comes.
+    Ended,
 }
 
 /// What a worker knows of its turn.
@@ -154,7 +163,9 @@ impl Crew {
     }
 
     /// Whether all workers have ended.
-    pub(crate) fn has_ended(&self) -> bool {
+    pub(crate) fn has_ended(&self) -> bool
+        ensures { (result ≡ true) → self.now.working ≡ 0 }
+    {
         self.working == 0
     }
 
@@ -277,7 +288,9 @@ impl Crew {
     }
 
     /// There is something for the outside: the next one that lets the lock go is to call it.
-    pub(crate) fn owe_call(&mut self) {
+    pub(crate) fn owe_call(&mut self)
+        ensures { self.new.working ≡ self.old.working }
+    {
         self.owes_call = true;
     }
 

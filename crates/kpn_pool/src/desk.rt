@@ -1,13 +1,16 @@
 //! What lies under the lock of a run: each change of it is a call that is lent it.
-ghost use Rattle.std.specs.Prelude.{◌≡◌, true, false, IfOk};
+ghost use Rattle.std.specs.Prelude.{◌≡◌, true, false, IfOk, IfSome};
 ghost use Rattle.kpn_trace.specs.declared.state.Counts.{Counts as Tally};
 ghost use Rattle.kpn_trace.specs.Views.{Agrees, AreCounts};
 ghost use Rattle.kpn_book.specs.Kept.{IsBook};
+ghost use Rattle.kpn_pool.specs.declared.crew.Awaited.TheVariants.{There, Ended};
+ghost use Rattle.kpn_pool.specs.declared.crew.Need.TheVariants.{Item, Room};
 ghost use Rattle.kpn_pool.specs.Desk.{halted, IsReason};
+ghost use Rattle.kpn_pool.specs.Waiting.{IsMet};
 ghost use Rattle.kpn_book.specs.Snapshot.{ShowsARun, ShowsJournals, IsBelowKahn, IsKahnAtRest};
 ghost use Rattle.kpn_pool.specs.Invariant.{AreBelowLeast, AreReadThenQueued, AreWithinCapacity, AreBlockedCounts, AreOwedGrowths, AreLeastWhenQuiet, HasNoneLeftToGrow, HasNoneLeftAtStop};
 
-use crate::crew::{Crew, Need};
+use crate::crew::{Awaited, Crew, Need};
 use crate::job::Job;
 use crate::outside_seats::SinkSeat;
 use crate::seat::Why;
@@ -25,7 +28,7 @@ pub struct Desk<'n, J: Job, A: Allocator = Global> {
     pub(crate) book: Book<'n, A>,
     pub(crate) total: ledger::Book<J>,
     halts: bool,
-    // no contract sees which workers step and which rest
+    // no contract sees which workers step and which rest, only how many have not ended
     pub(crate) crew: Crew,
 }
 
@@ -38,10 +41,20 @@ impl<'n, J: Job, A: Allocator> Model for Desk<'n, J, A> {
 
     ghost coded = { Prim.hlevel (codes, parts_code) };
 
-    ghost view = { λ d. record { book = d.book; total = d.total.total; halts = d.halts } };
+    ghost view = { λ d. record {
+      book = d.book;
+      total = d.total.total;
+      halts = d.halts;
+      working = d.crew.working;
+    } };
 
     ghost invariant = { λ d.
-        IsDesk J.network (record { book = d.book; total = d.total.total; halts = d.halts }) };
+        IsDesk J.network (record {
+          book = d.book;
+          total = d.total.total;
+          halts = d.halts;
+          working = d.crew.working;
+        }) };
 }
 
 impl<'n, J: Job, A: Allocator + Copy> Desk<'n, J, A> {
@@ -176,23 +189,44 @@ impl<'n, J: Job, A: Allocator> Desk<'n, J, A> {
                 .any(|seat| self.is_filled(seat.channel(), is_idle))
     }
 
-    /// Whether a call that needs this has to wait: it is not there, some worker has not ended, and the call is not
-    /// refused.
-    #[tactic(auto, using(kpn_net::proofs::Networks::sink_there))]
-    pub(crate) fn has_to_wait(&self, need: Need) -> bool {
+    /// What a wait for this has come to, or `None` if it goes on: all workers have ended, or the call that needs this
+    /// finds it or is refused.
+    pub(crate) fn awaited(&self, need: Need) -> Option<Awaited>
+        ensures there { IfSome result (λ awaited. (awaited ≡ There)
+            → IsMet J.network need self.now.book) }
+        ensures ended { IfSome result (λ awaited. (awaited ≡ Ended) → self.now.working ≡ 0) }
+    {
         if self.crew.has_ended() {
-            return false;
+            return Some(Awaited::Ended);
         }
-        match need {
-            Need::Item { sink } => {
-                self.book.network().is_sink(sink) && !self.book.has_item(sink)
-            }
-            Need::Room { source, bound } => {
-                matches!(
-                    self.book.feed_fault(source, 0, bound),
-                    Some(Refused::Full(_))
-                )
-            }
+        let is_met = match need {
+            Need::Item { sink } => self.has_item(sink),
+            Need::Room { source, bound } => self.has_room(source, bound),
+        };
+        if !is_met {
+            return None;
+        }
+        Some(Awaited::There)
+    }
+
+    /// Whether a take from this sink gives an item or is refused.
+    #[tactic(auto, using(kpn_net::proofs::Networks::sink_there))]
+    fn has_item(&self, sink: usize) -> bool
+        ensures { (result ≡ true) → IsMet J.network (Item sink) self.now.book }
+    {
+        if !self.book.network().is_sink(sink) {
+            return true;
+        }
+        self.book.has_item(sink)
+    }
+
+    /// Whether a feed to this source is not refused as full.
+    fn has_room(&self, source: usize, bound: usize) -> bool
+        ensures { (result ≡ true) → IsMet J.network (Room source bound) self.now.book }
+    {
+        match self.book.feed_fault(source, 0, bound) {
+            Some(Refused::Full(_)) => false,
+            _ => true,
         }
     }
 

@@ -14,13 +14,14 @@ mod shared;
 mod turn;
 mod working;
 
+pub use crew::Awaited;
 pub use desk::Desk;
 pub use gate::{CommitsAll, Gate, Go};
 pub use job::Job;
 pub use kpn_book::{Counts, Refused, State, View};
 pub use opening::{EndSeats, end_seats};
 pub use outside_calls::{
-    Awaited, SnapFault, close, feed, feed_all, feed_when_room, leave, snapshot, take, take_each,
+    SnapFault, close, feed, feed_all, feed_when_room, leave, snapshot, take, take_each,
     take_when_due, take_when_there,
 };
 pub use outside_seats::{SinkSeat, SourceSeat};

@@ -2,11 +2,16 @@
 ghost use Rattle.std.specs.Prelude.{◌≡◌, ◌<◌, ◌≤◌, ◌++◌, length, take, IfOk, IfErr, OnErr, OnOk, IsTrue, true};
 ghost use Rattle.kpn_lang.specs.Prefix.{IsPrefix};
 ghost use Rattle.kpn_net.specs.Tables.{channel_at, is_source, is_sink};
+ghost use Rattle.kpn_chan.specs.Channel.{unread};
+ghost use Rattle.kpn_configuration.specs.Configuration.{channel_in};
+ghost use Rattle.kpn_pool.specs.declared.crew.Awaited.TheVariants.{There};
 ghost use Rattle.kpn_pool.specs.declared.outside_calls.SnapFault.TheVariants.{NoMemory};
 ghost use Rattle.kpn_pool.specs.OutsideSeats.{with_item, with_taken, HaveTaken, TakesMore, FeedsUntil, MayRefuseFeed, MayRefuseEnd, MayRefuseTake, MayRefuseSnapshot};
+ghost use Rattle.kpn_pool.specs.Waiting.{IsFullSource};
+ghost use Rattle.std.specs.Sync.Mutex.{mutex_guard_value};
 ghost use Rattle.kpn_book.specs.Snapshot.{ShowsARun, shown_on, IsBelowKahn, IsKahnAtRest};
 
-use crate::crew::Need;
+use crate::crew::{Awaited, Need};
 use crate::desk::Desk;
 use crate::job::Job;
 use crate::outside_seats::{SinkSeat, SourceSeat, take_from_each};
@@ -149,15 +154,6 @@ pub fn take_when_due<J: Job, A: Allocator, B: Allocator, R: Wait + Clock>(
     Ok(goes_on)
 }
 
-/// What a wait of the outside came to.
-#[derive(Clone, Copy, Debug, PartialEq, Eq)]
-pub enum Awaited {
-    /// There was something to take. More may come.
-    There,
-    /// All workers have ended. What they left was taken, and no more comes.
-    Ended,
-}
-
 /// Waits until the sink of the seat has an item or all workers have ended, and then takes all that is unread there,
 /// under one hold of the lock.
 ///
@@ -169,6 +165,8 @@ pub fn take_when_there<J: Job, A: Allocator, B: Allocator, R: Wait + Clock>(
     seat: &mut SinkSeat<B>,
 ) -> Result<Awaited, Refused>
     ensures taken { TakesMore seat.old seat.new }
+    ensures there { IfOk result (λ awaited. (awaited ≡ There)
+        → length seat.old.items < length seat.new.items) }
     ensures sink { OnOk result (is_sink (channel_at J.network seat.old.channel) ≡ true) }
     ensures refused { IfErr result (λ cause.
         MayRefuseTake (is_sink (channel_at J.network seat.old.channel)) cause) }
@@ -176,13 +174,18 @@ pub fn take_when_there<J: Job, A: Allocator, B: Allocator, R: Wait + Clock>(
     let before = seat.taken().len();
     // a sink that was left refuses here, and does not keep its seat waiting
     let desk = shared.lock(rt);
-    let awaited = take_from(shared, desk, seat)?;
-    if awaited == Awaited::Ended || seat.taken().len() > before {
-        return Ok(awaited);
+    let has_ended = desk.crew.has_ended();
+    take_from(shared, desk, seat)?;
+    if has_ended {
+        return Ok(Awaited::Ended);
+    }
+    if seat.taken().len() > before {
+        return Ok(Awaited::There);
     }
     let sink = seat.channel();
-    let desk = shared.lock_when(rt, Need::Item { sink });
-    take_from(shared, desk, seat)
+    let (desk, awaited) = shared.lock_when(rt, Need::Item { sink });
+    take_from(shared, desk, seat)?;
+    Ok(awaited)
 }
 
 /// Takes all that is unread at the sink of the seat, and lets the desk go.
@@ -190,22 +193,18 @@ fn take_from<'l, 'n, J: Job, A: Allocator, B: Allocator>(
     shared: &'l Shared<'n, J, A>,
     desk: MutexGuard<'l, Desk<'n, J, A>>,
     seat: &mut SinkSeat<B>,
-) -> Result<Awaited, Refused>
+) -> Result<(), Refused>
     ensures taken { TakesMore seat.old seat.new }
+    ensures all { OnOk result (seat.new.items ≡ seat.old.items
+        ++ unread (channel_in (mutex_guard_value desk.entry).book.configuration seat.old.channel)) }
     ensures sink { OnOk result (is_sink (channel_at J.network seat.old.channel) ≡ true) }
     ensures refused { IfErr result (λ cause.
         MayRefuseTake (is_sink (channel_at J.network seat.old.channel)) cause) }
 {
     let mut desk = desk;
-    let has_ended = desk.crew.has_ended();
     let taken = seat.take_all(&mut desk);
     shared.tell(desk);
-    taken?;
-    Ok(if has_ended {
-        Awaited::Ended
-    } else {
-        Awaited::There
-    })
+    taken
 }
 
 /// Waits until the source of the seat has room for an item under the bound or all workers have ended, and then feeds
@@ -225,13 +224,39 @@ pub fn feed_when_room<J: Job, A: Allocator + Copy, B: Allocator, R: Wait + Clock
     ensures fed { IfOk result (λ count. (count ≤ length items.now)
         × (seat.new.items ≡ seat.old.items ++ take count items.now)) }
     ensures before { IsPrefix seat.old.items seat.new.items }
-    ensures source { IfOk result (λ count. 0 < count
+    ensures source { OnOk result (0 < length items.now
         → is_source (channel_at J.network seat.old.channel) ≡ true) }
     ensures refused { IfErr result (λ cause. FeedsUntil items.now seat.old seat.new (λ item.
         MayRefuseFeed (is_source (channel_at J.network seat.old.channel)) item cause)) }
 {
     let source = seat.channel();
-    let mut desk = shared.lock_when(rt, Need::Room { source, bound });
+    let (desk, _) = shared.lock_when(rt, Need::Room { source, bound });
+    feed_first(shared, desk, seat, items, bound)
+}
+
+/// Feeds the first ones of these items, as many as there is room for, and lets the desk go. Returns how many it fed: of
+/// some items none only if all workers have ended.
+fn feed_first<'l, 'n, J: Job, A: Allocator + Copy, B: Allocator>(
+    shared: &'l Shared<'n, J, A>,
+    desk: MutexGuard<'l, Desk<'n, J, A>>,
+    seat: &mut SourceSeat<B>,
+    items: &[i64],
+    bound: usize,
+) -> Result<usize, Refused>
+    requires room { IsFullSource seat.old.channel bound (mutex_guard_value desk).book
+        → (mutex_guard_value desk).working ≡ 0 }
+    ensures channel { seat.new.channel ≡ seat.old.channel }
+    ensures fed { IfOk result (λ count. (count ≤ length items.now)
+        × (seat.new.items ≡ seat.old.items ++ take count items.now)) }
+    ensures before { IsPrefix seat.old.items seat.new.items }
+    ensures none { IfOk result (λ count. (count ≡ 0) → 0 < length items.now
+        → (mutex_guard_value desk.entry).working ≡ 0) }
+    ensures source { OnOk result (0 < length items.now
+        → is_source (channel_at J.network seat.old.channel) ≡ true) }
+    ensures refused { IfErr result (λ cause. FeedsUntil items.now seat.old seat.new (λ item.
+        MayRefuseFeed (is_source (channel_at J.network seat.old.channel)) item cause)) }
+{
+    let mut desk = desk;
     let before = seat.fed().len();
     let fed = seat.feed_all(&mut desk, items, bound);
     shared.tell(desk);

@@ -5,9 +5,12 @@ ghost use Rattle.kpn_net.specs.Tables.{is_source, is_sink};
 ghost use Rattle.kpn_pool.specs.OutsideSeats.{new_ends};
 ghost use Rattle.kpn_book.specs.Kept.{IsBook};
 ghost use Rattle.kpn_book.specs.Snapshot.{ShowsARun, IsBelowKahn, IsKahnAtRest};
+ghost use Rattle.kpn_pool.specs.declared.crew.Awaited.TheVariants.{There, Ended};
 ghost use Rattle.kpn_pool.specs.Seat.{AreNewSeats};
+ghost use Rattle.kpn_pool.specs.Waiting.{IsMet};
+ghost use Rattle.std.specs.Sync.Mutex.{mutex_guard_value};
 
-use crate::crew::{MOMENT, Need};
+use crate::crew::{Awaited, MOMENT, Need};
 use crate::desk::Desk;
 use crate::job::Job;
 use crate::opening::{EndSeats, end_seats};
@@ -187,17 +190,22 @@ impl<'n, J: Job, A: Allocator> Shared<'n, J, A> {
         desk
     }
 
-    /// The desk, once a call that needs this does not have to wait any more. A worker that puts into a sink, makes
-    /// room at a source or ends wakes all that sleep here.
+    /// The desk, once a call that needs this does not have to wait any more, and what the wait came to. A worker that
+    /// puts into a sink, makes room at a source or ends wakes all that sleep here.
     pub(crate) fn lock_when<R: Wait + Clock>(
         &self,
         rt: &R,
         need: Need,
-    ) -> MutexGuard<'_, Desk<'n, J, A>> {
+    ) -> (MutexGuard<'_, Desk<'n, J, A>>, Awaited)
+        ensures there { (result.1 ≡ There)
+            → IsMet J.network need (mutex_guard_value result.0).book }
+        ensures ended { (result.1 ≡ Ended) → (mutex_guard_value result.0).working ≡ 0 }
+    {
         let mut desk = self.lock(rt);
         for _ in rt.forever() {
-            if !desk.has_to_wait(need) {
-                return desk;
+            let look = desk.awaited(need);
+            if let Some(awaited) = look {
+                return (desk, awaited);
             }
             let most = desk.crew.await_need(need);
             desk = self.called.wait_timeout(rt, desk, most).0;
