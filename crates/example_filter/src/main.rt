@@ -84,11 +84,7 @@ fn filter<R: Threads + Wait + Clock + Sync>(
 /// Writes what each sink received, each in a line, and how the run ended.
 fn tell<O: Write>(report: &Report, out: &mut O) -> Result<()> {
     for items in report.taken.as_slice() {
-        write!(out, "received")?;
-        for item in items.as_slice() {
-            write!(out, " {item}")?;
-        }
-        writeln!(out)?;
+        writeln!(out, "received {:?}", items.as_slice())?;
     }
     writeln!(out, "{:?}", report.outcome)?;
     Ok(())
