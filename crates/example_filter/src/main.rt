@@ -1,7 +1,7 @@
 //! A filter of a signal. It shows how a program runs a network by workers on lists of its own: it reads no file.
 //!
 //! The network has two equal stages in a row. Each stage replaces a sample by the mean of it and the one before it. So
-//! both together weigh a sample by 1/4, the one before it by 1/2, and the one before that by 1/4.
+//! both together weigh a sample by a quarter, the one before it by a half, and the one before that by a quarter.
 #![tactic(auto)]
 
 use anyhow::{Result, ensure};
@@ -38,7 +38,7 @@ network {
 
 const WORKERS: usize = 4;
 
-/// A run until nothing more can happen.
+/// A run that ends once nothing more can happen.
 const LIMITS: Limits = Limits {
     commits: 1_000_000,
     take: None,
@@ -50,15 +50,15 @@ fn wave_at(time: i64) -> i64 {
     if time / 10 % 2 == 0 { 0 } else { 8 }
 }
 
-/// The list of each source: 100 samples for the only one.
+/// A list for each source: the samples of 100 times for the only one.
 fn lists(alloc: Global) -> Result<Vec<Sequence<i64>>> {
     let samples: Vec<i64> = (0..100).map(wave_at).collect(alloc)?;
     let signal = Sequence::from_vec(samples);
     Ok(vec![in alloc; signal]?)
 }
 
-/// Runs a network on these lists, one for each source.
-fn run_on<R: Threads + Wait + Clock + Sync>(
+/// Runs a network on these lists, if there is one for each source.
+fn run_network<R: Threads + Wait + Clock + Sync>(
     rt: &R,
     alloc: Global,
     network: &Network,
@@ -71,17 +71,17 @@ fn run_on<R: Threads + Wait + Clock + Sync>(
     Ok(run(rt, alloc, network, lists, WORKERS, &CommitsAll, &LIMITS)?)
 }
 
-/// Filters the lists by the network.
+/// Filters the lists.
 fn filter<R: Threads + Wait + Clock + Sync>(
     rt: &R,
     alloc: Global,
     lists: &[Sequence<i64>],
 ) -> Result<Report> {
     let document = read_network(alloc, SMOOTHER.as_bytes())?;
-    run_on(rt, alloc, document.network(), lists)
+    run_network(rt, alloc, document.network(), lists)
 }
 
-/// Writes what each sink received, each in a line, and how the run ended.
+/// Writes what each sink received, and how the run ended.
 fn tell<O: Write>(report: &Report, out: &mut O) -> Result<()> {
     for items in report.taken.as_slice() {
         writeln!(out, "received {:?}", items.as_slice())?;
