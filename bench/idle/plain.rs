@@ -1,13 +1,14 @@
 //! What main.rt.txt does, in plain Rust: a thread feeds each item after a pause, another one copies it, and the calling
-//! thread takes it. Words: the number of items and the microseconds of a pause. Each line of the output has the
-//! nanoseconds from the feed of an item to its take.
+//! thread takes it. Input and output are the same, but the number of workers does not count.
 use std::sync::mpsc;
 use std::thread;
 use std::time::{Duration, Instant};
 
 fn main() {
-    let mut words = std::env::args().skip(1).map(|word| word.parse().unwrap());
-    let (items, pause) = (words.next().unwrap(), Duration::from_micros(words.next().unwrap()));
+    let mut line = String::new();
+    std::io::stdin().read_line(&mut line).unwrap();
+    let numbers: Vec<u64> = line.split_whitespace().map(|word| word.parse().unwrap()).collect();
+    let (items, pause) = (numbers[1], Duration::from_micros(numbers[2]));
     let (feed, fed) = mpsc::channel();
     let (put, taken) = mpsc::channel();
     let feeder = thread::spawn(move || {

@@ -4,15 +4,16 @@
 One process copies the items of a source to a sink. A thread of its own feeds an item after each pause, and the calling
 thread sleeps until it can take one. The program makes only public calls of `kpn_parallel`. Its source is main.rt.txt,
 since the gate wants each .rt file in a crate that it proves. The build is that of optimised.py, in a copy of the tree:
-optimised, and not proved. It prints
+optimised, and not proved. Beside it is a plain Rust program of three threads, which hand the items on by channels of
+std. It prints for 1, 4 and 16 workers
 
 - the processor time of a whole run in which the only item comes after two seconds, and of one in which it comes at
-  once: the median and the most of five runs, by 1, 4 and 16 workers. The difference of the medians is the wait.
-- the median and the worst time of items from feed to take, a millisecond apart, beside a plain Rust program of three
-  threads that hand them on by channels of std.
+  once: the median and the most of nine runs. The difference of the medians is the wait.
+- the median and the worst time of items from feed to take, a millisecond apart.
 
-Both depend on what else runs, so the load is printed too. It is no part of the gate. Words: the number of items, by
-default 10,000, and `--program FILE` for a program that was built before.
+All depends on what else runs, so the load is printed too. If the machine is virtual, its processors may be taken away,
+and some runs then seem to take far more. It is no part of the gate. Words: the number of items, by default 10,000, and
+`--program FILE` for a program that was built before.
 """
 import argparse
 import os
@@ -30,7 +31,7 @@ sys.path.append(str(HERE.parent))
 import measure
 
 CRATE, USES = 'bench_idle', 'kpn_limits kpn_parallel kpn_text anyhow'
-WORKERS, RUNS = (1, 4, 16), 5
+WORKERS, RUNS = (1, 4, 16), 9
 
 # the pauses in microseconds: of a wait, and between items
 WAIT, PAUSE = 2_000_000, 1_000
@@ -58,25 +59,33 @@ def load():
     return f'{os.cpu_count()} processors, load {os.getloadavg()[0]:.1f}'
 
 
-def waits(program, workers):
-    """What the wait for an item takes of a processor."""
-    def seconds(pause):
-        runs = [measure.Run([program], given=f'{workers} 1 {pause}\n').seconds for _ in range(RUNS)]
+class Way:
+    """One way from a feed to a take."""
+
+    def __init__(self, title, program, workers=0):
+        self.title, self.program, self.workers = title, program, workers
+
+    def run(self, items, pause):
+        """One run of so many items, with so many microseconds before each."""
+        return measure.Run([self.program], given=f'{self.workers} {items} {pause}\n')
+
+    def seconds(self, pause):
+        """The median and the most processor time of runs of one item."""
+        runs = [self.run(1, pause).seconds for _ in range(RUNS)]
         return statistics.median(runs), max(runs)
 
-    (waiting, most), (bare, most_bare) = seconds(WAIT), seconds(0)
-    print(f'workers: {workers:2}, {1e3 * waiting:.1f} ms of processor (most {1e3 * most:.1f}) with a wait of 2 s, '
-          f'{1e3 * bare:.1f} (most {1e3 * most_bare:.1f}) without, so {1e8 * (waiting - bare) / WAIT:.3f} % of a '
-          f'processor while they wait; {load()}', flush=True)
+    def print_wait(self):
+        (waiting, most), (bare, most_bare) = self.seconds(WAIT), self.seconds(0)
+        print(f'{self.title}: {1e3 * waiting:.1f} ms of processor (most {1e3 * most:.1f}) with a wait of 2 s, '
+              f'{1e3 * bare:.1f} (most {1e3 * most_bare:.1f}) without, so {1e8 * (waiting - bare) / WAIT:.3f} % of a '
+              f'processor; {load()}', flush=True)
 
-
-def comes(title, words, given, items):
-    """How long items take from feed to take."""
-    spans = sorted(int(line) / 1e3 for line in measure.Run(words, given=given).wrote.split())
-    if len(spans) != items:
-        sys.exit(f'{title}: {len(spans)} items of {items}')
-    print(f'{title:11}, median {statistics.median(spans):.1f} us, 99 of 100 within {spans[items * 99 // 100]:.0f} us, '
-          f'worst {spans[-1]:.0f} us; {load()}', flush=True)
+    def print_spans(self, items):
+        spans = sorted(int(line) / 1e3 for line in self.run(items, PAUSE).wrote.split())
+        if len(spans) != items:
+            sys.exit(f'{self.title}: {len(spans)} items of {items}')
+        print(f'{self.title}: median {statistics.median(spans):.1f} us, 99 of 100 within '
+              f'{spans[items * 99 // 100]:.0f} us, worst {spans[-1]:.0f} us; {load()}', flush=True)
 
 
 def main():
@@ -87,12 +96,12 @@ def main():
     with tempfile.TemporaryDirectory(prefix='kpn-idle-') as name:
         folder = pathlib.Path(name)
         program = asked.program.resolve() if asked.program else built(folder)
-        for workers in WORKERS:
-            waits(program, workers)
-        for workers in WORKERS:
-            comes(f'workers: {workers:2}', [program], f'{workers} {asked.items} {PAUSE}\n', asked.items)
-        plain = measure.plain(HERE / 'plain.rs', folder)
-        comes('plain Rust', [plain, str(asked.items), str(PAUSE)], '', asked.items)
+        ways = [Way(f'workers {workers:2}', program, workers) for workers in WORKERS]
+        ways.append(Way('plain Rust', measure.plain(HERE / 'plain.rs', folder)))
+        for way in ways:
+            way.print_wait()
+        for way in ways:
+            way.print_spans(asked.items)
 
 
 if __name__ == '__main__':
