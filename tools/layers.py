@@ -21,14 +21,14 @@ OFFERED = {
     'kpn_items': 'read_all read_items write_items',
     'kpn_step': 'start fits copy advance program from to steps stop give wrote alone',
     'kpn_chan': 'new reserve_one copy_journal room put get len is_full read_count cap at retire grow',
-    'kpn_trace': 'new reserve room push len at',
+    'kpn_history': 'new reserve room push len at',
     'kpn_trace_text': 'event_line write_trace read_event read_trace',
     'kpn_cycle': 'new set get cycle_through scan_all',
-    'kpn_book': 'new claim commit put_back feed close_source take leave_sink counts commits history into_history '
+    'kpn_run_state': 'new claim commit put_back feed close_source take leave_sink counts commits history into_history '
                 'verdict snapshot',
-    'kpn_report': 'run_here',
-    'kpn_pool': 'new between work why commits halt gather feed close take leave fed taken snapshot try_snapshot',
-    'kpn_parallel': 'run',
+    'kpn_run_here': 'run_here',
+    'kpn_desk': 'new between work why commits halt gather feed close take leave fed taken snapshot try_snapshot',
+    'kpn_workers': 'run',
     'kpn_audit': 'audit',
     'kpn_cli': 'command',
 }

@@ -1,10 +1,10 @@
 //! Whether a run by workers is like one on one thread.
 use anyhow::Result;
 use kpn_audit::audit;
+use kpn_history::{History, Trace, Version};
 use kpn_lang::Sequence;
 use kpn_net::Network;
-use kpn_report::{Limits, Outcome, Report};
-use kpn_trace::{History, Trace, Version};
+use kpn_run_here::{Limits, Outcome, Report};
 use std::alloc::{AllocError, Global};
 
 /// The most steps that the auditor makes for an event.

@@ -1,7 +1,7 @@
 //! A trace in memory. `bench/trace` measures it beside a plain writer.
 use anyhow::{Result, bail};
+use kpn_history::{Event, History};
 use kpn_net::{Growth, Policy};
-use kpn_trace::{Event, History};
 use kpn_trace_text::write_trace;
 use std::alloc::{AllocError, Global};
 

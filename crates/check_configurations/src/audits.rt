@@ -3,8 +3,8 @@
 use crate::feeding::copying;
 use crate::traces::trace_of;
 use kpn_audit::{AuditFault, audit};
+use kpn_history::{Event, Version};
 use kpn_net::{Growth, Network};
-use kpn_trace::{Event, Version};
 use linked_list_allocator::LocalHeap;
 use std::alloc::{AllocError, Global};
 use std::test::Fail;

@@ -1,10 +1,10 @@
 //! Audits of a channel that grows, as its network says, or by the rules of version 1 of traces.
 use crate::traces::trace_of;
 use kpn_audit::{AuditFault, audit};
+use kpn_history::{Event, Version};
 use kpn_lang::{Expr, Program, Sequence, Stmt};
 use kpn_net::ChannelSpec::Inner;
 use kpn_net::{Growth, Instance, Network, Policy};
-use kpn_trace::{Event, Version};
 use std::alloc::Global;
 use std::test::Fail;
 

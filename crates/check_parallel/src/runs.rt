@@ -1,11 +1,11 @@
 //! Runs of described networks.
 use commit_gates::{Always, Held, Holding};
+use kpn_history::{Event, History};
 use kpn_lang::Sequence;
 use kpn_limits::MAX_WORKERS;
-use kpn_parallel::{Gate, Go, Limits, Outcome, Report, RunFault, run};
-use kpn_report::run_here;
+use kpn_run_here::run_here;
 use kpn_text::read_network;
-use kpn_trace::{Event, History};
+use kpn_workers::{Gate, Go, Limits, Outcome, Report, RunFault, run};
 use std::alloc::Global;
 use std::sync::Wait;
 use std::sync::atomic::{AtomicU64, Ordering};

@@ -4,9 +4,9 @@ ghost use Rattle.std.specs.Prelude.{◌≡◌};
 
 use crate::networks::nine_sevens;
 use commit_gates::Flag;
-use kpn_book::{Book, Event};
+use kpn_desk::{Gate, Go, Job, Opened, Shared, View, Why, WorkerSeat, gather, work};
 use kpn_net::Network;
-use kpn_pool::{Gate, Go, Job, Opened, Shared, View, Why, WorkerSeat, gather, work};
+use kpn_run_state::{Book, Event};
 use std::alloc::{AllocError, Global};
 use std::marker::Brand;
 use std::sync::Wait;

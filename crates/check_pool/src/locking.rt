@@ -3,8 +3,8 @@ ghost use Rattle.std.specs.Prelude.{◌≡◌};
 
 use crate::networks::{spinning, summing};
 use commit_gates::{Flag, MOST_TURNS};
+use kpn_desk::{Gate, Go, Job, Opened, Shared, Why, WorkerSeat, work};
 use kpn_net::Network;
-use kpn_pool::{Gate, Go, Job, Opened, Shared, Why, WorkerSeat, work};
 use std::alloc::{AllocError, Global};
 use std::marker::Brand;
 use std::sync::Wait;

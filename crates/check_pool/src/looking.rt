@@ -1,12 +1,12 @@
 //! A look at the desk under its lock, while workers are at work.
 ghost use Rattle.std.specs.Prelude.{◌≡◌};
-ghost use Rattle.kpn_pool.specs.Invariant.{AreBelowLeast, HasNoneLeftToGrow};
+ghost use Rattle.kpn_desk.specs.Invariant.{AreBelowLeast, HasNoneLeftToGrow};
 
 use crate::networks::three_spinning;
 use crate::working::both_work;
 use commit_gates::{Always, MOST_TURNS};
+use kpn_desk::{Desk, Go, Job, Opened, Shared, Why, WorkerSeat};
 use kpn_net::Network;
-use kpn_pool::{Desk, Go, Job, Opened, Shared, Why, WorkerSeat};
 use std::alloc::{AllocError, Global};
 use std::marker::Brand;
 use std::sync::Wait;

@@ -3,11 +3,11 @@ ghost use Rattle.std.specs.Prelude.{◌≡◌};
 
 use crate::networks::copying;
 use commit_gates::{Always, MOST_TURNS};
-use kpn_net::Network;
-use kpn_pool::{
+use kpn_desk::{
     Go, Job, Opened, Refused, Shared, SinkSeat, SnapFault, SourceSeat, View, Why, WorkerSeat,
     close, feed, leave, snapshot, take, work,
 };
+use kpn_net::Network;
 use kpn_text::read_network;
 use std::alloc::{AllocError, Allocator, Global};
 use std::marker::Brand;

@@ -7,8 +7,8 @@
 use anyhow::{Result, ensure};
 use kpn_lang::Sequence;
 use kpn_net::Network;
-use kpn_parallel::{CommitsAll, Limits, Report, run};
 use kpn_text::read_network;
+use kpn_workers::{CommitsAll, Limits, Report, run};
 use std::alloc::Global;
 use std::io::Write;
 use std::sync::Wait;

@@ -5,7 +5,7 @@ use Rattle.kpn_lang.specs.declared.talk.Said.{Said}
 use Rattle.kpn_lang.specs.Alone.{put_at}
 use Rattle.kpn_step.specs.declared.stop.AloneStop.{AloneStop}
 use Rattle.kpn_step.specs.declared.stop.AloneStop.TheVariants.{Faulted}
-use Rattle.kpn_trace.specs.declared.event.How.TheVariants as how
+use Rattle.kpn_history.specs.declared.event.How.TheVariants as how
 use Rattle.kpn_items.specs.ItemFile.{item_text}
 use Rattle.kpn_answers.specs.Faulted.{faulted_line}
 

@@ -5,9 +5,9 @@ ghost use Rattle.kpn_alone_command.specs.AloneText.{alone_text, fault_text};
 
 use itoa::Buffer;
 use kpn_answers::faulted::push_faulted;
+use kpn_history::How;
 use kpn_lang::{Fault, Said};
 use kpn_step::AloneStop;
-use kpn_trace::How;
 use std::alloc::{AllocError, Global};
 
 // The port whose items are written.

@@ -2,7 +2,7 @@
 ghost use Rattle.std.specs.Prelude.{◌≡◌, ◌++◌, OnOk};
 ghost use Rattle.kpn_answers.specs.Faulted.{faulted_line};
 
-use kpn_trace::How;
+use kpn_history::How;
 use kpn_trace_text::how_word;
 use std::alloc::AllocError;
 

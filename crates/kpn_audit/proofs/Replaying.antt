@@ -5,14 +5,14 @@ use Rattle.kpn_lang.specs.Prefix.{IsPrefix}
 use Rattle.kpn_net.specs.Tables.{Tables, instance_at, program_of}
 use Rattle.kpn_net.specs.Faults.{IsNetwork}
 use Rattle.kpn_step.specs.Frame.{Frame, start_frame}
-use Rattle.kpn_trace.specs.declared.event.Event.{Event}
-use Rattle.kpn_trace.specs.declared.event.Event.TheVariants.{Get, Put, WaitEmpty, WaitFull, Ended}
-use Rattle.kpn_trace.specs.declared.event.How.{How}
-use Rattle.kpn_trace.specs.Talks.{is_of}
-use Rattle.kpn_trace.specs.Legal.{HasNumbers, CanGo, Legal}
-use Rattle.kpn_trace.specs.Stops.{OwesNothing}
-use Rattle.kpn_trace.proofs.EndsOnce.{ended_exactly}
-use Rattle.kpn_trace.proofs.Legality.{Legal-prefix}
+use Rattle.kpn_history.specs.declared.event.Event.{Event}
+use Rattle.kpn_history.specs.declared.event.Event.TheVariants.{Get, Put, WaitEmpty, WaitFull, Ended}
+use Rattle.kpn_history.specs.declared.event.How.{How}
+use Rattle.kpn_history.specs.Talks.{is_of}
+use Rattle.kpn_history.specs.Legal.{HasNumbers, CanGo, Legal}
+use Rattle.kpn_history.specs.Stops.{OwesNothing}
+use Rattle.kpn_history.proofs.EndsOnce.{ended_exactly}
+use Rattle.kpn_history.proofs.Legality.{Legal-prefix}
 use Rattle.kpn_configuration.specs.Configuration.{Configuration, end_in, frame_in, IsFree}
 use Rattle.kpn_configuration.specs.Run.{IsEndOf, IsRun}
 use Rattle.kpn_configuration.proofs.Due.{may_go}

@@ -2,9 +2,9 @@
 use Rattle.std.proofs.Common.{◌≡◌, List, Option, Some, None, refl, inr}
 use Rattle.std.specs.Prelude.{IfSome}
 use Rattle.kpn_net.specs.Tables.{Tables}
-use Rattle.kpn_trace.specs.declared.event.Event.{Event}
-use Rattle.kpn_trace.specs.Legal.{OwesStopGrowth}
-use Rattle.kpn_trace.specs.Stops.{OwesNoCycleGrowth, OwesNoStopGrowth}
+use Rattle.kpn_history.specs.declared.event.Event.{Event}
+use Rattle.kpn_history.specs.Legal.{OwesStopGrowth}
+use Rattle.kpn_history.specs.Stops.{OwesNoCycleGrowth, OwesNoStopGrowth}
 use Rattle.kpn_configuration.specs.declared.configuration.growth.OwedGrowth.{OwedGrowth}
 use Rattle.kpn_configuration.specs.Configuration.{Configuration}
 use Rattle.kpn_configuration.specs.Owed.{IsOwedAtStop, IsAwaitedBelowLimit}

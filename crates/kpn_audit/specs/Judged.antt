@@ -6,10 +6,10 @@ use Rattle.kpn_step.specs.declared.stop.Stop.TheVariants.{WantRead, WantWrite, P
 use Rattle.kpn_step.specs.Frame.{Frame}
 use Rattle.kpn_step.specs.Step.{Goes, step_of, Steps}
 use Rattle.kpn_step.specs.Stops.{IsBetween}
-use Rattle.kpn_trace.specs.declared.event.Event.{Event}
-use Rattle.kpn_trace.specs.Talks.{is_of}
-use Rattle.kpn_trace.specs.Legal.{HasNumbers, Legal, OwesGrowth}
-use Rattle.kpn_trace.specs.Stops.{OwesNothing}
+use Rattle.kpn_history.specs.declared.event.Event.{Event}
+use Rattle.kpn_history.specs.Talks.{is_of}
+use Rattle.kpn_history.specs.Legal.{HasNumbers, Legal, OwesGrowth}
+use Rattle.kpn_history.specs.Stops.{OwesNothing}
 use Rattle.kpn_configuration.specs.Configuration.{Configuration, frame_in, IsFree}
 use Rattle.kpn_configuration.specs.Changes.{IsChannelAt}
 use Rattle.kpn_configuration.specs.Due.{Stands}

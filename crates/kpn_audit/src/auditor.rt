@@ -1,6 +1,6 @@
 //! The auditor.
 ghost use Rattle.std.specs.Prelude.{◌≡◌, ◌⊎◌, ◌↔◌, ℕ, true, length, IsTrue, IfOk, IfErr};
-ghost use Rattle.kpn_trace.specs.Legal.{Legal};
+ghost use Rattle.kpn_history.specs.Legal.{Legal};
 ghost use Rattle.kpn_configuration.specs.Run.{IsRun};
 ghost use Rattle.kpn_audit.specs.Audit.{IsAudit, AreLeast, AreWithinSteps, IsFault, IsRefusal};
 ghost use Rattle.kpn_audit.specs.Judged.{Owes};
@@ -12,8 +12,8 @@ use crate::judging::judge;
 use crate::stored::told;
 use crate::summary::summary;
 use kpn_configuration::{Configuration, OwedGrowth};
+use kpn_history::{Event, Trace, Version};
 use kpn_net::{Growth, Network, Policy};
-use kpn_trace::{Event, Trace, Version};
 use std::alloc::Allocator;
 
 /// Audits a trace: whether its events are a legal history of the network, and what stands after them.

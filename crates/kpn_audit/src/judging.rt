@@ -1,10 +1,10 @@
 //! One event judged: first what can be judged before any step, then, once its process has come to a stop, whether it
 //! is due there.
 ghost use Rattle.std.specs.Prelude.{◌≡◌, ◌≢◌, ◌↔◌, ◌<◌, ℕ, true, false, List, length, IsTrue, IfOk, IfSome, IfNone, Some, None, Ok};
-ghost use Rattle.kpn_trace.specs.declared.event.Event.{Event};
-ghost use Rattle.kpn_trace.specs.Talks.{is_of, is_of_process};
-ghost use Rattle.kpn_trace.specs.Legal.{HasNumbers};
-ghost use Rattle.kpn_trace.specs.Stops.{OwesNothing};
+ghost use Rattle.kpn_history.specs.declared.event.Event.{Event};
+ghost use Rattle.kpn_history.specs.Talks.{is_of, is_of_process};
+ghost use Rattle.kpn_history.specs.Legal.{HasNumbers};
+ghost use Rattle.kpn_history.specs.Stops.{OwesNothing};
 ghost use Rattle.kpn_configuration.specs.Configuration.{IsConfiguration};
 ghost use Rattle.kpn_configuration.specs.Owed.{IsAwaitedBelowLimit};
 ghost use Rattle.kpn_configuration.specs.Run.{IsRun};
@@ -16,9 +16,9 @@ use crate::judged::Judged;
 use crate::stepping::come_to_stop;
 use crate::{outside, processes};
 use kpn_configuration::{Configuration, OwedGrowth};
+use kpn_history::{Event, How};
 use kpn_net::Network;
 use kpn_step::Stop;
-use kpn_trace::{Event, How};
 use std::alloc::{AllocError, Allocator};
 
 /// Whether these are the numbers of a process and a channel.

@@ -1,8 +1,8 @@
 //! What holds of the findings of audits, as the contract of a function with nothing to do.
 ghost use Rattle.std.specs.Prelude.{◌≡◌, ◌≢◌, ℕ, List, length};
 ghost use Rattle.kpn_net.specs.Tables.{Tables};
-ghost use Rattle.kpn_trace.specs.declared.event.Event.{Event};
-ghost use Rattle.kpn_trace.specs.Legal.{Legal};
+ghost use Rattle.kpn_history.specs.declared.event.Event.{Event};
+ghost use Rattle.kpn_history.specs.Legal.{Legal};
 ghost use Rattle.kpn_audit.specs.declared.findings.AuditFault.{AuditFault};
 ghost use Rattle.kpn_audit.specs.declared.findings.AuditFault.TheVariants.{NoMemory};
 ghost use Rattle.kpn_audit.specs.Audit.{AreWithinSteps, IsFault};

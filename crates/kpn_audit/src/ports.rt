@@ -5,10 +5,10 @@ ghost use Rattle.kpn_configuration.specs.Changes.{IsChannelAt};
 ghost use Rattle.kpn_configuration.specs.Due.{stop_of};
 ghost use Rattle.kpn_audit.specs.Judged.{IsReadFrom, IsWriteOf};
 
+use kpn_history::How;
 use kpn_lang::Fault;
 use kpn_net::Network;
 use kpn_step::Stop;
-use kpn_trace::How;
 
 /// Whether the channel stands at a port among these.
 fn is_channel_at(ports: &[usize], port: usize, c: usize) -> bool

@@ -1,6 +1,6 @@
 //! Events of processes: each is judged by where its process stands, and made if it may follow.
 ghost use Rattle.std.specs.Prelude.{◌≡◌, ◌<◌, List, length, IfOk};
-ghost use Rattle.kpn_trace.specs.declared.event.Event.TheVariants as event;
+ghost use Rattle.kpn_history.specs.declared.event.Event.TheVariants as event;
 ghost use Rattle.kpn_configuration.specs.Configuration.{IsConfiguration};
 ghost use Rattle.kpn_audit.specs.Judged.{StandsFree, IsFound};
 
@@ -8,9 +8,9 @@ use crate::growth::{after_event, after_wait};
 use crate::judged::Judged;
 use crate::ports::{is_end, is_read_from, is_write_of, is_write_to};
 use kpn_configuration::Configuration;
+use kpn_history::How;
 use kpn_net::Network;
 use kpn_step::Stop;
-use kpn_trace::How;
 use std::alloc::{AllocError, Allocator};
 
 /// Process `p`, which stands at this stop, gets this item from channel `c`.

@@ -2,10 +2,10 @@
 ghost use Rattle.std.specs.Prelude.{◌≡◌, ◌<◌, ℤ, ℕ, false, List, length, IfSome};
 ghost use Rattle.kpn_net.specs.Tables.{instance_at};
 ghost use Rattle.kpn_step.specs.declared.stop.Stop.TheVariants as stop;
-ghost use Rattle.kpn_trace.specs.declared.event.Event.{Event};
-ghost use Rattle.kpn_trace.specs.Talks.{is_of_process};
-ghost use Rattle.kpn_trace.specs.Legal.{HasNumbers};
-ghost use Rattle.kpn_trace.specs.Stops.{OwesNothing};
+ghost use Rattle.kpn_history.specs.declared.event.Event.{Event};
+ghost use Rattle.kpn_history.specs.Talks.{is_of_process};
+ghost use Rattle.kpn_history.specs.Legal.{HasNumbers};
+ghost use Rattle.kpn_history.specs.Stops.{OwesNothing};
 ghost use Rattle.kpn_configuration.specs.Changes.{IsChannelAt};
 ghost use Rattle.kpn_configuration.specs.Configuration.{IsConfiguration};
 ghost use Rattle.kpn_configuration.specs.Due.{Stands};
@@ -16,10 +16,10 @@ use crate::judging::{has_numbers, process_of};
 use crate::scene::{Doing, Scene, Side};
 use crate::stepping::step_on;
 use kpn_configuration::Configuration;
+use kpn_history::{Event, How};
 use kpn_lang::Fault;
 use kpn_net::{Network, Wait};
 use kpn_step::Stop;
-use kpn_trace::{Event, How};
 use std::alloc::Allocator;
 
 /// The channel of the network at a port among these.

@@ -3,10 +3,10 @@ use Rattle.std.proofs.Common.{◌≡◌, ℕ, ◌≤◌, List, length, refl, ap,
 use Rattle.std.proofs.lemmas.List.FromFn.{length-map-range_with_len}
 use Rattle.kpn_net.specs.declared.tables.ChannelSpec.{ChannelSpec}
 use Rattle.kpn_net.specs.Tables.{Tables}
-use Rattle.kpn_trace.specs.declared.stored.Version.{Version}
-use Rattle.kpn_trace.specs.declared.stored.Version.TheVariants.{One, Two}
-use Rattle.kpn_trace.specs.declared.stored.Trace.{Trace}
-use Rattle.kpn_trace.specs.Channels.{written_on}
+use Rattle.kpn_history.specs.declared.stored.Version.{Version}
+use Rattle.kpn_history.specs.declared.stored.Version.TheVariants.{One, Two}
+use Rattle.kpn_history.specs.declared.stored.Trace.{Trace}
+use Rattle.kpn_history.specs.Channels.{written_on}
 use Rattle.std.specs.declared.alloc.Global.{Global}
 use Rattle.kpn_audit.specs.declared.findings.Audit.{Audit}
 use Rattle.kpn_audit.specs.Stored.{audited_under, tables_for, history_in}

@@ -2,7 +2,7 @@
 use Rattle.std.specs.Prelude.{◌≡◌, ◌⊎◌, ℕ, true, List, length, codes, ⊤}
 use Rattle.kpn_net.specs.Tables.{Tables}
 use Rattle.kpn_text.specs.Document.{Document}
-use Rattle.kpn_trace.specs.declared.stored.Trace.{Trace}
+use Rattle.kpn_history.specs.declared.stored.Trace.{Trace}
 use Rattle.kpn_trace_text.specs.declared.fault.TraceFault.{TraceFault}
 use Rattle.kpn_trace_text.specs.TraceText.{Spells, Refuses}
 use Rattle.std.specs.declared.alloc.Global.{Global}

@@ -7,8 +7,8 @@ use kpn_answers::answer::Conclusion;
 use kpn_answers::refusal::Refusal;
 use kpn_answers::shelf::Shelf;
 use kpn_audit::{Audit, AuditFault, audit};
+use kpn_history::Trace;
 use kpn_net::Network;
-use kpn_trace::Trace;
 use kpn_trace_text::read_trace;
 use std::alloc::Global;
 

@@ -9,8 +9,8 @@ use kpn_answers::answer::{Conclusion, conclude};
 use kpn_answers::description::load_document;
 use kpn_answers::refusal::Refusal;
 use kpn_answers::shelf::Shelf;
+use kpn_history::Trace;
 use kpn_text::Document;
-use kpn_trace::Trace;
 use std::alloc::Global;
 use std::io::Write;
 

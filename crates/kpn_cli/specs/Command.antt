@@ -1,7 +1,7 @@
 -- What the program does on a command line: it runs one of its commands, or writes what `clap` says of the words.
 use Rattle.std.specs.Prelude.{◌≡◌, ℕ, List, Option, Some, None, map, option_map, ⊤}
 use Rattle.kpn_text.specs.Document.{canonical_text}
-use Rattle.kpn_report.specs.declared.outcome.Limits.{Limits}
+use Rattle.kpn_run_here.specs.declared.outcome.Limits.{Limits}
 use Rattle.kpn_answers.specs.declared.refusal.Refusal.TheVariants.{NoMemory}
 use Rattle.kpn_answers.specs.Refusal.{status_of}
 use Rattle.kpn_answers.specs.Answer.{Answers, Concludes}
@@ -21,13 +21,13 @@ use Rattle.kpn_stats_command.specs.Answers.{AreStats}
 use Rattle.kpn_stats_command.specs.declared.stats_text.StatsTables.{StatsTables}
 use Rattle.kpn_stats_command.specs.declared.stats_text.StatsTables.TheVariants as tables
 use Rattle.kpn_run_command.specs.declared.request.RunRequest.{RunRequest}
-use Rattle.kpn_words.specs.Asked.{AreUnclear, AsksForHelp, AsksForAlone, AsksForCheck, AsksForExplain}
-use Rattle.kpn_words.specs.Asked.{AsksForExplainItems, AsksForPrint, AsksForDraw, AsksForRounds, AsksForRun, AsksForAudit, AsksForStats}
-use Rattle.kpn_words.specs.declared.request.RunWords.{RunWords}
-use Rattle.kpn_words.specs.declared.request.Tsv.{Tsv}
-use Rattle.kpn_words.specs.declared.request.Tsv.TheVariants.{Channels, Processes}
-use Rattle.kpn_words.specs.declared.request.WordsFault.{WordsFault}
-use Rattle.kpn_words.specs.declared.request.WordsFault.TheVariants.{Usage, NoMemory as Unread}
+use Rattle.kpn_command_line.specs.Asked.{AreUnclear, AsksForHelp, AsksForAlone, AsksForCheck, AsksForExplain}
+use Rattle.kpn_command_line.specs.Asked.{AsksForExplainItems, AsksForPrint, AsksForDraw, AsksForRounds, AsksForRun, AsksForAudit, AsksForStats}
+use Rattle.kpn_command_line.specs.declared.request.RunWords.{RunWords}
+use Rattle.kpn_command_line.specs.declared.request.Tsv.{Tsv}
+use Rattle.kpn_command_line.specs.declared.request.Tsv.TheVariants.{Channels, Processes}
+use Rattle.kpn_command_line.specs.declared.request.WordsFault.{WordsFault}
+use Rattle.kpn_command_line.specs.declared.request.WordsFault.TheVariants.{Usage, NoMemory as Unread}
 use Rattle.kpn_cli.specs.declared.here.Progress.{Progress}
 use Rattle.kpn_cli.specs.declared.here.Progress.TheVariants.{Ended, NeedsWorkers}
 

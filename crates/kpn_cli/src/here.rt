@@ -1,7 +1,7 @@
 //! All that the program does on the thread that reads the words: everything except a run by workers.
 ghost use Rattle.std.specs.Prelude.{◌≡◌, map, option_map};
 ghost use Rattle.std.specs.String.{string_bytes};
-ghost use Rattle.kpn_words.specs.Asked.{IsAsked};
+ghost use Rattle.kpn_command_line.specs.Asked.{IsAsked};
 ghost use Rattle.kpn_cli.specs.Command.{ComesTo, Explains, run_of, tables_of};
 
 use crate::told::{refuse, text_of};
@@ -9,15 +9,15 @@ use kpn_alone_command::alone_command;
 use kpn_answers::answer::give;
 use kpn_answers::shelf::Shelf;
 use kpn_audit_command::audit_command;
+use kpn_command_line::{Request, RunWords, Tsv, read_words};
 use kpn_description_commands::{check_command, print_command, rounds_command};
 use kpn_draw_command::draw_command;
 use kpn_explain_command::{explain_command, explain_items_command};
 use kpn_explain_trace::explain_trace_command;
 use kpn_limits::USUAL_COUNT;
-use kpn_report::Limits;
 use kpn_run_command::{RunRequest, run_command};
+use kpn_run_here::Limits;
 use kpn_stats_command::{StatsTables, stats_command};
-use kpn_words::{Request, RunWords, Tsv, read_words};
 use std::alloc::Global;
 use std::io::{Read, Write};
 

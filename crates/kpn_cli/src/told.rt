@@ -5,7 +5,7 @@ ghost use Rattle.kpn_cli.specs.Command.{fault_status};
 
 use clap::Error;
 use kpn_answers::refusal::Refusal;
-use kpn_words::WordsFault;
+use kpn_command_line::WordsFault;
 use std::alloc::Global;
 use std::io;
 use std::io::Write;

@@ -11,16 +11,16 @@ use Rattle.kpn_net.proofs.WaitTables.{waits-set}
 use Rattle.kpn_step.specs.Frame.{Frame, passed}
 use Rattle.kpn_step.specs.Stops.{IsGiven}
 use Rattle.kpn_chan.specs.Channel.{ChannelState, after_put, after_get, retired}
-use Rattle.kpn_trace.specs.declared.event.How.{How}
-use Rattle.kpn_trace.specs.declared.event.Event.{Event}
-use Rattle.kpn_trace.specs.declared.event.Event.TheVariants.{Get, Put, WaitEmpty, WaitFull, Feed, Close, Take, Leave}
-use Rattle.kpn_trace.specs.Talks.{is_of}
-use Rattle.kpn_trace.specs.Channels.{written_in, read_in, is_close_of}
-use Rattle.kpn_trace.specs.WaitsAfter.{wait_made}
-use Rattle.kpn_trace.specs.Waking.{wakes}
-use Rattle.kpn_trace.specs.AfterEvent.{capacity_then, takes_end, takes_reader}
-use Rattle.kpn_trace.proofs.Journals.{none_elsewhere}
-use Rattle.kpn_trace.proofs.OneMore.{item_here}
+use Rattle.kpn_history.specs.declared.event.How.{How}
+use Rattle.kpn_history.specs.declared.event.Event.{Event}
+use Rattle.kpn_history.specs.declared.event.Event.TheVariants.{Get, Put, WaitEmpty, WaitFull, Feed, Close, Take, Leave}
+use Rattle.kpn_history.specs.Talks.{is_of}
+use Rattle.kpn_history.specs.Channels.{written_in, read_in, is_close_of}
+use Rattle.kpn_history.specs.WaitsAfter.{wait_made}
+use Rattle.kpn_history.specs.Waking.{wakes}
+use Rattle.kpn_history.specs.AfterEvent.{capacity_then, takes_end, takes_reader}
+use Rattle.kpn_history.proofs.Journals.{none_elsewhere}
+use Rattle.kpn_history.proofs.OneMore.{item_here}
 use Rattle.kpn_configuration.specs.Configuration.{Configuration, channel_in, closed_in, frame_in, no_frame, IsConfiguration, IsFree, with_closed, with_waits, with_frame}
 use Rattle.kpn_configuration.specs.Changes.{end_then, IsChannelAfter, IsFrameAfter, Changes}
 use Rattle.kpn_configuration.specs.Due.{ReadsFrom, WritesTo}

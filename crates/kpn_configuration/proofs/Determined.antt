@@ -3,8 +3,8 @@ use Rattle.std.proofs.Common.{◌≡◌, ℕ, ℤ, sym, ◌∙◌, inl, inr}
 use Rattle.std.proofs.lemmas.Bool.{cases_eq}
 use Rattle.kpn_net.specs.Tables.{Tables}
 use Rattle.kpn_step.specs.Frame.{Frame}
-use Rattle.kpn_trace.specs.declared.event.Event.{Event}
-use Rattle.kpn_trace.specs.declared.event.Event.TheVariants.{Get, Put}
+use Rattle.kpn_history.specs.declared.event.Event.{Event}
+use Rattle.kpn_history.specs.declared.event.Event.TheVariants.{Get, Put}
 use Rattle.kpn_configuration.specs.Configuration.{Configuration, frame_in}
 use Rattle.kpn_configuration.specs.Changes.{PassesRead, IsFrameAfter, Changes}
 use Rattle.kpn_configuration.specs.Determined.{AreSame}

@@ -16,17 +16,17 @@ use Rattle.kpn_step.specs.declared.stop.Stop.TheVariants as stop
 use Rattle.kpn_chan.specs.Channel as chan
 use Rattle.kpn_chan.specs.Channel.{ChannelState, unread, next_item}
 use Rattle.kpn_chan.proofs.Reading.{given, drop-given}
-use Rattle.kpn_trace.specs.declared.event.How.{How}
-use Rattle.kpn_trace.specs.declared.event.How.TheVariants as how
-use Rattle.kpn_trace.specs.declared.event.Event.{Event}
-use Rattle.kpn_trace.specs.declared.event.Event.TheVariants.{Get, Put, WaitEmpty, WaitFull, Ended, Feed, Close, Take, Leave, Grow}
-use Rattle.kpn_trace.specs.Talks.{talk_of, has_ended}
-use Rattle.kpn_trace.specs.Channels.{read_on, read_in, unread_on, is_empty, is_full, is_closed, is_left, reader_lives, lives, reaches, capacity_after}
-use Rattle.kpn_trace.specs.Legal.{HasNumbers, IsDue, CanGo, ending_of, Legal}
-use Rattle.kpn_trace.specs.OneMore.{IsOldest, KeepsConsistent}
-use Rattle.kpn_trace.specs.Stops.{OwesNothing}
-use Rattle.kpn_trace.proofs.Events.{read_on-push}
-use Rattle.kpn_trace.proofs.OneMore.{Legal-exactly, item_here}
+use Rattle.kpn_history.specs.declared.event.How.{How}
+use Rattle.kpn_history.specs.declared.event.How.TheVariants as how
+use Rattle.kpn_history.specs.declared.event.Event.{Event}
+use Rattle.kpn_history.specs.declared.event.Event.TheVariants.{Get, Put, WaitEmpty, WaitFull, Ended, Feed, Close, Take, Leave, Grow}
+use Rattle.kpn_history.specs.Talks.{talk_of, has_ended}
+use Rattle.kpn_history.specs.Channels.{read_on, read_in, unread_on, is_empty, is_full, is_closed, is_left, reader_lives, lives, reaches, capacity_after}
+use Rattle.kpn_history.specs.Legal.{HasNumbers, IsDue, CanGo, ending_of, Legal}
+use Rattle.kpn_history.specs.OneMore.{IsOldest, KeepsConsistent}
+use Rattle.kpn_history.specs.Stops.{OwesNothing}
+use Rattle.kpn_history.proofs.Events.{read_on-push}
+use Rattle.kpn_history.proofs.OneMore.{Legal-exactly, item_here}
 use Rattle.kpn_configuration.specs.Configuration.{Configuration, channel_in, closed_in, end_in, frame_in, IsFree}
 use Rattle.kpn_configuration.specs.Run.{HoldsChannel, IsEndOf, IsRun}
 use Rattle.kpn_configuration.specs.Due.{Stands, ReadsFrom, WritesTo, stop_of, IsDueNow}

@@ -17,10 +17,10 @@ use Rattle.kpn_net.specs.Faults.{IsNetwork}
 use Rattle.kpn_net.specs.Waits.{wait_at, AreWaits, AreDistinct}
 use Rattle.kpn_net.proofs.PortsApart.{reads_its_ins, one_port}
 use Rattle.kpn_chan.specs.Channel.{ChannelState, opened, retired}
-use Rattle.kpn_trace.specs.declared.event.How.{How}
-use Rattle.kpn_trace.specs.declared.event.Event.TheVariants.{Ended}
-use Rattle.kpn_trace.specs.AfterEvent.{takes_end, takes_reader}
-use Rattle.kpn_trace.specs.Waking.{is_process, wakes}
+use Rattle.kpn_history.specs.declared.event.How.{How}
+use Rattle.kpn_history.specs.declared.event.Event.TheVariants.{Ended}
+use Rattle.kpn_history.specs.AfterEvent.{takes_end, takes_reader}
+use Rattle.kpn_history.specs.Waking.{is_process, wakes}
 use Rattle.kpn_configuration.specs.Configuration.{Configuration, channel_in, closed_in, end_in, frame_in, IsConfiguration, IsFree, with_end}
 use Rattle.kpn_configuration.specs.Changes.{IsChannelAfter, Changes}
 use Rattle.kpn_configuration.specs.Woken.{is_wait, is_wait_on_full, waiting_at, waiting_writer, woken_at, AreWoken}

@@ -27,18 +27,18 @@ use Rattle.kpn_step.specs.Frame.{Frame}
 use Rattle.kpn_step.proofs.After.{talk_said, next_said, end_reached}
 use Rattle.kpn_step.proofs.MayStep.{at_port}
 use Rattle.kpn_chan.specs.Channel.{unread, next_item}
-use Rattle.kpn_trace.specs.declared.event.How.{How}
-use Rattle.kpn_trace.specs.declared.event.How.TheVariants as how
-use Rattle.kpn_trace.specs.declared.event.Event.{Event}
-use Rattle.kpn_trace.specs.declared.event.Event.TheVariants.{Get, Put, WaitEmpty, WaitFull, Ended, Feed, Close, Take, Leave, Grow}
-use Rattle.kpn_trace.specs.Talks.{is_of, is_of_process, talk_of, has_ended}
-use Rattle.kpn_trace.specs.Channels.{read_in, read_on, is_left, lives}
-use Rattle.kpn_trace.specs.Legal.{CanGo, ending_of, Legal}
-use Rattle.kpn_trace.specs.OneMore.{IsOldest}
-use Rattle.kpn_trace.specs.Stops.{OwesNothing}
-use Rattle.kpn_trace.proofs.Events.{read_on-push}
-use Rattle.kpn_trace.proofs.EndsOnce.{ended_exactly}
-use Rattle.kpn_trace.proofs.OneMore.{Legal-exactly}
+use Rattle.kpn_history.specs.declared.event.How.{How}
+use Rattle.kpn_history.specs.declared.event.How.TheVariants as how
+use Rattle.kpn_history.specs.declared.event.Event.{Event}
+use Rattle.kpn_history.specs.declared.event.Event.TheVariants.{Get, Put, WaitEmpty, WaitFull, Ended, Feed, Close, Take, Leave, Grow}
+use Rattle.kpn_history.specs.Talks.{is_of, is_of_process, talk_of, has_ended}
+use Rattle.kpn_history.specs.Channels.{read_in, read_on, is_left, lives}
+use Rattle.kpn_history.specs.Legal.{CanGo, ending_of, Legal}
+use Rattle.kpn_history.specs.OneMore.{IsOldest}
+use Rattle.kpn_history.specs.Stops.{OwesNothing}
+use Rattle.kpn_history.proofs.Events.{read_on-push}
+use Rattle.kpn_history.proofs.EndsOnce.{ended_exactly}
+use Rattle.kpn_history.proofs.OneMore.{Legal-exactly}
 use Rattle.kpn_configuration.specs.Configuration.{Configuration, channel_in, end_in, frame_in, IsFree}
 use Rattle.kpn_configuration.specs.Run.{IsEndOf, StandsAfter, IsRun}
 use Rattle.kpn_configuration.specs.Due.{Stands, ReadsFrom, WritesTo, stop_of, IsDueNow}

@@ -18,17 +18,17 @@ use Rattle.kpn_net.proofs.Networks.{Writes, Writes-writer_of, Writes-below, sour
 use Rattle.kpn_cycle.specs.Scan.{cap_in}
 use Rattle.kpn_chan.specs.Channel.{opened, grown_to, MayGrowTo}
 use Rattle.kpn_limits.specs.declared.TheConstants.{MAX_CAPACITY}
-use Rattle.kpn_trace.specs.declared.event.Event.{Event}
-use Rattle.kpn_trace.specs.declared.event.Event.TheVariants.{Grow}
-use Rattle.kpn_trace.specs.Channels.{after_growths, capacity_after, capacity_or_zero}
-use Rattle.kpn_trace.specs.AfterEvent.{capacity_then}
-use Rattle.kpn_trace.specs.Waiting.{wait_of, waits_of}
-use Rattle.kpn_trace.specs.Legal.{Legal, HasNumbers, OwesCycleGrowth, OwesGrowth, growth_after, waiter}
-use Rattle.kpn_trace.proofs.Legality.{by_events, Legal-last}
-use Rattle.kpn_trace.proofs.Capacities.{capacity_after-next}
-use Rattle.kpn_trace.proofs.EarlierWaits.{wait_at-waits_of}
-use Rattle.kpn_trace.proofs.OwedGrowth.{one_owed, owed_as_found}
-use Rattle.kpn_trace.proofs.OneMore.{Legal-exactly}
+use Rattle.kpn_history.specs.declared.event.Event.{Event}
+use Rattle.kpn_history.specs.declared.event.Event.TheVariants.{Grow}
+use Rattle.kpn_history.specs.Channels.{after_growths, capacity_after, capacity_or_zero}
+use Rattle.kpn_history.specs.AfterEvent.{capacity_then}
+use Rattle.kpn_history.specs.Waiting.{wait_of, waits_of}
+use Rattle.kpn_history.specs.Legal.{Legal, HasNumbers, OwesCycleGrowth, OwesGrowth, growth_after, waiter}
+use Rattle.kpn_history.proofs.Legality.{by_events, Legal-last}
+use Rattle.kpn_history.proofs.Capacities.{capacity_after-next}
+use Rattle.kpn_history.proofs.EarlierWaits.{wait_at-waits_of}
+use Rattle.kpn_history.proofs.OwedGrowth.{one_owed, owed_as_found}
+use Rattle.kpn_history.proofs.OneMore.{Legal-exactly}
 use Rattle.kpn_configuration.specs.Configuration.{Configuration, channel_in, IsConfiguration, capacities}
 use Rattle.kpn_configuration.specs.Run.{IsRun}
 use Rattle.kpn_configuration.specs.Owed.{IsOwed, IsAwaitedBelowLimit, channel_to_grow}

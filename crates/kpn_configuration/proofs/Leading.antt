@@ -11,21 +11,21 @@ use Rattle.kpn_net.specs.Faults.{IsNetwork}
 use Rattle.kpn_net.specs.Process.{at_channel}
 use Rattle.kpn_step.specs.Frame.{Frame}
 use Rattle.kpn_chan.specs.Channel.{ChannelState}
-use Rattle.kpn_trace.specs.declared.event.How.{How}
-use Rattle.kpn_trace.specs.declared.event.Event.{Event}
-use Rattle.kpn_trace.specs.declared.event.Event.TheVariants.{Get, Put, Ended}
-use Rattle.kpn_trace.specs.Talks.{is_end_of, said_in, talk_of}
-use Rattle.kpn_trace.specs.Channels.{written_in, read_in, read_on, reader_lives, is_close_of}
-use Rattle.kpn_trace.specs.Waking.{wait_then}
-use Rattle.kpn_trace.specs.AfterEvent.{capacity_then, takes_reader}
-use Rattle.kpn_trace.specs.Legal.{Legal}
-use Rattle.kpn_trace.proofs.Events.{flat_map-same, written_on-push, read_on-push, talk_of-push, talk_of-other}
-use Rattle.kpn_trace.proofs.AfterEvent.{has_ended-next, is_closed-next, reader_lives-next}
-use Rattle.kpn_trace.proofs.Capacities.{capacity_after-next}
+use Rattle.kpn_history.specs.declared.event.How.{How}
+use Rattle.kpn_history.specs.declared.event.Event.{Event}
+use Rattle.kpn_history.specs.declared.event.Event.TheVariants.{Get, Put, Ended}
+use Rattle.kpn_history.specs.Talks.{is_end_of, said_in, talk_of}
+use Rattle.kpn_history.specs.Channels.{written_in, read_in, read_on, reader_lives, is_close_of}
+use Rattle.kpn_history.specs.Waking.{wait_then}
+use Rattle.kpn_history.specs.AfterEvent.{capacity_then, takes_reader}
+use Rattle.kpn_history.specs.Legal.{Legal}
+use Rattle.kpn_history.proofs.Events.{flat_map-same, written_on-push, read_on-push, talk_of-push, talk_of-other}
+use Rattle.kpn_history.proofs.AfterEvent.{has_ended-next, is_closed-next, reader_lives-next}
+use Rattle.kpn_history.proofs.Capacities.{capacity_after-next}
 use Rattle.kpn_configuration.specs.Configuration.{Configuration}
 use Rattle.kpn_configuration.specs.Run.{HoldsChannel, IsEndOf, NamesInsBelow, StandsAfter, LeadsToConfiguration}
 use Rattle.kpn_configuration.specs.Changes.{IsChannelAfter, end_then, PassesRead, PassesWrite, IsFrameAfter, Changes}
-use Rattle.kpn_trace.proofs.Waking.{wait_of-then}
+use Rattle.kpn_history.proofs.Waking.{wait_of-then}
 use Rattle.kpn_step.proofs.After.{IsAfter-got, IsAfter-put}
 
 -- ---- channels

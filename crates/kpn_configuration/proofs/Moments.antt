@@ -15,18 +15,18 @@ use Rattle.kpn_step.specs.Residual.{residual}
 use Rattle.kpn_step.specs.After.{GoesOnAs}
 use Rattle.kpn_cycle.specs.Scan.{cap_in}
 use Rattle.kpn_chan.specs.Channel.{unread}
-use Rattle.kpn_trace.specs.declared.event.How.{How}
-use Rattle.kpn_trace.specs.declared.event.Event.{Event}
-use Rattle.kpn_trace.specs.Talks.{talk_of, has_ended}
-use Rattle.kpn_trace.specs.Channels.{read_on, fed, reader_lives}
-use Rattle.kpn_trace.specs.Ends.{IsQuiet}
-use Rattle.kpn_trace.specs.Stops.{OwesNothing}
-use Rattle.kpn_trace.proofs.Journals.{read_then_unread}
-use Rattle.kpn_trace.proofs.Capacities.{in_limit}
-use Rattle.kpn_trace.proofs.Growth.{nothing_can_grow}
-use Rattle.kpn_trace.proofs.Kahn.{below_least_fed, least_if_quiet}
-use Rattle.kpn_trace.proofs.EndsOnce.{ended_exactly}
-use Rattle.kpn_trace.proofs.WaitsAfter.{ended_is_not_blocked}
+use Rattle.kpn_history.specs.declared.event.How.{How}
+use Rattle.kpn_history.specs.declared.event.Event.{Event}
+use Rattle.kpn_history.specs.Talks.{talk_of, has_ended}
+use Rattle.kpn_history.specs.Channels.{read_on, fed, reader_lives}
+use Rattle.kpn_history.specs.Ends.{IsQuiet}
+use Rattle.kpn_history.specs.Stops.{OwesNothing}
+use Rattle.kpn_history.proofs.Journals.{read_then_unread}
+use Rattle.kpn_history.proofs.Capacities.{in_limit}
+use Rattle.kpn_history.proofs.Growth.{nothing_can_grow}
+use Rattle.kpn_history.proofs.Kahn.{below_least_fed, least_if_quiet}
+use Rattle.kpn_history.proofs.EndsOnce.{ended_exactly}
+use Rattle.kpn_history.proofs.WaitsAfter.{ended_is_not_blocked}
 use Rattle.kpn_configuration.specs.Configuration.{Configuration, channel_in, wait_in, end_in, frame_in, capacities}
 use Rattle.kpn_configuration.specs.Run.{IsEndOf, IsRun}
 use Rattle.kpn_configuration.specs.Quiet.{IsQuietNow}

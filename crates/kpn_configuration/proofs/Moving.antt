@@ -8,7 +8,7 @@ use Rattle.kpn_step.specs.declared.stop.Stop.{Stop}
 use Rattle.kpn_lang.specs.Parts.{Parts}
 use Rattle.kpn_step.specs.After.{IsAfter}
 use Rattle.kpn_step.proofs.After.{IsAfter-advance}
-use Rattle.kpn_trace.specs.declared.event.Event.{Event}
+use Rattle.kpn_history.specs.declared.event.Event.{Event}
 use Rattle.kpn_configuration.specs.Configuration.{Configuration, frame_in, IsConfiguration, with_frame}
 use Rattle.kpn_configuration.specs.Run.{StandsAfter, IsRun}
 use Rattle.kpn_configuration.proofs.Calls.{frame_in-same, frame_in-other}

@@ -13,14 +13,14 @@ use Rattle.kpn_net.specs.Waits.{wait_at, IsOwnWait, AreWaits}
 use Rattle.kpn_step.specs.Frame.{Frame, fits}
 use Rattle.kpn_step.proofs.Places.{fits-passed, fits-passed_with}
 use Rattle.kpn_chan.specs.Channel.{ChannelState, opened}
-use Rattle.kpn_trace.specs.declared.event.Event.{Event}
-use Rattle.kpn_trace.specs.declared.event.Event.TheVariants.{Get, Put, WaitEmpty, WaitFull, Feed, Close, Take, Leave, Grow}
-use Rattle.kpn_trace.specs.Talks.{is_of, is_end_of}
-use Rattle.kpn_trace.specs.Channels.{written_in, read_in, is_leave_of}
-use Rattle.kpn_trace.specs.WaitsAfter.{wait_made}
-use Rattle.kpn_trace.specs.Waking.{wakes, wait_then}
-use Rattle.kpn_trace.specs.AfterEvent.{capacity_then, takes_end, takes_reader}
-use Rattle.kpn_trace.proofs.Journals.{no_source, none_elsewhere}
+use Rattle.kpn_history.specs.declared.event.Event.{Event}
+use Rattle.kpn_history.specs.declared.event.Event.TheVariants.{Get, Put, WaitEmpty, WaitFull, Feed, Close, Take, Leave, Grow}
+use Rattle.kpn_history.specs.Talks.{is_of, is_end_of}
+use Rattle.kpn_history.specs.Channels.{written_in, read_in, is_leave_of}
+use Rattle.kpn_history.specs.WaitsAfter.{wait_made}
+use Rattle.kpn_history.specs.Waking.{wakes, wait_then}
+use Rattle.kpn_history.specs.AfterEvent.{capacity_then, takes_end, takes_reader}
+use Rattle.kpn_history.proofs.Journals.{no_source, none_elsewhere}
 use Rattle.kpn_configuration.specs.Configuration.{Configuration, channel_in, wait_in, IsConfiguration}
 use Rattle.kpn_configuration.specs.Changes.{IsChannelAfter, PassesRead, PassesWrite, IsFrameAfter, Changes}
 use Rattle.kpn_configuration.specs.Woken.{is_wait_on_full, is_wait_on_empty, AreWoken}

@@ -5,7 +5,7 @@ use Rattle.std.proofs.lemmas.List.{get_or-set_same, get_or-set_other, set-get_or
 use Rattle.kpn_net.specs.declared.wait.Wait.TheVariants.{Full}
 use Rattle.kpn_net.specs.Tables.{Tables, channel_at, is_source}
 use Rattle.kpn_chan.specs.Channel.{ChannelState, opened, with_room}
-use Rattle.kpn_trace.specs.declared.event.Event.{Event}
+use Rattle.kpn_history.specs.declared.event.Event.{Event}
 use Rattle.kpn_configuration.specs.Configuration.{Configuration, channel_in, wait_in, IsConfiguration, with_channel}
 use Rattle.kpn_configuration.specs.Run.{HoldsChannel, IsRun}
 

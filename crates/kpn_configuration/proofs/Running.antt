@@ -2,8 +2,8 @@
 use Rattle.std.proofs.Common.{List, [], ◌∷◌, ◌++◌}
 use Rattle.kpn_net.specs.Tables.{Tables}
 use Rattle.kpn_net.specs.Faults.{IsNetwork}
-use Rattle.kpn_trace.specs.declared.event.Event.{Event}
-use Rattle.kpn_trace.specs.Legal.{Legal}
+use Rattle.kpn_history.specs.declared.event.Event.{Event}
+use Rattle.kpn_history.specs.Legal.{Legal}
 use Rattle.kpn_configuration.specs.Configuration.{Configuration, IsConfiguration}
 use Rattle.kpn_configuration.specs.Run.{IsRun}
 use Rattle.kpn_configuration.specs.Changes.{Changes}

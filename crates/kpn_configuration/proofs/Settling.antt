@@ -8,15 +8,15 @@ use Rattle.kpn_net.specs.Tables.{Tables, channel_at, is_sink}
 use Rattle.kpn_net.specs.Faults.{IsNetwork}
 use Rattle.kpn_net.specs.Waits.{IsCycle, full_channels}
 use Rattle.kpn_net.proofs.Networks.{reader_of-sink}
-use Rattle.kpn_trace.specs.declared.event.How.{How}
-use Rattle.kpn_trace.specs.declared.event.Event.{Event}
-use Rattle.kpn_trace.specs.declared.state.Verdict.{Verdict}
-use Rattle.kpn_trace.specs.declared.state.Verdict.TheVariants.{Ended, Clogged, Jammed}
-use Rattle.kpn_trace.specs.Talks.{has_ended}
-use Rattle.kpn_trace.specs.Channels.{is_left, lives}
-use Rattle.kpn_trace.specs.Waiting.{HasFullCycle}
-use Rattle.kpn_trace.specs.Ends.{HasStopped, IsSettled, HasFullWait, IsVerdict}
-use Rattle.kpn_trace.proofs.EndsOnce.{ended_exactly}
+use Rattle.kpn_history.specs.declared.event.How.{How}
+use Rattle.kpn_history.specs.declared.event.Event.{Event}
+use Rattle.kpn_history.specs.declared.state.Verdict.{Verdict}
+use Rattle.kpn_history.specs.declared.state.Verdict.TheVariants.{Ended, Clogged, Jammed}
+use Rattle.kpn_history.specs.Talks.{has_ended}
+use Rattle.kpn_history.specs.Channels.{is_left, lives}
+use Rattle.kpn_history.specs.Waiting.{HasFullCycle}
+use Rattle.kpn_history.specs.Ends.{HasStopped, IsSettled, HasFullWait, IsVerdict}
+use Rattle.kpn_history.proofs.EndsOnce.{ended_exactly}
 use Rattle.kpn_configuration.specs.Configuration.{Configuration, channel_in, wait_in, end_in}
 use Rattle.kpn_configuration.specs.Run.{IsEndOf, IsRun}
 use Rattle.kpn_configuration.specs.Settled.{IsSettledNow, HasFullCycleNow, HasFullWaitNow, IsVerdictNow}

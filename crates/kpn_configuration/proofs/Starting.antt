@@ -18,8 +18,8 @@ use Rattle.kpn_net.specs.Waits.{AreWaits}
 use Rattle.kpn_step.proofs.Places.{fits-start}
 use Rattle.kpn_step.proofs.After.{IsAfter-start}
 use Rattle.kpn_chan.specs.Channel.{ChannelState, opened}
-use Rattle.kpn_trace.specs.Channels.{reader_lives, lives, after_growths}
-use Rattle.kpn_trace.proofs.Legality.{Legal-nil}
+use Rattle.kpn_history.specs.Channels.{reader_lives, lives, after_growths}
+use Rattle.kpn_history.proofs.Legality.{Legal-nil}
 use Rattle.kpn_configuration.specs.Configuration.{Configuration, channel_in, wait_in, frame_in}
 use Rattle.kpn_configuration.specs.Run.{HoldsChannel, IsEndOf, StandsAfter, IsRun}
 

@@ -12,11 +12,11 @@ use Rattle.kpn_net.specs.Waits.{IsSmallest, FindsSmallest, IsOwnWait, awaited_as
 use Rattle.kpn_net.proofs.Awaited.{awaited_by}
 use Rattle.kpn_net.proofs.Cycles.{Contains-none, smallest_unique, smallest_with_same_capacities}
 use Rattle.kpn_cycle.specs.Scan.{cap_in}
-use Rattle.kpn_trace.specs.declared.event.Event.{Event}
-use Rattle.kpn_trace.specs.Channels.{capacity_or_zero}
-use Rattle.kpn_trace.specs.Waiting.{waits_of}
-use Rattle.kpn_trace.specs.Legal.{OwesStopGrowth}
-use Rattle.kpn_trace.specs.Stops.{OwesNoCycleGrowth}
+use Rattle.kpn_history.specs.declared.event.Event.{Event}
+use Rattle.kpn_history.specs.Channels.{capacity_or_zero}
+use Rattle.kpn_history.specs.Waiting.{waits_of}
+use Rattle.kpn_history.specs.Legal.{OwesStopGrowth}
+use Rattle.kpn_history.specs.Stops.{OwesNoCycleGrowth}
 use Rattle.kpn_configuration.specs.Configuration.{Configuration, IsConfiguration, capacities, wait_in}
 use Rattle.kpn_configuration.specs.Run.{IsRun}
 use Rattle.kpn_configuration.specs.Settled.{IsSettledNow}

@@ -23,11 +23,11 @@ use Rattle.kpn_step.specs.Stops.{StandsAt}
 use Rattle.kpn_step.specs.Frame.{Frame}
 use Rattle.kpn_step.specs.After.{IsRestAfter, SaysNext, EndsThere}
 use Rattle.kpn_step.proofs.After.{next_said, end_reached}
-use Rattle.kpn_trace.specs.declared.event.Event.{Event}
-use Rattle.kpn_trace.specs.Talks.{talk_of}
-use Rattle.kpn_trace.specs.Channels.{read_on}
-use Rattle.kpn_trace.specs.Legal.{Legal}
-use Rattle.kpn_trace.proofs.Journals.{read_on-got}
+use Rattle.kpn_history.specs.declared.event.Event.{Event}
+use Rattle.kpn_history.specs.Talks.{talk_of}
+use Rattle.kpn_history.specs.Channels.{read_on}
+use Rattle.kpn_history.specs.Legal.{Legal}
+use Rattle.kpn_history.proofs.Journals.{read_on-got}
 use Rattle.kpn_configuration.specs.Run.{NamesInsBelow, StandsAfter}
 
 -- ---- what was got at a port was got from its channel

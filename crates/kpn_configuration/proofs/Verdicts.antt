@@ -14,9 +14,9 @@ use Rattle.kpn_net.proofs.Cycles.{Contains-first, cycle_below, smallest_among}
 use Rattle.kpn_net.proofs.Findings.{finding_unique}
 use Rattle.kpn_chan.specs.Channel.{unread, next_item}
 use Rattle.kpn_cycle.specs.Scan.{cap_in}
-use Rattle.kpn_trace.specs.declared.event.How.{How}
-use Rattle.kpn_trace.specs.declared.state.Verdict.{Verdict}
-use Rattle.kpn_trace.specs.declared.state.Verdict.TheVariants.{Ended, Clogged, Jammed}
+use Rattle.kpn_history.specs.declared.event.How.{How}
+use Rattle.kpn_history.specs.declared.state.Verdict.{Verdict}
+use Rattle.kpn_history.specs.declared.state.Verdict.TheVariants.{Ended, Clogged, Jammed}
 use Rattle.kpn_configuration.specs.Configuration.{Configuration, channel_in, closed_in, wait_in, end_in, capacities, is_empty_wait}
 use Rattle.kpn_configuration.specs.Quiet.{IsQuietNow}
 use Rattle.kpn_configuration.specs.Settled.{IsOutsideDone, HasFullCycleNow, IsVerdictNow}

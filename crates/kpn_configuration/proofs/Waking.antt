@@ -10,13 +10,13 @@ use Rattle.kpn_net.specs.Faults.{IsNetwork}
 use Rattle.kpn_net.specs.Waits.{wait_at, IsOwnWait, AreWaits, AreDistinct}
 use Rattle.kpn_net.proofs.Cycles.{Contains-none, Contains-first, Contains-later, Contains-cases}
 use Rattle.kpn_net.proofs.PortsApart.{reads_its_ins, ins_distinct}
-use Rattle.kpn_trace.specs.declared.event.How.{How}
-use Rattle.kpn_trace.specs.declared.event.Event.{Event}
-use Rattle.kpn_trace.specs.declared.event.Event.TheVariants.{Ended}
-use Rattle.kpn_trace.specs.Talks.{is_of}
-use Rattle.kpn_trace.specs.WaitsAfter.{wait_made}
-use Rattle.kpn_trace.specs.Waking.{wakes, WaitsAsFullFor, IsWoken}
-use Rattle.kpn_trace.proofs.Waking.{woken}
+use Rattle.kpn_history.specs.declared.event.How.{How}
+use Rattle.kpn_history.specs.declared.event.Event.{Event}
+use Rattle.kpn_history.specs.declared.event.Event.TheVariants.{Ended}
+use Rattle.kpn_history.specs.Talks.{is_of}
+use Rattle.kpn_history.specs.WaitsAfter.{wait_made}
+use Rattle.kpn_history.specs.Waking.{wakes, WaitsAsFullFor, IsWoken}
+use Rattle.kpn_history.proofs.Waking.{woken}
 use Rattle.kpn_configuration.specs.Configuration.{Configuration, wait_in, end_in, IsFree}
 use Rattle.kpn_configuration.specs.Run.{IsRun}
 use Rattle.kpn_configuration.specs.Changes.{end_then, Changes}

@@ -5,12 +5,12 @@ use Rattle.kpn_step.specs.declared.stop.Stop.TheVariants.{WantRead, WantWrite}
 use Rattle.kpn_step.specs.Frame.{Frame, passed}
 use Rattle.kpn_step.specs.Stops.{StandsAt, IsGiven}
 use Rattle.kpn_chan.specs.Channel.{ChannelState}
-use Rattle.kpn_trace.specs.declared.event.How.{How}
-use Rattle.kpn_trace.specs.declared.event.Event.{Event}
-use Rattle.kpn_trace.specs.declared.event.Event.TheVariants.{Get, Put, Ended}
-use Rattle.kpn_trace.specs.Channels.{written_in, read_in, is_close_of}
-use Rattle.kpn_trace.specs.Waking.{wait_then}
-use Rattle.kpn_trace.specs.AfterEvent.{capacity_then, takes_reader}
+use Rattle.kpn_history.specs.declared.event.How.{How}
+use Rattle.kpn_history.specs.declared.event.Event.{Event}
+use Rattle.kpn_history.specs.declared.event.Event.TheVariants.{Get, Put, Ended}
+use Rattle.kpn_history.specs.Channels.{written_in, read_in, is_close_of}
+use Rattle.kpn_history.specs.Waking.{wait_then}
+use Rattle.kpn_history.specs.AfterEvent.{capacity_then, takes_reader}
 use Rattle.kpn_configuration.specs.Configuration.{Configuration, channel_in, closed_in, wait_in, end_in, frame_in}
 
 -- a channel after an event: what the event writes is appended to its journal, and what it reads counts as read. A

@@ -8,7 +8,7 @@ use Rattle.kpn_net.specs.Tables.{Tables, channel_at, is_source, program_of}
 use Rattle.kpn_net.specs.Waits.{wait_at, AreWaits}
 use Rattle.kpn_step.specs.Frame.{Frame, fits}
 use Rattle.kpn_chan.specs.Channel.{ChannelState, opened}
-use Rattle.kpn_trace.specs.declared.event.How.{How}
+use Rattle.kpn_history.specs.declared.event.How.{How}
 
 -- for each channel what it holds and whether it is closed; for each process what it waits for, how it ended if it did,
 -- and its frame

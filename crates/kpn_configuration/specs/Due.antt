@@ -6,10 +6,10 @@ use Rattle.kpn_step.specs.declared.stop.Stop.{Stop}
 use Rattle.kpn_step.specs.declared.stop.Stop.TheVariants.{WantRead, WantWrite, Done, Faulted}
 use Rattle.kpn_step.specs.Stops.{StandsAt}
 use Rattle.kpn_chan.specs.Channel.{unread, is_full, next_item}
-use Rattle.kpn_trace.specs.declared.event.Event.{Event}
-use Rattle.kpn_trace.specs.declared.event.Event.TheVariants.{Get, Put, WaitEmpty, WaitFull, Ended, Feed, Close, Take, Leave, Grow}
-use Rattle.kpn_trace.specs.declared.event.How.{How}
-use Rattle.kpn_trace.specs.declared.event.How.TheVariants as how
+use Rattle.kpn_history.specs.declared.event.Event.{Event}
+use Rattle.kpn_history.specs.declared.event.Event.TheVariants.{Get, Put, WaitEmpty, WaitFull, Ended, Feed, Close, Take, Leave, Grow}
+use Rattle.kpn_history.specs.declared.event.How.{How}
+use Rattle.kpn_history.specs.declared.event.How.TheVariants as how
 use Rattle.kpn_configuration.specs.Configuration.{Configuration, channel_in, closed_in, frame_in, IsFree}
 use Rattle.kpn_configuration.specs.Changes.{IsChannelAt}
 

@@ -2,7 +2,7 @@
 use Rattle.std.specs.Prelude.{◌≡◌, ℕ, ◌<◌, ◌⊎◌, length, Some}
 use Rattle.kpn_net.specs.declared.wait.Wait.TheVariants.{Empty}
 use Rattle.kpn_net.specs.Tables.{Tables}
-use Rattle.kpn_trace.specs.declared.event.How.{How}
+use Rattle.kpn_history.specs.declared.event.How.{How}
 use Rattle.kpn_configuration.specs.Configuration.{Configuration, wait_in, end_in}
 
 -- each process has ended or waits on an empty channel

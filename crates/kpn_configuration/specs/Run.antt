@@ -8,13 +8,13 @@ use Rattle.kpn_net.specs.Process.{at_channel}
 use Rattle.kpn_step.specs.Frame.{Frame}
 use Rattle.kpn_step.specs.After.{IsAfter}
 use Rattle.kpn_chan.specs.Channel.{ChannelState}
-use Rattle.kpn_trace.specs.declared.event.How.{How}
-use Rattle.kpn_trace.specs.declared.event.Event.{Event}
-use Rattle.kpn_trace.specs.declared.event.Event.TheVariants.{Ended}
-use Rattle.kpn_trace.specs.Talks.{talk_of, has_ended}
-use Rattle.kpn_trace.specs.Channels.{written_on, read_on, reader_lives, capacity_after, is_closed}
-use Rattle.kpn_trace.specs.Waiting.{wait_of}
-use Rattle.kpn_trace.specs.Legal.{Legal}
+use Rattle.kpn_history.specs.declared.event.How.{How}
+use Rattle.kpn_history.specs.declared.event.Event.{Event}
+use Rattle.kpn_history.specs.declared.event.Event.TheVariants.{Ended}
+use Rattle.kpn_history.specs.Talks.{talk_of, has_ended}
+use Rattle.kpn_history.specs.Channels.{written_on, read_on, reader_lives, capacity_after, is_closed}
+use Rattle.kpn_history.specs.Waiting.{wait_of}
+use Rattle.kpn_history.specs.Legal.{Legal}
 use Rattle.kpn_configuration.specs.Configuration.{Configuration, channel_in, closed_in, wait_in, end_in, frame_in, IsConfiguration}
 
 -- a channel is as the history left it: its journal is what was written there, and as many items of it were read as the

@@ -4,9 +4,9 @@ use Rattle.kpn_net.specs.declared.wait.Wait.TheVariants.{Nobody, Full}
 use Rattle.kpn_net.specs.Tables.{Tables, channel_at, is_source, is_sink}
 use Rattle.kpn_net.specs.Waits.{IsCycle, full_channels}
 use Rattle.kpn_chan.specs.Channel.{unread}
-use Rattle.kpn_trace.specs.declared.event.How.{How}
-use Rattle.kpn_trace.specs.declared.state.Verdict.{Verdict}
-use Rattle.kpn_trace.specs.declared.state.Verdict.TheVariants.{Ended, Clogged, Jammed}
+use Rattle.kpn_history.specs.declared.event.How.{How}
+use Rattle.kpn_history.specs.declared.state.Verdict.{Verdict}
+use Rattle.kpn_history.specs.declared.state.Verdict.TheVariants.{Ended, Clogged, Jammed}
 use Rattle.kpn_configuration.specs.Configuration.{Configuration, channel_in, closed_in, wait_in, end_in}
 
 -- each process has ended or waits

@@ -4,14 +4,14 @@ ghost use Rattle.kpn_chan.specs.Channel.{ChannelState, with_room, next_item};
 ghost use Rattle.kpn_configuration.specs.Configuration.{channel_in, closed_in, wait_in, end_in, frame_in, with_channel, IsConfiguration};
 ghost use Rattle.kpn_configuration.specs.Run.{IsRun};
 ghost use Rattle.kpn_net.specs.Tables.{Tables};
-ghost use Rattle.kpn_trace.specs.declared.event.Event.{Event};
+ghost use Rattle.kpn_history.specs.declared.event.Event.{Event};
 
 use kpn_chan::{Channel, Journal};
 use kpn_cycle::Waits;
+use kpn_history::How;
 use kpn_lang::Sequence;
 use kpn_net::Wait;
 use kpn_step::Frame;
-use kpn_trace::How;
 use std::alloc::{AllocError, Allocator, Global};
 use std::marker::Model;
 

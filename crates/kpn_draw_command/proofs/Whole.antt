@@ -7,16 +7,16 @@ use Rattle.kpn_net.specs.declared.wait.Wait.TheVariants.{Nobody, Empty, Full}
 use Rattle.kpn_net.specs.Tables.{Tables}
 use Rattle.kpn_net.specs.Faults.{IsNetwork}
 use Rattle.kpn_net.specs.Waits.{wait_at}
-use Rattle.kpn_trace.specs.declared.event.Event.{Event}
-use Rattle.kpn_trace.specs.declared.event.How.{How}
-use Rattle.kpn_trace.specs.declared.stored.Trace.{Trace}
-use Rattle.kpn_trace.specs.declared.stored.Version.{Version}
-use Rattle.kpn_trace.specs.declared.stored.Version.TheVariants.{One, Two}
-use Rattle.kpn_trace.specs.Channels.{written_on, read_on, capacity_after}
-use Rattle.kpn_trace.specs.Waiting.{wait_of}
-use Rattle.kpn_trace.specs.Legal.{Legal}
-use Rattle.kpn_trace.proofs.EarlierWaits.{wait_at-waits_of}
-use Rattle.kpn_trace.proofs.OwnWaits.{wait_on_empty, wait_on_full}
+use Rattle.kpn_history.specs.declared.event.Event.{Event}
+use Rattle.kpn_history.specs.declared.event.How.{How}
+use Rattle.kpn_history.specs.declared.stored.Trace.{Trace}
+use Rattle.kpn_history.specs.declared.stored.Version.{Version}
+use Rattle.kpn_history.specs.declared.stored.Version.TheVariants.{One, Two}
+use Rattle.kpn_history.specs.Channels.{written_on, read_on, capacity_after}
+use Rattle.kpn_history.specs.Waiting.{wait_of}
+use Rattle.kpn_history.specs.Legal.{Legal}
+use Rattle.kpn_history.proofs.EarlierWaits.{wait_at-waits_of}
+use Rattle.kpn_history.proofs.OwnWaits.{wait_on_empty, wait_on_full}
 use Rattle.kpn_audit.specs.declared.findings.Audit.{Audit}
 use Rattle.kpn_audit.specs.Stored.{audited_under, tables_for, history_in}
 use Rattle.kpn_audit.specs.Audit.{IsAudit}

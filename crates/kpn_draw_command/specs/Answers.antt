@@ -1,7 +1,7 @@
 -- What `kpn draw` writes, and why it gives no answer.
 use Rattle.std.specs.Prelude.{◌≡◌, ℕ, List, Option, Some, None}
 use Rattle.std.specs.declared.alloc.Global.{Global}
-use Rattle.kpn_trace.specs.declared.stored.Trace.{Trace}
+use Rattle.kpn_history.specs.declared.stored.Trace.{Trace}
 use Rattle.kpn_text.specs.Document.{Document}
 use Rattle.kpn_audit.specs.declared.findings.Audit.{Audit}
 use Rattle.kpn_answers.specs.declared.refusal.Refusal.{Refusal}

@@ -7,9 +7,9 @@ use Rattle.kpn_net.specs.declared.tables.ChannelSpec.{ChannelSpec}
 use Rattle.kpn_net.specs.declared.tables.End.{End}
 use Rattle.kpn_net.specs.declared.tables.End.TheVariants.{Process}
 use Rattle.kpn_net.specs.Tables.{Tables, instance_at, channel_at, is_source, is_sink, capacity, writer_of, reader_of}
-use Rattle.kpn_trace.specs.declared.event.How.TheVariants.{Done}
-use Rattle.kpn_trace.specs.declared.state.State.{State}
-use Rattle.kpn_trace.specs.declared.state.State.TheVariants.{WaitsEmpty, WaitsFull, Ended}
+use Rattle.kpn_history.specs.declared.event.How.TheVariants.{Done}
+use Rattle.kpn_history.specs.declared.state.State.{State}
+use Rattle.kpn_history.specs.declared.state.State.TheVariants.{WaitsEmpty, WaitsFull, Ended}
 use Rattle.kpn_trace_text.specs.EventLine.{how_word}
 use Rattle.kpn_names.specs.Names.{name_at}
 use Rattle.kpn_names.specs.NetworkNames.{process_names}

@@ -11,8 +11,8 @@ use kpn_answers::description::load_document;
 use kpn_answers::refusal::Refusal;
 use kpn_answers::shelf::Shelf;
 use kpn_audit_command::auditing::{Audited, audit_trace, load_trace};
+use kpn_history::Trace;
 use kpn_text::Document;
-use kpn_trace::Trace;
 use std::alloc::Global;
 use std::io::Write;
 

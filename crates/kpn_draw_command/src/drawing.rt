@@ -7,9 +7,9 @@ ghost use Rattle.kpn_draw_command.specs.Found.{state_of, flow_of, IsStateWithin,
 use crate::found::{Flow, flow_of, state_of};
 use kpn_answers::pieces::{push_between, push_number};
 use kpn_audit::Audit;
+use kpn_history::{How, State};
 use kpn_net::{End, Network};
 use kpn_text::Document;
-use kpn_trace::{How, State};
 use kpn_trace_text::how_word;
 use std::alloc::{AllocError, Global};
 

@@ -4,8 +4,8 @@ ghost use Rattle.kpn_net.specs.Tables.{capacity, channel_at};
 ghost use Rattle.kpn_draw_command.specs.Found.{standing, state_of, grown_to, flow_in, flow_of, IsWhole};
 
 use kpn_audit::Audit;
+use kpn_history::{How, State};
 use kpn_net::{Network, Wait};
-use kpn_trace::{How, State};
 
 /// What went over a channel in a history.
 #[derive(Clone, Copy, Debug)]

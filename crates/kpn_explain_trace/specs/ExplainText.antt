@@ -1,8 +1,8 @@
 -- The texts that `kpn explain` writes of a trace that is refused or is not legal.
 use Rattle.std.specs.Prelude.{ℕ, ◌+◌, pos, List, ◌++◌, get_or, codes}
 use Rattle.std.specs.Fmt.{decimal}
-use Rattle.kpn_trace.specs.declared.event.Event.TheVariants.{Get}
-use Rattle.kpn_trace.specs.declared.stored.Trace.{Trace}
+use Rattle.kpn_history.specs.declared.event.Event.TheVariants.{Get}
+use Rattle.kpn_history.specs.declared.stored.Trace.{Trace}
 use Rattle.kpn_trace_text.specs.declared.fault.TraceFault.{TraceFault}
 use Rattle.kpn_trace_text.specs.declared.fault.TraceFault.TheVariants.{BadHead, BadEvent, NoMemory}
 use Rattle.kpn_trace_text.specs.TraceText.{head_lines}

@@ -3,15 +3,15 @@ use Rattle.std.proofs.Common.{◌≡◌, ℕ, ℤ, List, get_or, All, subst, ari
 use Rattle.std.proofs.lemmas.List.{get_or_default}
 use Rattle.kpn_net.specs.Tables.{Tables}
 use Rattle.kpn_net.specs.Faults.{IsNetwork}
-use Rattle.kpn_trace.specs.declared.event.Event.{Event}
-use Rattle.kpn_trace.specs.declared.state.State.{State}
-use Rattle.kpn_trace.specs.declared.state.State.TheVariants.{Ready, Held, WaitsEmpty, WaitsFull, Ended}
-use Rattle.kpn_trace.specs.Legal.{Legal}
-use Rattle.kpn_trace.specs.Views.{IsStateOf}
-use Rattle.kpn_trace.proofs.OwnWaits.{wait_on_empty, wait_on_full}
-use Rattle.kpn_report.specs.declared.outcome.Limits.{Limits}
-use Rattle.kpn_report.specs.declared.report.Report.{Report}
-use Rattle.kpn_report.specs.Reports.{IsReport, events_of}
+use Rattle.kpn_history.specs.declared.event.Event.{Event}
+use Rattle.kpn_history.specs.declared.state.State.{State}
+use Rattle.kpn_history.specs.declared.state.State.TheVariants.{Ready, Held, WaitsEmpty, WaitsFull, Ended}
+use Rattle.kpn_history.specs.Legal.{Legal}
+use Rattle.kpn_history.specs.Views.{IsStateOf}
+use Rattle.kpn_history.proofs.OwnWaits.{wait_on_empty, wait_on_full}
+use Rattle.kpn_run_here.specs.declared.outcome.Limits.{Limits}
+use Rattle.kpn_run_here.specs.declared.report.Report.{Report}
+use Rattle.kpn_run_here.specs.Reports.{IsReport, events_of}
 use Rattle.kpn_run_command.specs.States.{WaitsWithin}
 
 within : (t : Tables) → IsNetwork t → (H : List Event) → Legal t H → (p : ℕ) (state : State) → IsStateOf t H p state

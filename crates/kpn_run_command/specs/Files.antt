@@ -1,11 +1,11 @@
 -- The files that a run stores: the trace, and what the sinks received.
 use Rattle.std.specs.Prelude.{◌≡◌, ℕ, suc, ℤ, nat_eq, if◌then◌else◌, List, [], ◌∷◌, ◌++◌, Option, Some, None, Ok}
 use Rattle.kpn_net.specs.Tables.{Tables}
-use Rattle.kpn_trace.specs.declared.event.Event.{Event}
-use Rattle.kpn_trace.specs.declared.stored.Version.TheVariants.{Two}
+use Rattle.kpn_history.specs.declared.event.Event.{Event}
+use Rattle.kpn_history.specs.declared.stored.Version.TheVariants.{Two}
 use Rattle.kpn_trace_text.specs.TraceText.{trace_text}
 use Rattle.kpn_items.specs.ItemFile.{item_text}
-use Rattle.kpn_report.specs.Reports.{events_of}
+use Rattle.kpn_run_here.specs.Reports.{events_of}
 use Rattle.kpn_answers.specs.declared.sources.NamedEnd.{NamedEnd}
 use Rattle.kpn_answers.specs.Shelf.{Loads, KeepsOthers}
 use Rattle.kpn_run_command.specs.declared.files.OutputFile.{OutputFile}

@@ -5,13 +5,13 @@ use Rattle.kpn_net.specs.declared.tables.ChannelSpec.{ChannelSpec}
 use Rattle.kpn_net.specs.Tables.{is_sink}
 use Rattle.kpn_names.specs.Names.{name_at}
 use Rattle.kpn_text.specs.Document.{Document}
-use Rattle.kpn_trace.specs.declared.event.How.TheVariants as how
-use Rattle.kpn_trace.specs.declared.state.State.{State}
-use Rattle.kpn_trace.specs.declared.state.State.TheVariants.{WaitsEmpty, WaitsFull}
-use Rattle.kpn_trace.specs.declared.state.State.TheVariants as state
-use Rattle.kpn_report.specs.declared.outcome.Outcome.{Outcome}
-use Rattle.kpn_report.specs.declared.outcome.Outcome.TheVariants.{Ended, Clogged, Jammed, Enough, Stopped}
-use Rattle.kpn_report.specs.declared.report.Report.{Report}
+use Rattle.kpn_history.specs.declared.event.How.TheVariants as how
+use Rattle.kpn_history.specs.declared.state.State.{State}
+use Rattle.kpn_history.specs.declared.state.State.TheVariants.{WaitsEmpty, WaitsFull}
+use Rattle.kpn_history.specs.declared.state.State.TheVariants as state
+use Rattle.kpn_run_here.specs.declared.outcome.Outcome.{Outcome}
+use Rattle.kpn_run_here.specs.declared.outcome.Outcome.TheVariants.{Ended, Clogged, Jammed, Enough, Stopped}
+use Rattle.kpn_run_here.specs.declared.report.Report.{Report}
 use Rattle.kpn_answers.specs.ListText.{list_line, lines_from}
 use Rattle.kpn_answers.specs.Faulted.{faulted_line}
 

@@ -1,7 +1,7 @@
 -- What was run, and the report; or why there is none.
 use Rattle.std.specs.Prelude.{◌⊎◌, ℕ, List, Option, IsSome, ⊤}
-use Rattle.kpn_report.specs.declared.outcome.Limits.{Limits}
-use Rattle.kpn_report.specs.Reports.{IsReport}
+use Rattle.kpn_run_here.specs.declared.outcome.Limits.{Limits}
+use Rattle.kpn_run_here.specs.Reports.{IsReport}
 use Rattle.kpn_answers.specs.declared.refusal.Refusal.{Refusal}
 use Rattle.kpn_answers.specs.declared.refusal.Refusal.TheVariants.{Threads, Abandoned, Foreign, NoMemory}
 use Rattle.kpn_answers.specs.Inputs.{AreInputs}

@@ -1,7 +1,7 @@
 -- What `kpn run` answers, and what it leaves on the shelf.
 use Rattle.std.specs.Prelude.{◌≡◌, ℕ, List, Option}
 use Rattle.kpn_items.specs.declared.fault.WriteFault.{WriteFault}
-use Rattle.kpn_report.specs.declared.outcome.Limits.{Limits}
+use Rattle.kpn_run_here.specs.declared.outcome.Limits.{Limits}
 use Rattle.kpn_answers.specs.declared.refusal.Refusal.{Refusal}
 use Rattle.kpn_answers.specs.declared.refusal.Refusal.TheVariants.{Output, NoMemory}
 use Rattle.kpn_answers.specs.Refusal.{status_of}

@@ -11,10 +11,10 @@ use crate::request::RunRequest;
 use kpn_answers::refusal::Refusal;
 use kpn_answers::shelf::Shelf;
 use kpn_answers::sources::NamedEnd;
+use kpn_history::{History, Version};
 use kpn_items::{WriteFault, write_items};
 use kpn_lang::Sequence;
 use kpn_net::Network;
-use kpn_trace::{History, Version};
 use kpn_trace_text::write_trace;
 use std::alloc::Global;
 

@@ -5,10 +5,10 @@ ghost use Rattle.kpn_run_command.specs.States.{WaitsWithin};
 
 use kpn_answers::faulted::push_faulted;
 use kpn_answers::list_text::push_list;
+use kpn_history::{How, State};
 use kpn_lang::Sequence;
-use kpn_report::{Outcome, Report};
+use kpn_run_here::{Outcome, Report};
 use kpn_text::Document;
-use kpn_trace::{How, State};
 use std::alloc::{AllocError, Global};
 
 /// The sinks, the faults, the waits and the outcome, as far as the outcome wants them. Of each sink

@@ -1,7 +1,7 @@
 //! A network is read and run: by the calling thread, or by workers on threads of their own.
 ghost use Rattle.std.specs.Prelude.{◌≡◌, map, option_map, length, Some, None, IfOk, IfErr, OnOk};
 ghost use Rattle.kpn_net.specs.Iteration.{sources};
-ghost use Rattle.kpn_report.specs.Reports.{IsReport};
+ghost use Rattle.kpn_run_here.specs.Reports.{IsReport};
 ghost use Rattle.kpn_run_command.specs.Reported.{IsReported, IsRefusalOfReport, IsUnreported};
 ghost use Rattle.kpn_run_command.specs.Target.{AreOutputsApart};
 
@@ -11,12 +11,12 @@ use kpn_answers::inputs::{Inputs, RunInputs};
 use kpn_answers::refusal::Refusal;
 use kpn_answers::shelf::Shelf;
 use kpn_answers::sources::NamedEnd;
+use kpn_desk::CommitsAll;
 use kpn_lang::Sequence;
 use kpn_limits::MAX_WORKERS;
 use kpn_net::Network;
-use kpn_parallel::{RunFault, run};
-use kpn_pool::CommitsAll;
-use kpn_report::{Limits, Report, run_here};
+use kpn_run_here::{Limits, Report, run_here};
+use kpn_workers::{RunFault, run};
 use std::alloc::Global;
 use std::sync::Wait;
 use std::thread::Threads;

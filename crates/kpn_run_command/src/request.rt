@@ -1,6 +1,6 @@
 //! What a run is asked for.
 
-use kpn_report::Limits;
+use kpn_run_here::Limits;
 
 /// What a run is asked for: the file of the description, the words behind the `--source` options and behind the
 /// `--sink` options, the limits, and the file for the trace, if there is to be one.

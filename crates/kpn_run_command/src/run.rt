@@ -1,6 +1,6 @@
 //! The command: it reads a network and the lists of its sources, runs the network, stores files, and writes a report.
 ghost use Rattle.std.specs.Prelude.{◌≡◌, map, option_map, Some, None, IfOk, IfErr};
-ghost use Rattle.kpn_report.specs.Reports.{IsReport};
+ghost use Rattle.kpn_run_here.specs.Reports.{IsReport};
 ghost use Rattle.kpn_run_command.specs.Reported.{IsReported};
 ghost use Rattle.kpn_run_command.specs.Run.{AnswersRun, IsReportText, TellsReport};
 
@@ -11,7 +11,7 @@ use crate::request::RunRequest;
 use kpn_answers::answer::{Conclusion, conclude};
 use kpn_answers::refusal::Refusal;
 use kpn_answers::shelf::Shelf;
-use kpn_report::Limits;
+use kpn_run_here::Limits;
 use std::alloc::Global;
 use std::io::Write;
 use std::sync::Wait;

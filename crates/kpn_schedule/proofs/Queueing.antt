@@ -8,9 +8,9 @@ use Rattle.std.proofs.lemmas.List.FromFn.{length-range_with_len, get_or-range_wi
 use Rattle.std.proofs.lemmas.List.Sums.{count_by-le-length}
 use Rattle.kpn_net.specs.Waits.{AreDistinct}
 use Rattle.kpn_net.proofs.Cycles.{Contains-first, Contains-later, Contains-cases, Contains-none}
-use Rattle.kpn_trace.specs.declared.state.State.{State}
-use Rattle.kpn_trace.specs.declared.state.State.TheVariants.{Ready, Held}
-use Rattle.kpn_trace.specs.Views.{is_ready}
+use Rattle.kpn_history.specs.declared.state.State.{State}
+use Rattle.kpn_history.specs.declared.state.State.TheVariants.{Ready, Held}
+use Rattle.kpn_history.specs.Views.{is_ready}
 use Rattle.kpn_schedule.specs.Schedule.{IsSchedule, HoldsFirst, all_ready, made_ready, with_state}
 use Rattle.kpn_schedule.proofs.Tallies.{count_set, AreCounts-ready}
 

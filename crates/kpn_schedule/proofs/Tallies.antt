@@ -4,9 +4,9 @@ use Rattle.std.proofs.lemmas.Bool.{not-false, eqb-true, eq-eqb}
 use Rattle.std.proofs.lemmas.List.{get_or_default}
 use Rattle.std.proofs.lemmas.List.Sums.{sum_by-cons, sum_by-set, sum_by-le, get_or-le-sum_by}
 use Rattle.std.proofs.lemmas.List.Folds.{sum_by-replicate}
-use Rattle.kpn_trace.specs.declared.state.State.{State}
-use Rattle.kpn_trace.specs.declared.state.State.TheVariants.{Ready, Held}
-use Rattle.kpn_trace.specs.Views.{AreCounts, is_ready, is_held, waits_empty, waits_full, is_ended}
+use Rattle.kpn_history.specs.declared.state.State.{State}
+use Rattle.kpn_history.specs.declared.state.State.TheVariants.{Ready, Held}
+use Rattle.kpn_history.specs.Views.{AreCounts, is_ready, is_held, waits_empty, waits_full, is_ended}
 use Rattle.kpn_schedule.specs.declared.counting.Tally.{Tally}
 use Rattle.kpn_schedule.specs.Counting.{goes, IsTally}
 use Rattle.kpn_schedule.specs.Schedule.{HaveStopped}

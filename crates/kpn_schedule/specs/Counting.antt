@@ -1,8 +1,8 @@
 -- Counts of processes by state, kept step by step. A reader of the public contracts needs none of it.
 use Rattle.std.specs.Prelude.{◌≡◌, ℕ, ◌+◌, ◌-◌, Bool, not, if◌then◌else◌, List, count_by}
-use Rattle.kpn_trace.specs.declared.state.State.{State}
-use Rattle.kpn_trace.specs.declared.state.State.TheVariants.{Ready, Held, WaitsEmpty, WaitsFull, Ended}
-use Rattle.kpn_trace.specs.Views.{is_stopped, waits_empty, waits_full, is_ended}
+use Rattle.kpn_history.specs.declared.state.State.{State}
+use Rattle.kpn_history.specs.declared.state.State.TheVariants.{Ready, Held, WaitsEmpty, WaitsFull, Ended}
+use Rattle.kpn_history.specs.Views.{is_stopped, waits_empty, waits_full, is_ended}
 use Rattle.kpn_schedule.specs.declared.counting.Tally.{Tally}
 
 -- a process in this state is ready or held

@@ -2,9 +2,9 @@
 use Rattle.std.specs.Prelude.{◌≡◌, ◌↔◌, ℕ, ◌<◌, true, List, [], ◌∷◌, ◌++◌, length, replicate, slice_index_or, slice_set, count_by, Contains}
 use Rattle.std.specs.List.{range_with_len}
 use Rattle.kpn_net.specs.Waits.{AreDistinct}
-use Rattle.kpn_trace.specs.declared.state.State.{State}
-use Rattle.kpn_trace.specs.declared.state.State.TheVariants.{Ready, Held}
-use Rattle.kpn_trace.specs.Views.{is_ready, is_stopped}
+use Rattle.kpn_history.specs.declared.state.State.{State}
+use Rattle.kpn_history.specs.declared.state.State.TheVariants.{Ready, Held}
+use Rattle.kpn_history.specs.Views.{is_ready, is_stopped}
 
 pub record Schedule : Type 0 where
   -- the state of each process, in order of number

@@ -2,7 +2,7 @@
 ghost use Rattle.std.specs.Prelude.{◌≡◌, ◌+◌, ◌<◌, ◌^◌};
 ghost use Rattle.kpn_schedule.specs.Counting.{count_in, one_more, one_less};
 
-use kpn_trace::State;
+use kpn_history::State;
 
 /// The counts that are stored. Each stays the same when a ready process becomes held, and when it is put back.
 #[derive(Debug, Drop)]

@@ -1,13 +1,13 @@
 //! A schedule as it is stored: the states of the processes, and a queue with room for all of them.
 ghost use Rattle.std.specs.Prelude.{◌≡◌, ◌↔◌, ℕ, ◌<◌, ◌^◌, true, false, [], length, replicate, count_by, slice_get, slice_set, IfOk, IfSome, IfNone};
-ghost use Rattle.kpn_trace.specs.declared.state.State.TheVariants.{Ready};
-ghost use Rattle.kpn_trace.specs.Views.{AreCounts, is_ready, is_held};
+ghost use Rattle.kpn_history.specs.declared.state.State.TheVariants.{Ready};
+ghost use Rattle.kpn_history.specs.Views.{AreCounts, is_ready, is_held};
 ghost use Rattle.kpn_schedule.specs.Counting.{IsTally};
 ghost use Rattle.kpn_schedule.specs.Schedule.{state_at, IsSchedule, HaveStopped, all_ready, HoldsFirst, made_ready, with_state};
 
 use crate::counting::{Tally, enter, leave};
 use crate::queue::Queue;
-use kpn_trace::{Counts, State};
+use kpn_history::{Counts, State};
 use std::alloc::{AllocError, Allocator, Global};
 use std::marker::Model;
 

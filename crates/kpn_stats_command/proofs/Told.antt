@@ -9,12 +9,12 @@ use Rattle.std.specs.declared.alloc.Global.{Global}
 use Rattle.kpn_net.specs.declared.tables.ChannelSpec.{ChannelSpec}
 use Rattle.kpn_net.specs.Tables.{Tables}
 use Rattle.kpn_text.specs.Document.{Document}
-use Rattle.kpn_trace.specs.declared.event.Event.{Event}
-use Rattle.kpn_trace.specs.declared.event.Event.TheVariants.{Grow}
-use Rattle.kpn_trace.specs.declared.stored.Version.{Version}
-use Rattle.kpn_trace.specs.declared.stored.Version.TheVariants.{One, Two}
-use Rattle.kpn_trace.specs.declared.stored.Trace.{Trace}
-use Rattle.kpn_trace.specs.Channels.{written_in, read_in, written_on, read_on, is_growth_of, capacity_after}
+use Rattle.kpn_history.specs.declared.event.Event.{Event}
+use Rattle.kpn_history.specs.declared.event.Event.TheVariants.{Grow}
+use Rattle.kpn_history.specs.declared.stored.Version.{Version}
+use Rattle.kpn_history.specs.declared.stored.Version.TheVariants.{One, Two}
+use Rattle.kpn_history.specs.declared.stored.Trace.{Trace}
+use Rattle.kpn_history.specs.Channels.{written_in, read_in, written_on, read_on, is_growth_of, capacity_after}
 use Rattle.kpn_audit.specs.declared.findings.Audit.{Audit}
 use Rattle.kpn_audit.specs.Stored.{audited_under, told, told_behind, history_of, tables_for, history_in}
 use Rattle.kpn_audit_command.specs.Answers.{IsFoundLegal, IsNotLegal}

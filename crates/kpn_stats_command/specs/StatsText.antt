@@ -7,7 +7,7 @@ use Rattle.kpn_net.specs.declared.wait.Wait.TheVariants.{Nobody, Empty, Full}
 use Rattle.kpn_net.specs.Tables.{capacity, channel_at}
 use Rattle.kpn_names.specs.Names.{name_at}
 use Rattle.kpn_text.specs.Document.{Document}
-use Rattle.kpn_trace.specs.declared.event.How.{How}
+use Rattle.kpn_history.specs.declared.event.How.{How}
 use Rattle.kpn_trace_text.specs.EventLine.{how_word}
 use Rattle.kpn_audit.specs.declared.findings.Audit.{Audit}
 use Rattle.kpn_answers.specs.ListText.{lines_from}

@@ -14,6 +14,6 @@ mod writing;
 
 pub use fault::{BadEvent, TraceFault};
 pub use kind::how_word;
-pub use kpn_trace::{Trace, Version};
+pub use kpn_history::{Trace, Version};
 pub use reading::{read_event, read_trace};
 pub use writing::{event_line, write_trace};

@@ -5,9 +5,9 @@ ghost use Rattle.kpn_trace_text.specs.TraceText.{head_text, event_text, trace_te
 
 use crate::head::head;
 use crate::kind::how_word;
+use kpn_history::{Event, History, Version};
 use kpn_items::WriteFault;
 use kpn_net::{Growth, Policy};
-use kpn_trace::{Event, History, Version};
 use std::alloc::Allocator;
 use std::io::{self, Write};
 

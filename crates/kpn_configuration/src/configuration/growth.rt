@@ -1,10 +1,10 @@
 //! Growth: which channel has to grow once a process has come to wait, and how it grows.
 ghost use Rattle.std.specs.Prelude.{◌≡◌, ◌↔◌, ◌<◌, ℕ, List, [], ◌∷◌, ◌++◌, length, IsTrue, IfSome, Some, None};
-ghost use Rattle.kpn_trace.specs.declared.event.Event.{Event};
-ghost use Rattle.kpn_trace.specs.declared.event.Event.TheVariants as event;
-ghost use Rattle.kpn_trace.specs.Channels.{capacity_or_zero};
-ghost use Rattle.kpn_trace.specs.Legal.{OwesCycleGrowth, OwesStopGrowth, OwesGrowth, waiter};
-ghost use Rattle.kpn_trace.specs.Stops.{OwesNoCycleGrowth, OwesNoStopGrowth};
+ghost use Rattle.kpn_history.specs.declared.event.Event.{Event};
+ghost use Rattle.kpn_history.specs.declared.event.Event.TheVariants as event;
+ghost use Rattle.kpn_history.specs.Channels.{capacity_or_zero};
+ghost use Rattle.kpn_history.specs.Legal.{OwesCycleGrowth, OwesStopGrowth, OwesGrowth, waiter};
+ghost use Rattle.kpn_history.specs.Stops.{OwesNoCycleGrowth, OwesNoStopGrowth};
 ghost use Rattle.kpn_configuration.specs.Configuration.{IsConfiguration, capacities, channel_in, with_channel};
 ghost use Rattle.kpn_chan.specs.Channel.{MayGrowTo, grown_to};
 ghost use Rattle.kpn_configuration.specs.Run.{IsRun};

@@ -6,10 +6,10 @@ ghost use Rattle.arrayvec.specs.ArrayVec.{array_vec_len};
 ghost use Rattle.std.specs.Prelude.{◌≡◌, ◌+◌, ◌<◌, ◌≤◌, ℕ, ℤ, true, false, List, [], ◌∷◌, ◌++◌, length, IsTrue, IsSome, Some};
 ghost use Rattle.kpn_chan.specs.Channel.{unread, is_full, next_item};
 ghost use Rattle.kpn_net.specs.Waits.{AreWaits};
-ghost use Rattle.kpn_trace.specs.declared.event.Event.{Event};
-ghost use Rattle.kpn_trace.specs.declared.event.Event.TheVariants as event;
+ghost use Rattle.kpn_history.specs.declared.event.Event.{Event};
+ghost use Rattle.kpn_history.specs.declared.event.Event.TheVariants as event;
 ghost use Rattle.kpn_net.specs.Tables.{instance_at};
-ghost use Rattle.kpn_trace.specs.Stops.{OwesNothing};
+ghost use Rattle.kpn_history.specs.Stops.{OwesNothing};
 ghost use Rattle.kpn_configuration.specs.Configuration.{Configuration as Seen, channel_in, IsConfiguration, IsFree};
 ghost use Rattle.kpn_configuration.specs.Run.{IsRun};
 ghost use Rattle.kpn_configuration.specs.Changes.{Changes};
@@ -20,9 +20,9 @@ ghost use Rattle.kpn_configuration.specs.EndSoFar.{EndSoFar};
 use super::Configuration;
 use super::wakes::wake;
 use arrayvec::ArrayVec;
+use kpn_history::How;
 use kpn_limits::MAX_PORTS;
 use kpn_net::{Network, Wait};
-use kpn_trace::How;
 use std::alloc::Allocator;
 
 /// What was read from a channel, and the process that this wakes: its writer, if it waited on it as full.

@@ -10,9 +10,9 @@ ghost use Rattle.kpn_configuration.specs.Run.{IsRun};
 use super::Configuration;
 use kpn_chan::Channel;
 use kpn_cycle::Waits;
+use kpn_history::How;
 use kpn_net::Network;
 use kpn_step::Frame;
-use kpn_trace::How;
 use std::alloc::{AllocError, Allocator};
 
 impl<A: Allocator + Copy> Configuration<A> {

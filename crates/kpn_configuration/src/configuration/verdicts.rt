@@ -1,10 +1,10 @@
 //! What a run has come to if nothing goes on by itself: quiet moments, settled ones, and the verdict.
 ghost use Rattle.std.specs.Prelude.{◌≡◌, ◌≢◌, ◌↔◌, ◌⊎◌, ℕ, ◌<◌, List, length, Option, Some, IsTrue};
 ghost use Rattle.kpn_net.specs.declared.wait.Wait.TheVariants as wait;
-ghost use Rattle.kpn_trace.specs.declared.event.Event.{Event};
-ghost use Rattle.kpn_trace.specs.declared.event.How.{How};
-ghost use Rattle.kpn_trace.specs.declared.state.Verdict.{Verdict};
-ghost use Rattle.kpn_trace.specs.Ends.{IsQuiet, IsVerdict};
+ghost use Rattle.kpn_history.specs.declared.event.Event.{Event};
+ghost use Rattle.kpn_history.specs.declared.event.How.{How};
+ghost use Rattle.kpn_history.specs.declared.state.Verdict.{Verdict};
+ghost use Rattle.kpn_history.specs.Ends.{IsQuiet, IsVerdict};
 ghost use Rattle.kpn_configuration.specs.Configuration.{wait_in, end_in, is_full_wait, IsConfiguration};
 ghost use Rattle.kpn_configuration.specs.Quiet.{IsQuietNow};
 ghost use Rattle.kpn_configuration.specs.Run.{IsRun};
@@ -12,8 +12,8 @@ ghost use Rattle.kpn_configuration.specs.Settled.{HaveStopped, IsOutsideDone, Is
 ghost use Rattle.kpn_configuration.specs.Stopped.{is_quiet_at, has_stopped, awaits_outside};
 
 use super::Configuration;
+use kpn_history::Verdict;
 use kpn_net::{Found, Network, Wait};
-use kpn_trace::Verdict;
 use std::alloc::Allocator;
 
 impl<A: Allocator> Configuration<A> {

@@ -1,7 +1,7 @@
 -- What holds of the events under their rules holds of the trace.
 use Rattle.std.proofs.Common.{length, Result, Ok, Err, IfOk, IfErr, refl}
 use Rattle.std.proofs.lemmas.Result.{IfErr-weaker}
-use Rattle.kpn_trace.specs.declared.stored.Version.TheVariants.{One, Two}
+use Rattle.kpn_history.specs.declared.stored.Version.TheVariants.{One, Two}
 use Rattle.kpn_audit.specs.Audit.{AreWithinSteps, IsFault}
 use Rattle.kpn_audit.proofs.Telling.{of_trace, one_agrees, plain_tables, refuses_trace}
 use Rattle.kpn_audit.proofs.auditor.audit.Goals as goal

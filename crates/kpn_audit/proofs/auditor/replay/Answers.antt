@@ -1,8 +1,8 @@
 -- What is found of an event is said of the events before it, and of the place where it stands.
 use Rattle.std.proofs.Common.{suc, pos, take, subst, add-one, arith}
 use Rattle.std.proofs.lemmas.List.{take_all}
-use Rattle.kpn_trace.specs.declared.event.Event.TheVariants.{Get}
-use Rattle.kpn_trace.proofs.Growth.{none_owed_at_first}
+use Rattle.kpn_history.specs.declared.event.Event.TheVariants.{Get}
+use Rattle.kpn_history.proofs.Growth.{none_owed_at_first}
 use Rattle.kpn_configuration.specs.Run.{IsRun}
 use Rattle.kpn_audit.specs.Judged.{IsJudged, Owes}
 use Rattle.kpn_audit.specs.Audit.{AreWithinSteps}

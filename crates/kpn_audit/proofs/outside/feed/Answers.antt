@@ -1,7 +1,7 @@
 -- Where the source is there and open the feed is made; else it may not follow.
 use Rattle.std.proofs.Common.{is_ok, [], ◌∷◌, ◌++◌, w64, refl, subst}
 use Rattle.std.proofs.lemmas.Int.{to_z-of_z}
-use Rattle.kpn_trace.specs.declared.event.Event.TheVariants.{Feed}
+use Rattle.kpn_history.specs.declared.event.Event.TheVariants.{Feed}
 use Rattle.kpn_chan.specs.Channel.{with_room}
 use Rattle.kpn_configuration.specs.Configuration.{channel_in}
 use Rattle.kpn_configuration.specs.Run.{IsRun}

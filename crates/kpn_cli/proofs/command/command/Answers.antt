@@ -1,6 +1,6 @@
 -- What was carried out here is carried out. Before a run by workers nothing has changed, and it reads no input.
 use Rattle.std.proofs.Common.{◌≡◌, ℕ, List, Option, subst}
-use Rattle.kpn_report.specs.declared.outcome.Limits.{Limits}
+use Rattle.kpn_run_here.specs.declared.outcome.Limits.{Limits}
 use Rattle.kpn_run_command.specs.Run.{AnswersRun}
 use Rattle.kpn_cli.specs.Command.{here, by_workers}
 use Rattle.kpn_cli.proofs.command.command.Goals as goal

@@ -3,8 +3,8 @@ use Rattle.std.proofs.Common.{◌≡◌, ℕ, List, Option, Some, None, Result, 
 use Rattle.std.specs.Bool.{⊤}
 use Rattle.std.specs.Borrow.{Bor}
 use Rattle.std.specs.String.{string_bytes}
-use Rattle.kpn_words.specs.Asked.{IsAsked, AsksForRounds, AsksForRun}
-use Rattle.kpn_words.specs.declared.request.RunWords.{RunWords}
+use Rattle.kpn_command_line.specs.Asked.{IsAsked, AsksForRounds, AsksForRun}
+use Rattle.kpn_command_line.specs.declared.request.RunWords.{RunWords}
 use Rattle.kpn_run_command.specs.declared.request.RunRequest.{RunRequest}
 use Rattle.kpn_answers.specs.declared.refusal.Refusal.{Refusal}
 use Rattle.kpn_answers.specs.declared.refusal.Refusal.TheVariants.{NoMemory}

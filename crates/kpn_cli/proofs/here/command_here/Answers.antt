@@ -1,8 +1,8 @@
 -- Words that are not understood are reported, and nothing else changes.
 use Rattle.std.proofs.Common.{◌≡◌, ℕ, List, Option, refl}
-use Rattle.kpn_words.specs.Asked.{IsRefused}
-use Rattle.kpn_words.specs.declared.request.WordsFault.{WordsFault}
-use Rattle.kpn_words.specs.declared.request.WordsFault.TheVariants.{Usage, NoMemory}
+use Rattle.kpn_command_line.specs.Asked.{IsRefused}
+use Rattle.kpn_command_line.specs.declared.request.WordsFault.{WordsFault}
+use Rattle.kpn_command_line.specs.declared.request.WordsFault.TheVariants.{Usage, NoMemory}
 use Rattle.kpn_cli.specs.Command.{IsTold, clap, usage, unread, fault_status}
 use Rattle.kpn_cli.proofs.here.command_here.Goals as goal
 

@@ -1,4 +1,4 @@
-use Rattle.kpn_trace.proofs.OneMore.{Legal-exactly}
+use Rattle.kpn_history.proofs.OneMore.{Legal-exactly}
 use Rattle.kpn_configuration.proofs.Due.{Legal-due}
 use Rattle.kpn_configuration.proofs.Exact.{due_here, due_outside, must_be_free}
 use Rattle.kpn_configuration.proofs.laws.exactly_what_is_due.Goals as goal

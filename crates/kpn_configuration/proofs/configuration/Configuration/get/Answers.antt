@@ -4,7 +4,7 @@ use Rattle.kpn_net.specs.declared.wait.Wait.TheVariants.{Full}
 use Rattle.kpn_net.specs.Waits.{AreWaits}
 use Rattle.kpn_step.specs.Stops.{IsGiven}
 use Rattle.kpn_chan.specs.Channel.{opened, next_item, after_get}
-use Rattle.kpn_trace.specs.declared.event.Event.TheVariants.{Get}
+use Rattle.kpn_history.specs.declared.event.Event.TheVariants.{Get}
 use Rattle.kpn_configuration.specs.Configuration.{Configuration, frame_in, no_frame}
 use Rattle.kpn_configuration.specs.Woken.{is_wait}
 use Rattle.kpn_configuration.proofs.Calls.{element, Made-got}

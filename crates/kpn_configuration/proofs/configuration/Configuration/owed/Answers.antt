@@ -1,8 +1,8 @@
 use Rattle.std.proofs.Common.{◌≡◌, ◌↔◌, ℕ, [], ◌∷◌, ◌++◌, Option, Some, None, IfSome, refl, sym, ap, ◌∙◌, subst}
 use Rattle.kpn_cycle.specs.Scan.{cap_in}
-use Rattle.kpn_trace.specs.Legal.{OwesCycleGrowth, waiter_of_last}
-use Rattle.kpn_trace.proofs.Events.{last_or-push}
-use Rattle.kpn_trace.proofs.Growth.{Some-number}
+use Rattle.kpn_history.specs.Legal.{OwesCycleGrowth, waiter_of_last}
+use Rattle.kpn_history.proofs.Events.{last_or-push}
+use Rattle.kpn_history.proofs.Growth.{Some-number}
 use Rattle.kpn_configuration.specs.Configuration.{capacities}
 use Rattle.kpn_configuration.specs.Owed.{IsOwed, IsAwaitedBelowLimit, channel_to_grow}
 use Rattle.kpn_configuration.proofs.Growing.{owed_by_finding, owed_by_history, awaited_in_cycle, both}

@@ -3,7 +3,7 @@ use Rattle.std.proofs.lemmas.Int.{to_z-of_z}
 use Rattle.kpn_net.specs.declared.wait.Wait.TheVariants.{Full}
 use Rattle.kpn_net.specs.Waits.{AreWaits}
 use Rattle.kpn_chan.specs.Channel.{opened, next_item, after_get}
-use Rattle.kpn_trace.specs.declared.event.Event.TheVariants.{Take}
+use Rattle.kpn_history.specs.declared.event.Event.TheVariants.{Take}
 use Rattle.kpn_configuration.specs.Configuration.{Configuration}
 use Rattle.kpn_configuration.specs.Woken.{is_wait}
 use Rattle.kpn_configuration.proofs.Calls.{element, Made-taken}

@@ -1,6 +1,6 @@
 use Rattle.std.proofs.Common.{ap, ◌∙◌, rules}
 use Rattle.std.proofs.lemmas.List.{length-set}
-use Rattle.kpn_trace.specs.declared.state.State.TheVariants.{Held}
+use Rattle.kpn_history.specs.declared.state.State.TheVariants.{Held}
 use Rattle.kpn_schedule.specs.Queue.{waiting}
 use Rattle.kpn_schedule.proofs.Tallies.{IsTally-goes}
 use Rattle.kpn_schedule.proofs.Queueing.{popped, first_there, first_ready, IsSchedule-held, HoldsFirst-popped}

@@ -1,5 +1,5 @@
 use Rattle.std.proofs.lemmas.List.{length-replicate}
-use Rattle.kpn_trace.specs.declared.state.State.TheVariants.{Ready}
+use Rattle.kpn_history.specs.declared.state.State.TheVariants.{Ready}
 use Rattle.kpn_schedule.proofs.Tallies.{IsTally-ready}
 use Rattle.kpn_schedule.proofs.Queueing.{IsSchedule-ready}
 use Rattle.kpn_schedule.proofs.schedule.Schedule.new.Goals as goal

@@ -1,7 +1,7 @@
 use Rattle.std.proofs.Common.{◌≡◌, ◌<◌, length, get_or, sym, ap, ◌∙◌, subst}
 use Rattle.std.proofs.lemmas.List.{length-set}
-use Rattle.kpn_trace.specs.declared.state.State.TheVariants.{Ready, Held}
-use Rattle.kpn_trace.specs.Views.{is_ready}
+use Rattle.kpn_history.specs.declared.state.State.TheVariants.{Ready, Held}
+use Rattle.kpn_history.specs.Views.{is_ready}
 use Rattle.kpn_schedule.specs.Queue.{waiting}
 use Rattle.kpn_schedule.proofs.Tallies.{IsTally-goes}
 use Rattle.kpn_schedule.proofs.Queueing.{has_room, IsSchedule-made_ready}

@@ -1,7 +1,7 @@
 use Rattle.std.proofs.Common.{◌≡◌, ◌<◌, length, get_or, sym, subst, false}
 use Rattle.std.proofs.lemmas.List.{length-set}
-use Rattle.kpn_trace.specs.declared.state.State.TheVariants.{Ready}
-use Rattle.kpn_trace.specs.Views.{is_ready}
+use Rattle.kpn_history.specs.declared.state.State.TheVariants.{Ready}
+use Rattle.kpn_history.specs.Views.{is_ready}
 use Rattle.kpn_schedule.specs.Queue.{waiting}
 use Rattle.kpn_schedule.proofs.Queueing.{IsSchedule-set}
 use Rattle.kpn_schedule.proofs.schedule.Schedule.set.Goals as goal

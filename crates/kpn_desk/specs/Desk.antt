@@ -1,0 +1,52 @@
+-- What lies under the lock of a run, and what holds of it whenever the lock is free.
+use Rattle.std.specs.Prelude.{◌≡◌, ◌≤◌, ◌<◌, ◌+◌, ℕ, Bool, true, false, Option, Some, None}
+use Rattle.kpn_net.specs.Tables.{Tables}
+use Rattle.kpn_history.specs.Ends.{IsSettled}
+use Rattle.kpn_run_state.specs.Book.{Book}
+use Rattle.kpn_run_state.specs.Kept.{IsBook}
+use Rattle.kpn_desk.specs.declared.seat.Why.{Why}
+use Rattle.kpn_desk.specs.declared.seat.Why.TheVariants.{Halted, Settled, Limit}
+
+-- the book of the run, the total of the ledger in which commits are counted, the mark that the workers have to end, and
+-- how many of them have not ended
+pub record Desk : Type 0 where
+  pub book : Book
+  pub total : ℕ
+  pub halts : Bool
+  pub working : ℕ
+
+-- a desk of the run of a network: the book is one of this network, and the total is the number of its commits
+pub record IsDesk (t : Tables) (d : Desk) : Type 0 where
+  pub network : d.book.tables ≡ t
+  pub book : IsBook d.book
+  pub counted : d.total ≡ d.book.commits
+
+-- ---- what changes it
+
+-- the book becomes this one, and nothing else changes
+abbrev pub with_book : Book → Desk → Desk
+with_book book d = record d { book = book }
+
+-- the book becomes this one with one commit more
+abbrev pub with_commit : Book → Desk → Desk
+with_commit book d = record d { book = book; total = d.total + 1 }
+
+-- the workers have to end
+abbrev pub halted : Desk → Desk
+halted d = record d { halts = true }
+
+-- ---- why a worker ends
+
+-- the run goes on: the workers do not have to end, and something can still happen
+pub record IsOngoing (d : Desk) : Type 0 where
+  pub on : d.halts ≡ false
+  pub unsettled : ¬ IsSettled d.book.tables d.book.history
+
+-- why a worker ends instead of a claim, where this many commits are allowed: it has to; else the run is settled;
+-- else the commits have reached that number
+abbrev pub IsReason : Desk → (most : ℕ) → Option Why → Type 0
+IsReason d most (Some Halted) = d.halts ≡ true
+IsReason d most (Some Settled) = (d.halts ≡ false) × IsSettled d.book.tables d.book.history
+IsReason d most (Some Limit) = IsOngoing d × (most ≤ d.book.commits)
+IsReason d most (Some why) = ⊥
+IsReason d most None = IsOngoing d × (d.book.commits < most)

@@ -1,0 +1,173 @@
+//! The turns that a worker makes between two holds of the lock, in the order of their claims.
+ghost use Rattle.std.specs.Prelude.{◌≡◌, ◌<◌, ◌≤◌, take, length};
+ghost use Rattle.kpn_desk.specs.Batch.{InTurn, Claims, CommitsOrDrops, PutsBack, Settles};
+
+use crate::crew::BATCH;
+use crate::desk::Desk;
+use crate::gate::{Gate, Go};
+use crate::job::Job;
+use crate::seat::{Why, WorkerSeat};
+use crate::turn::Turn;
+use arrayvec::ArrayVec;
+use std::alloc::Allocator;
+use std::marker::Model;
+
+/// Turns of which the first ones are held, and of these the gate has let the first ones through.
+#[derive(Drop)]
+pub(crate) struct Batch<'n, J: Job> {
+    turns: ArrayVec<Turn<'n, J>, BATCH>,
+    held: usize,
+    passed: usize,
+}
+
+impl<'n, J: Job> Model for Batch<'n, J> {
+    ghost use Rattle.std.specs.Prelude.{◌≡◌, ◌≤◌, length};
+    ghost use Rattle.std.specs.Coded.{codes};
+    ghost use Rattle.kpn_lang.specs.Codes.{parts_code};
+    ghost use Rattle.kpn_desk.specs.Batch.{Batch as Seen};
+
+    ghost Value = { Seen };
+
+    ghost coded = { Prim.hlevel (codes, parts_code) };
+
+    ghost view = { λ b. record { turns = b.turns.items; held = b.held; passed = b.passed } };
+
+    ghost invariant = { λ b. (length b.turns.items ≡ 8) × (b.held ≤ 8) × (b.passed ≤ b.held) };
+}
+
+impl<'n, J: Job> Batch<'n, J> {
+    /// No process is claimed.
+    pub(crate) fn new() -> Self {
+        Batch {
+            turns: ArrayVec::from_array_in(
+                (),
+                [
+                    Turn::new(),
+                    Turn::new(),
+                    Turn::new(),
+                    Turn::new(),
+                    Turn::new(),
+                    Turn::new(),
+                    Turn::new(),
+                    Turn::new(),
+                ],
+            ),
+            held: 0,
+            passed: 0,
+        }
+    }
+
+    /// How many processes are claimed.
+    pub(crate) fn len(&self) -> usize {
+        self.held
+    }
+
+    /// Claims a worker's share of those that are ready, at most 8. Returns whether there is one.
+    pub(crate) fn claim<A: Allocator>(&mut self, desk: &mut Desk<'n, J, A>) -> bool
+        ensures { InTurn Claims (take self.new.held self.new.turns) desk.old.book desk.new.book }
+    {
+        let most = desk.crew.share(desk.ready());
+        self.held = claim_each(desk, self.turns.as_mut_slice(), most);
+        self.passed = 0;
+        self.held > 0
+    }
+
+    /// Steps each process and asks the gate for it, in order, until the gate ends the worker.
+    pub(crate) fn step<G: Gate>(&mut self, gate: &G, worker: usize, quota: u32) {
+        let held = self.held;
+        self.passed = step_each(gate, worker, quota, self.turns.as_mut_slice(), held);
+    }
+
+    /// Commits the steps that the gate has let through, in order, until memory is refused, and puts the others back, in
+    /// order. Returns why the worker ends, if there are such. If memory was refused, all workers have to end.
+    pub(crate) fn settle<A: Allocator + Copy>(
+        &self,
+        desk: &mut Desk<'n, J, A>,
+        seat: &mut WorkerSeat<J>,
+    ) -> Option<Why>
+        ensures settles { Settles self.now result desk.old desk.new }
+        ensures number { seat.new.number ≡ seat.old.number }
+        ensures counted { seat.old.commits ≤ seat.new.commits }
+    {
+        let turns = self.turns.as_slice();
+        let committed = commit_each(desk, seat, &turns[..self.passed]);
+        put_back_each(desk, &turns[committed..self.held]);
+        if committed < self.passed {
+            desk.halt();
+            return Some(Why::NoMemory);
+        }
+        if committed < self.held {
+            return Some(Why::Abandoned);
+        }
+        None
+    }
+}
+
+/// Claims a process for each of the first turns, so many at most. Returns how many there were.
+fn claim_each<'n, J: Job, A: Allocator>(
+    desk: &mut Desk<'n, J, A>,
+    turns: &mut [Turn<'n, J>],
+    most: usize,
+) -> usize
+    requires { most ≤ length turns.old }
+    ensures claims { InTurn Claims (take result turns.new) desk.old.book desk.new.book }
+    ensures count { result ≤ most }
+{
+    'turns: for i in 0..most {
+        let turn = &mut turns[i];
+        if !turn.claim(desk) {
+            return i;
+        }
+    }
+    most
+}
+
+/// Steps each of the first turns and asks the gate for it. Returns how many it lets through before it ends the
+/// worker.
+fn step_each<J: Job, G: Gate>(
+    gate: &G,
+    worker: usize,
+    quota: u32,
+    turns: &mut [Turn<'_, J>],
+    held: usize,
+) -> usize
+    requires { held ≤ length turns.old }
+    ensures { result ≤ held }
+{
+    'turns: for i in 0..held {
+        let turn = &mut turns[i];
+        let process = turn.step(quota);
+        if gate.between(worker, process) == Go::Abandon {
+            return i;
+        }
+    }
+    held
+}
+
+/// Commits each turn. Returns for how many there was memory.
+fn commit_each<'n, J: Job, A: Allocator + Copy>(
+    desk: &mut Desk<'n, J, A>,
+    seat: &mut WorkerSeat<J>,
+    turns: &[Turn<'n, J>],
+) -> usize
+    ensures commits { InTurn CommitsOrDrops (take result turns.now) desk.old.book desk.new.book }
+    ensures count { result ≤ length turns.now }
+    ensures number { seat.new.number ≡ seat.old.number }
+    ensures counted { seat.old.commits ≤ seat.new.commits }
+{
+    'turns: for i in 0..turns.len() {
+        if !turns[i].commit(desk, seat) {
+            return i;
+        }
+    }
+    turns.len()
+}
+
+/// Puts the process of each turn back.
+fn put_back_each<'n, J: Job, A: Allocator>(desk: &mut Desk<'n, J, A>, turns: &[Turn<'n, J>])
+    ensures { InTurn PutsBack turns.now desk.old.book desk.new.book }
+{
+    'turns: for i in 0..turns.len() {
+        turns[i].put_back(desk);
+    }
+}

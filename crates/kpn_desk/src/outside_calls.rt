@@ -1,0 +1,310 @@
+//! The calls of the outside on a shared desk. Each waits for the lock, and only those that say so wait for more.
+ghost use Rattle.std.specs.Prelude.{◌≡◌, ◌<◌, ◌≤◌, ◌++◌, length, take, IfOk, IfErr, OnErr, OnOk, IsTrue, true};
+ghost use Rattle.kpn_lang.specs.Prefix.{IsPrefix};
+ghost use Rattle.kpn_net.specs.Tables.{channel_at, is_source, is_sink};
+ghost use Rattle.kpn_chan.specs.Channel.{unread};
+ghost use Rattle.kpn_configuration.specs.Configuration.{channel_in};
+ghost use Rattle.kpn_desk.specs.declared.crew.Awaited.TheVariants.{There};
+ghost use Rattle.kpn_desk.specs.declared.outside_calls.SnapFault.TheVariants.{NoMemory};
+ghost use Rattle.kpn_desk.specs.OutsideSeats.{with_item, with_taken, HaveTaken, TakesMore, FeedsUntil, MayRefuseFeed, MayRefuseEnd, MayRefuseTake, MayRefuseSnapshot};
+ghost use Rattle.kpn_desk.specs.Waiting.{IsFullSource};
+ghost use Rattle.std.specs.Sync.Mutex.{mutex_guard_value};
+ghost use Rattle.kpn_run_state.specs.Snapshot.{ShowsARun, shown_on, IsBelowKahn, IsKahnAtRest};
+
+use crate::crew::{Awaited, Need};
+use crate::desk::Desk;
+use crate::job::Job;
+use crate::outside_seats::{SinkSeat, SourceSeat, take_from_each};
+use crate::shared::Shared;
+use kpn_run_state::{Refused, View};
+use std::alloc::{AllocError, Allocator};
+use std::sync::{MutexGuard, Wait};
+use std::time::Clock;
+use thiserror::Error;
+
+/// Why a seat is given no snapshot, with its number.
+#[derive(Clone, Copy, Debug, PartialEq, Eq, Error)]
+pub enum SnapFault {
+    /// 47: there is no such source, or what the seat fed does not begin its journal: the seat is one of another run.
+    #[error("the seat is one of another run")]
+    Foreign,
+    /// 42: memory ran out.
+    #[error("memory ran out")]
+    NoMemory,
+}
+
+impl From<AllocError> for SnapFault {
+    ghost from_gives = { λ _ fault. fault ≡ NoMemory };
+
+    fn from(_error: AllocError) -> SnapFault {
+        SnapFault::NoMemory
+    }
+}
+
+/// Feeds an item to the source of the seat. It is refused as the book refuses it: with the seat of another network
+/// there may be no such source.
+pub fn feed<J: Job, A: Allocator + Copy, B: Allocator, R: Wait>(
+    rt: &R,
+    shared: &Shared<'_, J, A>,
+    seat: &mut SourceSeat<B>,
+    item: i64,
+    bound: usize,
+) -> Result<(), Refused>
+    ensures fed { OnOk result (seat.new ≡ with_item item seat.old) }
+    ensures as_before { OnErr result (seat.new ≡ seat.old) }
+    ensures source { OnOk result (is_source (channel_at J.network seat.old.channel) ≡ true) }
+    ensures refused { IfErr result (λ cause.
+        MayRefuseFeed (is_source (channel_at J.network seat.old.channel)) item cause) }
+{
+    let mut desk = shared.lock(rt);
+    let fed = seat.feed(&mut desk, item, bound);
+    shared.tell(desk);
+    fed
+}
+
+/// Feeds these items to the source of the seat, one after the other, under one hold of the lock. If one is refused,
+/// those before it were fed.
+pub fn feed_all<J: Job, A: Allocator + Copy, B: Allocator, R: Wait>(
+    rt: &R,
+    shared: &Shared<'_, J, A>,
+    seat: &mut SourceSeat<B>,
+    items: &[i64],
+    bound: usize,
+) -> Result<(), Refused>
+    ensures channel { seat.new.channel ≡ seat.old.channel }
+    ensures fed { OnOk result (seat.new.items ≡ seat.old.items ++ items.now) }
+    ensures before { IsPrefix seat.old.items seat.new.items }
+    ensures source { OnOk result (0 < length items.now
+        → is_source (channel_at J.network seat.old.channel) ≡ true) }
+    ensures refused { IfErr result (λ cause. FeedsUntil items.now seat.old seat.new (λ item.
+        MayRefuseFeed (is_source (channel_at J.network seat.old.channel)) item cause)) }
+{
+    let mut desk = shared.lock(rt);
+    let fed = seat.feed_all(&mut desk, items, bound);
+    shared.tell(desk);
+    fed
+}
+
+/// Closes the source of the seat. A second time it changes nothing.
+pub fn close<J: Job, A: Allocator, B: Allocator, R: Wait>(
+    rt: &R,
+    shared: &Shared<'_, J, A>,
+    seat: &SourceSeat<B>,
+) -> Result<(), Refused>
+    ensures source { OnOk result (is_source (channel_at J.network seat.now.channel) ≡ true) }
+    ensures refused { IfErr result (λ cause.
+        MayRefuseEnd (is_source (channel_at J.network seat.now.channel)) cause) }
+{
+    let mut desk = shared.lock(rt);
+    let closed = seat.close(&mut desk);
+    shared.tell(desk);
+    closed
+}
+
+/// Takes the next item from the sink of the seat, or none if nothing is unread.
+pub fn take<J: Job, A: Allocator, B: Allocator, R: Wait>(
+    rt: &R,
+    shared: &Shared<'_, J, A>,
+    seat: &mut SinkSeat<B>,
+) -> Result<Option<i64>, Refused>
+    ensures taken { IfOk result (λ item. seat.new ≡ with_taken item seat.old) }
+    ensures as_before { OnErr result (seat.new ≡ seat.old) }
+    ensures sink { OnOk result (is_sink (channel_at J.network seat.old.channel) ≡ true) }
+    ensures refused { IfErr result (λ cause.
+        MayRefuseTake (is_sink (channel_at J.network seat.old.channel)) cause) }
+{
+    let mut desk = shared.lock(rt);
+    let item = seat.take(&mut desk);
+    shared.tell(desk);
+    item
+}
+
+/// Takes all that is unread at the sinks of these seats, under one hold of the lock. If it is refused, what was taken
+/// before that stays with the seats.
+pub fn take_each<J: Job, A: Allocator, B: Allocator, R: Wait>(
+    rt: &R,
+    shared: &Shared<'_, J, A>,
+    seats: &mut [SinkSeat<B>],
+) -> Result<(), Refused>
+    ensures { HaveTaken seats.old seats.new }
+{
+    let mut desk = shared.lock(rt);
+    let taken = take_from_each(&mut desk, seats);
+    shared.tell(desk);
+    taken
+}
+
+/// Waits until it is time to take from a sink, and does what `take_each` does. Returns whether the run goes on: not if
+/// all workers have ended.
+///
+/// It is time once a sink of these seats is half full, or has an item while no worker is busy, and anyhow after some
+/// milliseconds while a worker is busy.
+pub fn take_when_due<J: Job, A: Allocator, B: Allocator, R: Wait + Clock>(
+    rt: &R,
+    shared: &Shared<'_, J, A>,
+    seats: &mut [SinkSeat<B>],
+) -> Result<bool, Refused>
+    ensures { HaveTaken seats.old seats.new }
+{
+    let mut desk = shared.lock_when_due(rt, seats);
+    let goes_on = !desk.crew.has_ended();
+    let taken = take_from_each(&mut desk, seats);
+    shared.tell(desk);
+    taken?;
+    Ok(goes_on)
+}
+
+/// Waits until the sink of the seat has an item or all workers have ended, and then takes all that is unread there,
+/// under one hold of the lock.
+///
+/// It sleeps until a worker puts an item on a sink or ends. It is refused as `take` is, and then does not wait. If it
+/// is refused, what was taken before that stays with the seat.
+pub fn take_when_there<J: Job, A: Allocator, B: Allocator, R: Wait + Clock>(
+    rt: &R,
+    shared: &Shared<'_, J, A>,
+    seat: &mut SinkSeat<B>,
+) -> Result<Awaited, Refused>
+    ensures taken { TakesMore seat.old seat.new }
+    ensures there { IfOk result (λ awaited. (awaited ≡ There)
+        → length seat.old.items < length seat.new.items) }
+    ensures sink { OnOk result (is_sink (channel_at J.network seat.old.channel) ≡ true) }
+    ensures refused { IfErr result (λ cause.
+        MayRefuseTake (is_sink (channel_at J.network seat.old.channel)) cause) }
+{
+    let before = seat.taken().len();
+    // a sink that was left refuses here, and does not keep its seat waiting
+    let desk = shared.lock(rt);
+    let has_ended = desk.crew.has_ended();
+    take_from(shared, desk, seat)?;
+    if has_ended {
+        return Ok(Awaited::Ended);
+    }
+    if seat.taken().len() > before {
+        return Ok(Awaited::There);
+    }
+    let sink = seat.channel();
+    let (desk, awaited) = shared.lock_when(rt, Need::Item { sink });
+    take_from(shared, desk, seat)?;
+    Ok(awaited)
+}
+
+/// Takes all that is unread at the sink of the seat, and lets the desk go.
+fn take_from<'l, 'n, J: Job, A: Allocator, B: Allocator>(
+    shared: &'l Shared<'n, J, A>,
+    desk: MutexGuard<'l, Desk<'n, J, A>>,
+    seat: &mut SinkSeat<B>,
+) -> Result<(), Refused>
+    ensures taken { TakesMore seat.old seat.new }
+    ensures all { OnOk result (seat.new.items ≡ seat.old.items
+        ++ unread (channel_in (mutex_guard_value desk.entry).book.configuration seat.old.channel)) }
+    ensures sink { OnOk result (is_sink (channel_at J.network seat.old.channel) ≡ true) }
+    ensures refused { IfErr result (λ cause.
+        MayRefuseTake (is_sink (channel_at J.network seat.old.channel)) cause) }
+{
+    let mut desk = desk;
+    let taken = seat.take_all(&mut desk);
+    shared.tell(desk);
+    taken
+}
+
+/// Waits until the source of the seat has room for an item under the bound or all workers have ended, and then feeds
+/// the first ones of these items, as many as there is room for, under one hold of the lock. Returns how many it fed: of
+/// some items none only if all workers have ended.
+///
+/// It sleeps until a worker reads from a source or ends. It is refused as `feed` is, but never as full, and then does
+/// not wait. If it is refused, the items before that were fed.
+pub fn feed_when_room<J: Job, A: Allocator + Copy, B: Allocator, R: Wait + Clock>(
+    rt: &R,
+    shared: &Shared<'_, J, A>,
+    seat: &mut SourceSeat<B>,
+    items: &[i64],
+    bound: usize,
+) -> Result<usize, Refused>
+    ensures channel { seat.new.channel ≡ seat.old.channel }
+    ensures fed { IfOk result (λ count. (count ≤ length items.now)
+        × (seat.new.items ≡ seat.old.items ++ take count items.now)) }
+    ensures before { IsPrefix seat.old.items seat.new.items }
+    ensures source { OnOk result (0 < length items.now
+        → is_source (channel_at J.network seat.old.channel) ≡ true) }
+    ensures refused { IfErr result (λ cause. FeedsUntil items.now seat.old seat.new (λ item.
+        MayRefuseFeed (is_source (channel_at J.network seat.old.channel)) item cause)) }
+{
+    let source = seat.channel();
+    let (desk, _) = shared.lock_when(rt, Need::Room { source, bound });
+    feed_first(shared, desk, seat, items, bound)
+}
+
+/// Feeds the first ones of these items, as many as there is room for, and lets the desk go. Returns how many it fed: of
+/// some items none only if all workers have ended.
+fn feed_first<'l, 'n, J: Job, A: Allocator + Copy, B: Allocator>(
+    shared: &'l Shared<'n, J, A>,
+    desk: MutexGuard<'l, Desk<'n, J, A>>,
+    seat: &mut SourceSeat<B>,
+    items: &[i64],
+    bound: usize,
+) -> Result<usize, Refused>
+    requires room { IsFullSource seat.old.channel bound (mutex_guard_value desk).book
+        → (mutex_guard_value desk).working ≡ 0 }
+    ensures channel { seat.new.channel ≡ seat.old.channel }
+    ensures fed { IfOk result (λ count. (count ≤ length items.now)
+        × (seat.new.items ≡ seat.old.items ++ take count items.now)) }
+    ensures before { IsPrefix seat.old.items seat.new.items }
+    ensures none { IfOk result (λ count. (count ≡ 0) → 0 < length items.now
+        → (mutex_guard_value desk.entry).working ≡ 0) }
+    ensures source { OnOk result (0 < length items.now
+        → is_source (channel_at J.network seat.old.channel) ≡ true) }
+    ensures refused { IfErr result (λ cause. FeedsUntil items.now seat.old seat.new (λ item.
+        MayRefuseFeed (is_source (channel_at J.network seat.old.channel)) item cause)) }
+{
+    let mut desk = desk;
+    let before = seat.fed().len();
+    let fed = seat.feed_all(&mut desk, items, bound);
+    shared.tell(desk);
+    match fed {
+        Ok(()) | Err(Refused::Full(_)) => Ok(seat.fed().len() - before),
+        Err(refused) => Err(refused),
+    }
+}
+
+/// Leaves the sink of the seat: nothing is taken from it any more, and it is never full. A second time it changes
+/// nothing.
+pub fn leave<J: Job, A: Allocator, B: Allocator, R: Wait>(
+    rt: &R,
+    shared: &Shared<'_, J, A>,
+    seat: &SinkSeat<B>,
+) -> Result<(), Refused>
+    ensures sink { OnOk result (is_sink (channel_at J.network seat.now.channel) ≡ true) }
+    ensures refused { IfErr result (λ cause.
+        MayRefuseEnd (is_sink (channel_at J.network seat.now.channel)) cause) }
+{
+    let mut desk = shared.lock(rt);
+    let left = seat.leave(&mut desk);
+    shared.tell(desk);
+    left
+}
+
+/// The run as it is seen at one moment, with all that the seat has fed: a legal history of the run's network that owes
+/// no growth agrees with it; each journal is a prefix of the least solution for what was fed, and is that solution
+/// if each process has ended or waits on an empty channel.
+pub fn snapshot<J: Job, A: Allocator, B: Allocator, C: Allocator + Copy, R: Wait>(
+    rt: &R,
+    alloc: C,
+    shared: &Shared<'_, J, A>,
+    seat: &SourceSeat<B>,
+) -> Result<View<C>, SnapFault>
+    ensures run { IfOk result (λ view. ShowsARun J.network view) }
+    ensures below { IfOk result (λ view. IsBelowKahn J.network view) }
+    ensures quiet { IfOk result (λ view. IsKahnAtRest J.network view) }
+    ensures source { IfOk result (λ _. IsTrue (is_source (channel_at J.network seat.now.channel))) }
+    ensures fresh { IfOk result (λ view. IsPrefix seat.now.items (shown_on view seat.now.channel)) }
+    ensures refused { IfErr result
+        (MayRefuseSnapshot (is_source (channel_at J.network seat.now.channel)) seat.now.items) }
+{
+    let look = shared.look(rt);
+    let desk = look.desk();
+    let source = seat.channel();
+    if !desk.book.network().is_source(source) || !desk.book.journal_begins(source, seat.fed()) {
+        return Err(SnapFault::Foreign);
+    }
+    Ok(desk.snapshot(alloc)?)
+}

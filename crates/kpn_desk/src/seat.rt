@@ -1,0 +1,131 @@
+//! The seat of a worker: what it knows of its own work.
+ghost use Rattle.std.specs.Prelude.{◌≡◌, ◌+◌, IfOk, IfErr, OnErr, OnOk, Some, None};
+ghost use Rattle.kpn_net.specs.Tables.{program_of};
+ghost use Rattle.kpn_run_state.specs.Commits.{Commits};
+ghost use Rattle.kpn_run_state.specs.Refusals.{RefusesCommit};
+ghost use Rattle.kpn_desk.specs.Desk.{with_commit};
+ghost use Rattle.kpn_desk.specs.Seat.{new_seat, ended, with_commits};
+
+use crate::desk::Desk;
+use crate::job::Job;
+use kpn_run_state::laws::what_a_commit_does;
+use kpn_run_state::{Done, Refused};
+use kpn_step::Advance;
+use std::alloc::Allocator;
+use std::marker::Model;
+use std::sync::ledger::Share;
+
+/// Why a worker ended.
+#[derive(Clone, Copy, Debug, PartialEq, Eq)]
+pub enum Why {
+    /// The workers had to end.
+    Halted,
+    /// Nothing more can happen but that the outside leaves a sink.
+    Settled,
+    /// The commits have reached the number that is allowed.
+    Limit,
+    /// The gate made this worker drop its steps and end.
+    Abandoned,
+    /// Memory ran out at a commit of this worker.
+    NoMemory,
+}
+
+/// The seat of a worker: its number, why the worker ended, and how many commits it made. No other part of the program
+/// makes one, and the commits of all seats are those of the book.
+#[derive(Drop)]
+pub struct WorkerSeat<J: Job> {
+    number: usize,
+    why: Option<Why>,
+    commits: u64,
+    pub(crate) share: Share<J>,
+}
+
+impl<J: Job> Model for WorkerSeat<J> {
+    ghost use Rattle.std.specs.Prelude.{◌≡◌};
+    ghost use Rattle.kpn_desk.specs.Seat.{Seat};
+
+    ghost Value = { Seat };
+
+    ghost view = { λ s. record { number = s.number; why = s.why; commits = s.commits } };
+
+    ghost invariant = { λ s. (s.share.parts ≡ 1) × (s.share.amount ≡ s.commits) };
+}
+
+impl<J: Job> WorkerSeat<J> {
+    /// The seat of a worker that has not worked yet.
+    pub(crate) fn new(number: usize, share: Share<J>) -> Self
+        requires parts { share.parts ≡ 1 }
+        requires amount { share.amount ≡ 0 }
+        ensures { result ≡ new_seat number }
+    {
+        WorkerSeat {
+            number,
+            why: None,
+            commits: 0,
+            share,
+        }
+    }
+
+    /// The number of the worker, counted from 0.
+    pub fn number(&self) -> usize
+        ensures { result ≡ self.now.number }
+    {
+        self.number
+    }
+
+    /// Why the worker ended; `None` before it first worked.
+    pub fn why(&self) -> Option<Why>
+        ensures { result ≡ self.now.why }
+    {
+        self.why
+    }
+
+    /// How many commits the worker made: its share of the commits of the book.
+    pub fn commits(&self) -> u64
+        ensures { result ≡ self.now.commits }
+    {
+        self.commits
+    }
+
+    /// Commits the steps of a process that is held, which are steps of its program. The book's commits, the ledger's
+    /// total and this seat's share rise together.
+    pub fn commit<A: Allocator + Copy>(
+        &mut self,
+        desk: &mut Desk<'_, J, A>,
+        p: usize,
+        steps: &Advance<'_>,
+    ) -> Result<Done, Refused>
+        requires { steps.now.program ≡ program_of J.network p }
+        ensures done { IfOk result (λ done.
+            Commits p steps.now done desk.old.book desk.new.book) }
+        ensures total { OnOk result (desk.new ≡ with_commit desk.new.book desk.old) }
+        ensures share { OnOk result (self.new ≡ with_commits (self.old.commits + 1) self.old) }
+        ensures refused { IfErr result (λ cause.
+            RefusesCommit p steps.now desk.old.book cause) }
+        ensures as_before { OnErr result ((self.new ≡ self.old) × (desk.new ≡ desk.old)) }
+    {
+        what_a_commit_does();
+        let done = desk.book.commit_own(p, steps)?;
+        desk.book.known();
+        desk.total.audit(&mut self.share);
+        desk.total.add(&mut self.share, 1);
+        self.commits += 1;
+        Ok(done)
+    }
+
+    /// The share of the ledger that the worker has.
+    pub(crate) fn into_share(self) -> Share<J>
+        ensures parts { result.parts ≡ 1 }
+        ensures amount { result.amount ≡ self.commits }
+    {
+        let WorkerSeat { share, .. } = self;
+        share
+    }
+
+    /// The worker has ended.
+    pub(crate) fn end(&mut self, why: Why)
+        ensures { self.new ≡ ended why self.old }
+    {
+        self.why = Some(why);
+    }
+}

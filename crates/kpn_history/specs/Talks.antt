@@ -1,0 +1,53 @@
+-- The events of each process in a history, and what the process said in them. A history is a list of events, oldest
+-- first.
+use Rattle.std.specs.Prelude.{ℕ, Bool, true, false, nat_eq, if◌then◌else◌, List, [], ◌∷◌, count_by, Option, None}
+use Rattle.std.specs.List.{filter, flat_map, list_any, last_or}
+use Rattle.kpn_lang.specs.declared.talk.Said.{Said}
+use Rattle.kpn_lang.specs.declared.talk.Said.TheVariants as said
+use Rattle.kpn_history.specs.declared.event.Event.{Event}
+use Rattle.kpn_history.specs.declared.event.Event.TheVariants.{Get, Put, WaitEmpty, WaitFull, Ended}
+
+-- the events of a process; those of the outside and growths are of no process
+abbrev pub is_of : (p : ℕ) → Event → Bool
+is_of p (Get q c v) = nat_eq q p
+is_of p (Put q c v) = nat_eq q p
+is_of p (WaitEmpty q c) = nat_eq q p
+is_of p (WaitFull q c) = nat_eq q p
+is_of p (Ended q how) = nat_eq q p
+is_of p event = false
+
+-- the event is of some process
+abbrev pub is_of_process : Event → Bool
+is_of_process (Get q c v) = true
+is_of_process (Put q c v) = true
+is_of_process (WaitEmpty q c) = true
+is_of_process (WaitFull q c) = true
+is_of_process (Ended q how) = true
+is_of_process event = false
+
+-- how many events of processes there are
+abbrev pub process_events : List Event → ℕ
+process_events H = count_by is_of_process H
+
+-- the last event of a process, if it has one
+abbrev pub last_event : List Event → (p : ℕ) → Option Event
+last_event H p = last_or None (filter (is_of p) H)
+
+-- what a process says in an event, with the channel in place of the port
+abbrev pub said_in : (p : ℕ) → Event → List Said
+said_in p (Get q c v) = if nat_eq q p then said.Got c v ∷ [] else []
+said_in p (Put q c v) = if nat_eq q p then said.Put c v ∷ [] else []
+said_in p event = []
+
+-- the talk of a process: what it got and put, in order
+abbrev pub talk_of : List Event → (p : ℕ) → List Said
+talk_of H p = flat_map (said_in p) H
+
+-- the process ends
+abbrev pub is_end_of : (p : ℕ) → Event → Bool
+is_end_of p (Ended q how) = nat_eq q p
+is_end_of p event = false
+
+-- the process has ended
+abbrev pub has_ended : List Event → (p : ℕ) → Bool
+has_ended H p = list_any (is_end_of p) H

@@ -1,0 +1,14 @@
+use Rattle.std.proofs.Common.{ap, sym, subst, ◌∙◌}
+use Rattle.kpn_lang.specs.Prefix.{IsPrefix}
+use Rattle.kpn_configuration.specs.Configuration.{channel_in}
+use Rattle.kpn_run_state.proofs.Journals.{prefix_from_take, take_from_prefix}
+use Rattle.kpn_run_state.proofs.book.Book.journal_begins.Goals as goal
+
+pub returns : goal.returns
+returns g c =
+    let items = c.args.items.now in
+    let journal = c.channel.result.now.journal in
+    let is = ap (λ x. x.journal) (c.channel.ensures ∙ ap (λ b. channel_in b.configuration c.args.c) c.self.view_is) in (
+      λ begins. subst (IsPrefix items) is (prefix_from_take items journal (c.begins_with.ensures.0 begins)),
+      λ begins. c.begins_with.ensures.1 (take_from_prefix items journal (subst (IsPrefix items) (sym is) begins)),
+    )

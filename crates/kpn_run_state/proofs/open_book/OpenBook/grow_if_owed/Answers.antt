@@ -1,0 +1,15 @@
+use Rattle.kpn_run_state.specs.Open.{book_of}
+use Rattle.kpn_run_state.proofs.Answering.{owes_found, owes_none, has_grown}
+use Rattle.kpn_run_state.proofs.open_book.OpenBook.grow_if_owed.Goals as goal
+
+pub grow_at_stop-requires-clause-no_cycle : goal.grow_at_stop-requires-clause-no_cycle
+grow_at_stop-requires-clause-no_cycle g c =
+    owes_none (book_of c.args.self.now) c.known.ensures c.requires.step c.args.p c.requires.waits c.owed.result
+    c.owed.ensures.channel c.in_default.is
+
+pub returns : goal.returns
+returns g c =
+    let b = book_of c.args.self.now in
+    has_grown b (book_of c.grow.new.self) c.known.ensures c.args.p c.args.p c.in-Some.d
+    (owes_found b c.known.ensures c.requires.step c.args.p c.requires.waits c.owed.result c.owed.ensures.channel
+    c.in-Some.d c.in-Some.is) c.grow.ensures

@@ -1,0 +1,53 @@
+use Rattle.std.proofs.Common.{◌≡◌, ◌∙◌, ap, sym, subst, arith}
+use Rattle.kpn_net.specs.Tables.{program_of}
+use Rattle.kpn_net.proofs.Networks.{IsInstance-of}
+use Rattle.kpn_step.specs.Stops.{IsAtPort}
+use Rattle.kpn_step.specs.declared.stop.Stop.TheVariants.{Paused}
+use Rattle.kpn_run_state.specs.declared.answers.Done.TheVariants as done
+use Rattle.kpn_run_state.specs.Book.{put_back}
+use Rattle.kpn_run_state.specs.Commits.{IsReadFrom}
+use Rattle.kpn_run_state.specs.Open.{book_of, Answered}
+use Rattle.kpn_run_state.proofs.Following.{held_is_there, recorded}
+use Rattle.kpn_run_state.proofs.Answering.{asked_otherwise, answered_paused}
+use Rattle.kpn_run_state.proofs.open_book.OpenBook.handle_stop.Goals as goal
+
+pub in_channel-c-requires-clause-port : goal.in_channel-c-requires-clause-port
+in_channel-c-requires-clause-port g c =
+    let b = book_of c.args.self.now in
+    let there = held_is_there b c.requires.sound.in_step c.args.p c.requires.held in
+    let at = subst (λ s. IsAtPort (program_of b.tables c.args.p) c.requires.port.0 s) c.in-WantRead.is
+    c.requires.port.1 in
+    let below = at.0 in
+    let long = (IsInstance-of b.tables c.known.ensures c.args.p there).ins in
+    omega (arith, below, long)
+
+pub out_channel-c-requires-clause-port : goal.out_channel-c-requires-clause-port
+out_channel-c-requires-clause-port g c =
+    let b = book_of c.args.self.now in
+    let there = held_is_there b c.requires.sound.in_step c.args.p c.requires.held in
+    let at =
+    subst (λ s. IsAtPort (program_of b.tables c.args.p) c.requires.port.0 s) c.in-WantWrite.is c.requires.port.1 in
+    let below = at.0 in
+    let long = (IsInstance-of b.tables c.known.ensures c.args.p there).outs in
+    omega (arith, below, long)
+
+pub write-requires-clause-reserved : goal.write-requires-clause-reserved
+write-requires-clause-reserved g c =
+    c.requires.reserved c.out_channel-c.result c.in-WantWrite.item
+    (record { port = c.in-WantWrite.port; asks = c.in-WantWrite.is; channel = c.out_channel-c.ensures })
+
+pub returns-in-WantRead : goal.returns-in-WantRead
+returns-in-WantRead g c =
+    let b = book_of c.args.self.now in
+    asked_otherwise c.args.p (λ s. IsReadFrom b.tables c.args.p s c.in_channel-c.result)
+    (λ s. s ≡ c.args.stop) c.read.result b (book_of c.read.new.self)
+    (λ s is. record { port = c.in-WantRead.port; asks = is ∙ c.in-WantRead.is; channel = c.in_channel-c.ensures })
+    c.read.ensures
+
+pub returns-in-Paused : goal.returns-in-Paused
+returns-in-Paused g c =
+    let b = book_of c.args.self.now in
+    subst (λ a. Answered c.args.p (λ s. s ≡ c.args.stop) done.Paused b a)
+    (sym (ap (recorded b b.history b.configuration) c.put_back.ensures))
+    (asked_otherwise c.args.p (λ s. s ≡ Paused) (λ s. s ≡ c.args.stop) done.Paused b (put_back c.args.p b)
+    (λ s is. is ∙ c.in-Paused.is) (answered_paused b c.requires.sound c.args.p c.requires.held))

@@ -1,0 +1,225 @@
+//! The book as its owner sees it. Each call keeps all that holds of a book.
+ghost use Rattle.std.specs.Prelude.{◌≡◌, ◌↔◌, ◌<◌, ℕ, [], length, is_some, IfOk, IsTrue};
+ghost use Rattle.kpn_lang.specs.Prefix.{IsPrefix};
+ghost use Rattle.kpn_net.specs.Tables.{instance_at, program_of};
+ghost use Rattle.kpn_step.specs.Frame.{start_frame};
+ghost use Rattle.kpn_chan.specs.Channel.{next_item, unread};
+ghost use Rattle.kpn_history.specs.Channels.{read_on, is_closed};
+ghost use Rattle.kpn_history.specs.Views.{AreCounts, Agrees};
+ghost use Rattle.kpn_history.specs.Ends.{IsVerdict};
+ghost use Rattle.kpn_configuration.specs.Configuration.{channel_in, frame_in};
+ghost use Rattle.kpn_schedule.specs.Schedule.{all_ready};
+ghost use Rattle.kpn_run_state.specs.Kept.{IsBook};
+ghost use Rattle.kpn_run_state.specs.Snapshot.{ShowsARun, IsBelowKahn, IsKahnAtRest};
+
+use crate::open_book::OpenBook;
+use crate::view::{copied_journals, view_without_journals};
+use kpn_configuration::Configuration;
+use kpn_history::{Counts, History, Verdict, View};
+use kpn_net::Network;
+use kpn_schedule::Schedule;
+use std::alloc::{AllocError, Allocator, Global};
+use std::marker::Model;
+
+mod outside;
+mod processes;
+
+/// The value under the lock of a run: its network, the history so far, the configuration to which it leads, the
+/// schedule of the processes, and how many commits were made.
+///
+/// Contracts see these five. Each call leaves a book of which `known` holds. A call that is refused leaves the book as
+/// it was.
+#[derive(Debug, Drop)]
+pub struct Book<'n, A: Allocator = Global> {
+    parts: OpenBook<'n, A>,
+}
+
+impl<'n, A: Allocator> Model for Book<'n, A> {
+    ghost use Rattle.std.specs.Coded.{codes};
+    ghost use Rattle.kpn_lang.specs.Codes.{parts_code};
+    ghost use Rattle.kpn_run_state.specs.Book.{Book as Seen};
+
+    ghost Value = { Seen };
+
+    ghost coded = { Prim.hlevel (codes, parts_code) };
+
+    ghost use Rattle.kpn_run_state.specs.Kept.{IsKept};
+    ghost use Rattle.kpn_run_state.specs.Open.{book_of};
+
+    ghost view = { λ b. book_of b.parts };
+
+    ghost invariant = { λ b. IsKept (book_of b.parts) };
+}
+
+impl<'n, A: Allocator + Copy> Book<'n, A> {
+    /// The book of a network at the start: nothing has happened, each process is at the start of its program, and all
+    /// are ready, in order of number. It makes the room of the queue for all of them. The book keeps the allocator for
+    /// all that it will hold. The error is that memory ran out.
+    pub fn new(alloc: A, network: &'n Network) -> Result<Self, AllocError>
+        ensures tables { IfOk result (λ book. book.tables ≡ network.now) }
+        ensures history { IfOk result (λ book. book.history ≡ []) }
+        ensures schedule { IfOk result (λ book.
+            book.schedule ≡ all_ready (length network.now.instances)) }
+        ensures commits { IfOk result (λ book. book.commits ≡ 0) }
+        ensures frames { let t = network.now in IfOk result (λ book.
+            (p : ℕ) → p < length t.instances → frame_in book.configuration p
+            ≡ start_frame (program_of t p) (instance_at t p).pars) }
+        ensures book { IfOk result (λ book. IsBook book) }
+    {
+        let configuration = Configuration::new(alloc, network)?;
+        let schedule = Schedule::new(alloc, network.instances())?;
+        network.known();
+        schedule.known();
+        Ok(Book {
+            parts: OpenBook {
+                network,
+                configuration,
+                history: History::new(alloc),
+                schedule,
+                commits: 0,
+            },
+        })
+    }
+}
+
+impl<'n, A: Allocator> Book<'n, A> {
+    /// Does nothing. A caller's proof learns from it what holds of every book.
+    pub fn known(&self)
+        ensures { IsBook self.now }
+    {
+        self.parts.network.known();
+        self.parts.schedule.known();
+    }
+
+    /// The network.
+    pub fn network(&self) -> &'n Network
+        ensures { result.now ≡ self.now.tables }
+    {
+        self.parts.network
+    }
+
+    /// How many processes are in each state.
+    pub fn counts(&self) -> Counts
+        ensures { AreCounts self.now.schedule.states result }
+    {
+        self.parts.schedule.counts()
+    }
+
+    /// How many commits were made.
+    pub fn commits(&self) -> u64
+        ensures { result ≡ self.now.commits }
+    {
+        self.parts.commits
+    }
+
+    /// The events so far.
+    pub fn history(&self) -> &History<A>
+        ensures { result.now.events ≡ self.now.history }
+    {
+        &self.parts.history
+    }
+
+    /// Moves the events so far out of the book.
+    pub fn into_history(self) -> History<A>
+        ensures { result.events ≡ self.entry.history }
+    {
+        let Book { parts } = self;
+        parts.history
+    }
+
+    /// Whether a take from this sink, or a get from this channel, would give an item.
+    pub fn has_item(&self, c: usize) -> bool
+        requires { c < length self.now.tables.channels }
+        ensures { result ≡ is_some (next_item (channel_in self.now.configuration c)) }
+    {
+        self.parts.configuration.has_item(c)
+    }
+
+    /// How many items of a channel are unread.
+    pub fn unread_count(&self, c: usize) -> usize
+        requires { c < length self.now.tables.channels }
+        ensures { result ≡ length (unread (channel_in self.now.configuration c)) }
+    {
+        self.parts.configuration.channel(c).len()
+    }
+
+    /// How many items were read from a channel.
+    pub fn read_count(&self, c: usize) -> usize
+        requires { c < length self.now.tables.channels }
+        ensures { result ≡ length (read_on self.now.history c) }
+    {
+        self.parts.configuration.channel(c).read_count()
+    }
+
+    /// Whether a channel is a source that was closed.
+    pub fn is_closed(&self, c: usize) -> bool
+        requires { c < length self.now.tables.channels }
+        ensures { result ≡ is_closed self.now.history c }
+    {
+        self.parts.configuration.is_closed(c)
+    }
+
+    /// Whether the journal of a channel begins with these items. The journal is all that was ever put on the channel.
+    pub fn journal_begins(&self, c: usize, items: &[i64]) -> bool
+        requires { c < length self.now.tables.channels }
+        ensures { IsTrue result ↔ IsPrefix items.now (channel_in self.now.configuration c).journal }
+    {
+        self.parts.configuration.channel(c).begins_with(items)
+    }
+
+    /// How the run has come to a stop, if it has. It has if each process has ended or waits, each source is closed and
+    /// each sink is empty or left.
+    pub fn verdict(&self) -> Option<Verdict>
+        ensures { IsVerdict self.now.tables self.now.history result }
+    {
+        self.parts.network.known();
+        if !self.parts.schedule.is_idle() {
+            return None;
+        }
+        self.parts.judge()
+    }
+
+    /// A view of the run at this moment, in lists of an allocator that the caller names. A legal history that owes no
+    /// growth agrees with it. Each journal is a prefix of the least solution for what was fed, and is that solution if
+    /// each process has ended or waits on an empty channel. The error is that memory ran out.
+    pub fn snapshot<B: Allocator + Copy>(&self, alloc: B) -> Result<View<B>, AllocError>
+        ensures agrees { IfOk result (λ view. Agrees self.now.tables self.now.history view) }
+        ensures states { IfOk result (λ view. view.states ≡ self.now.schedule.states) }
+        ensures run { IfOk result (λ view. ShowsARun self.now.tables view) }
+        ensures below { IfOk result (λ view. IsBelowKahn self.now.tables view) }
+        ensures quiet { IfOk result (λ view. IsKahnAtRest self.now.tables view) }
+    {
+        self.known();
+        let OpenBook {
+            network,
+            configuration,
+            schedule,
+            ..
+        } = &self.parts;
+        let channels = network.channels();
+        let mut view = view_without_journals(alloc, channels, configuration, schedule)?;
+        view.journals = copied_journals(alloc, channels, configuration)?;
+        Ok(view)
+    }
+}
+
+impl<'n> Book<'n> {
+    /// A view of the run at its end, and its history. They are moved out of the book as far as possible: no journal is
+    /// copied. The error is that memory ran out.
+    pub fn into_view(self, alloc: Global) -> Result<(View, History), AllocError>
+        ensures agrees { IfOk result (λ told. Agrees self.entry.tables self.entry.history told.0) }
+        ensures states { IfOk result (λ told. told.0.states ≡ self.entry.schedule.states) }
+        ensures history { IfOk result (λ told. told.1.events ≡ self.entry.history) }
+    {
+        let Book { parts } = self;
+        let channels = parts.network.channels();
+        let mut view = view_without_journals(
+            alloc,
+            channels,
+            &parts.configuration,
+            &parts.schedule,
+        )?;
+        view.journals = parts.configuration.into_journals(alloc)?;
+        Ok((view, parts.history))
+    }
+}

@@ -1,0 +1,156 @@
+//! The calls that step processes: claim, commit and put back, and one call that does all for a single owner.
+ghost use Rattle.std.specs.Prelude.{◌≡◌, ◌↔◌, true, false, IfOk, IfErr, OnErr, IsTrue, IfSome, IfNone};
+ghost use Rattle.kpn_net.specs.Tables.{program_of};
+ghost use Rattle.kpn_step.specs.Frame.{fits};
+ghost use Rattle.kpn_configuration.specs.Configuration.{frame_in};
+ghost use Rattle.kpn_run_state.specs.Book.{IsHeld, IsClaimed, put_back};
+ghost use Rattle.kpn_run_state.specs.Commits.{Commits};
+ghost use Rattle.kpn_run_state.specs.Refusals.{RefusesCommit, RefusesPutBack};
+ghost use Rattle.kpn_run_state.specs.Stepping.{ClaimsNobody, IsStep, StepsInVain};
+
+use super::Book;
+use crate::answers::{Done, Refused};
+use crate::claim::Claim;
+use kpn_history::State;
+use kpn_lang::same;
+use kpn_step::{Advance, Frame};
+use std::alloc::{AllocError, Allocator};
+
+impl<'n, A: Allocator> Book<'n, A> {
+    /// Holds the first process of the queue, and returns it with its program and its frame. `None` if no process is
+    /// ready, or if the commits and the held processes are as many as can be counted.
+    pub fn claim(&mut self) -> Option<Claim<'n>>
+        ensures claimed { IfSome result (λ claim. IsClaimed claim.process self.old self.new) }
+        ensures program { IfSome result (λ claim.
+            claim.program.now ≡ program_of self.old.tables claim.process) }
+        ensures frame { IfSome result (λ claim.
+            claim.frame ≡ frame_in self.old.configuration claim.process) }
+        ensures fits { IfSome result (λ claim. IsTrue (fits claim.program.now claim.frame)) }
+        ensures nobody { IfNone result (ClaimsNobody self.old) }
+        ensures as_before { IfNone result (self.new ≡ self.old) }
+    {
+        let Some(process) = self.parts.hold_next() else {
+            return None;
+        };
+        let program = self.parts.network.program(process);
+        let frame = self.parts.configuration.frame(process).copy();
+        Some(Claim {
+            process,
+            program,
+            frame,
+        })
+    }
+
+    /// Claims the first process of the queue as `claim` does, in the memory that the claim has: it copies the frame,
+    /// and makes no step. It returns whether there was one.
+    pub fn claim_into(&mut self, claim: &mut Claim<'n>) -> bool
+        ensures claimed { (result ≡ true) → IsClaimed claim.new.process self.old self.new }
+        ensures program { (result ≡ true)
+            → claim.new.program.now ≡ program_of self.old.tables claim.new.process }
+        ensures frame { (result ≡ true)
+            → claim.new.frame ≡ frame_in self.old.configuration claim.new.process }
+        ensures fits { (result ≡ true)
+            → IsTrue (fits claim.new.program.now claim.new.frame) }
+        ensures nobody { (result ≡ false) → ClaimsNobody self.old }
+        ensures as_before { (result ≡ false)
+            → (self.new ≡ self.old) × (claim.new ≡ claim.old) }
+    {
+        let Some(process) = self.parts.hold_next() else {
+            return false;
+        };
+        claim.process = process;
+        claim.program = self.parts.network.program(process);
+        claim
+            .frame
+            .copy_from(self.parts.configuration.frame(process));
+        true
+    }
+
+    /// Commits the steps of process `p`, which is held. They are steps of its program from its frame. The stop of the
+    /// steps decides: the process gets or puts an item, waits, ends or is ready again. This wakes other processes. If
+    /// the process waits and a growth is owed for this, the growth follows.
+    pub fn commit(&mut self, p: usize, advance: &Advance) -> Result<Done, Refused>
+    where
+        A: Copy,
+        ensures done { IfOk result (λ answer. Commits p advance.now answer self.old self.new) }
+        ensures refused { IfErr result (λ cause. RefusesCommit p advance.now self.old cause) }
+        ensures as_before { OnErr result (self.new ≡ self.old) }
+    {
+        if !self.parts.is_held(p) {
+            return Err(Refused::NotHeld);
+        }
+        if !same(advance.program(), self.parts.network.program(p)) {
+            return Err(Refused::Stranger);
+        }
+        self.commit_own(p, advance)
+    }
+
+    /// Commits the steps of process `p` as `commit` does. The caller knows that they are steps of its program, as those
+    /// of its claim are. So this call does not compare the programs, which may be long.
+    pub fn commit_own(&mut self, p: usize, advance: &Advance) -> Result<Done, Refused>
+    where
+        A: Copy,
+        requires { advance.now.program ≡ program_of self.old.tables p }
+        ensures done { IfOk result (λ answer. Commits p advance.now answer self.old self.new) }
+        ensures refused { IfErr result (λ cause. RefusesCommit p advance.now self.old cause) }
+        ensures as_before { OnErr result (self.new ≡ self.old) }
+    {
+        advance.known();
+        if !self.parts.is_held(p) {
+            return Err(Refused::NotHeld);
+        }
+        if !same_frame(advance.from(), self.parts.configuration.frame(p)) {
+            return Err(Refused::Stranger);
+        }
+        let stop = advance.stop();
+        self.parts.reserve(p, stop)?;
+        let network = self.parts.network;
+        self.parts.configuration.step_to(network, p, advance);
+        let done = self.parts.handle_stop(p, stop);
+        self.parts.commits += 1;
+        Ok(done)
+    }
+
+    /// Puts process `p`, which is held, to the tail of the queue. Its frame stays.
+    pub fn put_back(&mut self, p: usize) -> Result<(), Refused>
+        ensures held { IfOk result (λ _. IsHeld self.old p) }
+        ensures after { IfOk result (λ _. self.new ≡ put_back p self.old) }
+        ensures refused { IfErr result (λ cause. RefusesPutBack p self.old cause) }
+        ensures as_before { OnErr result (self.new ≡ self.old) }
+    {
+        if !self.parts.is_held(p) {
+            return Err(Refused::NotHeld);
+        }
+        self.parts.schedule.put_back(p);
+        Ok(())
+    }
+
+    /// Claims a process, makes at most `quota` steps of it and commits them, in place: it copies no frame. `None` if no
+    /// process can be claimed. The error is that memory ran out: the process has made its steps and is ready again, at
+    /// the tail of the queue.
+    pub fn step_next(&mut self, quota: u32) -> Result<Option<Done>, AllocError>
+    where
+        A: Copy,
+        ensures step { IfOk result (λ answer. IsStep quota answer self.old self.new) }
+        ensures in_vain { OnErr result (StepsInVain quota self.old self.new) }
+    {
+        let Some(p) = self.parts.hold_next() else {
+            return Ok(None);
+        };
+        let network = self.parts.network;
+        let (_, stop) = self.parts.configuration.step(network, p, quota);
+        if let Err(error) = self.parts.reserve(p, stop) {
+            self.parts.schedule.put_back(p);
+            return Err(error);
+        }
+        let done = self.parts.handle_stop(p, stop);
+        self.parts.commits += 1;
+        Ok(Some(done))
+    }
+}
+
+fn same_frame(left: &Frame, right: &Frame) -> bool
+    ensures { IsTrue result ↔ (left.now ≡ right.now) }
+{
+    *left == *right
+}

@@ -1,0 +1,89 @@
+//! The parts of a book in the midst of a call, when not all that holds of a book need hold of them.
+ghost use Rattle.std.specs.Prelude.{◌≡◌, ◌↔◌, ◌+◌, ◌-◌, ◌<◌, ◌^◌, Option, option_to_list, IsTrue, IfNone};
+ghost use Rattle.kpn_history.specs.declared.state.Verdict.{Verdict as Told};
+ghost use Rattle.kpn_configuration.specs.Configuration.{IsConfiguration};
+ghost use Rattle.kpn_configuration.specs.Settled.{IsVerdictNow};
+ghost use Rattle.kpn_run_state.specs.Appending.{all_made_ready};
+ghost use Rattle.kpn_run_state.specs.Book.{IsHeld, held_count};
+ghost use Rattle.kpn_run_state.specs.Kept.{IsKept};
+ghost use Rattle.kpn_run_state.specs.Open.{MayBeReady, book_of, claims_by};
+
+use kpn_configuration::Configuration;
+use kpn_history::{History, State, Verdict};
+use kpn_net::Network;
+use kpn_schedule::Schedule;
+use std::alloc::Allocator;
+
+mod commits;
+mod outside;
+
+/// The network, the history so far, the configuration to which it leads, the schedule of the processes, and how many
+/// commits were made.
+#[derive(Debug, Drop)]
+pub(crate) struct OpenBook<'n, A: Allocator> {
+    pub(crate) network: &'n Network,
+    pub(crate) configuration: Configuration<A>,
+    pub(crate) history: History<A>,
+    pub(crate) schedule: Schedule<A>,
+    pub(crate) commits: u64,
+}
+
+impl<'n, A: Allocator> OpenBook<'n, A> {
+    /// Whether process `p` is held.
+    pub(crate) fn is_held(&self, p: usize) -> bool
+        ensures { IsTrue result ↔ IsHeld (book_of self.now) p }
+    {
+        p < self.schedule.len() && self.schedule.state(p) == State::Held
+    }
+
+    /// Holds the first process of the queue, and returns it. `None` if no process is ready, or if the commits and the
+    /// held processes are as many as can be counted.
+    pub(crate) fn hold_next(&mut self) -> Option<usize>
+        requires { IsKept (book_of self.old) }
+        ensures claims { claims_by result (book_of self.old) (book_of self.new) }
+        ensures same { IfNone result (self.new ≡ self.old) }
+    {
+        if self.is_counted_out() {
+            return None;
+        }
+        self.schedule.hold_next()
+    }
+
+    /// Whether the commits and the held processes are as many as can be counted.
+    fn is_counted_out(&self) -> bool
+        requires { self.now.commits + held_count (book_of self.now) < 2 ^ 64 }
+        ensures { IsTrue result ↔ (self.now.commits + held_count (book_of self.now) ≡ 2 ^ 64 - 1) }
+    {
+        self.commits + self.schedule.held() as u64 == u64::MAX
+    }
+
+    /// The verdict of the configuration. It is a function of its own, so that a test for a verdict at each step takes
+    /// only one look at the counts.
+    #[cold]
+    #[inline(never)]
+    pub(crate) fn judge(&self) -> Option<Verdict>
+        requires { IsConfiguration self.now.network.now self.now.configuration }
+        ensures { let t = self.now.network.now in (told : Option Told)
+            → ((result ≡ told) ↔ IsVerdictNow t self.now.configuration told) }
+    {
+        self.configuration.verdict(self.network)
+    }
+}
+
+/// Makes a process that was woken ready, if there is one.
+pub(crate) fn wake<A: Allocator>(schedule: &mut Schedule<A>, woken: Option<usize>)
+    requires { MayBeReady schedule.old (option_to_list woken) }
+    ensures { schedule.new ≡ all_made_ready (option_to_list woken) schedule.old }
+{
+    if let Some(q) = woken {
+        schedule.make_ready(q);
+    }
+}
+
+/// The number of a process or of a channel, as events have it.
+pub(crate) fn number(n: usize) -> u16
+    requires { n < 2 ^ 16 }
+    ensures { result ≡ n }
+{
+    n as u16
+}

@@ -1,0 +1,305 @@
+//! The commit of a held process at its stop. One function for each kind of stop makes the event that is due there, and
+//! after a wait or an end the growth that is owed.
+ghost use Rattle.std.specs.Prelude.{◌≡◌, ◌≢◌, ◌<◌, ◌≤◌, ◌+◌, ℕ, ℤ, [], true, length, IsTrue};
+ghost use Rattle.kpn_net.specs.Tables.{instance_at, program_of};
+ghost use Rattle.kpn_step.specs.declared.stop.Stop.{Stop as Place};
+ghost use Rattle.kpn_step.specs.declared.stop.Stop.TheVariants.{Faulted, Paused};
+ghost use Rattle.kpn_step.specs.Frame.{Frame};
+ghost use Rattle.kpn_step.specs.Stops.{IsAtPort};
+ghost use Rattle.kpn_chan.specs.Channel.{is_full, unread};
+ghost use Rattle.kpn_history.specs.declared.event.Event.TheVariants as event;
+ghost use Rattle.kpn_configuration.specs.Configuration.{channel_in};
+ghost use Rattle.kpn_configuration.specs.Changes.{IsChannelAt};
+ghost use Rattle.kpn_configuration.specs.Due.{Stands, ReadsFrom, WritesTo, stop_of};
+ghost use Rattle.kpn_run_state.specs.Book.{IsHeld};
+ghost use Rattle.kpn_run_state.specs.Commits.{IsReadFrom, IsWriteTo};
+ghost use Rattle.kpn_run_state.specs.Kept.{IsInStep};
+ghost use Rattle.kpn_run_state.specs.Open.{book_of, reserves_by, IsSound, Follows, EndsWithWait, GrowsIfOwed, GrowsAtStop, Answered, MayBeReady};
+ghost use Rattle.kpn_history.specs.Legal.{OwesGrowth, growth_after};
+ghost use Rattle.kpn_history.specs.Stops.{OwesNoCycleGrowth};
+ghost use Rattle.kpn_configuration.specs.Owed.{IsAwaitedBelowLimit};
+ghost use Rattle.kpn_run_state.specs.Appending.{all_made_ready};
+
+use super::{OpenBook, number, wake};
+use crate::answers::Done;
+use kpn_history::{Event, How, State};
+use kpn_lang::Fault;
+use kpn_net::Network;
+use kpn_schedule::Schedule;
+use kpn_step::Stop;
+use std::alloc::{AllocError, Allocator};
+
+impl<'n, A: Allocator> OpenBook<'n, A> {
+    /// Reserves what process `p` may need at this stop: two events, and for a write an item.
+    pub(crate) fn reserve(&mut self, p: usize, stop: Stop) -> Result<(), AllocError>
+    where
+        A: Copy,
+        requires process { p < length self.old.network.now.instances }
+        requires step { IsInStep (book_of self.old) }
+        requires port { (f : Frame) × IsAtPort (program_of self.old.network.now p) f stop }
+        ensures { reserves_by p stop result
+            (book_of self.old) self.new.history.room (book_of self.new) }
+    {
+        let network = self.network;
+        network.known();
+        match stop {
+            Stop::Paused => Ok(()),
+            Stop::WantWrite(port, _) => {
+                let c = out_channel(network, p, port);
+                self.history.reserve(2)?;
+                self.configuration.reserve_one(c)
+            }
+            // an arm of its own: if it were one with the ends, the code would test the stop again before the read
+            Stop::WantRead(_) => self.history.reserve(2),
+            Stop::Done | Stop::Faulted(_) => self.history.reserve(2),
+        }
+    }
+
+    pub(crate) fn handle_stop(&mut self, p: usize, stop: Stop) -> Done
+        requires sound { IsSound (book_of self.old) }
+        requires held { IsHeld (book_of self.old) p }
+        requires room { stop ≢ Paused → 2 ≤ self.old.history.room }
+        requires stands { Stands self.old.network.now self.old.configuration p stop }
+        requires port { (f : Frame) × IsAtPort (program_of self.old.network.now p) f stop }
+        requires reserved { (c : ℕ) (v : ℤ) → IsWriteTo self.old.network.now p stop c v
+            → IsTrue (channel_in self.old.configuration c).is_reserved }
+        ensures { Answered p (λ (s : Place). s ≡ stop) result (book_of self.old) (book_of self.new) }
+    {
+        let network = self.network;
+        network.known();
+        match stop {
+            Stop::WantRead(port) => {
+                let c = in_channel(network, p, port);
+                self.read(p, c)
+            }
+            Stop::WantWrite(port, item) => {
+                let c = out_channel(network, p, port);
+                self.write(p, c, item)
+            }
+            Stop::Done => self.finish(p, How::Done),
+            Stop::Faulted(fault) => self.finish(p, how_of(fault)),
+            Stop::Paused => {
+                self.schedule.put_back(p);
+                Done::Paused
+            }
+        }
+    }
+
+    /// Process `p`, which is at a read from channel `c`, gets its next item, or waits if there is none.
+    fn read(&mut self, p: usize, c: usize) -> Done
+        requires room { 2 ≤ self.old.history.room }
+        requires sound { IsSound (book_of self.old) }
+        requires held { IsHeld (book_of self.old) p }
+        requires reads { ReadsFrom self.old.network.now self.old.configuration p c }
+        ensures { let t = self.old.network.now in
+            Answered p (λ s. IsReadFrom t p s c) result (book_of self.old) (book_of self.new) }
+    {
+        let network = self.network;
+        network.known();
+        if !self.configuration.has_item(c) {
+            self.wait_on_empty(p, c);
+            return self.grow_if_owed(p);
+        }
+        let got = self.configuration.get(network, p, c);
+        self.history
+            .push(Event::Get(number(p), number(c), got.item));
+        self.schedule.put_back(p);
+        wake(&mut self.schedule, got.woken);
+        Done::Got(got.item)
+    }
+
+    /// Process `p`, which is at a write of this item to channel `c`, puts it there, or waits if the channel is full.
+    fn write(&mut self, p: usize, c: usize, item: i64) -> Done
+        requires room { 2 ≤ self.old.history.room }
+        requires sound { IsSound (book_of self.old) }
+        requires held { IsHeld (book_of self.old) p }
+        requires writes { WritesTo self.old.network.now self.old.configuration p c item }
+        requires reserved { IsTrue (channel_in self.old.configuration c).is_reserved }
+        ensures { let t = self.old.network.now in
+            Answered p (λ s. IsWriteTo t p s c item) result (book_of self.old) (book_of self.new) }
+    {
+        let network = self.network;
+        network.known();
+        if self.configuration.channel(c).is_full() {
+            self.wait_on_full(p, c, item);
+            return self.grow_if_owed(p);
+        }
+        let woken = self.configuration.put(network, p, c, item);
+        self.history.push(Event::Put(number(p), number(c), item));
+        self.schedule.put_back(p);
+        wake(&mut self.schedule, woken);
+        Done::Put
+    }
+
+    fn wait_on_empty(&mut self, p: usize, c: usize)
+        requires room { 0 < self.old.history.room }
+        requires sound { IsSound (book_of self.old) }
+        requires held { IsHeld (book_of self.old) p }
+        requires reads { ReadsFrom self.old.network.now self.old.configuration p c }
+        requires ready { unread (channel_in self.old.configuration c) ≡ [] }
+        ensures follows { Follows (event.WaitEmpty p c) (book_of self.old) (book_of self.new) }
+        ensures room { self.old.history.room ≤ self.new.history.room + 1 }
+    {
+        let network = self.network;
+        network.known();
+        self.configuration.wait_on_empty(network, p, c);
+        self.history.push(Event::WaitEmpty(number(p), number(c)));
+        self.schedule.set(p, State::WaitsEmpty(c));
+    }
+
+    fn wait_on_full(&mut self, p: usize, c: usize, item: i64)
+        requires room { 0 < self.old.history.room }
+        requires sound { IsSound (book_of self.old) }
+        requires held { IsHeld (book_of self.old) p }
+        requires writes { WritesTo self.old.network.now self.old.configuration p c item }
+        requires ready { is_full (channel_in self.old.configuration c) ≡ true }
+        requires reserved { IsTrue (channel_in self.old.configuration c).is_reserved }
+        ensures follows { Follows (event.WaitFull p c) (book_of self.old) (book_of self.new) }
+        ensures room { self.old.history.room ≤ self.new.history.room + 1 }
+    {
+        // Only the contract names the item.
+        let _item = item;
+        let network = self.network;
+        network.known();
+        self.configuration.wait_on_full(network, p, c);
+        self.history.push(Event::WaitFull(number(p), number(c)));
+        self.schedule.set(p, State::WaitsFull(c));
+    }
+
+    /// Makes the growth that is owed after a wait of process `p`, if one is: for a cycle through `p`, or else for a
+    /// stop.
+    fn grow_if_owed(&mut self, p: usize) -> Done
+        requires room { 0 < self.old.history.room }
+        requires step { IsInStep (book_of self.old) }
+        requires process { p < length self.old.network.now.instances }
+        requires waits { EndsWithWait self.old.history.events p }
+        ensures { GrowsIfOwed p result (book_of self.old) (book_of self.new) }
+    {
+        let network = self.network;
+        network.known();
+        let Some(d) = self.configuration.owed(network, p) else {
+            return match self.grow_at_stop() {
+                Some(d) => Done::Grew(d),
+                None => Done::Blocked,
+            };
+        };
+        self.grow(p, d);
+        Done::Grew(d)
+    }
+
+    /// Makes the growth that is owed for a stop, if one is. None is owed for a cycle. It returns the channel.
+    // It is inlined, since each wait and each end calls it, and hardly ever have all processes stopped.
+    #[inline(always)]
+    pub(crate) fn grow_at_stop(&mut self) -> Option<usize>
+        requires room { 0 < self.old.history.room }
+        requires step { IsInStep (book_of self.old) }
+        requires no_cycle { OwesNoCycleGrowth self.old.network.now self.old.history.events }
+        ensures { GrowsAtStop result (book_of self.old) (book_of self.new) }
+    {
+        self.network.known();
+        if !self.schedule.is_idle() {
+            return None;
+        }
+        self.grow_when_stopped()
+    }
+
+    /// The same, once each process has ended or waits.
+    #[cold]
+    #[inline(never)]
+    fn grow_when_stopped(&mut self) -> Option<usize>
+        requires room { 0 < self.old.history.room }
+        requires step { IsInStep (book_of self.old) }
+        requires no_cycle { OwesNoCycleGrowth self.old.network.now self.old.history.events }
+        ensures { GrowsAtStop result (book_of self.old) (book_of self.new) }
+    {
+        let network = self.network;
+        network.known();
+        let Some(owed) = self.configuration.owed_at_stop(network) else {
+            return None;
+        };
+        self.grow(owed.process, owed.channel);
+        Some(owed.channel)
+    }
+
+    fn grow(&mut self, p: usize, d: usize)
+        requires room { 0 < self.old.history.room }
+        requires step { IsInStep (book_of self.old) }
+        requires process { p < length self.old.network.now.instances }
+        requires awaited { IsAwaitedBelowLimit self.old.network.now self.old.configuration d }
+        requires owed { OwesGrowth self.old.network.now self.old.history.events p d }
+        ensures { let t = self.old.network.now in let H = self.old.history.events in
+            Follows (growth_after t H p d) (book_of self.old) (book_of self.new) }
+    {
+        let network = self.network;
+        network.known();
+        let grown = self.configuration.grow(network, p, d);
+        self.history
+            .push(Event::Grow(number(p), number(d), grown.capacity));
+        wake(&mut self.schedule, grown.woken);
+    }
+
+    /// Ends process `p`, which is at this end, and makes the growth that is then owed.
+    fn finish(&mut self, p: usize, how: How) -> Done
+        requires room { 2 ≤ self.old.history.room }
+        requires sound { IsSound (book_of self.old) }
+        requires held { IsHeld (book_of self.old) p }
+        requires stands { Stands self.old.network.now self.old.configuration p (stop_of how) }
+        ensures { Answered p (λ (s : Place). s ≡ stop_of how) result (book_of self.old) (book_of self.new) }
+    {
+        self.end(p, how);
+        let _grown = self.grow_at_stop();
+        Done::Ended
+    }
+
+    /// Ends process `p`, which is at this end. The processes that this wakes become ready.
+    fn end(&mut self, p: usize, how: How)
+        requires room { 0 < self.old.history.room }
+        requires sound { IsSound (book_of self.old) }
+        requires held { IsHeld (book_of self.old) p }
+        requires stands { Stands self.old.network.now self.old.configuration p (stop_of how) }
+        ensures follows { Follows (event.Ended p how) (book_of self.old) (book_of self.new) }
+        ensures room { self.old.history.room ≤ self.new.history.room + 1 }
+    {
+        let network = self.network;
+        network.known();
+        let woken = self.configuration.end(network, p, how);
+        self.history.push(Event::Ended(number(p), how));
+        self.schedule.set(p, State::Ended(how));
+        wake_all(&mut self.schedule, woken.as_slice());
+    }
+}
+
+fn wake_all<A: Allocator>(schedule: &mut Schedule<A>, woken: &[usize])
+    requires { MayBeReady schedule.old woken.now }
+    ensures { schedule.new ≡ all_made_ready woken.now schedule.old }
+{
+    'processes: for i in 0..woken.len() {
+        let q = woken[i];
+        schedule.make_ready(q);
+    }
+}
+
+fn in_channel(network: &Network, p: usize, port: usize) -> usize
+    requires process { p < length network.now.instances }
+    requires port { port < length (instance_at network.now p).ins }
+    ensures { IsChannelAt (instance_at network.now p).ins port result }
+{
+    network.ins(p)[port]
+}
+
+fn out_channel(network: &Network, p: usize, port: usize) -> usize
+    requires process { p < length network.now.instances }
+    requires port { port < length (instance_at network.now p).outs }
+    ensures { IsChannelAt (instance_at network.now p).outs port result }
+{
+    network.outs(p)[port]
+}
+
+fn how_of(fault: Fault) -> How
+    ensures { stop_of result ≡ Faulted fault }
+{
+    match fault {
+        Fault::Overflow => How::Overflow,
+        Fault::ZeroDivisor => How::ZeroDivisor,
+    }
+}

@@ -1,0 +1,84 @@
+//! A view of a run at one moment, copied from its configuration and its schedule.
+ghost use Rattle.std.specs.Prelude.{◌≡◌, ◌<◌, ◌∷◌, [], ◌++◌, length, map, IfOk};
+ghost use Rattle.std.specs.List.{range_with_len};
+ghost use Rattle.kpn_history.specs.Views.{AreCounts};
+ghost use Rattle.kpn_configuration.specs.Configuration.{channel_in};
+
+use kpn_chan::Journal;
+use kpn_configuration::Configuration;
+use kpn_history::View;
+use kpn_lang::Sequence;
+use kpn_schedule::Schedule;
+use std::alloc::{AllocError, Allocator};
+
+/// The view of a run with this many channels, without its journals. The error is that memory ran out.
+pub(crate) fn view_without_journals<A: Allocator, B: Allocator + Copy>(
+    alloc: B,
+    channels: usize,
+    configuration: &Configuration<A>,
+    schedule: &Schedule<A>,
+) -> Result<View<B>, AllocError>
+    requires { channels ≡ length configuration.now.channels }
+    ensures read { let s = configuration.now in IfOk result (λ view.
+        view.read ≡ map (λ c. (channel_in s c).read) (range_with_len 0 channels)) }
+    ensures caps { let s = configuration.now in IfOk result (λ view.
+        view.caps ≡ map (λ c. (channel_in s c).capacity) (range_with_len 0 channels)) }
+    ensures retired { let s = configuration.now in IfOk result (λ view.
+        view.retired ≡ map (λ c. (channel_in s c).is_retired) (range_with_len 0 channels)) }
+    ensures states { IfOk result (λ view. view.states ≡ schedule.now.states) }
+    ensures counts { IfOk result (λ view. AreCounts view.states view.counts) }
+{
+    let mut view = View {
+        journals: Sequence::new(alloc),
+        read: Sequence::new(alloc),
+        caps: Sequence::new(alloc),
+        retired: Sequence::new(alloc),
+        states: Sequence::from_vec(schedule.copy_states(alloc)?),
+        counts: schedule.counts(),
+    };
+    'channels: for c in 0..channels {
+        add_channel(configuration, c, &mut view)?;
+    }
+    Ok(view)
+}
+
+/// Appends a channel to a view, without its journal.
+fn add_channel<A: Allocator, B: Allocator>(
+    configuration: &Configuration<A>,
+    c: usize,
+    view: &mut View<B>,
+) -> Result<(), AllocError>
+    requires { c < length configuration.now.channels }
+    ensures read { let s = configuration.now in IfOk result (λ _.
+        view.new.read ≡ view.old.read ++ (channel_in s c).read ∷ []) }
+    ensures caps { let s = configuration.now in IfOk result (λ _.
+        view.new.caps ≡ view.old.caps ++ (channel_in s c).capacity ∷ []) }
+    ensures retired { let s = configuration.now in IfOk result (λ _.
+        view.new.retired ≡ view.old.retired ++ (channel_in s c).is_retired ∷ []) }
+    ensures states { IfOk result (λ _. view.new.states ≡ view.old.states) }
+    ensures counts { IfOk result (λ _. view.new.counts ≡ view.old.counts) }
+{
+    let channel = configuration.channel(c);
+    view.read.push(channel.read_count())?;
+    view.caps.push(channel.cap())?;
+    view.retired.push(channel.is_retired())?;
+    Ok(())
+}
+
+/// Copies of the journals of this many channels.
+pub(crate) fn copied_journals<A: Allocator, B: Allocator + Copy>(
+    alloc: B,
+    channels: usize,
+    configuration: &Configuration<A>,
+) -> Result<Sequence<Journal<B>, B>, AllocError>
+    requires { channels ≡ length configuration.now.channels }
+    ensures { let s = configuration.now in IfOk result (λ journals.
+        journals ≡ map (λ c. (channel_in s c).journal) (range_with_len 0 channels)) }
+{
+    let mut journals = Sequence::new(alloc);
+    'channels: for c in 0..channels {
+        let journal = Journal::from_vec(alloc, configuration.copy_journal(alloc, c)?);
+        journals.push(journal)?;
+    }
+    Ok(journals)
+}
