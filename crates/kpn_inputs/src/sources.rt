@@ -9,7 +9,7 @@ ghost use Rattle.kpn_inputs.specs.SourceRefusals.{IsRefusalOfWords, IsRefusalOfS
 use kpn_items::items_of;
 use kpn_lang::Sequence;
 use kpn_net::Network;
-use kpn_refusals::Refusal;
+use kpn_refusals::{OptionFault, Refusal};
 use kpn_shelf::Shelf;
 use kpn_text::Document;
 use std::alloc::{AllocError, Global};
