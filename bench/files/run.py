@@ -436,25 +436,32 @@ def a_sink_of_a_run_that_is_stopped(folder):
     expect(names(folder), ['both.kpn', 'items', 'ys'])
 
 
+def many(folder, instances):
+    """The words of a run with 16 sinks for each instance, whose last one gets an item."""
+    parts, sinks = range(16), range(16 * instances)
+    (folder / 'many.kpn').write_text('\n'.join([
+        f'process many(out {", ".join(f"p{part}" for part in parts)}) {{ write p15 7; }}', 'network {',
+        *(f'sink z{sink} cap 1;' for sink in sinks),
+        *(f'm{first} = many(; {", ".join(f"z{first + part}" for part in parts)});' for first in sinks[::16]), '}']))
+    return ['many.kpn', *(word for sink in sinks for word in ('--sink', f'z{sink}=o{sink}'))]
+
+
 @case
 def many_sinks(folder):
-    """Each takes one open file until it is stored. If there are too few, nothing is stored."""
-    parts = range(1_000)
-    (folder / 'many.kpn').write_text('\n'.join([
-        'process copy(in i; out o) { while 1 { read i x; write o x; } }', 'network {',
-        *(f'source s{part}; sink z{part} cap 1; c{part} = copy(s{part}; z{part});' for part in parts), '}']))
-    (folder / 'items').write_bytes(b'7\n')
-    words = ['many.kpn', '--source', 's999=items']
-    for part in parts:
-        words += ['--sink', f'z{part}=o{part}']
-    out, told, status = run(folder, *words, preexec_fn=lambda: few_files(1_024))
-    expect((told, status), (b'', 0))
-    expect(len(names(folder)), 1_002)
-    expect((folder / 'o998').read_bytes() + (folder / 'o999').read_bytes(), b'7\n')
-    for part in parts:
-        os.remove(folder / f'o{part}')
-    expect(run(folder, *words, preexec_fn=lambda: few_files(500)), (b'', WRITE, 1))
-    expect(names(folder), ['items', 'many.kpn'])
+    words = many(folder, 63)
+    expect(run(folder, *words, preexec_fn=lambda: few_files(1_024))[1:], (b'', 0))
+    expect(len(names(folder)), 1 + 63 * 16)
+    expect((folder / 'o1006').read_bytes() + (folder / 'o1007').read_bytes(), b'7\n')
+
+
+@case
+def open_files(folder):
+    """Each output takes one until it is stored. If there are too few, nothing is stored."""
+    words = many(folder, 4)
+    expect(run(folder, *words, '--trace', 'out', preexec_fn=lambda: few_files(3 + 64)), (b'', WRITE, 1))
+    expect(names(folder), ['many.kpn'])
+    expect(run(folder, *words, '--trace', 'out', preexec_fn=lambda: few_files(3 + 65))[1:], (b'', 0))
+    expect(len(names(folder)), 1 + 65)
 
 
 def few_files(count):

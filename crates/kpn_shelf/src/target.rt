@@ -66,7 +66,7 @@ impl Target {
     pub(super) fn give_up<R: Files>(self, rt: &R) {
         let Target {
             name: _,
-            file: _file,
+            file: _,
             part,
         } = self;
         if let Some(part) = part {
