@@ -251,11 +251,10 @@ fn is_one_output<S: Shelf>(shelf: &S, name: &str, other: &str) -> Result<bool, A
     ensures one { IfOk result (λ is. is ≡ true
         → MayBeOneOutput (S.may_alias shelf.now) name.now other.now) }
 {
-    let meets = is_input(shelf, name, other)?;
-    if meets {
+    if name == other {
         return Ok(true);
     }
-    shelf.is_same_file(other, name)
+    shelf.is_one_output(name, other)
 }
 
 // Whether an output would be written over any of the earlier ones, or one of them over it.

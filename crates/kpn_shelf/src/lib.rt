@@ -13,6 +13,7 @@ mod files;
 mod memory;
 mod place;
 mod target;
+mod written;
 
 pub use files::FileShelf;
 pub use memory::MemoryShelf;
@@ -41,6 +42,14 @@ pub trait Shelf {
     /// names differ. It fails only for want of memory.
     fn is_same_file(&self, _name: &str, _other: &str) -> Result<bool, AllocError>
         ensures { IfOk result (λ same. same ≡ true → may_alias self.now _name.now _other.now) }
+    {
+        Ok(false)
+    }
+
+    /// Whether something that is stored under this name and something that is stored under the other one would be
+    /// written into one file, though the names differ. It fails only for want of memory.
+    fn is_one_output(&self, _name: &str, _other: &str) -> Result<bool, AllocError>
+        ensures { IfOk result (λ one. one ≡ true → may_alias self.now _name.now _other.now) }
     {
         Ok(false)
     }
