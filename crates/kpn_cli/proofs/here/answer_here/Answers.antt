@@ -37,3 +37,14 @@ returns-in-Audit g c = rw c.in-Audit.is (refl, (c.audit_command.ensures.ok, c.au
 
 pub returns-in-Stats : goal.returns-in-Stats
 returns-in-Stats g c = rw c.in-Stats.is (refl, (c.stats_command.ensures.ok, c.stats_command.ensures.refused))
+
+pub returns-in-Run-None : goal.returns-in-Run-None
+returns-in-Run-None g c = rw c.in-Run.is (refl, (c.run_command.ensures.ok, c.run_command.ensures.refused))
+
+pub returns-in-Run-Some : goal.returns-in-Run-Some
+returns-in-Run-Some g c = (c.in-Run.is, refl)
+
+pub returns-in-Rounds : goal.returns-in-Rounds
+returns-in-Rounds g c =
+    rw (c.in-Rounds.is, ← c.deref.ensures.value)
+    (refl, (c.rounds_command.ensures.ok, c.rounds_command.ensures.refused))
