@@ -1,5 +1,5 @@
 -- Each command answers what it is asked for.
-use Rattle.std.proofs.Common.{List, map, refl, subst}
+use Rattle.std.proofs.Common.{List, map, refl, rules, subst}
 use Rattle.kpn_cli.proofs.here.answer_here.Goals as goal
 
 pub returns-in-Alone : goal.returns-in-Alone
@@ -42,7 +42,7 @@ pub returns-in-Run-None : goal.returns-in-Run-None
 returns-in-Run-None g c = rw c.in-Run.is (refl, (c.run_command.ensures.ok, c.run_command.ensures.refused))
 
 pub returns-in-Run-Some : goal.returns-in-Run-Some
-returns-in-Run-Some g c = (c.in-Run.is, refl)
+returns-in-Run-Some g c = (c.in-Run.is, search rules, refl)
 
 pub returns-in-Rounds : goal.returns-in-Rounds
 returns-in-Rounds g c =
