@@ -1,7 +1,7 @@
 -- What the words of a command line ask for.
 use Rattle.std.specs.Prelude.{◌≡◌, ◌≢◌, ◌⊎◌, ◌&&◌, ◌^◌, ℕ, nat_lt, List, []}
 use Rattle.std.specs.Prelude.{Option, Some, None, option_map, option_and_then, unwrap_or, map, codes, ⊤}
-use Rattle.std.specs.Prelude.{if◌then◌else◌}
+use Rattle.std.specs.Prelude.{if◌then◌else◌, Result, MatchResult}
 use Rattle.std.specs.Prelude.{Bool, true, false}
 use Rattle.std.specs.Option.{option_map_or}
 use Rattle.std.specs.Str.{bytes_eq}
@@ -10,15 +10,18 @@ use Rattle.clap.specs.Kinds.{IsAmong}
 use Rattle.clap.specs.Faults.{fault_of}
 use Rattle.clap.specs.Simple.{subcommand_of}
 use Rattle.clap.specs.ValueTests.{is_numeral}
-use Rattle.clap.specs.Walk.{Row, first_of, one_of, all_of}
+use Rattle.clap.specs.Walk.{Row, first_of, one_of, all_of, rows_of}
+use Rattle.clap.specs.Matches.{found_of}
+use Rattle.clap.specs.declared.parser.matches.ArgMatches.{ArgMatches}
 use Rattle.clap.specs.declared.error.kind.ErrorKind.{ErrorKind}
 use Rattle.clap.specs.declared.error.kind.ErrorKind.TheVariants.{DisplayHelp, DisplayVersion, OutOfMemory}
+use Rattle.kpn_request.specs.RunRequest.{RunRequest}
+use Rattle.kpn_request.specs.declared.tables.StatsTables.{StatsTables}
+use Rattle.kpn_request.specs.declared.tables.StatsTables.TheVariants.{People, Channels, Processes}
 use Rattle.kpn_command_line.specs.declared.request.Request.{Request}
 use Rattle.kpn_command_line.specs.declared.request.Request.TheVariants.{Alone, Check, Explain, ExplainItems}
-use Rattle.kpn_command_line.specs.declared.request.Request.TheVariants.{Print, Draw, Rounds, Run, RunByWorkers}
+use Rattle.kpn_command_line.specs.declared.request.Request.TheVariants.{Print, Draw, Rounds, Run}
 use Rattle.kpn_command_line.specs.declared.request.Request.TheVariants.{Audit, Stats, Help}
-use Rattle.kpn_command_line.specs.declared.request.Tsv.{Tsv}
-use Rattle.kpn_command_line.specs.declared.request.Tsv.TheVariants.{Channels, Processes}
 use Rattle.kpn_command_line.specs.declared.request.WordsFault.{WordsFault}
 use Rattle.kpn_command_line.specs.declared.request.WordsFault.TheVariants.{Usage, NoMemory}
 use Rattle.kpn_command_line.specs.CommandLine.{command_line}
@@ -100,14 +103,13 @@ AsksForRounds words file n sources =
     × (number_for 32 (codes "N") given ≡ Some n) × (texts_for (codes "SOURCE") given ≡ sources)
 
 -- 10,000,000 commits without `--max-commits`
-abbrev pub AsksForRun : (words : List (List ℕ)) (file : List ℕ) (sources sinks : List (List ℕ)) (commits : ℕ)
-    (take : Option ℕ) (trace : Option (List ℕ)) (workers : Option ℕ) → Type 0
-AsksForRun words file sources sinks commits take trace workers =
-    (given : List Row) × Names words (codes "run") given × (text_for (codes "FILE") given ≡ Some file)
-    × (texts_for (codes "SOURCE") given ≡ sources) × (texts_for (codes "SINK") given ≡ sinks)
-    × (unwrap_or (number_for 64 (codes "MAX_COMMITS") given) 10000000 ≡ commits)
-    × (number_for 64 (codes "K") given ≡ take) × (text_for (codes "TRACE") given ≡ trace)
-    × (number_for 32 (codes "WORKERS") given ≡ workers)
+abbrev pub AsksForRun : (words : List (List ℕ)) → RunRequest → Type 0
+AsksForRun words run =
+    (given : List Row) × Names words (codes "run") given × (text_for (codes "FILE") given ≡ Some run.file)
+    × (texts_for (codes "SOURCE") given ≡ run.sources) × (texts_for (codes "SINK") given ≡ run.sinks)
+    × (unwrap_or (number_for 64 (codes "MAX_COMMITS") given) 10000000 ≡ run.commits)
+    × (number_for 64 (codes "K") given ≡ run.take) × (text_for (codes "TRACE") given ≡ run.trace)
+    × (number_for 32 (codes "WORKERS") given ≡ run.workers)
 
 -- 10,000,000 steps without `--steps`
 abbrev pub AsksForAudit : (words : List (List ℕ)) (file trace : List ℕ) (steps : ℕ) → Type 0
@@ -116,18 +118,19 @@ AsksForAudit words file trace steps =
     × (text_for (codes "TRACE") given ≡ Some trace)
     × (unwrap_or (number_for 64 (codes "STEPS") given) 10000000 ≡ steps)
 
--- the word that names a table
-abbrev pub table_name : Tsv → List ℕ
-table_name Channels = codes "channels"
-table_name Processes = codes "processes"
+-- the word that names a table for other programs
+abbrev pub table_name : StatsTables → Option (List ℕ)
+table_name People = None
+table_name Channels = Some (codes "channels")
+table_name Processes = Some (codes "processes")
 
 -- 10,000,000 steps without `--steps`, and the tables for people without `--tsv`
-abbrev pub AsksForStats : (words : List (List ℕ)) (file trace : List ℕ) (steps : ℕ) (tsv : Option Tsv) → Type 0
-AsksForStats words file trace steps tsv =
+abbrev pub AsksForStats : (words : List (List ℕ)) (file trace : List ℕ) (steps : ℕ) → StatsTables → Type 0
+AsksForStats words file trace steps tables =
     (given : List Row) × Names words (codes "stats") given × (text_for (codes "FILE") given ≡ Some file)
     × (text_for (codes "TRACE") given ≡ Some trace)
     × (unwrap_or (number_for 64 (codes "STEPS") given) 10000000 ≡ steps)
-    × (text_for (codes "TABLE") given ≡ option_map table_name tsv)
+    × (text_for (codes "TABLE") given ≡ table_name tables)
 
 -- the request is what the words ask for
 abbrev pub IsAsked : (words : List (List ℕ)) → Request → Type 0
@@ -140,14 +143,9 @@ IsAsked words (Print file) = AsksForPrint words file.now
 IsAsked words (Draw file trace) = AsksForDraw words file.now (option_map (λ name. name.now) trace)
 IsAsked words (Rounds file n sources) =
     AsksForRounds words file.now n (map (λ source. source.now) sources.items)
-IsAsked words (Run run) =
-    AsksForRun words run.file.now (map (λ source. source.now) run.sources.items)
-    (map (λ sink. sink.now) run.sinks.items) run.commits run.take (option_map (λ trace. trace.now) run.trace) None
-IsAsked words (RunByWorkers run workers) =
-    AsksForRun words run.file.now (map (λ source. source.now) run.sources.items)
-    (map (λ sink. sink.now) run.sinks.items) run.commits run.take (option_map (λ trace. trace.now) run.trace) (Some workers)
+IsAsked words (Run run) = AsksForRun words run
 IsAsked words (Audit file trace steps) = AsksForAudit words file.now trace.now steps
-IsAsked words (Stats file trace steps tsv) = AsksForStats words file.now trace.now steps tsv
+IsAsked words (Stats file trace steps tables) = AsksForStats words file.now trace.now steps tables
 IsAsked words (Help text) = AsksForHelp words
 
 -- no request is what the words ask for
@@ -170,6 +168,16 @@ IsRefused words NoMemory = ⊤
 
 -- ---- scaffolding: what the parts of the code answer
 
+-- what the words give to a command, as `clap` hands it over
+abbrev pub rows_in : ArgMatches → List Row
+rows_in matches = rows_of (found_of matches)
+
+-- of all words that name this command and give it this, the answer is what they ask for, or why they are refused
+abbrev pub AnswersTo : (command : List ℕ) → ArgMatches → Result Request WordsFault → Type 0
+AnswersTo command matches result =
+    (words : List (List ℕ)) → Names words command (rows_in matches)
+    → MatchResult result (IsAsked words) (IsRefused words)
+
 -- help, if `clap` stops for it
 abbrev pub IsHelpOfKind : ErrorKind → Request → Type 0
 IsHelpOfKind kind (Help text) = (kind ≡ DisplayHelp) ⊎ (kind ≡ DisplayVersion)
@@ -188,4 +196,4 @@ IsUsageIf cause NoMemory = ⊤
 
 -- this text names no table
 abbrev pub IsNoTable : Option (List ℕ) → Type 0
-IsNoTable text = (tsv : Option Tsv) → text ≡ option_map table_name tsv → ⊥
+IsNoTable text = (tables : StatsTables) → text ≡ table_name tables → ⊥
