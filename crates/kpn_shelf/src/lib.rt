@@ -45,6 +45,14 @@ pub trait Shelf {
         Ok(false)
     }
 
+    /// Whether something that is stored under this name and something that is stored under the other one would be
+    /// written into one file, though the names differ. It fails only for want of memory.
+    fn is_one_output(&self, _name: &str, _other: &str) -> Result<bool, AllocError>
+        ensures { IfOk result (λ one. one ≡ true → may_alias self.now _name.now _other.now) }
+    {
+        Ok(false)
+    }
+
     /// Checks whether something can be stored under this name, as far as that shows before it is there,
     /// and makes ready for it. What the name has stays as it is. Several names may be ready at once.
     fn make_ready(&self, _name: &str) -> Result<(), WriteFault> {

@@ -1,0 +1,21 @@
+-- What holds of the parts that a run is handed holds of the inputs and of the request.
+use Rattle.std.proofs.Common.{◌≡◌, ℕ, ℤ, List, Option, Some, None, inr, sym, subst}
+use Rattle.kpn_net.specs.Tables.{Tables}
+use Rattle.kpn_run_here.specs.declared.outcome.Limits.{Limits}
+use Rattle.kpn_refusals.specs.declared.refusal.Refusal.{Refusal}
+use Rattle.kpn_refusals.specs.declared.refusal.Refusal.TheVariants.{NoMemory}
+use Rattle.kpn_request.specs.RunRequest.{RunRequest}
+use Rattle.kpn_shelf.specs.Shelf.{Loads, Aliases}
+use Rattle.kpn_run_command.specs.Reported.{IsRefusalOfReport}
+use Rattle.kpn_run_command.specs.Run.{IsNoRun}
+
+pub along : (P : Tables → List (List ℤ) → Limits → Type 0) {network t : Tables} {lists given : List (List ℤ)}
+    {limits asked : Limits} → network ≡ t → lists ≡ given → limits ≡ asked → P network lists limits → P t given asked
+along P {network = network} {given = given} {limits = limits} {asked = asked} {lists = lists} {t = t} is same be h =
+    subst (λ n. P n given asked) is
+    (subst (λ ls. P network ls asked) same (subst (λ l. P network lists l) be h))
+
+pub unrun : (may_give : Loads) (may_alias : Aliases) (request : RunRequest) (refusal : Refusal) → refusal ≡ NoMemory
+    → IsNoRun may_give may_alias request refusal
+unrun may_give may_alias request refusal is =
+    inr (subst (IsRefusalOfReport request.workers) (sym is) tt)

@@ -1,0 +1,57 @@
+-- The trace is apart from the inputs, or it is refused.
+use Rattle.std.proofs.Common.{rules, ◌≡◌, ◌++◌, ◌∷◌, [], ℕ, List, IfErr, Option, Some, None, map, option_map, ap, sym, subst, ◌∙◌}
+use Rattle.std.proofs.lemmas.Result.{IfErr-weaker}
+use Rattle.kpn_refusals.specs.declared.refusal.Refusal.{Refusal}
+use Rattle.kpn_refusals.specs.declared.refusal.Refusal.TheVariants.{TraceWord}
+use Rattle.kpn_run_command.specs.Outputs.{AreApart, IsRefusalOfOutput, trace_name}
+use Rattle.kpn_run_command.proofs.Apart.{now, apart_none, trace_refused}
+use Rattle.kpn_run_command.proofs.outputs.check_trace.Goals as goal
+
+pub returns-in-None-clause-names : goal.returns-in-None-clause-names
+returns-in-None-clause-names g c =
+    let none : None ≡ c.args.request.now.trace =
+    sym (ap (option_map now) c.in-None.is) ∙ ap (λ r. r.trace) c.request.view_is in
+    ap (map now) c.new-names.ensures.items ∙ ap trace_name none
+
+pub returns-in-None-clause-apart : goal.returns-in-None-clause-apart
+returns-in-None-clause-apart g c =
+    let none : None ≡ c.args.request.now.trace =
+    sym (ap (option_map now) c.in-None.is) ∙ ap (λ r. r.trace) c.request.view_is in
+    subst (λ (t : Option (List ℕ)). AreApart c.args.request.now (trace_name t)) none (apart_none c.args.request.now)
+
+pub add_output-requires : goal.add_output-requires
+add_output-requires g c =
+    subst (AreApart c.args.request.now) (sym (ap (map now) c.new-names.ensures.items)) (apart_none c.args.request.now)
+
+pub returns-in_err-add_output-clause-refused : goal.returns-in_err-add_output-clause-refused
+returns-in_err-add_output-clause-refused g c =
+    let may_alias = g.S.Shelf.may_alias c.args.shelf.now in
+    let outputs = map now c.new-names.result.items in
+    let some : Some c.in-Some.name.now ≡ c.args.request.now.trace =
+    sym (ap (option_map now) c.in-Some.is) ∙ ap (λ r. r.trace) c.request.view_is in
+    let h : IfErr c.from_residual-in_err-add_output.result
+    (λ (r : Refusal). IsRefusalOfOutput may_alias c.args.request.now outputs c.in-Some.name.now TraceWord r) =
+    search rules in
+    IfErr-weaker c.from_residual-in_err-add_output.result
+    (λ (r : Refusal). IsRefusalOfOutput may_alias c.args.request.now outputs c.in-Some.name.now TraceWord r) _
+    (trace_refused may_alias c.args.request.now c.args.request.now.trace c.in-Some.name.now some outputs
+    (ap (map now) c.new-names.ensures.items) TraceWord)
+    h
+
+pub returns-clause-names : goal.returns-clause-names
+returns-clause-names g c =
+    let some : Some c.in-Some.name.now ≡ c.args.request.now.trace =
+    sym (ap (option_map now) c.in-Some.is) ∙ ap (λ r. r.trace) c.request.view_is in
+    c.in_ok-add_output.ensures.added
+    ∙ ap (λ (names : List (List ℕ)). names ++ c.in-Some.name.now ∷ []) (ap (map now) c.new-names.ensures.items)
+    ∙ ap trace_name some
+
+pub returns-clause-apart : goal.returns-clause-apart
+returns-clause-apart g c =
+    let some : Some c.in-Some.name.now ≡ c.args.request.now.trace =
+    sym (ap (option_map now) c.in-Some.is) ∙ ap (λ r. r.trace) c.request.view_is in
+    subst (AreApart c.args.request.now)
+    (c.in_ok-add_output.ensures.added
+    ∙ ap (λ (names : List (List ℕ)). names ++ c.in-Some.name.now ∷ []) (ap (map now) c.new-names.ensures.items)
+    ∙ ap trace_name some)
+    c.in_ok-add_output.ensures.apart

@@ -1,0 +1,75 @@
+-- Each refusal of a stage is one of the run; what holds of the options holds of the words.
+use Rattle.std.proofs.Common.{rules, ◌≡◌, ℕ, List, IfErr, map, length, ap, sym, subst, ◌∙◌}
+use Rattle.std.proofs.lemmas.List.{length-map}
+use Rattle.std.proofs.lemmas.Result.{IfErr-weaker}
+use Rattle.kpn_inputs.specs.declared.sources.FileOption.{FileOption}
+use Rattle.kpn_inputs.specs.Inputs.{AreNamedSinks, IsRefusalOfRunInputs}
+use Rattle.kpn_inputs.specs.Sources.{name_in, file_in}
+use Rattle.kpn_refusals.specs.declared.refusal.Refusal.{Refusal}
+use Rattle.kpn_run_command.specs.Outputs.{IsRefusalOfOutputs, outputs_of}
+use Rattle.kpn_run_command.proofs.Apart.{now, outputs_refused, inputs_refused, unready}
+use Rattle.kpn_run_command.proofs.outputs.prepare.Goals as goal
+
+name : FileOption → List ℕ
+name o = o.name.now
+
+file : FileOption → List ℕ
+file o = o.file.now
+
+pub returns-in_err-outputs-clause-refused : goal.returns-in_err-outputs-clause-refused
+returns-in_err-outputs-clause-refused g c =
+    let may_alias = g.S.Shelf.may_alias c.args.shelf.now in
+    let h : IfErr c.from_residual.result (IsRefusalOfOutputs may_alias c.args.request.now) = search rules in
+    IfErr-weaker c.from_residual.result _ _
+    (outputs_refused may_alias c.args.request.now (g.S.Shelf.may_give c.args.shelf.now)) h
+
+pub returns-in-Err-clause-refused : goal.returns-in-Err-clause-refused
+unfolding name
+returns-in-Err-clause-refused g c =
+    let may_give = g.S.Shelf.may_give c.args.shelf.now in
+    let request = c.args.request.now in
+    let names : map name c.deref.result.now ≡ map name_in request.sinks =
+    ap (map name) c.deref.ensures.value ∙ c.in_ok-outputs.ensures.names in
+    inputs_refused (g.S.Shelf.may_alias c.args.shelf.now) request may_give c.in_ok-outputs.ensures.apart
+    c.in-Err.refusal
+    (subst (λ (ns : List (List ℕ)). IsRefusalOfRunInputs may_give request.file request.sources ns c.in-Err.refusal)
+    names c.in-Err.ensures.refused)
+
+pub returns-in-Ok-make_ready-clause-sinks : goal.returns-in-Ok-make_ready-clause-sinks
+unfolding name file
+returns-in-Ok-make_ready-clause-sinks g c =
+    let request = c.args.request.now in
+    let loaded = c.in-Ok.loaded in
+    let names : map name c.deref.result.now ≡ map name_in request.sinks =
+    ap (map name) c.deref.ensures.value ∙ c.in_ok-outputs.ensures.names in
+    let files : map file c.deref.result.now ≡ map file_in request.sinks =
+    ap (map file) c.deref.ensures.value ∙ c.in_ok-outputs.ensures.files in
+    subst (λ ns. AreNamedSinks loaded.inputs.document ns (map file_in request.sinks) loaded.sinks.items) names
+    (subst (λ fs. AreNamedSinks loaded.inputs.document (map name c.deref.result.now) fs loaded.sinks.items) files
+    c.in-Ok.ensures.sinks)
+
+pub returns-clause-refused : goal.returns-clause-refused
+unfolding name file
+returns-clause-refused g c =
+    let request = c.args.request.now in
+    let loaded = c.in-Ok.loaded in
+    let names : map name c.deref.result.now ≡ map name_in request.sinks =
+    ap (map name) c.deref.ensures.value ∙ c.in_ok-outputs.ensures.names in
+    let files : map file c.deref.result.now ≡ map file_in request.sinks =
+    ap (map file) c.deref.ensures.value ∙ c.in_ok-outputs.ensures.files in
+    let long : length c.deref-2.result.now ≡ length (outputs_of request) =
+    ap length c.deref-2.ensures.value ∙ sym (length-map c.in_ok-outputs.outputs.names.items now)
+    ∙ ap length c.in_ok-outputs.ensures.outputs in
+    unready (g.S.Shelf.may_alias c.args.shelf.now) request (g.S.Shelf.may_give c.args.shelf.now)
+    c.in_ok-outputs.ensures.apart (length c.deref-2.result.now) long
+    (record {
+      document = loaded.inputs.document;
+      given = loaded.inputs.given.items;
+      are_inputs = c.in-Ok.ensures.ok;
+      named = loaded.sinks.items;
+      are_sinks =
+          subst (λ ns. AreNamedSinks loaded.inputs.document ns (map file_in request.sinks) loaded.sinks.items) names
+          (subst (λ fs. AreNamedSinks loaded.inputs.document (map name c.deref.result.now) fs loaded.sinks.items) files
+          c.in-Ok.ensures.sinks);
+    })
+    c.in-Err-make_ready.refusal c.in-Err-make_ready.ensures
