@@ -290,24 +290,99 @@ def a_sink_in_a_part_file(folder):
 
 @case
 def two_names_with_one_part_file(folder):
-    """The part file of the first is locked, and nothing is stored."""
     both(folder)
-    expect(run_both(folder, '--sink', f'y={"n" * 254}', '--sink', f'z={"n" * 255}'), (b'', WRITE, 1))
-    expect(names(folder), ['both.kpn', 'items'])
+    a, b = 'n' * 254, 'n' * 255
+    is_refused_sink(folder, '--sink', f'y={a}', '--sink', f'z={b}')
+    is_refused_sink(folder, '--sink', f'y={b}', '--sink', f'z=./{a}')
+    is_refused_sink(folder, '--trace', a, '--sink', f'z={b}')
+    expect(run_both(folder, '--sink', f'y={"n" * 245}a', '--sink', f'z={b}'), (BOTH_REPORT, b'', 0))
 
 
 @case
-def a_link_that_leads_nowhere_and_another_output(folder):
-    """Nothing is written into the file that the link names."""
-    for words in (('--sink', 'y=out', '--sink', 'z=link'), ('--sink', 'y=link', '--sink', 'z=out'),
-                  ('--trace', 'link', '--sink', 'z=out')):
-        for name in names(folder):
-            os.remove(folder / name)
-        both(folder)
-        (folder / 'link').symlink_to('out')
-        expect(run_both(folder, *words), (b'', WRITE, 1))
-        expect((folder / 'out').read_bytes(), b'')
-        expect(names(folder), ['both.kpn', 'items', 'link', 'out'])
+def an_input_that_begins_like_an_output(folder):
+    """An input has no part file."""
+    both(folder)
+    name = 'n' * 255
+    (folder / name).write_bytes(b'1\n2\n')
+    expect(run(folder, 'both.kpn', '--source', f's={name}', '--sink', f'z={"n" * 254}'), (BOTH_REPORT, b'', 0))
+
+
+def each_order(folder, first, second):
+    """Two names are refused as outputs in each order, as the trace and a sink and as two sinks."""
+    for a, b in ((first, second), (second, first)):
+        is_refused_sink(folder, '--trace', a, '--sink', f'z={b}')
+        is_refused_sink(folder, '--sink', f'y={a}', '--sink', f'z={b}')
+
+
+@case
+def a_link_to_a_part_file_that_is_not_there(folder):
+    both(folder)
+    (folder / 'sub').mkdir()
+    (folder / 'link').symlink_to('out.kpn-part')
+    (folder / 'chain').symlink_to('./link')
+    (folder / 'sub/link').symlink_to('../out.kpn-part')
+    (folder / 'far').symlink_to('sub/link')
+    (folder / 'whole').symlink_to(folder / 'out.kpn-part')
+    (folder / 'through').symlink_to('sub')
+    for name in ('link', './link', 'chain', 'sub/link', 'far', 'whole', 'through/link', 'through/../link'):
+        each_order(folder, 'out', name)
+        each_order(folder, f'{folder}/out', name)
+    expect(names(folder), ['both.kpn', 'chain', 'far', 'items', 'link', 'sub', 'through', 'whole'])
+    expect(names(folder / 'sub'), ['link'])
+
+
+@case
+def a_link_to_the_part_file_of_a_long_name(folder):
+    both(folder)
+    (folder / 'link').symlink_to('n' * 246 + '.kpn-part')
+    each_order(folder, 'n' * 255, 'link')
+    each_order(folder, 'n' * 246, 'link')
+    expect(names(folder), ['both.kpn', 'items', 'link'])
+
+
+@case
+def a_link_to_the_part_file_of_a_link(folder):
+    """The part file of a link stands beside what it leads to."""
+    both(folder)
+    (folder / 'sub').mkdir()
+    (folder / 'out').symlink_to('sub/out')
+    (folder / 'link').symlink_to('sub/out.kpn-part')
+    for _ in range(2):
+        each_order(folder, 'out', 'link')
+        (folder / 'sub/out').write_bytes(b'kept\n')
+    expect(names(folder / 'sub'), ['out'])
+    expect(run_both(folder, '--sink', 'y=out', '--sink', 'z=out.kpn-part'), (BOTH_REPORT, b'', 0))
+    expect((folder / 'sub/out').read_bytes(), b'1\n2\n')
+    expect((folder / 'out.kpn-part').read_bytes(), b'-1\n-2\n')
+
+
+@case
+def links_to_one_file_that_is_not_there(folder):
+    both(folder)
+    (folder / 'link').symlink_to('out')
+    (folder / 'second').symlink_to('./out')
+    (folder / 'chain').symlink_to('link')
+    each_order(folder, 'link', 'second')
+    each_order(folder, 'link', 'chain')
+    each_order(folder, 'link', 'out')
+    each_order(folder, 'chain', './out')
+    expect(names(folder), ['both.kpn', 'chain', 'items', 'link', 'second'])
+
+
+@case
+def links_that_meet_are_refused_before_inputs_are_read(folder):
+    both(folder)
+    (folder / 'link').symlink_to('out.kpn-part')
+    is_refused(folder, 'no.kpn', '--trace', 'out', '--sink', 'z=link', usage=SINK_USAGE)
+
+
+@case
+def a_ring_of_links(folder):
+    both(folder)
+    (folder / 'link').symlink_to('ring')
+    (folder / 'ring').symlink_to('link')
+    expect(run_both(folder, '--sink', 'y=link'), (b'', WRITE, 1))
+    expect(names(folder), ['both.kpn', 'items', 'link', 'ring'])
 
 
 @case
@@ -361,6 +436,38 @@ def a_sink_of_a_run_that_is_stopped(folder):
     expect(names(folder), ['both.kpn', 'items', 'ys'])
 
 
+def many(folder, instances):
+    """The words of a run with 16 sinks for each instance, whose last one gets an item."""
+    parts, sinks = range(16), range(16 * instances)
+    (folder / 'many.kpn').write_text('\n'.join([
+        f'process many(out {", ".join(f"p{part}" for part in parts)}) {{ write p15 7; }}', 'network {',
+        *(f'sink z{sink} cap 1;' for sink in sinks),
+        *(f'm{first} = many(; {", ".join(f"z{first + part}" for part in parts)});' for first in sinks[::16]), '}']))
+    return ['many.kpn', *(word for sink in sinks for word in ('--sink', f'z{sink}=o{sink}'))]
+
+
+@case
+def many_sinks(folder):
+    words = many(folder, 63)
+    expect(run(folder, *words, preexec_fn=lambda: few_files(1_024))[1:], (b'', 0))
+    expect(len(names(folder)), 1 + 63 * 16)
+    expect((folder / 'o1006').read_bytes() + (folder / 'o1007').read_bytes(), b'7\n')
+
+
+@case
+def open_files(folder):
+    """Each output takes one until it is stored. If there are too few, nothing is stored."""
+    words = many(folder, 4)
+    expect(run(folder, *words, '--trace', 'out', preexec_fn=lambda: few_files(3 + 64)), (b'', WRITE, 1))
+    expect(names(folder), ['many.kpn'])
+    expect(run(folder, *words, '--trace', 'out', preexec_fn=lambda: few_files(3 + 65))[1:], (b'', 0))
+    expect(len(names(folder)), 1 + 65)
+
+
+def few_files(count):
+    resource.setrlimit(resource.RLIMIT_NOFILE, (count, count))
+
+
 # ---- outputs that stay allowed
 
 @case
@@ -384,6 +491,37 @@ def nothing(folder):
     expect(run(folder, 'two.kpn', '--trace', '/dev/null')[2], 1)
     two(folder)
     expect(run(folder, 'two.kpn', '--trace', '/dev/null'), (REPORT, b'', 0))
+
+
+@case
+def nothing_twice(folder):
+    """Nothing is lost there."""
+    both(folder)
+    expect(run_both(folder, '--trace', '/dev/null', '--sink', 'z=/dev/null'), (BOTH_REPORT, b'', 0))
+    expect(run_both(folder, '--sink', 'y=/dev/null', '--sink', 'z=//dev/null'), (BOTH_REPORT, b'', 0))
+
+
+@case
+def a_file_by_its_descriptor(folder):
+    """It is written itself: the one who opened it reads it there."""
+    two(folder)
+    with open(folder / 'out', 'w+b') as out:
+        out.write(b'a longer text that is there before: ' * 40)
+        out.flush()
+        for name in (f'/dev/fd/{out.fileno()}', f'/proc/self/fd/{out.fileno()}'):
+            expect(run(folder, 'two.kpn', '--trace', name, pass_fds=(out.fileno(),)), (REPORT, b'', 0))
+            out.seek(0)
+            expect(out.read(), TRACE)
+    expect(names(folder), ['out', 'two.kpn'])
+
+
+@case
+def a_file_by_its_descriptor_and_by_its_name(folder):
+    both(folder)
+    with open(folder / 'out', 'wb') as out:
+        for a, b in (('out', f'/dev/fd/{out.fileno()}'), (f'/dev/fd/{out.fileno()}', 'out')):
+            expect(run_both(folder, '--sink', f'y={a}', '--sink', f'z={b}', pass_fds=(out.fileno(),)),
+                   (b'', SINK_USAGE, 2))
 
 
 @case
@@ -422,9 +560,21 @@ def a_link_to_a_file(folder):
 @case
 def a_link_to_a_file_that_is_not_there(folder):
     two(folder)
-    (folder / 'link').symlink_to('file')
+    (folder / 'sub').mkdir()
+    (folder / 'link').symlink_to('sub/link')
+    (folder / 'sub/link').symlink_to('file')
     expect(run(folder, 'two.kpn', '--trace', 'link'), (REPORT, b'', 0))
-    expect((folder / 'file').read_bytes(), TRACE)
+    expect((folder / 'sub/file').read_bytes(), TRACE)
+    expect(names(folder), ['link', 'sub', 'two.kpn'])
+    expect(names(folder / 'sub'), ['file', 'link'])
+
+
+@case
+def a_link_to_a_file_in_a_folder_that_is_not_there(folder):
+    two(folder)
+    (folder / 'link').symlink_to('missing/file')
+    expect(run(folder, 'two.kpn', '--trace', 'link'), (b'', WRITE, 1))
+    expect(names(folder), ['link', 'two.kpn'])
 
 
 # ---- the file is tried before the run
@@ -633,6 +783,19 @@ def a_part_file_that_is_a_link(folder):
 
 
 @case
+def a_part_file_that_is_no_plain_file(folder):
+    """It stays, and nobody waits for the reader of a pipe."""
+    words = long_run(folder)
+    (folder / 'out').write_bytes(b'kept\n')
+    for make in (os.mkfifo, os.mkdir, lambda path: os.symlink('nowhere', path)):
+        make(folder / 'out.kpn-part')
+        at_once(folder, *words, '--trace', 'out')
+        expect(names(folder), ['out', 'out.kpn-part', 'spin.kpn'])
+        (os.rmdir if (folder / 'out.kpn-part').is_dir() else os.remove)(folder / 'out.kpn-part')
+    expect((folder / 'out').read_bytes(), b'kept\n')
+
+
+@case
 def a_device_that_is_full(folder):
     two(folder)
     expect(run(folder, 'two.kpn', '--trace', '/dev/full'), (b'', WRITE, 1))
@@ -646,6 +809,16 @@ def a_file_that_may_grow_no_longer(folder):
     expect(run(folder, 'two.kpn', '--trace', 'out', preexec_fn=small_files), (b'', WRITE, 1))
     expect((folder / 'out').read_bytes(), b'kept\n')
     expect(names(folder), ['out', 'two.kpn'])
+
+
+@case
+def a_link_to_a_file_that_may_grow_no_longer(folder):
+    two(folder)
+    (folder / 'out').write_bytes(b'kept\n')
+    (folder / 'link').symlink_to('out')
+    expect(run(folder, 'two.kpn', '--trace', 'link', preexec_fn=small_files), (b'', WRITE, 1))
+    expect((folder / 'out').read_bytes(), b'kept\n')
+    expect(names(folder), ['link', 'out', 'two.kpn'])
 
 
 def small_files():
@@ -665,6 +838,18 @@ def synced_before_it_succeeds(folder):
     calls = [line.split('(')[0] for line in done.stderr.decode().splitlines()]
     expect([call for call in calls if call in ('fsync', 'rename')], ['fsync', 'rename', 'fsync'])
 
+
+# ---- numbers
+
+@case
+def rounds_of_minus_zero(folder):
+    copy(folder)
+    for words in (('0',), ('--', '-0'), ('--', '-00')):
+        done = subprocess.run([PROGRAM, 'rounds', 'copy.kpn', *words], cwd=folder, capture_output=True, timeout=60)
+        expect((done.stdout, done.stderr, done.returncode), (b's:\nz:\n', b'', 0))
+
+
+# ---- signals
 
 @case
 def an_input_that_a_signal_interrupts(folder):

@@ -2,20 +2,26 @@
 ghost use Rattle.std.specs.Prelude.{⊤};
 
 use crate::Shelf;
-use crate::place::Place;
-use crate::target::{Target, part_of};
+use crate::target::Target;
+use crate::written::Written;
 use kpn_items::{ItemFault, WriteFault, read_all};
 use std::alloc::{AllocError, Global};
 use std::cell::Cell;
+use std::collections::BTreeMap;
 use std::fs::File;
 use std::io::ErrorKind;
 use std::rt::Files;
 use std::{fs, io};
 
+// What is written for names.
+type Looks = BTreeMap<String, Written>;
+
 /// The files that a runtime reaches, by their paths. Nothing is known of what they hold.
 pub struct FileShelf<'a, R: Files<File = File> + AllocGlobal> {
     rt: &'a R,
     ready: Cell<Option<Vec<Target>>>,
+    // Since files were changed. Each name is looked at once: outputs are compared in pairs, and may be many.
+    looks: Cell<Option<Looks>>,
 }
 
 impl<'a, R: Files<File = File> + AllocGlobal> FileShelf<'a, R> {
@@ -24,6 +30,7 @@ impl<'a, R: Files<File = File> + AllocGlobal> FileShelf<'a, R> {
         FileShelf {
             rt,
             ready: Cell::new(None),
+            looks: Cell::new(None),
         }
     }
 
@@ -49,46 +56,50 @@ impl<'a, R: Files<File = File> + AllocGlobal> FileShelf<'a, R> {
         Target::open(self.rt, name)
     }
 
-    // Keeps a file until something is stored in it. It refuses one that is ready under another name too: to open a link
-    // that leads nowhere makes the file that the link names.
+    // Keeps a file until something is stored in it.
     fn keep(&self, target: Target) -> Result<(), WriteFault> {
         let mut targets = self.take_ready();
-        let fault = if self.leads_to_one(target.name(), &targets) {
-            Some(WriteFault::Write)
-        } else if targets.reserve(1).is_err() {
-            Some(WriteFault::NoMemory)
-        } else {
-            None
-        };
-        match fault {
-            Some(fault) => {
-                target.give_up(self.rt);
-                self.ready.set(Some(targets));
-                Err(fault)
-            }
-            None => {
-                targets.push_reserved(target);
-                self.ready.set(Some(targets));
-                Ok(())
-            }
+        let room = targets.reserve(1);
+        match room {
+            Ok(()) => targets.push_reserved(target),
+            Err(_) => target.give_up(self.rt),
         }
+        self.ready.set(Some(targets));
+        room.map_err(|_| WriteFault::NoMemory)
     }
 
-    // Whether a name leads to the file of one of these.
-    fn leads_to_one(&self, name: &str, targets: &[Target]) -> bool {
-        let place = Place::new(self.rt, name);
-        for target in targets {
-            if Place::new(self.rt, target.name()).is_same(&place) {
-                return true;
-            }
-        }
-        false
+    // What is written for these names. The caller puts it back.
+    fn looks_at(&self, name: &str, other: &str) -> Result<Looks, AllocError> {
+        let mut looks = match self.looks.take() {
+            Some(looks) => looks,
+            None => BTreeMap::new(self.rt.alloc()),
+        };
+        look_at(self.rt, &mut looks, name)?;
+        look_at(self.rt, &mut looks, other)?;
+        Ok(looks)
     }
+}
+
+// Looks at what is written for a name, if nobody has looked yet.
+fn look_at<R: Files + AllocGlobal>(
+    rt: &R,
+    looks: &mut Looks,
+    name: &str,
+) -> Result<(), AllocError> {
+    if looks.get(name).is_none() {
+        let word = String::from_str(rt.alloc(), name)?;
+        looks.insert(word, Written::new(rt, name)?)?;
+    }
+    Ok(())
 }
 
 impl<R: Files<File = File> + AllocGlobal> Drop for FileShelf<'_, R> {
     fn drop(self) {
-        let FileShelf { rt, ready } = self;
+        let FileShelf {
+            rt,
+            ready,
+            looks: _,
+        } = self;
         if let Some(targets) = ready.into_inner() {
             for target in targets {
                 target.give_up(rt);
@@ -116,25 +127,39 @@ impl<R: Files<File = File> + AllocGlobal> Shelf for FileShelf<'_, R> {
     }
 
     fn store(&mut self, name: &str, bytes: &[u8]) -> Result<(), WriteFault> {
+        self.looks.set(None);
         match self.target(name) {
             Ok(target) => target.fill(self.rt, bytes).map_err(fault_of),
             Err(error) => Err(fault_of(error)),
         }
     }
 
-    /// Whether both names lead to one plain file, or would once it is there; or the other name leads to the part file
-    /// of the first.
+    /// Whether the other name leads to the plain file that is stored under the first, or to its part file, or would
+    /// once it is made.
     fn is_same_file(&self, name: &str, other: &str) -> Result<bool, AllocError> {
-        let other = Place::new(self.rt, other);
-        if Place::new(self.rt, name).is_same(&other) {
-            return Ok(true);
-        }
-        let part = part_of(self.rt, name)?;
-        Ok(Place::new(self.rt, part.as_str()).is_same(&other))
+        let looks = self.looks_at(name, other)?;
+        let is = match (looks.get(name), looks.get(other)) {
+            (Some(written), Some(other)) => written.has_file_of(other),
+            _ => false,
+        };
+        self.looks.set(Some(looks));
+        Ok(is)
+    }
+
+    /// Whether one plain file would be written for both names, as what is stored or as a part file.
+    fn is_one_output(&self, name: &str, other: &str) -> Result<bool, AllocError> {
+        let looks = self.looks_at(name, other)?;
+        let is = match (looks.get(name), looks.get(other)) {
+            (Some(written), Some(other)) => written.meets(other),
+            _ => false,
+        };
+        self.looks.set(Some(looks));
+        Ok(is)
     }
 
     /// Opens the file that takes what is stored, and locks it until then or until the shelf is dropped.
     fn make_ready(&self, name: &str) -> Result<(), WriteFault> {
+        self.looks.set(None);
         match self.target(name) {
             Ok(target) => self.keep(target),
             Err(error) => Err(fault_of(error)),

@@ -13,6 +13,7 @@ mod files;
 mod memory;
 mod place;
 mod target;
+mod written;
 
 pub use files::FileShelf;
 pub use memory::MemoryShelf;

@@ -1,19 +1,14 @@
 //! A file of the system that is ready to take what is stored. A plain file is not written itself: a new file beside it,
-//! its part file, takes its place once it holds everything. The program that makes a part file keeps it locked.
+//! its part file, takes its place once it holds everything. The program that makes a part file keeps it locked. Until
+//! then each target has one open file.
 
-use crate::place::{Node, split};
-use std::alloc::AllocError;
+use crate::place::{Node, behind_links, split};
+use crate::written::part_of;
 use std::fs::{File, Metadata, OpenOptions, Permissions};
 use std::io::{ErrorKind, Write};
 use std::os::unix::fs::{OpenOptionsExt, PermissionsExt};
 use std::rt::Files;
 use std::{fs, io};
-
-// How the name of a part file ends.
-const ENDING: &str = ".kpn-part";
-
-// How many bytes of the name of a file begin the name of its part file: names have 255 bytes at most.
-const LONGEST: usize = 255 - ENDING.len();
 
 // How often an old part file is removed that stands in the way of a new one.
 const ATTEMPTS: usize = 16;
@@ -26,35 +21,14 @@ const RIGHTS: u32 = 0o666;
 pub(super) struct Target {
     name: String,
     file: File,
-    place: Option<Part>,
+    part: Option<Part>,
 }
 
-// The name of a part file, and the folder in which it stands.
+// The path of a part file, and of the file whose place it takes.
 #[derive(Drop)]
 struct Part {
-    name: String,
-    folder: File,
-}
-
-/// The name of the part file of a file.
-pub(super) fn part_of(rt: &impl AllocGlobal, name: &str) -> Result<String, AllocError> {
-    let (_, last) = split(name);
-    let folder = name.strip_suffix(last).unwrap_or("");
-    let kept = beginning(last);
-    format!(in rt.alloc(); "{folder}{kept}{ENDING}")
-}
-
-// The beginning of a name behind which there is room for the ending. A character has four bytes at most.
-fn beginning(last: &str) -> &str {
-    if last.len() <= LONGEST {
-        return last;
-    }
-    for cut in (LONGEST - 3..=LONGEST).rev() {
-        if let Some(front) = last.get(..cut) {
-            return front;
-        }
-    }
-    last
+    path: String,
+    place: String,
 }
 
 impl Target {
@@ -63,55 +37,29 @@ impl Target {
         self.name.as_str() == name
     }
 
-    /// The name under which it is to be stored.
-    pub(super) fn name(&self) -> &str {
-        self.name.as_str()
-    }
-
-    /// Opens the file for a name: a part file for one that is plain or not there yet, and else the file itself, as a
-    /// device, a pipe, or what a link leads to.
+    /// Opens the file for a name: a part file for a plain file, which is there or not yet and which links may lead to,
+    /// and else what is there itself, as a device or a pipe.
     pub(super) fn open<R: Files<File = File> + AllocGlobal>(
         rt: &R,
         name: &str,
     ) -> io::Result<Target> {
-        match fs::symlink_metadata(rt, name) {
-            Ok(old) if old.is_file() => {
-                // A file that may not be written is not replaced.
-                OpenOptions::new().write(true).open(rt, name)?;
-                Target::open_part(rt, name, Some(&old))
+        let word = String::from_str(rt.alloc(), name)?;
+        match behind_links(rt, name)? {
+            Some(place) => {
+                let part = part_of(rt, place.as_str())?;
+                let file = open_part(rt, part.as_str(), place.as_str())?;
+                Ok(Target {
+                    name: word,
+                    file,
+                    part: Some(Part { path: part, place }),
+                })
             }
-            Ok(_) => Target::open_itself(rt, name),
-            Err(error) if error.kind() == ErrorKind::NotFound => Target::open_part(rt, name, None),
-            Err(error) => Err(error),
+            None => Ok(Target {
+                name: word,
+                file: open_to_write(rt, name)?,
+                part: None,
+            }),
         }
-    }
-
-    fn open_itself<R: Files<File = File> + AllocGlobal>(rt: &R, name: &str) -> io::Result<Target> {
-        Ok(Target {
-            name: String::from_str(rt.alloc(), name)?,
-            file: OpenOptions::new().write(true).create(true).open(rt, name)?,
-            place: None,
-        })
-    }
-
-    fn open_part<R: Files<File = File> + AllocGlobal>(
-        rt: &R,
-        name: &str,
-        old: Option<&Metadata>,
-    ) -> io::Result<Target> {
-        let (folder, last) = split(name);
-        if last.is_empty() || last == "." || last == ".." {
-            return Err(io::Error::from(ErrorKind::InvalidInput));
-        }
-        let target = String::from_str(rt.alloc(), name)?;
-        let part = part_of(rt, name)?;
-        let folder = OpenOptions::new().read(true).open(rt, folder)?;
-        let file = lock_part(rt, part.as_str(), old.map(|old| old.permissions()))?;
-        Ok(Target {
-            name: target,
-            file,
-            place: Some(Part { name: part, folder }),
-        })
     }
 
     /// Removes the part file, if there is one: nothing is stored.
@@ -119,34 +67,80 @@ impl Target {
         let Target {
             name: _,
             file: _,
-            place,
+            part,
         } = self;
-        if let Some(part) = place {
-            let _ = fs::remove_file(rt, part.name.as_str());
+        if let Some(part) = part {
+            let _ = fs::remove_file(rt, part.path.as_str());
         }
     }
 
     /// Stores bytes under the name.
-    pub(super) fn fill<R: Files>(self, rt: &R, bytes: &[u8]) -> io::Result<()> {
+    pub(super) fn fill<R: Files<File = File>>(self, rt: &R, bytes: &[u8]) -> io::Result<()> {
         let Target {
-            name,
+            name: _,
             mut file,
-            place,
+            part,
         } = self;
-        let Some(Part { name: part, folder }) = place else {
-            return write_itself(&mut file, bytes);
-        };
-        let written = write_synced(&mut file, bytes);
-        let placed = written.and_then(|()| fs::rename(rt, part.as_str(), name.as_str()));
-        if placed.is_err() {
-            let _ = fs::remove_file(rt, part.as_str());
+        match part {
+            Some(part) => {
+                take_place(rt, file, &part, bytes)?;
+                open_folder(rt, part.place.as_str())?.sync_all()
+            }
+            None => write_itself(&mut file, bytes),
         }
-        placed?;
-        folder.sync_all()
     }
 }
 
-// Writes what is no part file: only a plain file, to which a link leads, can be made shorter and synced.
+// Writes a part file, and lets it take the place of its file. It stays open, and so locked, until then.
+fn take_place<R: Files>(rt: &R, mut file: File, part: &Part, bytes: &[u8]) -> io::Result<()> {
+    let (path, place) = (part.path.as_str(), part.place.as_str());
+    let written = write_synced(&mut file, bytes);
+    let placed = written.and_then(|()| fs::rename(rt, path, place));
+    if placed.is_err() {
+        let _ = fs::remove_file(rt, path);
+    }
+    placed
+}
+
+fn open_to_write<R: Files<File = File>>(rt: &R, path: &str) -> io::Result<File> {
+    OpenOptions::new().write(true).open(rt, path)
+}
+
+// The folder of a file, to be synced.
+fn open_folder<R: Files<File = File>>(rt: &R, path: &str) -> io::Result<File> {
+    let (folder, _) = split(path);
+    OpenOptions::new().read(true).open(rt, folder)
+}
+
+// The part file of this path for a file at this place, if it can take that place.
+fn open_part<R: Files<File = File>>(rt: &R, part: &str, place: &str) -> io::Result<File> {
+    let (_, last) = split(place);
+    if last.is_empty() || last == "." || last == ".." {
+        return Err(io::Error::from(ErrorKind::InvalidInput));
+    }
+    let rights = match fs::symlink_metadata(rt, place) {
+        Ok(old) => Some(rights_to_replace(rt, place, &old)?),
+        Err(error) if error.kind() == ErrorKind::NotFound => None,
+        Err(error) => return Err(error),
+    };
+    open_folder(rt, place)?;
+    lock_part(rt, part, rights)
+}
+
+// The rights of an old file. One that may not be written is not replaced.
+fn rights_to_replace<R: Files<File = File>>(
+    rt: &R,
+    path: &str,
+    old: &Metadata,
+) -> io::Result<Permissions> {
+    if !old.is_file() {
+        return Err(io::Error::from(ErrorKind::InvalidInput));
+    }
+    open_to_write(rt, path)?;
+    Ok(old.permissions())
+}
+
+// Writes what is no part file: only a plain file, which a descriptor names, can be made shorter and synced.
 fn write_itself(file: &mut File, bytes: &[u8]) -> io::Result<()> {
     if file.metadata()?.is_file() {
         file.set_len(0)?;
@@ -202,15 +196,24 @@ fn is_locked<R: Files>(rt: &R, name: &str, file: &File) -> io::Result<bool> {
     }
 }
 
-// Removes a part file that nobody has locked: the program that made it was killed.
+// Removes a part file that nobody has locked: the program that made it was killed. It fails at what is no plain file:
+// to open a pipe would wait for its reader.
 fn remove_old<R: Files<File = File>>(rt: &R, part: &str) -> io::Result<()> {
-    let file = match OpenOptions::new().write(true).open(rt, part) {
-        Ok(file) => file,
-        Err(error) if error.kind() == ErrorKind::NotFound => return Ok(()),
-        Err(error) => return Err(error),
-    };
-    if is_locked(rt, part, &file)? {
-        fs::remove_file(rt, part)?;
+    match old_part(rt, part) {
+        Ok(file) => {
+            if is_locked(rt, part, &file)? {
+                fs::remove_file(rt, part)?;
+            }
+            Ok(())
+        }
+        Err(error) if error.kind() == ErrorKind::NotFound => Ok(()),
+        Err(error) => Err(error),
     }
-    Ok(())
+}
+
+fn old_part<R: Files<File = File>>(rt: &R, part: &str) -> io::Result<File> {
+    if !fs::symlink_metadata(rt, part)?.is_file() {
+        return Err(io::Error::from(ErrorKind::AlreadyExists));
+    }
+    open_to_write(rt, part)
 }
