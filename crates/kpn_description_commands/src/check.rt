@@ -13,11 +13,7 @@ use kpn_summary::summary;
 use std::alloc::Global;
 
 /// What `kpn check FILE` comes to: the line that counts the parts of the network that the file spells.
-pub fn check_command<S: Shelf>(
-    alloc: Global,
-    file: &str,
-    shelf: &S,
-) -> Result<Conclusion, Refusal>
+pub fn check_command<S: Shelf>(alloc: Global, file: &str, shelf: &S) -> Result<Conclusion, Refusal>
     ensures ok { IfOk result
         (Succeeds (IsTextOf summary_text (S.may_give shelf.now) file.now)) }
     ensures refused { IfErr result (IsRefusalOfCommand (S.may_give shelf.now) file.now) }

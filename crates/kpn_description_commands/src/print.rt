@@ -13,11 +13,7 @@ use kpn_text::print_network;
 use std::alloc::Global;
 
 /// What `kpn print FILE` comes to: the canonical text of what the file spells.
-pub fn print_command<S: Shelf>(
-    alloc: Global,
-    file: &str,
-    shelf: &S,
-) -> Result<Conclusion, Refusal>
+pub fn print_command<S: Shelf>(alloc: Global, file: &str, shelf: &S) -> Result<Conclusion, Refusal>
     ensures ok { IfOk result
         (Succeeds (IsTextOf canonical_text (S.may_give shelf.now) file.now)) }
     ensures refused { IfErr result (IsRefusalOfCommand (S.may_give shelf.now) file.now) }

@@ -5,9 +5,11 @@ pub conclusion_of-requires : goal.conclusion_of-requires
 conclusion_of-requires g c = (c.args.steps, c.in_ok-audited.ensures.ok.found)
 
 pub returns-clause-ok : goal.returns-clause-ok
-returns-clause-ok g c =
-    (record {
-      audited = c.in_ok-audited.audited;
-      is_audited = c.in_ok-audited.ensures.ok;
-      told = c.in_ok-conclusion.ensures.0;
-    }, c.in_ok-conclusion.ensures.1)
+returns-clause-ok g c = (
+  record {
+    audited = c.in_ok-audited.audited;
+    is_audited = c.in_ok-audited.ensures.ok;
+    told = c.in_ok-conclusion.ensures.0;
+  },
+  c.in_ok-conclusion.ensures.1,
+)

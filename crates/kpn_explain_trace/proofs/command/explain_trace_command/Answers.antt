@@ -7,14 +7,17 @@ use Rattle.kpn_explain_trace.proofs.command.explain_trace_command.Goals as goal
 pub returns-in-Ok-clause-ok : goal.returns-in-Ok-clause-ok
 returns-in-Ok-clause-ok g c =
     IfOk-weaker c.explanation.result _ _
-    (λ made explained. (record {
-      document = c.in_ok-document.document;
-      described = c.in_ok-document.ensures.ok;
-      bytes = c.deref.result.now;
-      loaded = subst (λ (bytes : List ℕ). g.S.Shelf.may_give c.args.shelf.now c.args.trace.now (Ok bytes))
-          (sym c.deref.ensures.value) c.in-Ok.ensures.given;
-      explained = explained.0;
-    }, explained.1))
+    (λ made explained. (
+      record {
+        document = c.in_ok-document.document;
+        described = c.in_ok-document.ensures.ok;
+        bytes = c.deref.result.now;
+        loaded = subst (λ (bytes : List ℕ). g.S.Shelf.may_give c.args.shelf.now c.args.trace.now (Ok bytes))
+            (sym c.deref.ensures.value) c.in-Ok.ensures.given;
+        explained = explained.0;
+      },
+      explained.1,
+    ))
     c.explanation.ensures.ok
 
 pub returns-in-Ok-clause-refused : goal.returns-in-Ok-clause-refused

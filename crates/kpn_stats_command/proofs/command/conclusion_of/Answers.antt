@@ -28,4 +28,17 @@ returns-in_ok-text-in-Legal c =
     subst (λ events. AreFigures c.network.result.now events figures) c.as_slice.ensures
     c.in_ok-figures-in-Legal.ensures in
     let are = subst (λ (t : Tables). AreFigures t a.trace.events figures) c.network.ensures counted in
-    ?
+    rw c.in-Legal.is (
+      (
+        record {
+          figures = figures;
+          are = of_history a.document.tables a.trace figures are;
+          made = c.in_ok-text-in-Legal.ensures;
+        },
+        refl,
+      ),
+      c.new.ensures,
+    )
+
+pub returns-in-NotLegal : goal.returns-in-NotLegal
+returns-in-NotLegal c = rw c.in-NotLegal.is c.conclusion.ensures

@@ -1,10 +1,12 @@
 //! What `clap` says of the words.
-ghost use Rattle.std.specs.Prelude.{◌≡◌, IfErr};
-ghost use Rattle.kpn_refusals.specs.Refusal.{status_of};
+ghost use Rattle.std.specs.Prelude.{◌≡◌, IfOk, IfErr};
+ghost use Rattle.std.specs.Bool.{⊤};
+ghost use Rattle.kpn_conclusion.specs.Conclusion.{Succeeds};
 ghost use Rattle.kpn_cli.specs.Command.{fault_status};
 
 use clap::Error;
 use kpn_command_line::WordsFault;
+use kpn_conclusion::Conclusion;
 use kpn_refusals::Refusal;
 use std::alloc::Global;
 use std::io;
@@ -30,9 +32,14 @@ fn report<E: Write>(err: &mut E, text: &Error) -> io::Result<()> {
 }
 
 /// The text of help or the version.
-pub(crate) fn text_of(alloc: Global, text: &Error) -> Result<Vec<u8>, Refusal>
-    ensures { IfErr result (λ refusal. refusal ≡ Refusal.NoMemory) }
+pub(crate) fn told(alloc: Global, text: &Error) -> Result<Conclusion, Refusal>
+    ensures ok { IfOk result (Succeeds (λ text. ⊤)) }
+    ensures refused { IfErr result (λ refusal. refusal ≡ Refusal.NoMemory) }
 {
     let text = format!(in alloc; "{text}")?;
-    Ok(text.into_bytes())
+    Ok(Conclusion {
+        text: text.into_bytes(),
+        status: 0,
+        files: Vec::new(alloc),
+    })
 }
