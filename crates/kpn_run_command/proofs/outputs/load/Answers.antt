@@ -14,25 +14,22 @@ along : (P : (file : List ℕ) (words : List (List ℕ)) → Type 0) {file asked
 along P {file = file} {given = given} same_file same_words h =
     subst (λ f. P f given) same_file (subst (P file) same_words h)
 
-pub returns-clause-ok : goal.returns-clause-ok
-returns-clause-ok g c =
-    let may_give = g.S.Shelf.may_give c.args.shelf.now in
-    let words : map now c.deref.result.now ≡ c.args.request.now.sources =
-    ap (map now) c.deref.ensures.value ∙ ap (λ r. r.sources) c.request.view_is in
-    IfOk-weaker c.load_run_inputs.result _ _
-    (λ loaded h. along (λ (f : List ℕ) (ws : List (List ℕ)).
-    AreInputs may_give f ws loaded.inputs.document loaded.inputs.given.items)
-    (ap (λ r. r.file) c.request.view_is) words h)
-    c.load_run_inputs.ensures.ok
-
-pub returns-clause-refused : goal.returns-clause-refused
+pub returns : goal.returns
 unfolding name
-returns-clause-refused g c =
+returns g c =
     let may_give = g.S.Shelf.may_give c.args.shelf.now in
+    let file = ap (λ r. r.file) c.request.view_is in
     let words : map now c.deref.result.now ≡ c.args.request.now.sources =
     ap (map now) c.deref.ensures.value ∙ ap (λ r. r.sources) c.request.view_is in
-    IfErr-weaker c.load_run_inputs.result _ _
-    (λ refusal h. along (λ (f : List ℕ) (ws : List (List ℕ)).
-    IsRefusalOfRunInputs may_give f ws (map name c.args.sinks.now) refusal)
-    (ap (λ r. r.file) c.request.view_is) words h)
-    c.load_run_inputs.ensures.refused
+    record {
+      ok = IfOk-weaker c.load_run_inputs.result _ _
+          (λ loaded h. along (λ (f : List ℕ) (ws : List (List ℕ)).
+          AreInputs may_give f ws loaded.inputs.document loaded.inputs.given.items) file words h)
+          c.load_run_inputs.ensures.ok;
+      length = c.load_run_inputs.ensures.length;
+      sinks = c.load_run_inputs.ensures.sinks;
+      refused = IfErr-weaker c.load_run_inputs.result _ _
+          (λ refusal h. along (λ (f : List ℕ) (ws : List (List ℕ)).
+          IsRefusalOfRunInputs may_give f ws (map name c.args.sinks.now) refusal) file words h)
+          c.load_run_inputs.ensures.refused;
+    }

@@ -20,18 +20,18 @@ returns-then-are_items-clause-one g c = λ may.
     inr (inl (subst (Any (MayGiveItems (g.S.Shelf.may_alias c.args.shelf.now) c.args.name.now)) words
     (c.in_ok-are_items.ensures.one c.if-are_items.true)))
 
-pub returns-clause-one : goal.returns-clause-one
-returns-clause-one g c =
-    IfOk-weaker c.is_standard.result _ _ (λ is h may. inr (inr (h may))) c.is_standard.ensures
-
-pub returns-clause-apart : goal.returns-clause-apart
-returns-clause-apart g c =
+pub returns : goal.returns
+returns g c =
+    let name = c.args.name.now in
     let words : map now c.as_slice-words.result.now ≡ c.args.request.now.sources =
     ap (map now) c.as_slice-words.ensures.value ∙ ap (λ r. r.sources) c.request.view_is in
-    let Gives : List ℕ → Type 0 = λ word. HasEquals word → c.args.name.now ≢ file_in word in
-    IfOk-weaker c.is_standard.result _ _ (λ is h may. (
-      subst (λ (f : List ℕ). c.args.name.now ≢ f) (ap (λ r. r.file) c.request.view_is)
-          (c.in_ok-is_description.ensures.apart c.if-is_description.false),
-      subst (All Gives) words
-          (All-map Gives now c.as_slice-words.result.now (c.in_ok-are_items.ensures.apart c.if-are_items.false)),
-    )) c.is_standard.ensures
+    let Gives : List ℕ → Type 0 = λ word. HasEquals word → name ≢ file_in word in
+    record {
+      apart = IfOk-weaker c.is_standard.result _ _ (λ is h may. (
+        subst (λ (f : List ℕ). name ≢ f) (ap (λ r. r.file) c.request.view_is)
+            (c.in_ok-is_description.ensures.apart c.if-is_description.false),
+        subst (All Gives) words
+            (All-map Gives now c.as_slice-words.result.now (c.in_ok-are_items.ensures.apart c.if-are_items.false)),
+      )) c.is_standard.ensures;
+      one = IfOk-weaker c.is_standard.result _ _ (λ is h may. inr (inr (h may))) c.is_standard.ensures;
+    }

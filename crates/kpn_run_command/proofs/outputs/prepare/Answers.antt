@@ -2,11 +2,14 @@
 use Rattle.std.proofs.Common.{rules, ◌≡◌, ℕ, List, IfErr, map, length, ap, sym, subst, ◌∙◌}
 use Rattle.std.proofs.lemmas.List.{length-map}
 use Rattle.std.proofs.lemmas.Result.{IfErr-weaker}
+use Rattle.kpn_request.specs.RunRequest.{RunRequest}
+use Rattle.kpn_text.specs.Document.{Document}
+use Rattle.kpn_inputs.specs.declared.sources.NamedEnd.{NamedEnd}
 use Rattle.kpn_inputs.specs.declared.sources.FileOption.{FileOption}
 use Rattle.kpn_inputs.specs.Inputs.{AreNamedSinks, IsRefusalOfRunInputs}
 use Rattle.kpn_inputs.specs.Sources.{name_in, file_in}
 use Rattle.kpn_refusals.specs.declared.refusal.Refusal.{Refusal}
-use Rattle.kpn_run_command.specs.Outputs.{IsRefusalOfOutputs, outputs_of}
+use Rattle.kpn_run_command.specs.Outputs.{AreSinks, IsRefusalOfOutputs, outputs_of}
 use Rattle.kpn_run_command.proofs.Apart.{now, outputs_refused, inputs_refused, unready}
 use Rattle.kpn_run_command.proofs.outputs.prepare.Goals as goal
 
@@ -15,6 +18,14 @@ name o = o.name.now
 
 file : FileOption → List ℕ
 file o = o.file.now
+
+-- the sinks that these options name are those of the words
+are_sinks : (request : RunRequest) (d : Document) (named : List NamedEnd) (options handed : List FileOption)
+    → handed ≡ options → map name options ≡ map name_in request.sinks → map file options ≡ map file_in request.sinks
+    → AreNamedSinks d (map name handed) (map file handed) named → AreSinks request d named
+are_sinks request d named options handed same names files are =
+    subst (λ ns. AreNamedSinks d ns (map file_in request.sinks) named) (ap (map name) same ∙ names)
+    (subst (λ fs. AreNamedSinks d (map name handed) fs named) (ap (map file) same ∙ files) are)
 
 pub returns-in_err-outputs-clause-refused : goal.returns-in_err-outputs-clause-refused
 returns-in_err-outputs-clause-refused g c =
@@ -38,25 +49,15 @@ returns-in-Err-clause-refused g c =
 pub returns-in-Ok-make_ready-clause-sinks : goal.returns-in-Ok-make_ready-clause-sinks
 unfolding name file
 returns-in-Ok-make_ready-clause-sinks g c =
-    let request = c.args.request.now in
-    let loaded = c.in-Ok.loaded in
-    let names : map name c.deref.result.now ≡ map name_in request.sinks =
-    ap (map name) c.deref.ensures.value ∙ c.in_ok-outputs.ensures.names in
-    let files : map file c.deref.result.now ≡ map file_in request.sinks =
-    ap (map file) c.deref.ensures.value ∙ c.in_ok-outputs.ensures.files in
-    subst (λ ns. AreNamedSinks loaded.inputs.document ns (map file_in request.sinks) loaded.sinks.items) names
-    (subst (λ fs. AreNamedSinks loaded.inputs.document (map name c.deref.result.now) fs loaded.sinks.items) files
-    c.in-Ok.ensures.sinks)
+    are_sinks c.args.request.now c.in-Ok.loaded.inputs.document c.in-Ok.loaded.sinks.items
+    c.in_ok-outputs.outputs.sinks.items c.deref.result.now c.deref.ensures.value c.in_ok-outputs.ensures.names
+    c.in_ok-outputs.ensures.files c.in-Ok.ensures.sinks
 
 pub returns-clause-refused : goal.returns-clause-refused
 unfolding name file
 returns-clause-refused g c =
     let request = c.args.request.now in
     let loaded = c.in-Ok.loaded in
-    let names : map name c.deref.result.now ≡ map name_in request.sinks =
-    ap (map name) c.deref.ensures.value ∙ c.in_ok-outputs.ensures.names in
-    let files : map file c.deref.result.now ≡ map file_in request.sinks =
-    ap (map file) c.deref.ensures.value ∙ c.in_ok-outputs.ensures.files in
     let long : length c.deref-2.result.now ≡ length (outputs_of request) =
     ap length c.deref-2.ensures.value ∙ sym (length-map c.in_ok-outputs.outputs.names.items now)
     ∙ ap length c.in_ok-outputs.ensures.outputs in
@@ -68,8 +69,8 @@ returns-clause-refused g c =
       are_inputs = c.in-Ok.ensures.ok;
       named = loaded.sinks.items;
       are_sinks =
-          subst (λ ns. AreNamedSinks loaded.inputs.document ns (map file_in request.sinks) loaded.sinks.items) names
-          (subst (λ fs. AreNamedSinks loaded.inputs.document (map name c.deref.result.now) fs loaded.sinks.items) files
-          c.in-Ok.ensures.sinks);
+          are_sinks request loaded.inputs.document loaded.sinks.items c.in_ok-outputs.outputs.sinks.items
+          c.deref.result.now c.deref.ensures.value c.in_ok-outputs.ensures.names c.in_ok-outputs.ensures.files
+          c.in-Ok.ensures.sinks;
     })
     c.in-Err-make_ready.refusal c.in-Err-make_ready.ensures

@@ -9,33 +9,19 @@ use Rattle.kpn_inputs.proofs.SourceLemmas.{map-map}
 use Rattle.kpn_run_command.proofs.Apart.{now}
 use Rattle.kpn_run_command.proofs.outputs.sinks_of.Goals as goal
 
-pub returns-clause-names : goal.returns-clause-names
-returns-clause-names c =
-    let words : map now c.deref.result.now ≡ c.args.request.now.sinks =
+pub returns : goal.returns
+returns c =
+    let handed = c.deref.result.now in
+    let words : map now handed ≡ c.args.request.now.sinks =
     ap (map now) c.deref.ensures.value ∙ ap (λ r. r.sinks) c.request.view_is in
-    IfOk-weaker c.options_of.result _ _
-    (λ sinks same. same ∙ sym (map-map name_in now c.deref.result.now) ∙ ap (map name_in) words)
-    c.options_of.ensures.names
-
-pub returns-clause-files : goal.returns-clause-files
-returns-clause-files c =
-    let words : map now c.deref.result.now ≡ c.args.request.now.sinks =
-    ap (map now) c.deref.ensures.value ∙ ap (λ r. r.sinks) c.request.view_is in
-    IfOk-weaker c.options_of.result _ _
-    (λ sinks same. same ∙ sym (map-map file_in now c.deref.result.now) ∙ ap (map file_in) words)
-    c.options_of.ensures.files
-
-pub returns-clause-cut : goal.returns-clause-cut
-returns-clause-cut c =
-    let words : map now c.deref.result.now ≡ c.args.request.now.sinks =
-    ap (map now) c.deref.ensures.value ∙ ap (λ r. r.sinks) c.request.view_is in
-    on_ok_weaker c.options_of.result
-    (λ cut. subst (All HasEquals) words (All-map HasEquals now c.deref.result.now cut)) c.options_of.ensures.cut
-
-pub returns-clause-refused : goal.returns-clause-refused
-returns-clause-refused c =
-    let words : map now c.deref.result.now ≡ c.args.request.now.sinks =
-    ap (map now) c.deref.ensures.value ∙ ap (λ r. r.sinks) c.request.view_is in
-    IfErr-weaker c.options_of.result _ _
-    (λ refusal h. subst (λ (ws : List (List ℕ)). IsRefusalOfWords SinkWord ws refusal) words h)
-    c.options_of.ensures.refused
+    record {
+      names = IfOk-weaker c.options_of.result _ _
+          (λ sinks same. same ∙ sym (map-map name_in now handed) ∙ ap (map name_in) words) c.options_of.ensures.names;
+      files = IfOk-weaker c.options_of.result _ _
+          (λ sinks same. same ∙ sym (map-map file_in now handed) ∙ ap (map file_in) words) c.options_of.ensures.files;
+      cut = on_ok_weaker c.options_of.result
+          (λ cut. subst (All HasEquals) words (All-map HasEquals now handed cut)) c.options_of.ensures.cut;
+      refused = IfErr-weaker c.options_of.result _ _
+          (λ refusal h. subst (λ (ws : List (List ℕ)). IsRefusalOfWords SinkWord ws refusal) words h)
+          c.options_of.ensures.refused;
+    }
