@@ -73,8 +73,8 @@ fn push_file(
         ++ record { name = name.now; bytes = bytes.items } ∷ []) }
     ensures refused { IfErr result (λ refusal. refusal ≡ Refusal.NoMemory) }
 {
-    let name = String::from_str(alloc, name)?;
-    files.push(OutputFile { name, bytes })?;
+    let owned = String::from_str(alloc, name)?;
+    files.push(OutputFile { name: owned, bytes })?;
     Ok(())
 }
 

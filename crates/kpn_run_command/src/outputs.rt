@@ -145,7 +145,8 @@ fn add_output<'a, S: Shelf>(
     if overwrites {
         return Err(given);
     }
-    let meets = is_any_output(shelf, name, outputs)?;
+    let earlier = outputs.as_slice();
+    let meets = is_any_output(shelf, name, earlier)?;
     if meets {
         return Err(given);
     }

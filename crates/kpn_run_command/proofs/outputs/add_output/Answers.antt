@@ -17,7 +17,7 @@ returns-then-meets-clause-refused g c =
       refl,
       inr (subst (λ (names : List (Bor (List ℕ))).
           Any (MayBeOne (g.S.Shelf.may_alias c.args.shelf.now) c.args.name.now) (map now names))
-          c.deref.ensures.value (c.in_ok-meets.ensures.one c.if-meets.true)),
+          c.as_slice-earlier.ensures.value (c.in_ok-meets.ensures.one c.if-meets.true)),
     )
 
 pub returns-clause-added : goal.returns-clause-added
@@ -31,8 +31,8 @@ returns-clause-apart g c =
     ap (map now) c.in_ok-push.ensures.items ∙ map-append now c.args.outputs.now.items (c.args.name ∷ []) in
     let new : All (λ (other : List ℕ). c.args.name.now ≢ other) outputs =
     subst (λ (names : List (Bor (List ℕ))). All (λ (other : List ℕ). c.args.name.now ≢ other) (map now names))
-    c.deref.ensures.value
-    (All-map (λ (other : List ℕ). c.args.name.now ≢ other) now c.deref.result.now
+    c.as_slice-earlier.ensures.value
+    (All-map (λ (other : List ℕ). c.args.name.now ≢ other) now c.as_slice-earlier.result.now
     (c.in_ok-meets.ensures.apart c.if-meets.false)) in
     subst (AreApart c.args.request.now) (sym pushed)
     (apart_more c.args.request.now outputs c.args.name.now c.requires
