@@ -1,7 +1,7 @@
 -- Outputs that are apart, one more at a time; each refusal of a stage is one of the run.
-use Rattle.std.proofs.Common.{◌≡◌, ◌≢◌, ◌⊎◌, ◌<◌, ℕ, suc, List, Bor, [], ◌∷◌, ◌++◌, All, Option, Some, None, map, length, get_or, take, drop, refl, inl, inr, sym, ap, subst, ◌∙◌, arith, drop-cons}
+use Rattle.std.proofs.Common.{◌≡◌, ◌≢◌, ◌⊎◌, ◌<◌, ◌+◌, ℕ, suc, List, Bor, [], ◌∷◌, ◌++◌, All, Option, Some, None, map, length, get_or, take, drop, refl, inl, inr, sym, ap, subst, ◌∙◌, arith, drop-cons}
 use Rattle.std.specs.List.{Any, AllPairs}
-use Rattle.std.proofs.lemmas.List.{take-append-drop, map-append}
+use Rattle.std.proofs.lemmas.List.{take-append-drop, take_more, map-append}
 use Rattle.std.proofs.lemmas.List.Elements.{All-push}
 use Rattle.std.proofs.lemmas.List.Quantifiers.{all_pairs_push}
 use Rattle.kpn_request.specs.RunRequest.{RunRequest}
@@ -15,6 +15,13 @@ use Rattle.kpn_run_command.specs.Outputs.{IsApart, AreApart, AreOutputsApart, tr
 
 abbrev pub now : Bor (List ℕ) → List ℕ
 now word = word.now
+
+-- what holds of the words so far holds of one more
+pub one_more : (P : Bor (List ℕ) → Type 0) (words : List (Bor (List ℕ))) (i : ℕ) (word : Bor (List ℕ))
+    → i < length words → All P (take i words) → P (get_or words i word) → All P (take (i + 1) words)
+one_more P words i word below before more =
+    subst (λ ws. All P ws) (sym (take_more words i word below))
+    (All-push P (take i words) (get_or words i word) before more)
 
 module _ (request : RunRequest) where
   pub apart_none : AreApart request []

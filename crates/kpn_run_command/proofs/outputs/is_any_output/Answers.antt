@@ -1,14 +1,7 @@
 -- One more output has another name.
-use Rattle.std.proofs.Common.{◌≢◌, ℕ, ◌<◌, ◌+◌, List, Bor, All, length, get_or, take, subst, sym}
-use Rattle.std.proofs.lemmas.List.{take_more}
-use Rattle.std.proofs.lemmas.List.Elements.{All-push}
+use Rattle.std.proofs.Common.{◌≢◌}
+use Rattle.kpn_run_command.proofs.Apart.{one_more}
 use Rattle.kpn_run_command.proofs.outputs.is_any_output.Goals as goal
-
-one_more : (P : Bor (List ℕ) → Type 0) (names : List (Bor (List ℕ))) (i : ℕ) (name : Bor (List ℕ)) → i < length names
-    → All P (take i names) → P (get_or names i name) → All P (take (i + 1) names)
-one_more P names i name below before more =
-    subst (λ ns. All P ns) (sym (take_more names i name below))
-    (All-push P (take i names) (get_or names i name) before more)
 
 pub loop-other-preserved : goal.loop-other-preserved
 loop-other-preserved g c =
