@@ -28,7 +28,9 @@ returns-clause-ok g c =
       is_reported = record {
         are_inputs = c.in-Ok.ensures.ok;
         are_sinks = c.in-Ok.ensures.sinks;
-        is_report = conclusion_of-requires g c;
+        is_report =
+            along (λ t lists limits. IsReport t lists limits c.in-Ok-run_here.report) c.network-network.ensures
+            c.deref.ensures.value c.limits_of-limits.ensures c.in-Ok-run_here.ensures.report;
         here = λ without.
             along (λ t lists limits. RanHere t lists limits c.in-Ok-run_here.report) c.network-network.ensures
             c.deref.ensures.value c.limits_of-limits.ensures ran;
