@@ -6,6 +6,6 @@ use Rattle.kpn_command_line.proofs.words.required.Goals as goal
 pub returns-in-Some : goal.returns-in-Some
 returns-in-Some c = c.text_of.ensures ∙ ap (option_map (λ word. word.now)) c.in-Some.is
 
-pub returns : goal.returns
-returns c =
+pub returns-in-None : goal.returns-in-None
+returns-in-None c =
     usage_if _ c.unclear.result (c.text_of.ensures ∙ ap (option_map (λ word. word.now)) c.in-None.is)
