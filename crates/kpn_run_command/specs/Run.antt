@@ -12,7 +12,7 @@ use Rattle.kpn_run_command.specs.Files.{files_of}
 use Rattle.kpn_run_command.specs.Outputs.{AreOutputsApart, IsUnprepared}
 
 -- the files of a run, the text of its report, and its status
-pub record Concludes (request : RunRequest) (reported : Reported) (made : Conclusion) : Type 0 where
+pub record IsConcluded (request : RunRequest) (reported : Reported) (made : Conclusion) : Type 0 where
   pub files : files_in made ≡ files_of request.trace request.take reported
   pub text : made.text.items ≡ report_text reported.inputs.document request.take reported.report
   pub status : made.status ≡ outcome_status reported.report.outcome
@@ -22,7 +22,7 @@ pub record IsRun (may_give : Loads) (request : RunRequest) (made : Conclusion) :
   pub reported : Reported
   pub is_reported : IsReported may_give request reported
   pub apart : AreOutputsApart request
-  pub concludes : Concludes request reported made
+  pub concluded : IsConcluded request reported made
 
 -- why nothing is concluded: the run is not begun, or it gives no report, or there is no memory for the texts
 abbrev pub IsNoRun : (may_give : Loads) (may_alias : Aliases) → RunRequest → Refusal → Type 0

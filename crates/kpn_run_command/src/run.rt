@@ -3,7 +3,7 @@
 ghost use Rattle.std.specs.Prelude.{◌≡◌, IfOk, IfErr};
 ghost use Rattle.kpn_run_here.specs.Reports.{IsReport};
 ghost use Rattle.kpn_run_command.specs.Limits.{limits_of};
-ghost use Rattle.kpn_run_command.specs.Run.{Concludes, IsRun, IsNoRun};
+ghost use Rattle.kpn_run_command.specs.Run.{IsConcluded, IsRun, IsNoRun};
 
 use crate::files::files_of;
 use crate::outputs::prepare;
@@ -91,7 +91,7 @@ fn conclusion_of(
 ) -> Result<Conclusion, Refusal>
     requires { IsReport reported.now.inputs.document.tables reported.now.inputs.given.items
         (limits_of request.now) reported.now.report }
-    ensures ok { IfOk result (Concludes request.now reported.now) }
+    ensures ok { IfOk result (IsConcluded request.now reported.now) }
     ensures refused { IfErr result (λ refusal. refusal ≡ Refusal.NoMemory) }
 {
     let files = files_of(alloc, request.trace, request.take, reported)?;

@@ -23,7 +23,7 @@ returns-clause-ok g c =
       few = c.in-Ok-run_here.ensures.commits;
     } in
     IfOk-weaker c.conclusion_of.result _ _
-    (λ made concludes. record {
+    (λ made concluded. record {
       reported = _;
       is_reported = record {
         are_inputs = c.in-Ok.ensures.ok;
@@ -36,7 +36,7 @@ returns-clause-ok g c =
             c.deref.ensures.value c.limits_of-limits.ensures ran;
       };
       apart = c.in-Ok.ensures.apart;
-      concludes = concludes;
+      concluded = concluded;
     }) c.conclusion_of.ensures.ok
 
 pub returns-clause-refused : goal.returns-clause-refused

@@ -23,7 +23,7 @@ returns-clause-ok g c =
     let workers : Some c.in-Some.workers ≡ c.args.request.now.workers =
     sym c.in-Some.is ∙ ap (λ r. r.workers) c.request.view_is in
     IfOk-weaker c.conclusion_of.result _ _
-    (λ made concludes. record {
+    (λ made concluded. record {
       reported = _;
       is_reported = record {
         are_inputs = c.in-Ok.ensures.ok;
@@ -34,7 +34,7 @@ returns-clause-ok g c =
         here = λ without. let clash = workers ∙ without in absurd cc;
       };
       apart = c.in-Ok.ensures.apart;
-      concludes = concludes;
+      concluded = concluded;
     }) c.conclusion_of.ensures.ok
 
 pub returns-clause-refused : goal.returns-clause-refused
