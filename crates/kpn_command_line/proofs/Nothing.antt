@@ -16,7 +16,7 @@ use Rattle.kpn_command_line.specs.declared.request.WordsFault.{WordsFault}
 use Rattle.kpn_command_line.specs.declared.request.WordsFault.TheVariants.{Usage, NoMemory}
 use Rattle.kpn_command_line.specs.CommandLine.{command_line}
 use Rattle.kpn_command_line.specs.Asked.{AsksForHelp, AskForNothing, IsAsked, IsNoTable, IsRefused, IsUsageIf, Names}
-use Rattle.kpn_command_line.specs.Asked.{text_for, number_for, is_set, table_name}
+use Rattle.kpn_command_line.specs.Asked.{Gives, command_of, text_for, number_for, is_set}
 
 differ : (a b : List ℕ) → bytes_eq a a ≡ true → bytes_eq a b ≡ false → a ≡ b → ⊥
 differ a b same other e = true≢false (sym same ∙ (ap (bytes_eq a) e ∙ other))
@@ -36,43 +36,14 @@ no_help : (words : List (List ℕ)) → fault_of command_line words ≡ [] → A
 no_help words none (inl help) = subst (IsAmong DisplayHelp) none help
 no_help words none (inr version) = subst (IsAmong DisplayVersion) none version
 
--- the name of the command that a request is for
-abbrev command_of : Request → List ℕ
-command_of (Alone name) = codes "alone"
-command_of (Check file) = codes "check"
-command_of (Explain file trace steps) = codes "explain"
-command_of (ExplainItems file) = codes "explain"
-command_of (Print file) = codes "print"
-command_of (Draw file trace) = codes "draw"
-command_of (Rounds file n sources) = codes "rounds"
-command_of (Run run) = codes "run"
-command_of (Audit file trace steps) = codes "audit"
-command_of (Stats file trace steps tables) = codes "stats"
-command_of (Help text) = []
-
--- what a request takes of what the words give to its command, as far as words may lack it
-abbrev Takes : (given : List Row) → Request → Type 0
-Takes given (Explain file trace steps) = is_set (codes "ITEMS") given ≡ false
-Takes given (ExplainItems file) = text_for (codes "TRACE") given ≡ None
-Takes given (Rounds file n sources) = number_for 32 (codes "N") given ≡ Some n
-Takes given (Stats file trace steps tables) = text_for (codes "TABLE") given ≡ table_name tables
-Takes given other = Unit {0}
-
 module _ (words : List (List ℕ)) (command : List ℕ) (given : List Row) (names : Names words command given) where
   same : (other : List ℕ) (more : List Row) → Names words other more → (command ≡ other) × (given ≡ more)
   same other more also = same_names words command other given more names also
 
-  taken : (request : Request) → IsAsked words request → (command ≡ command_of request) × Takes given request
-  taken (Explain file trace steps) asked =
-      let is = same _ _ asked.1 in (is.0, ap (is_set (codes "ITEMS")) is.1 ∙ asked.5)
-  taken (ExplainItems file) asked =
-      let is = same _ _ asked.1 in (is.0, ap (text_for (codes "TRACE")) is.1 ∙ asked.3)
-  taken (Rounds file n sources) asked =
-      let is = same _ _ asked.1 in (is.0, ap (number_for 32 (codes "N")) is.1 ∙ asked.3)
-  taken (Stats file trace steps tables) asked =
-      let is = same _ _ asked.1 in (is.0, ap (text_for (codes "TABLE")) is.1 ∙ asked.5)
+  taken : (request : Request) → IsAsked words request → (command ≡ command_of request) × Gives given request
   taken (Help text) asked = absurd (no_help words names.0 asked)
-  taken other asked = ((same _ _ asked.1).0, tt)
+  taken other asked =
+      let is = same _ _ asked.1 in (is.0, subst (λ (rows : List Row). Gives rows other) (sym is.1) asked.2)
 
   -- the command is none of the program
   abbrev IsOther : Type 0
@@ -96,22 +67,22 @@ module _ (words : List (List ℕ)) (command : List ℕ) (given : List Row) (name
 module _ (words : List (List ℕ)) (given : List Row) where
   pub no_number : Names words (codes "rounds") given → number_for 32 (codes "N") given ≡ None → AskForNothing words
   no_number names none (Rounds file n sources) asked =
-      some_not_none _ _ none (taken words _ given names (Rounds file n sources) asked).1
+      some_not_none _ _ none (taken words _ given names (Rounds file n sources) asked).1.1
   no_number names none other asked =
       differ (codes "rounds") (command_of other) refl refl (taken words _ given names other asked).0
 
   pub no_table : Names words (codes "stats") given → IsNoTable (text_for (codes "TABLE") given) → AskForNothing words
   no_table names none (Stats file trace steps tables) asked =
-      none tables (taken words _ given names (Stats file trace steps tables) asked).1
+      none tables (taken words _ given names (Stats file trace steps tables) asked).1.3
   no_table names none other asked =
       differ (codes "stats") (command_of other) refl refl (taken words _ given names other asked).0
 
   pub no_items_with_trace : Names words (codes "explain") given → (it : List ℕ)
       → is_set (codes "ITEMS") given ≡ true → text_for (codes "TRACE") given ≡ Some it → AskForNothing words
   no_items_with_trace names it set some (Explain file trace steps) asked =
-      true≢false (sym set ∙ (taken words _ given names (Explain file trace steps) asked).1)
+      true≢false (sym set ∙ (taken words _ given names (Explain file trace steps) asked).1.3)
   no_items_with_trace names it set some (ExplainItems file) asked =
-      some_not_none _ _ (taken words _ given names (ExplainItems file) asked).1 some
+      some_not_none _ _ (taken words _ given names (ExplainItems file) asked).1.1 some
   no_items_with_trace names it set some other asked =
       differ (codes "explain") (command_of other) refl refl (taken words _ given names other asked).0
 

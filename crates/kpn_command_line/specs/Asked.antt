@@ -15,7 +15,6 @@ use Rattle.clap.specs.Matches.{found_of}
 use Rattle.clap.specs.declared.parser.matches.ArgMatches.{ArgMatches}
 use Rattle.clap.specs.declared.error.kind.ErrorKind.{ErrorKind}
 use Rattle.clap.specs.declared.error.kind.ErrorKind.TheVariants.{DisplayHelp, DisplayVersion, OutOfMemory}
-use Rattle.kpn_request.specs.RunRequest.{RunRequest}
 use Rattle.kpn_request.specs.declared.tables.StatsTables.{StatsTables}
 use Rattle.kpn_request.specs.declared.tables.StatsTables.TheVariants.{People, Channels, Processes}
 use Rattle.kpn_command_line.specs.declared.request.Request.{Request}
@@ -65,58 +64,7 @@ is_true text = option_map_or (λ it. bytes_eq it (codes "true")) text false
 abbrev pub is_set : (name : List ℕ) (given : List Row) → Bool
 is_set name given = is_true (text_for name given)
 
--- ---- what the words of each command ask for
-
-abbrev pub AsksForAlone : (words : List (List ℕ)) (name : List ℕ) → Type 0
-AsksForAlone words name =
-    (given : List Row) × Names words (codes "alone") given × (text_for (codes "NAME") given ≡ Some name)
-
-abbrev pub AsksForCheck : (words : List (List ℕ)) (file : List ℕ) → Type 0
-AsksForCheck words file =
-    (given : List Row) × Names words (codes "check") given × (text_for (codes "FILE") given ≡ Some file)
-
--- 10,000,000 steps without `--steps`
-abbrev pub AsksForExplain : (words : List (List ℕ)) (file : List ℕ) (trace : Option (List ℕ)) (steps : ℕ) → Type 0
-AsksForExplain words file trace steps =
-    (given : List Row) × Names words (codes "explain") given × (text_for (codes "FILE") given ≡ Some file)
-    × (text_for (codes "TRACE") given ≡ trace)
-    × (unwrap_or (number_for 64 (codes "STEPS") given) 10000000 ≡ steps)
-    × (is_set (codes "ITEMS") given ≡ false)
-
-abbrev pub AsksForExplainItems : (words : List (List ℕ)) (file : List ℕ) → Type 0
-AsksForExplainItems words file =
-    (given : List Row) × Names words (codes "explain") given × (text_for (codes "FILE") given ≡ Some file)
-    × (text_for (codes "TRACE") given ≡ None) × (is_set (codes "ITEMS") given ≡ true)
-
-abbrev pub AsksForPrint : (words : List (List ℕ)) (file : List ℕ) → Type 0
-AsksForPrint words file =
-    (given : List Row) × Names words (codes "print") given × (text_for (codes "FILE") given ≡ Some file)
-
-abbrev pub AsksForDraw : (words : List (List ℕ)) (file : List ℕ) (trace : Option (List ℕ)) → Type 0
-AsksForDraw words file trace =
-    (given : List Row) × Names words (codes "draw") given × (text_for (codes "FILE") given ≡ Some file)
-    × (text_for (codes "TRACE") given ≡ trace)
-
-abbrev pub AsksForRounds : (words : List (List ℕ)) (file : List ℕ) (n : ℕ) (sources : List (List ℕ)) → Type 0
-AsksForRounds words file n sources =
-    (given : List Row) × Names words (codes "rounds") given × (text_for (codes "FILE") given ≡ Some file)
-    × (number_for 32 (codes "N") given ≡ Some n) × (texts_for (codes "SOURCE") given ≡ sources)
-
--- 10,000,000 commits without `--max-commits`
-abbrev pub AsksForRun : (words : List (List ℕ)) → RunRequest → Type 0
-AsksForRun words run =
-    (given : List Row) × Names words (codes "run") given × (text_for (codes "FILE") given ≡ Some run.file)
-    × (texts_for (codes "SOURCE") given ≡ run.sources) × (texts_for (codes "SINK") given ≡ run.sinks)
-    × (unwrap_or (number_for 64 (codes "MAX_COMMITS") given) 10000000 ≡ run.commits)
-    × (number_for 64 (codes "K") given ≡ run.take) × (text_for (codes "TRACE") given ≡ run.trace)
-    × (number_for 32 (codes "WORKERS") given ≡ run.workers)
-
--- 10,000,000 steps without `--steps`
-abbrev pub AsksForAudit : (words : List (List ℕ)) (file trace : List ℕ) (steps : ℕ) → Type 0
-AsksForAudit words file trace steps =
-    (given : List Row) × Names words (codes "audit") given × (text_for (codes "FILE") given ≡ Some file)
-    × (text_for (codes "TRACE") given ≡ Some trace)
-    × (unwrap_or (number_for 64 (codes "STEPS") given) 10000000 ≡ steps)
+-- ---- what the words ask for
 
 -- the word that names a table for other programs
 abbrev pub table_name : StatsTables → Option (List ℕ)
@@ -124,29 +72,61 @@ table_name People = None
 table_name Channels = Some (codes "channels")
 table_name Processes = Some (codes "processes")
 
--- 10,000,000 steps without `--steps`, and the tables for people without `--tsv`
-abbrev pub AsksForStats : (words : List (List ℕ)) (file trace : List ℕ) (steps : ℕ) → StatsTables → Type 0
-AsksForStats words file trace steps tables =
-    (given : List Row) × Names words (codes "stats") given × (text_for (codes "FILE") given ≡ Some file)
-    × (text_for (codes "TRACE") given ≡ Some trace)
-    × (unwrap_or (number_for 64 (codes "STEPS") given) 10000000 ≡ steps)
-    × (text_for (codes "TABLE") given ≡ table_name tables)
+-- the name of the command that a request is for; help is for none
+abbrev pub command_of : Request → List ℕ
+command_of (Alone name) = codes "alone"
+command_of (Check file) = codes "check"
+command_of (Explain file trace steps) = codes "explain"
+command_of (ExplainItems file) = codes "explain"
+command_of (Print file) = codes "print"
+command_of (Draw file trace) = codes "draw"
+command_of (Rounds file n sources) = codes "rounds"
+command_of (Run run) = codes "run"
+command_of (Audit file trace steps) = codes "audit"
+command_of (Stats file trace steps tables) = codes "stats"
+command_of (Help text) = []
+
+-- the most steps before an event: 10,000,000 without `--steps`
+abbrev pub steps_for : (given : List Row) → ℕ
+steps_for given = unwrap_or (number_for 64 (codes "STEPS") given) 10000000
+
+-- What the words give to its command is what the request has. There are 10,000,000 commits without `--max-commits`, and
+-- the tables for people without `--tsv`.
+abbrev pub Gives : (given : List Row) → Request → Type 0
+Gives given (Alone name) = text_for (codes "NAME") given ≡ Some name.now
+Gives given (Check file) = text_for (codes "FILE") given ≡ Some file.now
+Gives given (Explain file trace steps) =
+    (text_for (codes "FILE") given ≡ Some file.now)
+    × (text_for (codes "TRACE") given ≡ option_map (λ name. name.now) trace)
+    × (steps_for given ≡ steps) × (is_set (codes "ITEMS") given ≡ false)
+Gives given (ExplainItems file) =
+    (text_for (codes "FILE") given ≡ Some file.now) × (text_for (codes "TRACE") given ≡ None)
+    × (is_set (codes "ITEMS") given ≡ true)
+Gives given (Print file) = text_for (codes "FILE") given ≡ Some file.now
+Gives given (Draw file trace) =
+    (text_for (codes "FILE") given ≡ Some file.now)
+    × (text_for (codes "TRACE") given ≡ option_map (λ name. name.now) trace)
+Gives given (Rounds file n sources) =
+    (text_for (codes "FILE") given ≡ Some file.now) × (number_for 32 (codes "N") given ≡ Some n)
+    × (texts_for (codes "SOURCE") given ≡ map (λ source. source.now) sources.items)
+Gives given (Run run) =
+    (text_for (codes "FILE") given ≡ Some run.file) × (texts_for (codes "SOURCE") given ≡ run.sources)
+    × (texts_for (codes "SINK") given ≡ run.sinks)
+    × (unwrap_or (number_for 64 (codes "MAX_COMMITS") given) 10000000 ≡ run.commits)
+    × (number_for 64 (codes "K") given ≡ run.take) × (text_for (codes "TRACE") given ≡ run.trace)
+    × (number_for 32 (codes "WORKERS") given ≡ run.workers)
+Gives given (Audit file trace steps) =
+    (text_for (codes "FILE") given ≡ Some file.now) × (text_for (codes "TRACE") given ≡ Some trace.now)
+    × (steps_for given ≡ steps)
+Gives given (Stats file trace steps tables) =
+    (text_for (codes "FILE") given ≡ Some file.now) × (text_for (codes "TRACE") given ≡ Some trace.now)
+    × (steps_for given ≡ steps) × (text_for (codes "TABLE") given ≡ table_name tables)
+Gives given (Help text) = ⊥
 
 -- the request is what the words ask for
 abbrev pub IsAsked : (words : List (List ℕ)) → Request → Type 0
-IsAsked words (Alone name) = AsksForAlone words name.now
-IsAsked words (Check file) = AsksForCheck words file.now
-IsAsked words (Explain file trace steps) =
-    AsksForExplain words file.now (option_map (λ name. name.now) trace) steps
-IsAsked words (ExplainItems file) = AsksForExplainItems words file.now
-IsAsked words (Print file) = AsksForPrint words file.now
-IsAsked words (Draw file trace) = AsksForDraw words file.now (option_map (λ name. name.now) trace)
-IsAsked words (Rounds file n sources) =
-    AsksForRounds words file.now n (map (λ source. source.now) sources.items)
-IsAsked words (Run run) = AsksForRun words run
-IsAsked words (Audit file trace steps) = AsksForAudit words file.now trace.now steps
-IsAsked words (Stats file trace steps tables) = AsksForStats words file.now trace.now steps tables
 IsAsked words (Help text) = AsksForHelp words
+IsAsked words request = (given : List Row) × Names words (command_of request) given × Gives given request
 
 -- no request is what the words ask for
 abbrev pub AskForNothing : (words : List (List ℕ)) → Type 0

@@ -2,4 +2,4 @@
 use Rattle.kpn_command_line.proofs.words.draw_request.Goals as goal
 
 pub returns : goal.returns
-returns c = λ words names. (_, names, c.in_ok-file.ensures, c.text_of-trace.ensures)
+returns c = λ words names. (_, names, (c.in_ok-file.ensures, c.text_of-trace.ensures))

@@ -8,19 +8,23 @@ pub returns-then-not-is_set : goal.returns-then-not-is_set
 returns-then-not-is_set c = λ words names. (
   _,
   names,
-  c.in_ok-file.ensures,
-  c.text_of-trace.ensures,
-  c.count_or_usual-steps.ensures,
-  sym c.is_set.ensures ∙ c.if-not-is_set.true,
+  (
+    c.in_ok-file.ensures,
+    c.text_of-trace.ensures,
+    c.count_or_usual-steps.ensures,
+    sym c.is_set.ensures ∙ c.if-not-is_set.true,
+  ),
 )
 
 pub returns-in-None : goal.returns-in-None
 returns-in-None c = λ words names. (
   _,
   names,
-  c.in_ok-file.ensures,
-  c.text_of-trace.ensures ∙ ap (option_map (λ trace. trace.now)) c.in-None.is,
-  sym c.is_set.ensures ∙ c.if-not-is_set.false,
+  (
+    c.in_ok-file.ensures,
+    c.text_of-trace.ensures ∙ ap (option_map (λ trace. trace.now)) c.in-None.is,
+    sym c.is_set.ensures ∙ c.if-not-is_set.false,
+  ),
 )
 
 pub returns-in-Some : goal.returns-in-Some

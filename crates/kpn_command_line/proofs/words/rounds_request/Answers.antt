@@ -13,4 +13,4 @@ returns-in_default c = λ words names.
 
 pub returns : goal.returns
 returns c = λ words names.
-    (_, names, c.in_ok-required.ensures, c.number_of.ensures ∙ c.in-Some.is, c.in_ok-texts_of.ensures)
+    (_, names, (c.in_ok-required.ensures, c.number_of.ensures ∙ c.in-Some.is, c.in_ok-texts_of.ensures))

@@ -5,11 +5,13 @@ pub returns : goal.returns
 returns c = λ words names. (
   _,
   names,
-  c.in_ok-required.ensures,
-  c.in_ok-texts_of.ensures,
-  c.in_ok-texts_of-2.ensures,
-  c.count_or_usual.ensures,
-  c.count_of.ensures,
-  c.text_of.ensures,
-  c.number_of.ensures,
+  (
+    c.in_ok-required.ensures,
+    c.in_ok-texts_of.ensures,
+    c.in_ok-texts_of-2.ensures,
+    c.count_or_usual.ensures,
+    c.count_of.ensures,
+    c.text_of.ensures,
+    c.number_of.ensures,
+  ),
 )

@@ -12,10 +12,7 @@ pub returns : goal.returns
 returns c = λ words names. (
   _,
   names,
-  c.in_ok-required.ensures,
-  c.in_ok-required-2.ensures,
-  c.count_or_usual.ensures,
-  c.in_ok-tables_of.ensures,
+  (c.in_ok-required.ensures, c.in_ok-required-2.ensures, c.count_or_usual.ensures, c.in_ok-tables_of.ensures),
 )
 
 refused : (words : List (List ℕ)) (given : List Row) → Names words (codes "stats") given → (fault : WordsFault)
