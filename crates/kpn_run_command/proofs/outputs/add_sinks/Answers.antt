@@ -22,10 +22,10 @@ returns-in_err-add_output-clause-refused g c =
     let sinks = c.args.sinks.now in
     let i = c.loop-sink.sink-index in
     let outputs = map now c.loop-sink.outputs.items in
-    let h : IfErr c.from_residual-in_err-add_output.result
+    let h : IfErr c.from_residual.result
     (λ (r : Refusal). IsRefusalOfOutput may_alias c.args.request.now outputs (file (get_or sinks i one)) SinkWord r) =
     search rules in
-    IfErr-weaker c.from_residual-in_err-add_output.result
+    IfErr-weaker c.from_residual.result
     (λ (r : Refusal). IsRefusalOfOutput may_alias c.args.request.now outputs (file (get_or sinks i one)) SinkWord r) _
     (some_refused may_alias c.args.request.now file sinks i one (map now c.args.outputs.now.items) outputs
     (omega (arith, c.loop-sink-test.true)) c.loop-sink.invariant.added SinkWord)

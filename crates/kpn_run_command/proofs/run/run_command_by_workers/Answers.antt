@@ -3,7 +3,7 @@ use Rattle.std.proofs.lemmas.Result.{IfOk-weaker, IfErr-weaker}
 use Rattle.std.proofs.Common.{◌≡◌, ◌∙◌, Some, sym, subst, ap, inr}
 use Rattle.kpn_run_here.specs.Reports.{IsReport}
 use Rattle.kpn_run_command.specs.Reported.{IsRefusalOfReport}
-use Rattle.kpn_run_command.proofs.Running.{along, unrun}
+use Rattle.kpn_run_command.proofs.Running.{along, has_workers, unrun}
 use Rattle.kpn_run_command.proofs.run.run_command_by_workers.Goals as goal
 
 pub returns-in-Err-run_by_workers-clause-refused : goal.returns-in-Err-run_by_workers-clause-refused
@@ -31,7 +31,7 @@ returns-clause-ok g c =
         is_report =
             along (λ t lists limits. IsReport t lists limits c.in-Ok-run_by_workers.report) c.network-network.ensures
             c.deref.ensures.value c.limits_of-limits.ensures c.in-Ok-run_by_workers.ensures.report;
-        here = λ without. let clash = workers ∙ without in absurd cc;
+        here = λ without. absurd (has_workers c.in-Some.workers c.args.request.now.workers workers without);
       };
       apart = c.in-Ok.ensures.apart;
       concluded = concluded;
