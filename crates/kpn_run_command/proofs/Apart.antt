@@ -1,17 +1,13 @@
--- Outputs that are apart, one more at a time; each refusal of a stage is one of the run.
-use Rattle.std.proofs.Common.{◌≡◌, ◌≢◌, ◌⊎◌, ◌<◌, ◌+◌, ℕ, suc, List, Bor, [], ◌∷◌, ◌++◌, All, Option, Some, None, map, length, get_or, take, drop, refl, inl, inr, sym, ap, subst, ◌∙◌, arith, drop-cons}
-use Rattle.std.specs.List.{Any, AllPairs}
+-- Outputs that are apart, one more at a time, and outputs that are refused.
+use Rattle.std.proofs.Common.{◌≡◌, ◌≢◌, ◌<◌, ◌+◌, ℕ, suc, List, Bor, [], ◌∷◌, ◌++◌, All, Option, Some, map, length, get_or, take, drop, refl, inl, inr, sym, ap, subst, ◌∙◌, arith, drop-cons}
 use Rattle.std.proofs.lemmas.List.{take-append-drop, take_more, map-append}
 use Rattle.std.proofs.lemmas.List.Elements.{All-push}
 use Rattle.std.proofs.lemmas.List.Quantifiers.{all_pairs_push}
 use Rattle.kpn_request.specs.RunRequest.{RunRequest}
 use Rattle.kpn_refusals.specs.declared.refusal.Refusal.{Refusal}
-use Rattle.kpn_refusals.specs.declared.refusal.Refusal.TheVariants.{TraceWord, SinkWord, Output, NoMemory}
-use Rattle.kpn_inputs.specs.Sources.{name_in, file_in}
-use Rattle.kpn_inputs.specs.SourceRefusals.{IsRefusalOfWords}
-use Rattle.kpn_inputs.specs.Inputs.{IsRefusalOfRunInputs}
+use Rattle.kpn_refusals.specs.declared.refusal.Refusal.TheVariants.{Output}
 use Rattle.kpn_shelf.specs.Shelf.{Loads, Aliases}
-use Rattle.kpn_run_command.specs.Outputs.{IsApart, AreApart, AreOutputsApart, trace_name, outputs_of, MayMeet, IsRefusalOfOutput, IsRefusalOfSome, IsRefusalOfOutputs, HasInputs, IsUnready, IsUnprepared}
+use Rattle.kpn_run_command.specs.Outputs.{IsApart, AreApart, AreOutputsApart, trace_name, outputs_of, MayMeet, IsRefusalOfOutput, IsRefusalOfSome, HasInputs, IsUnready, IsUnprepared}
 
 abbrev pub now : Bor (List ℕ) → List ℕ
 now word = word.now
@@ -78,48 +74,9 @@ module _ (may_alias : Aliases) (request : RunRequest) where
         },
       ))
 
-  -- ---- each refusal of a stage is one of the outputs
-
-  pub of_trace : (refusal : Refusal)
-      → IsRefusalOfSome may_alias request [] (trace_name request.trace) TraceWord refusal
-      → IsRefusalOfOutputs may_alias request refusal
-  of_trace refusal (inl h) = inl h
-  of_trace refusal (inr no_memory) = inr (inr no_memory)
-
-  module _ (apart : AreApart request (trace_name request.trace)) where
-    pub of_words : (refusal : Refusal) → IsRefusalOfWords SinkWord request.sinks refusal
-        → IsRefusalOfOutputs may_alias request refusal
-    of_words refusal (inl h) = inr (inl (h.0, (apart, inl h.1)))
-    of_words refusal (inr no_memory) = inr (inr no_memory)
-
-    pub of_sinks : (refusal : Refusal)
-        → IsRefusalOfSome may_alias request (trace_name request.trace) (map file_in request.sinks) SinkWord refusal
-        → IsRefusalOfOutputs may_alias request refusal
-    of_sinks refusal (inl h) = inr (inl (h.0, (apart, inr h.1)))
-    of_sinks refusal (inr no_memory) = inr (inr no_memory)
-
-  -- ---- and one of the run
-
-  module _ (may_give : Loads) where
-    abbrev Unprepared : Refusal → Type 0
-    Unprepared refusal = IsUnprepared may_give may_alias request refusal
-
-    pub outputs_refused : (refusal : Refusal) → IsRefusalOfOutputs may_alias request refusal → Unprepared refusal
-    outputs_refused refusal (inl h) = subst Unprepared (sym h.0) h.1
-    outputs_refused refusal (inr (inl h)) = subst Unprepared (sym h.0) h.1
-    outputs_refused refusal (inr (inr no_memory)) = subst Unprepared (sym no_memory) tt
-
-    module _ (apart : AreOutputsApart request) where
-      pub inputs_refused : (refusal : Refusal)
-          → IsRefusalOfRunInputs may_give request.file request.sources (map name_in request.sinks) refusal
-          → Unprepared refusal
-      inputs_refused TraceWord h = absurd h
-      inputs_refused SinkWord h = absurd h
-      inputs_refused (Output fault) h = absurd h
-      inputs_refused NoMemory h = tt
-      inputs_refused other h = (apart, h)
-
-      pub unready : (outputs : ℕ) → outputs ≡ length (outputs_of request) → HasInputs may_give request
-          → (refusal : Refusal) → IsUnready outputs refusal → Unprepared refusal
-      unready outputs are inputs (Output fault) h = (apart, inputs, subst (λ n. 0 < n) are h)
-      unready outputs are inputs other h = absurd h
+  -- an output can't be stored
+  pub unready : (may_give : Loads) → AreOutputsApart request → (outputs : ℕ) → outputs ≡ length (outputs_of request)
+      → HasInputs may_give request → (refusal : Refusal) → IsUnready outputs refusal
+      → IsUnprepared may_give may_alias request refusal
+  unready may_give apart outputs are inputs (Output fault) h = (apart, inputs, subst (λ n. 0 < n) are h)
+  unready may_give apart outputs are inputs other h = absurd h

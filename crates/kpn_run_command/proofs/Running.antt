@@ -1,13 +1,7 @@
 -- What holds of the parts that a run is handed holds of the inputs and of the request.
-use Rattle.std.proofs.Common.{◌≡◌, ◌∙◌, ℕ, ℤ, List, Option, Some, None, inr, sym, subst}
+use Rattle.std.proofs.Common.{◌≡◌, ◌∙◌, ℕ, ℤ, List, Option, Some, None, subst}
 use Rattle.kpn_net.specs.Tables.{Tables}
 use Rattle.kpn_run_here.specs.declared.outcome.Limits.{Limits}
-use Rattle.kpn_refusals.specs.declared.refusal.Refusal.{Refusal}
-use Rattle.kpn_refusals.specs.declared.refusal.Refusal.TheVariants.{NoMemory}
-use Rattle.kpn_request.specs.RunRequest.{RunRequest}
-use Rattle.kpn_shelf.specs.Shelf.{Loads, Aliases}
-use Rattle.kpn_run_command.specs.Reported.{IsRefusalOfReport}
-use Rattle.kpn_run_command.specs.Run.{IsNoRun}
 
 pub along : (P : Tables → List (List ℤ) → Limits → Type 0) {network t : Tables} {lists given : List (List ℤ)}
     {limits asked : Limits} → network ≡ t → lists ≡ given → limits ≡ asked → P network lists limits → P t given asked
@@ -17,8 +11,3 @@ along P {network = network} {lists = lists} {given = given} {asked = asked} is s
 
 pub has_workers : (workers : ℕ) (asked : Option ℕ) → Some workers ≡ asked → asked ≡ None → ⊥
 has_workers workers asked some none = let clash = some ∙ none in absurd cc
-
-pub unrun : (may_give : Loads) (may_alias : Aliases) (request : RunRequest) (refusal : Refusal) → refusal ≡ NoMemory
-    → IsNoRun may_give may_alias request refusal
-unrun may_give may_alias request refusal is =
-    inr (subst (IsRefusalOfReport request.workers) (sym is) tt)

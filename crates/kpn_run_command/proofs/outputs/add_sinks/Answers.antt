@@ -1,5 +1,5 @@
 -- The file of one more sink joins the outputs, or it is refused.
-use Rattle.std.proofs.Common.{rules, ◌≡◌, ◌++◌, ◌∷◌, [], ℕ, List, Bor, IfErr, map, take, get_or, ap, sym, ◌∙◌, append_assoc, arith}
+use Rattle.std.proofs.Common.{rules, ◌++◌, ◌∷◌, [], ℕ, List, IfErr, map, take, get_or, ap, sym, ◌∙◌, append_assoc, arith}
 use Rattle.std.proofs.lemmas.List.{map_more}
 use Rattle.std.proofs.lemmas.Result.{IfErr-weaker}
 use Rattle.kpn_inputs.specs.declared.sources.FileOption.{FileOption}

@@ -1,5 +1,5 @@
 -- The trace is refused if it is not apart from the inputs.
-use Rattle.std.proofs.Common.{rules, ◌≡◌, ℕ, List, IfErr, Option, Some, map, option_map, ap, sym, ◌∙◌}
+use Rattle.std.proofs.Common.{rules, ◌≡◌, IfErr, Some, map, option_map, ap, sym, ◌∙◌}
 use Rattle.std.proofs.lemmas.Result.{IfErr-weaker}
 use Rattle.kpn_refusals.specs.declared.refusal.Refusal.TheVariants.{TraceWord}
 use Rattle.kpn_run_command.specs.Outputs.{IsRefusalOfOutput}

@@ -1,16 +1,14 @@
--- Each refusal of a stage is one of the run; what holds of the options holds of the words.
-use Rattle.std.proofs.Common.{rules, ◌≡◌, ℕ, List, IfErr, map, length, ap, sym, subst, ◌∙◌}
+-- An output that can't be made ready refuses the run.
+use Rattle.std.proofs.Common.{◌≡◌, ℕ, List, map, length, ap, sym, subst, ◌∙◌}
 use Rattle.std.proofs.lemmas.List.{length-map}
-use Rattle.std.proofs.lemmas.Result.{IfErr-weaker}
 use Rattle.kpn_request.specs.RunRequest.{RunRequest}
 use Rattle.kpn_text.specs.Document.{Document}
 use Rattle.kpn_inputs.specs.declared.sources.NamedEnd.{NamedEnd}
 use Rattle.kpn_inputs.specs.declared.sources.FileOption.{FileOption}
-use Rattle.kpn_inputs.specs.Inputs.{AreNamedSinks, IsRefusalOfRunInputs}
+use Rattle.kpn_inputs.specs.Inputs.{AreNamedSinks}
 use Rattle.kpn_inputs.specs.Sources.{name_in, file_in}
-use Rattle.kpn_refusals.specs.declared.refusal.Refusal.{Refusal}
-use Rattle.kpn_run_command.specs.Outputs.{AreSinks, IsRefusalOfOutputs, outputs_of}
-use Rattle.kpn_run_command.proofs.Apart.{now, outputs_refused, inputs_refused, unready}
+use Rattle.kpn_run_command.specs.Outputs.{AreSinks, outputs_of}
+use Rattle.kpn_run_command.proofs.Apart.{now, unready}
 use Rattle.kpn_run_command.proofs.outputs.prepare.Goals as goal
 
 name : FileOption → List ℕ
@@ -26,32 +24,6 @@ are_sinks : (request : RunRequest) (d : Document) (named : List NamedEnd) (optio
 are_sinks request d named options handed same names files are =
     subst (λ ns. AreNamedSinks d ns (map file_in request.sinks) named) (ap (map name) same ∙ names)
     (subst (λ fs. AreNamedSinks d (map name handed) fs named) (ap (map file) same ∙ files) are)
-
-pub returns-in_err-outputs-clause-refused : goal.returns-in_err-outputs-clause-refused
-returns-in_err-outputs-clause-refused g c =
-    let may_alias = g.S.Shelf.may_alias c.args.shelf.now in
-    let h : IfErr c.from_residual.result (IsRefusalOfOutputs may_alias c.args.request.now) = search rules in
-    IfErr-weaker c.from_residual.result _ _
-    (outputs_refused may_alias c.args.request.now (g.S.Shelf.may_give c.args.shelf.now)) h
-
-pub returns-in-Err-clause-refused : goal.returns-in-Err-clause-refused
-unfolding name
-returns-in-Err-clause-refused g c =
-    let may_give = g.S.Shelf.may_give c.args.shelf.now in
-    let request = c.args.request.now in
-    let names : map name c.deref.result.now ≡ map name_in request.sinks =
-    ap (map name) c.deref.ensures.value ∙ c.in_ok-outputs.ensures.names in
-    inputs_refused (g.S.Shelf.may_alias c.args.shelf.now) request may_give c.in_ok-outputs.ensures.apart
-    c.in-Err.refusal
-    (subst (λ (ns : List (List ℕ)). IsRefusalOfRunInputs may_give request.file request.sources ns c.in-Err.refusal)
-    names c.in-Err.ensures.refused)
-
-pub returns-in-Ok-make_ready-clause-sinks : goal.returns-in-Ok-make_ready-clause-sinks
-unfolding name file
-returns-in-Ok-make_ready-clause-sinks g c =
-    are_sinks c.args.request.now c.in-Ok.loaded.inputs.document c.in-Ok.loaded.sinks.items
-    c.in_ok-outputs.outputs.sinks.items c.deref.result.now c.deref.ensures.value c.in_ok-outputs.ensures.names
-    c.in_ok-outputs.ensures.files c.in-Ok.ensures.sinks
 
 pub returns-clause-refused : goal.returns-clause-refused
 unfolding name file
