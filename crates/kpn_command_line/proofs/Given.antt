@@ -72,3 +72,7 @@ pub number_given : (E : Type 0) (reads : List ℕ → Result ℕ E → Type 0) (
 number_given E reads bits f id n none value parses =
     ap (option_and_then (number_in bits)) (sym (one_text-rows f id))
     ∙ number_read E reads bits (one_text f id) n none value parses
+
+pub none_of : {A : Type 0} (given : Option A) → ((some : A) → given ≡ Some some → ⊥) → given ≡ None
+none_of None none = refl
+none_of (Some a) none = absurd (none a refl)

@@ -1,7 +1,7 @@
 -- What the words of a command line ask for.
 use Rattle.std.specs.Prelude.{◌≡◌, ◌≢◌, ◌⊎◌, ◌&&◌, ◌^◌, ℕ, nat_lt, List, []}
 use Rattle.std.specs.Prelude.{Option, Some, None, option_map, option_and_then, unwrap_or, map, codes, ⊤}
-use Rattle.std.specs.Prelude.{if◌then◌else◌}
+use Rattle.std.specs.Prelude.{if◌then◌else◌, Result, MatchResult}
 use Rattle.std.specs.Prelude.{Bool, true, false}
 use Rattle.std.specs.Option.{option_map_or}
 use Rattle.std.specs.Str.{bytes_eq}
@@ -10,15 +10,17 @@ use Rattle.clap.specs.Kinds.{IsAmong}
 use Rattle.clap.specs.Faults.{fault_of}
 use Rattle.clap.specs.Simple.{subcommand_of}
 use Rattle.clap.specs.ValueTests.{is_numeral}
-use Rattle.clap.specs.Walk.{Row, first_of, one_of, all_of}
+use Rattle.clap.specs.Walk.{Row, first_of, one_of, all_of, rows_of}
+use Rattle.clap.specs.Matches.{found_of}
+use Rattle.clap.specs.declared.parser.matches.ArgMatches.{ArgMatches}
 use Rattle.clap.specs.declared.error.kind.ErrorKind.{ErrorKind}
 use Rattle.clap.specs.declared.error.kind.ErrorKind.TheVariants.{DisplayHelp, DisplayVersion, OutOfMemory}
+use Rattle.kpn_request.specs.declared.tables.StatsTables.{StatsTables}
+use Rattle.kpn_request.specs.declared.tables.StatsTables.TheVariants.{People, Channels, Processes}
 use Rattle.kpn_command_line.specs.declared.request.Request.{Request}
 use Rattle.kpn_command_line.specs.declared.request.Request.TheVariants.{Alone, Check, Explain, ExplainItems}
-use Rattle.kpn_command_line.specs.declared.request.Request.TheVariants.{Print, Draw, Rounds, Run, RunByWorkers}
+use Rattle.kpn_command_line.specs.declared.request.Request.TheVariants.{Print, Draw, Rounds, Run}
 use Rattle.kpn_command_line.specs.declared.request.Request.TheVariants.{Audit, Stats, Help}
-use Rattle.kpn_command_line.specs.declared.request.Tsv.{Tsv}
-use Rattle.kpn_command_line.specs.declared.request.Tsv.TheVariants.{Channels, Processes}
 use Rattle.kpn_command_line.specs.declared.request.WordsFault.{WordsFault}
 use Rattle.kpn_command_line.specs.declared.request.WordsFault.TheVariants.{Usage, NoMemory}
 use Rattle.kpn_command_line.specs.CommandLine.{command_line}
@@ -62,93 +64,69 @@ is_true text = option_map_or (λ it. bytes_eq it (codes "true")) text false
 abbrev pub is_set : (name : List ℕ) (given : List Row) → Bool
 is_set name given = is_true (text_for name given)
 
--- ---- what the words of each command ask for
+-- ---- what the words ask for
 
-abbrev pub AsksForAlone : (words : List (List ℕ)) (name : List ℕ) → Type 0
-AsksForAlone words name =
-    (given : List Row) × Names words (codes "alone") given × (text_for (codes "NAME") given ≡ Some name)
+-- the word that names a table for other programs
+abbrev pub table_name : StatsTables → Option (List ℕ)
+table_name People = None
+table_name Channels = Some (codes "channels")
+table_name Processes = Some (codes "processes")
 
-abbrev pub AsksForCheck : (words : List (List ℕ)) (file : List ℕ) → Type 0
-AsksForCheck words file =
-    (given : List Row) × Names words (codes "check") given × (text_for (codes "FILE") given ≡ Some file)
+-- the name of the command that a request is for; help is for none
+abbrev pub command_of : Request → List ℕ
+command_of (Alone name) = codes "alone"
+command_of (Check file) = codes "check"
+command_of (Explain file trace steps) = codes "explain"
+command_of (ExplainItems file) = codes "explain"
+command_of (Print file) = codes "print"
+command_of (Draw file trace) = codes "draw"
+command_of (Rounds file n sources) = codes "rounds"
+command_of (Run run) = codes "run"
+command_of (Audit file trace steps) = codes "audit"
+command_of (Stats file trace steps tables) = codes "stats"
+command_of (Help text) = []
 
--- 10,000,000 steps without `--steps`
-abbrev pub AsksForExplain : (words : List (List ℕ)) (file : List ℕ) (trace : Option (List ℕ)) (steps : ℕ) → Type 0
-AsksForExplain words file trace steps =
-    (given : List Row) × Names words (codes "explain") given × (text_for (codes "FILE") given ≡ Some file)
-    × (text_for (codes "TRACE") given ≡ trace)
-    × (unwrap_or (number_for 64 (codes "STEPS") given) 10000000 ≡ steps)
-    × (is_set (codes "ITEMS") given ≡ false)
+-- the most steps before an event: 10,000,000 without `--steps`
+abbrev pub steps_for : (given : List Row) → ℕ
+steps_for given = unwrap_or (number_for 64 (codes "STEPS") given) 10000000
 
-abbrev pub AsksForExplainItems : (words : List (List ℕ)) (file : List ℕ) → Type 0
-AsksForExplainItems words file =
-    (given : List Row) × Names words (codes "explain") given × (text_for (codes "FILE") given ≡ Some file)
-    × (text_for (codes "TRACE") given ≡ None) × (is_set (codes "ITEMS") given ≡ true)
-
-abbrev pub AsksForPrint : (words : List (List ℕ)) (file : List ℕ) → Type 0
-AsksForPrint words file =
-    (given : List Row) × Names words (codes "print") given × (text_for (codes "FILE") given ≡ Some file)
-
-abbrev pub AsksForDraw : (words : List (List ℕ)) (file : List ℕ) (trace : Option (List ℕ)) → Type 0
-AsksForDraw words file trace =
-    (given : List Row) × Names words (codes "draw") given × (text_for (codes "FILE") given ≡ Some file)
-    × (text_for (codes "TRACE") given ≡ trace)
-
-abbrev pub AsksForRounds : (words : List (List ℕ)) (file : List ℕ) (n : ℕ) (sources : List (List ℕ)) → Type 0
-AsksForRounds words file n sources =
-    (given : List Row) × Names words (codes "rounds") given × (text_for (codes "FILE") given ≡ Some file)
-    × (number_for 32 (codes "N") given ≡ Some n) × (texts_for (codes "SOURCE") given ≡ sources)
-
--- 10,000,000 commits without `--max-commits`
-abbrev pub AsksForRun : (words : List (List ℕ)) (file : List ℕ) (sources sinks : List (List ℕ)) (commits : ℕ)
-    (take : Option ℕ) (trace : Option (List ℕ)) (workers : Option ℕ) → Type 0
-AsksForRun words file sources sinks commits take trace workers =
-    (given : List Row) × Names words (codes "run") given × (text_for (codes "FILE") given ≡ Some file)
-    × (texts_for (codes "SOURCE") given ≡ sources) × (texts_for (codes "SINK") given ≡ sinks)
-    × (unwrap_or (number_for 64 (codes "MAX_COMMITS") given) 10000000 ≡ commits)
-    × (number_for 64 (codes "K") given ≡ take) × (text_for (codes "TRACE") given ≡ trace)
-    × (number_for 32 (codes "WORKERS") given ≡ workers)
-
--- 10,000,000 steps without `--steps`
-abbrev pub AsksForAudit : (words : List (List ℕ)) (file trace : List ℕ) (steps : ℕ) → Type 0
-AsksForAudit words file trace steps =
-    (given : List Row) × Names words (codes "audit") given × (text_for (codes "FILE") given ≡ Some file)
-    × (text_for (codes "TRACE") given ≡ Some trace)
-    × (unwrap_or (number_for 64 (codes "STEPS") given) 10000000 ≡ steps)
-
--- the word that names a table
-abbrev pub table_name : Tsv → List ℕ
-table_name Channels = codes "channels"
-table_name Processes = codes "processes"
-
--- 10,000,000 steps without `--steps`, and the tables for people without `--tsv`
-abbrev pub AsksForStats : (words : List (List ℕ)) (file trace : List ℕ) (steps : ℕ) (tsv : Option Tsv) → Type 0
-AsksForStats words file trace steps tsv =
-    (given : List Row) × Names words (codes "stats") given × (text_for (codes "FILE") given ≡ Some file)
-    × (text_for (codes "TRACE") given ≡ Some trace)
-    × (unwrap_or (number_for 64 (codes "STEPS") given) 10000000 ≡ steps)
-    × (text_for (codes "TABLE") given ≡ option_map table_name tsv)
+-- What the words give to its command is what the request has. There are 10,000,000 commits without `--max-commits`, and
+-- the tables for people without `--tsv`.
+abbrev pub Gives : (given : List Row) → Request → Type 0
+Gives given (Alone name) = text_for (codes "NAME") given ≡ Some name.now
+Gives given (Check file) = text_for (codes "FILE") given ≡ Some file.now
+Gives given (Explain file trace steps) =
+    (text_for (codes "FILE") given ≡ Some file.now)
+    × (text_for (codes "TRACE") given ≡ option_map (λ name. name.now) trace)
+    × (steps_for given ≡ steps) × (is_set (codes "ITEMS") given ≡ false)
+Gives given (ExplainItems file) =
+    (text_for (codes "FILE") given ≡ Some file.now) × (text_for (codes "TRACE") given ≡ None)
+    × (is_set (codes "ITEMS") given ≡ true)
+Gives given (Print file) = text_for (codes "FILE") given ≡ Some file.now
+Gives given (Draw file trace) =
+    (text_for (codes "FILE") given ≡ Some file.now)
+    × (text_for (codes "TRACE") given ≡ option_map (λ name. name.now) trace)
+Gives given (Rounds file n sources) =
+    (text_for (codes "FILE") given ≡ Some file.now) × (number_for 32 (codes "N") given ≡ Some n)
+    × (texts_for (codes "SOURCE") given ≡ map (λ source. source.now) sources.items)
+Gives given (Run run) =
+    (text_for (codes "FILE") given ≡ Some run.file) × (texts_for (codes "SOURCE") given ≡ run.sources)
+    × (texts_for (codes "SINK") given ≡ run.sinks)
+    × (unwrap_or (number_for 64 (codes "MAX_COMMITS") given) 10000000 ≡ run.commits)
+    × (number_for 64 (codes "K") given ≡ run.take) × (text_for (codes "TRACE") given ≡ run.trace)
+    × (number_for 32 (codes "WORKERS") given ≡ run.workers)
+Gives given (Audit file trace steps) =
+    (text_for (codes "FILE") given ≡ Some file.now) × (text_for (codes "TRACE") given ≡ Some trace.now)
+    × (steps_for given ≡ steps)
+Gives given (Stats file trace steps tables) =
+    (text_for (codes "FILE") given ≡ Some file.now) × (text_for (codes "TRACE") given ≡ Some trace.now)
+    × (steps_for given ≡ steps) × (text_for (codes "TABLE") given ≡ table_name tables)
+Gives given (Help text) = ⊥
 
 -- the request is what the words ask for
 abbrev pub IsAsked : (words : List (List ℕ)) → Request → Type 0
-IsAsked words (Alone name) = AsksForAlone words name.now
-IsAsked words (Check file) = AsksForCheck words file.now
-IsAsked words (Explain file trace steps) =
-    AsksForExplain words file.now (option_map (λ name. name.now) trace) steps
-IsAsked words (ExplainItems file) = AsksForExplainItems words file.now
-IsAsked words (Print file) = AsksForPrint words file.now
-IsAsked words (Draw file trace) = AsksForDraw words file.now (option_map (λ name. name.now) trace)
-IsAsked words (Rounds file n sources) =
-    AsksForRounds words file.now n (map (λ source. source.now) sources.items)
-IsAsked words (Run run) =
-    AsksForRun words run.file.now (map (λ source. source.now) run.sources.items)
-    (map (λ sink. sink.now) run.sinks.items) run.commits run.take (option_map (λ trace. trace.now) run.trace) None
-IsAsked words (RunByWorkers run workers) =
-    AsksForRun words run.file.now (map (λ source. source.now) run.sources.items)
-    (map (λ sink. sink.now) run.sinks.items) run.commits run.take (option_map (λ trace. trace.now) run.trace) (Some workers)
-IsAsked words (Audit file trace steps) = AsksForAudit words file.now trace.now steps
-IsAsked words (Stats file trace steps tsv) = AsksForStats words file.now trace.now steps tsv
 IsAsked words (Help text) = AsksForHelp words
+IsAsked words request = (given : List Row) × Names words (command_of request) given × Gives given request
 
 -- no request is what the words ask for
 abbrev pub AskForNothing : (words : List (List ℕ)) → Type 0
@@ -170,6 +148,16 @@ IsRefused words NoMemory = ⊤
 
 -- ---- scaffolding: what the parts of the code answer
 
+-- what the words give to a command, as `clap` hands it over
+abbrev pub rows_in : ArgMatches → List Row
+rows_in matches = rows_of (found_of matches)
+
+-- of all words that name this command and give it this, the answer is what they ask for, or why they are refused
+abbrev pub AnswersTo : (command : List ℕ) → ArgMatches → Result Request WordsFault → Type 0
+AnswersTo command matches result =
+    (words : List (List ℕ)) → Names words command (rows_in matches)
+    → MatchResult result (IsAsked words) (IsRefused words)
+
 -- help, if `clap` stops for it
 abbrev pub IsHelpOfKind : ErrorKind → Request → Type 0
 IsHelpOfKind kind (Help text) = (kind ≡ DisplayHelp) ⊎ (kind ≡ DisplayVersion)
@@ -188,4 +176,4 @@ IsUsageIf cause NoMemory = ⊤
 
 -- this text names no table
 abbrev pub IsNoTable : Option (List ℕ) → Type 0
-IsNoTable text = (tsv : Option Tsv) → text ≡ option_map table_name tsv → ⊥
+IsNoTable text = (tables : StatsTables) → text ≡ table_name tables → ⊥

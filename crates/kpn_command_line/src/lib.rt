@@ -6,5 +6,5 @@ mod help;
 mod request;
 mod words;
 
-pub use request::{Request, RunWords, Tsv, WordsFault};
+pub use request::{Request, WordsFault};
 pub use words::read_words;

@@ -1,6 +1,7 @@
 //! What a command line may ask for.
 
 use clap::Error;
+use kpn_request::{RunRequest, StatsTables};
 use std::alloc::AllocError;
 
 /// What a command line asks for.
@@ -31,50 +32,23 @@ pub enum Request<'a> {
         n: u32,
         sources: Vec<&'a str>,
     },
-    /// `run FILE` without `--workers`.
-    Run(RunWords<'a>),
-    /// `run FILE --workers N`, with the number of workers.
-    RunByWorkers(RunWords<'a>, u32),
+    /// `run FILE` with its options.
+    Run(RunRequest<'a>),
     /// `audit FILE TRACE`, with the most steps before an event.
     Audit {
         file: &'a str,
         trace: &'a str,
         steps: u64,
     },
-    /// `stats FILE TRACE`, with the most steps before an event, and the one table for other programs.
+    /// `stats FILE TRACE`, with the most steps before an event, and the tables that it writes.
     Stats {
         file: &'a str,
         trace: &'a str,
         steps: u64,
-        tsv: Option<Tsv>,
+        tables: StatsTables,
     },
     /// `--help`, `help` or `--version`, with the text that answers it.
     Help(Error),
-}
-
-/// A table that `kpn stats` writes for other programs.
-#[derive(Clone, Copy)]
-pub enum Tsv {
-    /// The figures of the channels.
-    Channels,
-    /// The figures of the processes.
-    Processes,
-}
-
-/// What the words give to `kpn run`, except its workers.
-#[derive(Drop)]
-pub struct RunWords<'a> {
-    pub file: &'a str,
-    /// The words behind the `--source` options.
-    pub sources: Vec<&'a str>,
-    /// The words behind the `--sink` options.
-    pub sinks: Vec<&'a str>,
-    /// The most commits.
-    pub commits: u64,
-    /// How many items the run wants of each sink.
-    pub take: Option<u64>,
-    /// The file for the trace.
-    pub trace: Option<&'a str>,
 }
 
 /// Why the program can't do what the words ask for.

@@ -1,21 +1,22 @@
 //! The words of a command line, read by `clap`.
-ghost use Rattle.std.specs.Prelude.{◌≡◌, ℕ, List, [], None, Some, IfOk, MatchResult, map, option_map, codes};
+ghost use Rattle.std.specs.Prelude.{◌≡◌, ℕ, List, [], None, Some, IfOk, MatchResult, map, option_map, unwrap_or, codes};
 ghost use Rattle.std.specs.String.{string_bytes};
 ghost use Rattle.clap.specs.Words.{kind_of, fault_of, found_of, rows_of, subcommand_of};
 ghost use Rattle.clap.specs.Words.{subcommand_rows_of};
 ghost use Rattle.kpn_command_line.specs.CommandLine.{command_line};
 ghost use Rattle.kpn_command_line.specs.Asked.{IsAsked, IsRefused, IsHelpOfKind, IsRefusalOfKind};
-ghost use Rattle.kpn_command_line.specs.Asked.{IsUsageIf, IsNoTable, Names, table_name};
-ghost use Rattle.kpn_command_line.specs.Asked.{text_for, texts_for, is_set};
+ghost use Rattle.kpn_command_line.specs.Asked.{AnswersTo, IsUsageIf, IsNoTable, Names, rows_in};
+ghost use Rattle.kpn_command_line.specs.Asked.{text_for, texts_for, number_for, is_set, table_name};
 
 use crate::command_line::{
     FILE, ITEMS, MAX_COMMITS, NAME, ROUNDS, SINK, SOURCE, STEPS, TABLE, TAKE, TRACE, WORKERS,
     program,
 };
-use crate::request::{Request, RunWords, Tsv, WordsFault};
+use crate::request::{Request, WordsFault};
 use clap::error::ErrorKind;
 use clap::{ArgMatches, Command, Error};
 use kpn_limits::USUAL_COUNT;
+use kpn_request::{RunRequest, StatsTables};
 use std::alloc::{AllocError, Global};
 
 /// What the words ask for, or why the program can't do it.
@@ -63,8 +64,7 @@ fn command_request<'a>(
     command: &str,
     given: &ArgMatches<'a>,
 ) -> Result<Request<'a>, WordsFault>
-    ensures { (words : List (List ℕ)) → Names words command.now (rows_of (found_of given.now))
-        → MatchResult result (IsAsked words) (IsRefused words) }
+    ensures { AnswersTo command.now given.now result }
 {
     match command {
         "alone" => Ok(Request::Alone(required(program, given, NAME)?)),
@@ -82,25 +82,14 @@ fn command_request<'a>(
 
 // The fault of words that name no command.
 fn without_command(program: &mut Command<'_>) -> WordsFault {
-    match program.error(ErrorKind::MissingSubcommand, "a command is needed") {
-        Ok(error) => WordsFault::Usage(error),
-        Err(_) => WordsFault::NoMemory,
-    }
+    unclear(program, ErrorKind::MissingSubcommand, "a command is needed")
 }
 
-// A word that the command needs.
-fn required<'a>(
-    program: &mut Command<'a>,
-    matches: &ArgMatches<'a>,
-    id: &str,
-) -> Result<&'a str, WordsFault>
-    ensures { MatchResult result
-        (λ word. text_for id.now (rows_of (found_of matches.now)) ≡ Some word.now)
-        (IsUsageIf (text_for id.now (rows_of (found_of matches.now)) ≡ None)) }
-{
-    match matches.get_str(id) {
-        Some(word) => Ok(word),
-        None => Err(WordsFault::Usage(program.error(ErrorKind::MissingRequiredArgument, id)?)),
+// The fault of words that are not understood. The message says why.
+fn unclear(program: &mut Command<'_>, kind: ErrorKind, message: &str) -> WordsFault {
+    match program.error(kind, message) {
+        Ok(error) => WordsFault::Usage(error),
+        Err(_) => WordsFault::NoMemory,
     }
 }
 
@@ -109,42 +98,21 @@ fn explain_request<'a>(
     program: &mut Command<'a>,
     explain: &ArgMatches<'a>,
 ) -> Result<Request<'a>, WordsFault>
-    ensures { (words : List (List ℕ)) → Names words (codes "explain") (rows_of (found_of explain.now))
-        → MatchResult result (IsAsked words) (IsRefused words) }
+    ensures { AnswersTo (codes "explain") explain.now result }
 {
     let file = required(program, explain, FILE)?;
-    let trace = explain.get_str(TRACE);
-    let steps = explain.get_one::<u64>(STEPS).unwrap_or(USUAL_COUNT);
+    let trace = text_of(explain, TRACE);
+    let steps = count_or_usual(explain, STEPS);
     if !is_set(explain, ITEMS) {
         return Ok(Request::Explain { file, trace, steps });
     }
     match trace {
         None => Ok(Request::ExplainItems(file)),
-        Some(_) => Err(items_with_trace(program)),
-    }
-}
-
-// Whether a flag is set.
-fn is_set(matches: &ArgMatches<'_>, id: &str) -> bool
-    ensures { result ≡ is_set id.now (rows_of (found_of matches.now)) }
-{
-    let Some(text) = matches.get_str(id) else {
-        return false;
-    };
-    match text {
-        "true" => true,
-        _ => false,
-    }
-}
-
-// The fault of words that give both items and a trace.
-fn items_with_trace(program: &mut Command<'_>) -> WordsFault {
-    match program.error(
-        ErrorKind::ArgumentConflict,
-        "with --items there is no TRACE",
-    ) {
-        Ok(error) => WordsFault::Usage(error),
-        Err(_) => WordsFault::NoMemory,
+        Some(_) => Err(unclear(
+            program,
+            ErrorKind::ArgumentConflict,
+            "with --items there is no TRACE",
+        )),
     }
 }
 
@@ -153,11 +121,10 @@ fn draw_request<'a>(
     program: &mut Command<'a>,
     draw: &ArgMatches<'a>,
 ) -> Result<Request<'a>, WordsFault>
-    ensures { (words : List (List ℕ)) → Names words (codes "draw") (rows_of (found_of draw.now))
-        → MatchResult result (IsAsked words) (IsRefused words) }
+    ensures { AnswersTo (codes "draw") draw.now result }
 {
     let file = required(program, draw, FILE)?;
-    let trace = draw.get_str(TRACE);
+    let trace = text_of(draw, TRACE);
     Ok(Request::Draw { file, trace })
 }
 
@@ -167,11 +134,10 @@ fn rounds_request<'a>(
     program: &mut Command<'a>,
     rounds: &ArgMatches<'a>,
 ) -> Result<Request<'a>, WordsFault>
-    ensures { (words : List (List ℕ)) → Names words (codes "rounds") (rows_of (found_of rounds.now))
-        → MatchResult result (IsAsked words) (IsRefused words) }
+    ensures { AnswersTo (codes "rounds") rounds.now result }
 {
-    let Some(n) = rounds.get_one::<u32>(ROUNDS) else {
-        return Err(WordsFault::Usage(program.error(ErrorKind::MissingRequiredArgument, ROUNDS)?));
+    let Some(n) = number_of(rounds, ROUNDS) else {
+        return Err(unclear(program, ErrorKind::MissingRequiredArgument, ROUNDS));
     };
     Ok(Request::Rounds {
         file: required(program, rounds, FILE)?,
@@ -186,25 +152,17 @@ fn run_request<'a>(
     program: &mut Command<'a>,
     run: &ArgMatches<'a>,
 ) -> Result<Request<'a>, WordsFault>
-    ensures { (words : List (List ℕ)) → Names words (codes "run") (rows_of (found_of run.now))
-        → MatchResult result (IsAsked words) (IsRefused words) }
+    ensures { AnswersTo (codes "run") run.now result }
 {
-    let file = required(program, run, FILE)?;
-    let sources = texts_of(alloc, run, SOURCE)?;
-    let sinks = texts_of(alloc, run, SINK)?;
-    let trace = run.get_str(TRACE);
-    let words = RunWords {
-        file,
-        sources,
-        sinks,
-        commits: run.get_one::<u64>(MAX_COMMITS).unwrap_or(USUAL_COUNT),
-        take: run.get_one::<u64>(TAKE),
-        trace,
-    };
-    match run.get_one::<u32>(WORKERS) {
-        None => Ok(Request::Run(words)),
-        Some(workers) => Ok(Request::RunByWorkers(words, workers)),
-    }
+    Ok(Request::Run(RunRequest {
+        file: required(program, run, FILE)?,
+        sources: texts_of(alloc, run, SOURCE)?,
+        sinks: texts_of(alloc, run, SINK)?,
+        commits: count_or_usual(run, MAX_COMMITS),
+        take: count_of(run, TAKE),
+        trace: text_of(run, TRACE),
+        workers: number_of(run, WORKERS),
+    }))
 }
 
 // What the words ask of `kpn audit`.
@@ -212,13 +170,12 @@ fn audit_request<'a>(
     program: &mut Command<'a>,
     audit: &ArgMatches<'a>,
 ) -> Result<Request<'a>, WordsFault>
-    ensures { (words : List (List ℕ)) → Names words (codes "audit") (rows_of (found_of audit.now))
-        → MatchResult result (IsAsked words) (IsRefused words) }
+    ensures { AnswersTo (codes "audit") audit.now result }
 {
     Ok(Request::Audit {
         file: required(program, audit, FILE)?,
         trace: required(program, audit, TRACE)?,
-        steps: audit.get_one::<u64>(STEPS).unwrap_or(USUAL_COUNT),
+        steps: count_or_usual(audit, STEPS),
     })
 }
 
@@ -227,42 +184,60 @@ fn stats_request<'a>(
     program: &mut Command<'a>,
     stats: &ArgMatches<'a>,
 ) -> Result<Request<'a>, WordsFault>
-    ensures { (words : List (List ℕ)) → Names words (codes "stats") (rows_of (found_of stats.now))
-        → MatchResult result (IsAsked words) (IsRefused words) }
+    ensures { AnswersTo (codes "stats") stats.now result }
 {
     Ok(Request::Stats {
         file: required(program, stats, FILE)?,
         trace: required(program, stats, TRACE)?,
-        steps: stats.get_one::<u64>(STEPS).unwrap_or(USUAL_COUNT),
-        tsv: table_of(program, stats)?,
+        steps: count_or_usual(stats, STEPS),
+        tables: tables_of(program, stats)?,
     })
 }
 
-// The table for other programs that the words ask for, if they do.
-fn table_of<'a>(
+// The tables that the words ask for.
+fn tables_of<'a>(
     program: &mut Command<'a>,
     stats: &ArgMatches<'a>,
-) -> Result<Option<Tsv>, WordsFault>
+) -> Result<StatsTables, WordsFault>
     ensures { MatchResult result
-        (λ tsv. text_for (codes "TABLE") (rows_of (found_of stats.now)) ≡ option_map table_name tsv)
-        (IsUsageIf (IsNoTable (text_for (codes "TABLE") (rows_of (found_of stats.now))))) }
+        (λ tables. text_for (codes "TABLE") (rows_in stats.now) ≡ table_name tables)
+        (IsUsageIf (IsNoTable (text_for (codes "TABLE") (rows_in stats.now)))) }
 {
-    let Some(table) = stats.get_str(TABLE) else {
-        return Ok(None);
+    let Some(table) = text_of(stats, TABLE) else {
+        return Ok(StatsTables::People);
     };
     match table {
-        "channels" => Ok(Some(Tsv::Channels)),
-        "processes" => Ok(Some(Tsv::Processes)),
-        _ => Err(no_table(program)),
+        "channels" => Ok(StatsTables::Channels),
+        "processes" => Ok(StatsTables::Processes),
+        _ => Err(unclear(
+            program,
+            ErrorKind::InvalidValue,
+            "--tsv takes channels or processes",
+        )),
     }
 }
 
-// The fault of words that name no table.
-fn no_table(program: &mut Command<'_>) -> WordsFault {
-    match program.error(ErrorKind::InvalidValue, "--tsv takes channels or processes") {
-        Ok(error) => WordsFault::Usage(error),
-        Err(_) => WordsFault::NoMemory,
+// A word that the command needs.
+fn required<'a>(
+    program: &mut Command<'a>,
+    matches: &ArgMatches<'a>,
+    id: &str,
+) -> Result<&'a str, WordsFault>
+    ensures { MatchResult result
+        (λ word. text_for id.now (rows_in matches.now) ≡ Some word.now)
+        (IsUsageIf (text_for id.now (rows_in matches.now) ≡ None)) }
+{
+    match text_of(matches, id) {
+        Some(word) => Ok(word),
+        None => Err(unclear(program, ErrorKind::MissingRequiredArgument, id)),
     }
+}
+
+// The text for a word or an option, if there is one.
+fn text_of<'a>(matches: &ArgMatches<'a>, id: &str) -> Option<&'a str>
+    ensures { text_for id.now (rows_in matches.now) ≡ option_map (λ text. text.now) result }
+{
+    matches.get_str(id)
 }
 
 // The words behind an option that the user may repeat.
@@ -271,8 +246,42 @@ fn texts_of<'a>(
     matches: &ArgMatches<'a>,
     id: &str,
 ) -> Result<Vec<&'a str>, AllocError>
-    ensures { IfOk result (λ texts. texts_for id.now (rows_of (found_of matches.now))
+    ensures { IfOk result (λ texts. texts_for id.now (rows_in matches.now)
         ≡ map (λ text. text.now) texts.items) }
 {
     Vec::from_slice(alloc, matches.get_strs(id).unwrap_or(&[]))
+}
+
+// The number for a word or an option, if there is one.
+fn number_of(matches: &ArgMatches<'_>, id: &str) -> Option<u32>
+    ensures { number_for 32 id.now (rows_in matches.now) ≡ result }
+{
+    matches.get_one::<u32>(id)
+}
+
+// The count of items, commits or steps for an option, if there is one.
+fn count_of(matches: &ArgMatches<'_>, id: &str) -> Option<u64>
+    ensures { number_for 64 id.now (rows_in matches.now) ≡ result }
+{
+    matches.get_one::<u64>(id)
+}
+
+// The same, or the usual count without the option.
+fn count_or_usual(matches: &ArgMatches<'_>, id: &str) -> u64
+    ensures { unwrap_or (number_for 64 id.now (rows_in matches.now)) 10000000 ≡ result }
+{
+    count_of(matches, id).unwrap_or(USUAL_COUNT)
+}
+
+// Whether a flag is set.
+fn is_set(matches: &ArgMatches<'_>, id: &str) -> bool
+    ensures { result ≡ is_set id.now (rows_in matches.now) }
+{
+    let Some(text) = text_of(matches, id) else {
+        return false;
+    };
+    match text {
+        "true" => true,
+        _ => false,
+    }
 }

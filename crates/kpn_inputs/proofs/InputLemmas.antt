@@ -1,5 +1,5 @@
 -- Each refusal of a stage is a refusal of the inputs.
-use Rattle.std.proofs.Common.{◌≡◌, ◌⊎◌, ℕ, List, [], map, All, Ok, Err, inl, inr}
+use Rattle.std.proofs.Common.{◌≡◌, ◌⊎◌, ℕ, List, [], map, All, Ok, Err, inl, inr, sym, subst}
 use Rattle.kpn_text.specs.Document.{Document}
 use Rattle.kpn_refusals.specs.declared.refusal.Refusal.{Refusal}
 use Rattle.kpn_refusals.specs.declared.refusal.Refusal.TheVariants.{Input, Description, Names, NoMemory, SourceWord}
@@ -12,11 +12,10 @@ use Rattle.kpn_inputs.specs.Inputs.{AreRefusedNames, AreRefusedSinks, IsRefusalO
 use Rattle.kpn_shelf.specs.Shelf.{Loads}
 
 module _ (may_give : Loads) (file : List ℕ) (words names : List (List ℕ)) where
-  pub words_refused : (refusal : Refusal) → IsRefusalOfWords words refusal
+  pub words_refused : (refusal : Refusal) → IsRefusalOfWords SourceWord words refusal
       → IsRefusalOfRunInputs may_give file words names refusal
-  words_refused SourceWord h = h
-  words_refused NoMemory h = h
-  words_refused other h = absurd h
+  words_refused refusal (inl h) = subst (IsRefusalOfRunInputs may_give file words names) (sym h.0) h.1
+  words_refused refusal (inr no_memory) = subst (IsRefusalOfRunInputs may_give file words names) (sym no_memory) tt
 
   module _ (cut : All HasEquals words) where
     pub description_refused : (refusal : Refusal) → IsRefusalOfDescription may_give file refusal

@@ -1,24 +1,16 @@
 -- Scaffolding: why options are refused, stage by stage: their words, the names in them, the files in them.
-use Rattle.std.specs.Prelude.{◌≡◌, ℕ, List, Err, ⊤}
+use Rattle.std.specs.Prelude.{◌≡◌, ◌⊎◌, ℕ, List, Err, ⊤}
 use Rattle.std.specs.List.{Any}
 use Rattle.kpn_text.specs.Document.{Document}
 use Rattle.kpn_refusals.specs.declared.refusal.Refusal.{Refusal}
-use Rattle.kpn_refusals.specs.declared.refusal.Refusal.TheVariants.{SourceWord, SinkWord, Input, Names, NoMemory}
+use Rattle.kpn_refusals.specs.declared.refusal.Refusal.TheVariants.{Input, Names, NoMemory}
 use Rattle.kpn_inputs.specs.declared.sources.Ends.{Ends}
 use Rattle.kpn_inputs.specs.Sources.{LacksEquals, ends_named, IsFaultOfFile, IsFaultOfItems}
 use Rattle.kpn_shelf.specs.Shelf.{Loads}
 
--- a word has no `=`
-abbrev pub IsRefusalOfWords : (words : List (List ℕ)) → Refusal → Type 0
-IsRefusalOfWords words SourceWord = Any LacksEquals words
-IsRefusalOfWords words NoMemory = ⊤
-IsRefusalOfWords words other = ⊥
-
--- the same for words behind `--sink`
-abbrev pub IsRefusalOfSinkWords : (words : List (List ℕ)) → Refusal → Type 0
-IsRefusalOfSinkWords words SinkWord = Any LacksEquals words
-IsRefusalOfSinkWords words NoMemory = ⊤
-IsRefusalOfSinkWords words other = ⊥
+-- a word has no `=`, which is refused as is given; or there is no memory
+abbrev pub IsRefusalOfWords : (given : Refusal) (words : List (List ℕ)) → Refusal → Type 0
+IsRefusalOfWords given words refusal = ((refusal ≡ given) × Any LacksEquals words) ⊎ (refusal ≡ NoMemory)
 
 -- a name is no such end, or was named before
 abbrev pub IsRefusalOfNames : Ends → Document → (names : List (List ℕ)) → Refusal → Type 0

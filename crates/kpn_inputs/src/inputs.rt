@@ -69,7 +69,7 @@ pub fn load_run_inputs<'a, S: Shelf>(
     ensures refused { IfErr result (IsRefusalOfRunInputs (S.may_give shelf.now) file.now
         (map (λ word. word.now) words.now) (map (λ o. o.name.now) sinks.now)) }
 {
-    let options = options_of(alloc, words)?;
+    let options = options_of(alloc, words, Refusal::SourceWord)?;
     let document = load_document(alloc, shelf, file)?;
     let feeds = ends_of(alloc, &document, Ends::Sources, &options)?;
     let named = match ends_of(alloc, &document, Ends::Sinks, sinks) {

@@ -4,7 +4,7 @@ ghost use Rattle.std.specs.Prelude.{◌≡◌, ◌<◌, ◌++◌, ◌∷◌, [],
 ghost use Rattle.std.specs.List.{list_any};
 ghost use Rattle.kpn_net.specs.Tables.{channel_at};
 ghost use Rattle.kpn_inputs.specs.Sources.{HasEquals, LacksEquals, name_in, file_in, is_end, ends_of, end_number, with_end, ends_named, AreGiven, IsItemFile};
-ghost use Rattle.kpn_inputs.specs.SourceRefusals.{IsRefusalOfWords, IsRefusalOfSinkWords, IsRefusalOfNames, IsRefusalOfFile, IsRefusalOfItems};
+ghost use Rattle.kpn_inputs.specs.SourceRefusals.{IsRefusalOfWords, IsRefusalOfNames, IsRefusalOfFile, IsRefusalOfItems};
 
 use kpn_items::items_of;
 use kpn_lang::Sequence;
@@ -38,43 +38,27 @@ pub struct NamedEnd<'a> {
     pub file: &'a str,
 }
 
-/// The options that these words spell, each cut at its first `=`. A word without one is refused as
-/// `SourceWord`.
-pub(crate) fn options_of<'a>(
+/// The options that these words spell, each cut at its first `=`. A word without one is refused as is given.
+pub fn options_of<'a>(
     alloc: Global,
     words: &[&'a str],
+    refusal: Refusal,
 ) -> Result<Vec<FileOption<'a>>, Refusal>
     ensures names { IfOk result (λ options.
         map (λ o. o.name.now) options.items ≡ map (λ word. name_in word.now) words.now) }
     ensures files { IfOk result (λ options.
         map (λ o. o.file.now) options.items ≡ map (λ word. file_in word.now) words.now) }
-    ensures cut { IfOk result (λ _. All (λ word. HasEquals word.now) words.now) }
-    ensures refused { IfErr result (IsRefusalOfWords (map (λ word. word.now) words.now)) }
+    ensures cut { OnOk result (All (λ word. HasEquals word.now) words.now) }
+    ensures refused { IfErr result (IsRefusalOfWords refusal (map (λ word. word.now) words.now)) }
 {
     let mut options = Vec::new(alloc);
     for word in words {
         let Some(option) = option_of(word) else {
-            return Err(Refusal::SourceWord);
+            return Err(refusal);
         };
         options.push(option)?;
     }
     Ok(options)
-}
-
-/// The same for words behind `--sink`. A word without `=` is refused as `SinkWord`.
-pub fn sink_options_of<'a>(alloc: Global, words: &[&'a str]) -> Result<Vec<FileOption<'a>>, Refusal>
-    ensures names { IfOk result (λ options.
-        map (λ o. o.name.now) options.items ≡ map name_in (map (λ word. word.now) words.now)) }
-    ensures files { IfOk result (λ options.
-        map (λ o. o.file.now) options.items ≡ map file_in (map (λ word. word.now) words.now)) }
-    ensures cut { OnOk result (All HasEquals (map (λ word. word.now) words.now)) }
-    ensures refused { IfErr result (IsRefusalOfSinkWords (map (λ word. word.now) words.now)) }
-{
-    match options_of(alloc, words) {
-        Ok(options) => Ok(options),
-        Err(Refusal::SourceWord) => Err(Refusal::SinkWord),
-        Err(_) => Err(Refusal::NoMemory),
-    }
 }
 
 // The option that a word spells.

@@ -1,4 +1,4 @@
--- Lemmas: states of reports, outputs that are apart, files that are stored.
+-- Lemmas: states of reports, outputs that are apart, what a run is handed.
 pub mod Reported
-pub mod Outputs
-pub mod Stores
+pub mod Apart
+pub mod Running

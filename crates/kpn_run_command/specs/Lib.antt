@@ -1,7 +1,9 @@
--- What the contracts of this crate speak of: the text of a report, and what the command answers.
+-- What the contracts of this crate speak of: the outputs of a run, its limits, the text of its report, the files that
+-- it stores, and what the command comes to.
+pub mod Outputs
+pub mod Limits
 pub mod ReportText
 pub mod States
-pub mod Target
 pub mod Reported
 pub mod Files
 pub mod Run

@@ -1,20 +1,36 @@
 -- What was run, and the report; or why there is none.
-use Rattle.std.specs.Prelude.{◌⊎◌, ℕ, List, Option, IsSome, ⊤}
+use Rattle.std.specs.Prelude.{◌≡◌, ◌≤◌, ℕ, ℤ, List, Option, None, IsSome, ⊤}
+use Rattle.kpn_net.specs.Tables.{Tables}
 use Rattle.kpn_run_here.specs.declared.outcome.Limits.{Limits}
-use Rattle.kpn_run_here.specs.Reports.{IsReport}
+use Rattle.kpn_run_here.specs.declared.report.Report.{Report}
+use Rattle.kpn_run_here.specs.Reports.{events_of, AreSupplied, IsReport}
+use Rattle.kpn_run_here.specs.RunHere.{IsReportHere}
+use Rattle.kpn_request.specs.RunRequest.{RunRequest}
 use Rattle.kpn_refusals.specs.declared.refusal.Refusal.{Refusal}
 use Rattle.kpn_refusals.specs.declared.refusal.Refusal.TheVariants.{Threads, Abandoned, Foreign, NoMemory}
 use Rattle.kpn_inputs.specs.Inputs.{AreInputs}
+use Rattle.kpn_shelf.specs.Shelf.{Loads}
 use Rattle.kpn_run_command.specs.declared.reporting.Reported.{Reported}
-use Rattle.kpn_shelf.specs.Shelf.{Loads, Aliases}
-use Rattle.kpn_run_command.specs.Target.{AreSinks, IsUnprepared}
+use Rattle.kpn_run_command.specs.Limits.{limits_of}
+use Rattle.kpn_run_command.specs.Outputs.{AreSinks}
 
--- the inputs and the sinks that the words name, and a report of a run under these limits
-pub record IsReported (may_give : Loads) (file : List ℕ) (words sinks : List (List ℕ)) (limits : Limits)
-    (reported : Reported) : Type 0 where
-  pub are_inputs : AreInputs may_give file words reported.inputs.document reported.inputs.given.items
-  pub are_sinks : AreSinks reported.inputs.document sinks reported.sinks.items
-  pub is_report : IsReport reported.inputs.document.tables reported.inputs.given.items limits reported.report
+-- a run on one thread: it made turns of the front of the queue, each source was fed its whole list, and there are no
+-- more commits than the limit
+pub record RanHere (t : Tables) (lists : List (List ℤ)) (limits : Limits) (report : Report) : Type 0 where
+  pub here : IsReportHere t lists limits report
+  pub supplied : AreSupplied t lists (events_of report)
+  pub few : report.commits ≤ limits.commits
+
+-- the inputs and the sinks that are asked for, and a report of a run of them under the limits; without workers it was
+-- made on one thread
+pub record IsReported (may_give : Loads) (request : RunRequest) (reported : Reported) : Type 0 where
+  pub are_inputs :
+      AreInputs may_give request.file request.sources reported.inputs.document reported.inputs.given.items
+  pub are_sinks : AreSinks request reported.inputs.document reported.sinks.items
+  pub is_report :
+      IsReport reported.inputs.document.tables reported.inputs.given.items (limits_of request) reported.report
+  pub here : request.workers ≡ None
+      → RanHere reported.inputs.document.tables reported.inputs.given.items (limits_of request) reported.report
 
 -- why a run gives no report: there is no memory, or something befell the workers, if there are any
 abbrev pub IsRefusalOfReport : (workers : Option ℕ) → Refusal → Type 0
@@ -23,9 +39,3 @@ IsRefusalOfReport workers Threads = IsSome workers
 IsRefusalOfReport workers Abandoned = IsSome workers
 IsRefusalOfReport workers Foreign = IsSome workers
 IsRefusalOfReport workers other = ⊥
-
--- why there is no report: the run is not begun, or it gives none
-abbrev pub IsUnreported : (may_give : Loads) (may_alias : Aliases) (file : List ℕ) (words : List (List ℕ))
-    (trace : Option (List ℕ)) (sinks : List (List ℕ)) (workers : Option ℕ) → Refusal → Type 0
-IsUnreported may_give may_alias file words trace sinks workers refusal =
-    IsUnprepared may_give may_alias file words trace sinks refusal ⊎ IsRefusalOfReport workers refusal

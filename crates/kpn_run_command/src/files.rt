@@ -1,20 +1,19 @@
-//! The files that a run stores: its trace in version 2, and what its sinks received. It makes all their texts before it
-//! stores the first.
-ghost use Rattle.std.specs.Prelude.{◌≡◌, ◌++◌, ◌∷◌, [], map, option_map, IfOk, IfErr, OnOk, OnErr};
+//! The files that a run stores: its trace in version 2, and what its sinks received.
+ghost use Rattle.std.specs.Prelude.{◌≡◌, ◌++◌, ◌∷◌, [], map, option_map, IfOk, IfErr, OnOk};
 ghost use Rattle.kpn_items.specs.ItemFile.{item_text};
 ghost use Rattle.kpn_trace_text.specs.TraceText.{trace_text};
-ghost use Rattle.kpn_run_command.specs.Files.{stored_as, trace_files, file_for, sink_file, sink_files, files_of, AreStored, IsCutShort};
+ghost use Rattle.kpn_conclusion.specs.Conclusion.{stored_as};
+ghost use Rattle.kpn_run_command.specs.Files.{trace_files, file_for, sink_file, sink_files, files_of};
 
 use crate::report_text::wanted_of;
 use crate::reporting::Reported;
-use crate::request::RunRequest;
+use kpn_conclusion::OutputFile;
 use kpn_history::{History, Version};
 use kpn_inputs::NamedEnd;
-use kpn_items::{WriteFault, write_items};
+use kpn_items::write_items;
 use kpn_lang::Sequence;
 use kpn_net::Network;
 use kpn_refusals::Refusal;
-use kpn_shelf::Shelf;
 use kpn_trace_text::write_trace;
 use std::alloc::Global;
 
@@ -22,43 +21,32 @@ use std::alloc::Global;
 // two numbers are 65535.
 const LINE: usize = 40;
 
-/// A file to be stored: its name, and what it is to hold.
-#[derive(Drop)]
-pub(crate) struct OutputFile<'a> {
-    pub(crate) name: &'a str,
-    pub(crate) bytes: Vec<u8>,
-}
-
-/// The files that a run stores, in the order in which it stores them.
-pub(crate) fn files_of<'a>(
+/// The files that a run stores, in the order in which it stores them. Of each sink it stores as many items as are
+/// wanted at most.
+pub(crate) fn files_of(
     alloc: Global,
-    request: &RunRequest<'a>,
-    reported: &Reported<'a>,
-) -> Result<Vec<OutputFile<'a>>, Refusal>
-    ensures ok { IfOk result (λ files. map stored_as files.items ≡ files_of
-        (option_map (λ name. name.now) request.now.trace) request.now.limits.take reported.now) }
+    trace: Option<&str>,
+    wanted: Option<u64>,
+    reported: &Reported<'_>,
+) -> Result<Vec<OutputFile>, Refusal>
+    ensures ok { IfOk result (λ files. map stored_as files.items
+        ≡ files_of (option_map (λ name. name.now) trace.entry) wanted reported.now) }
     ensures refused { IfErr result (λ refusal. refusal ≡ Refusal.NoMemory) }
 {
     let network = reported.inputs.document.network();
     let history = &reported.report.history;
     let taken = reported.report.taken.as_slice();
     let mut files = Vec::new(alloc);
-    push_trace(alloc, &mut files, request.trace, network, history)?;
-    push_sinks(
-        alloc,
-        &mut files,
-        &reported.sinks,
-        request.limits.take,
-        taken,
-    )?;
+    push_trace(alloc, &mut files, trace, network, history)?;
+    push_sinks(alloc, &mut files, &reported.sinks, wanted, taken)?;
     Ok(files)
 }
 
 // The file of the trace, if one was asked for.
-fn push_trace<'a>(
+fn push_trace(
     alloc: Global,
-    files: &mut Vec<OutputFile<'a>>,
-    trace: Option<&'a str>,
+    files: &mut Vec<OutputFile>,
+    trace: Option<&str>,
     network: &Network,
     history: &History,
 ) -> Result<(), Refusal>
@@ -71,20 +59,22 @@ fn push_trace<'a>(
         return Ok(());
     };
     let bytes = text_of(alloc, network, history)?;
-    push_file(files, name, bytes)
+    push_file(alloc, files, name, bytes)
 }
 
 // One more file.
-fn push_file<'a>(
-    files: &mut Vec<OutputFile<'a>>,
-    name: &'a str,
+fn push_file(
+    alloc: Global,
+    files: &mut Vec<OutputFile>,
+    name: &str,
     bytes: Vec<u8>,
 ) -> Result<(), Refusal>
     ensures ok { OnOk result (map stored_as files.new.items ≡ map stored_as files.old.items
         ++ record { name = name.now; bytes = bytes.items } ∷ []) }
     ensures refused { IfErr result (λ refusal. refusal ≡ Refusal.NoMemory) }
 {
-    files.push(OutputFile { name, bytes })?;
+    let owned = String::from_str(alloc, name)?;
+    files.push(OutputFile { name: owned, bytes })?;
     Ok(())
 }
 
@@ -103,10 +93,10 @@ fn text_of(alloc: Global, network: &Network, history: &History) -> Result<Vec<u8
 }
 
 // The file of each sink that an option names, in order of the sinks. What the sinks received is given in this order.
-fn push_sinks<'a>(
+fn push_sinks(
     alloc: Global,
-    files: &mut Vec<OutputFile<'a>>,
-    sinks: &[NamedEnd<'a>],
+    files: &mut Vec<OutputFile>,
+    sinks: &[NamedEnd<'_>],
     wanted: Option<u64>,
     taken: &[Sequence<i64>],
 ) -> Result<(), Refusal>
@@ -122,10 +112,10 @@ fn push_sinks<'a>(
 }
 
 // The file of a sink with these items, if an option names it.
-fn push_sink<'a>(
+fn push_sink(
     alloc: Global,
-    files: &mut Vec<OutputFile<'a>>,
-    file: Option<&'a str>,
+    files: &mut Vec<OutputFile>,
+    file: Option<&str>,
     items: &[i64],
 ) -> Result<(), Refusal>
     ensures ok { OnOk result (map stored_as files.new.items ≡ map stored_as files.old.items
@@ -136,7 +126,7 @@ fn push_sink<'a>(
         return Ok(());
     };
     let bytes = items_text(alloc, items)?;
-    push_file(files, name, bytes)
+    push_file(alloc, files, name, bytes)
 }
 
 // The file that an option gives the sink of this number.
@@ -161,20 +151,4 @@ fn items_text(alloc: Global, items: &[i64]) -> Result<Vec<u8>, Refusal>
         Ok(()) => Ok(text),
         Err(_) => Err(Refusal::NoMemory),
     }
-}
-
-/// Stores files in their order. If one can't be stored, those before it stay, and it stores none of those behind it.
-pub(crate) fn store_files<S: Shelf>(
-    shelf: &mut S,
-    files: &[OutputFile<'_>],
-) -> Result<(), WriteFault>
-    ensures stored { OnOk result
-        (AreStored S.may_give (map stored_as files.now) shelf.old shelf.new) }
-    ensures cut_short { OnErr result
-        (IsCutShort S.may_give (map stored_as files.now) shelf.old shelf.new) }
-{
-    for file in files {
-        shelf.store(file.name, &file.bytes)?;
-    }
-    Ok(())
 }

@@ -1,115 +1,109 @@
-//! The command: it reads a network and the lists of its sources, runs the network, stores files, and writes a report.
-ghost use Rattle.std.specs.Prelude.{◌≡◌, map, option_map, Some, None, IfOk, IfErr};
+//! The command: it reads a network and the lists of its sources, runs the network, and concludes with the files to store
+//! and a report.
+ghost use Rattle.std.specs.Prelude.{◌≡◌, IfOk, IfErr};
 ghost use Rattle.kpn_run_here.specs.Reports.{IsReport};
-ghost use Rattle.kpn_run_command.specs.Reported.{IsReported};
-ghost use Rattle.kpn_run_command.specs.Run.{AnswersRun, IsReportText, TellsReport};
+ghost use Rattle.kpn_run_command.specs.Limits.{limits_of};
+ghost use Rattle.kpn_run_command.specs.Run.{IsConcluded, IsRun, IsNoRun};
 
-use crate::files::{files_of, store_files};
+use crate::files::files_of;
+use crate::outputs::prepare;
 use crate::report_text::{status_of, text_of};
-use crate::reporting::{Reported, report_by_workers, report_here};
-use crate::request::RunRequest;
-use kpn_refusals::{Conclusion, Refusal, conclude};
-use kpn_run_here::Limits;
+use crate::reporting::{Reported, limits_of, run_by_workers};
+use kpn_conclusion::Conclusion;
+use kpn_inputs::RunInputs;
+use kpn_refusals::Refusal;
+use kpn_request::RunRequest;
+use kpn_run_here::run_here;
 use kpn_shelf::Shelf;
 use std::alloc::Global;
-use std::io::Write;
 use std::sync::Wait;
 use std::thread::Threads;
 use std::time::Clock;
 
-/// The command `kpn run FILE` over a shelf, an output and a place for faults. It returns the status
-/// that the program ends with: 0 for ended and enough, 3 for clogged, 4 for jammed, 5 for stopped, or
-/// that of a refusal. It stores the trace first, then what the sinks received, and then writes the report.
-pub fn run_command<S: Shelf, O: Write, E: Write>(
+/// What `kpn run FILE` comes to on the calling thread, which waits for nobody. Before the run it makes ready for the
+/// files that the run is to store: the trace first, then what the sinks received. The status is 0 for ended and enough,
+/// 3 for clogged, 4 for jammed, 5 for stopped.
+pub fn run_command<S: Shelf>(
     alloc: Global,
     request: &RunRequest<'_>,
-    shelf: &mut S,
-    out: &mut O,
-    err: &mut E,
-) -> u8
-    ensures { AnswersRun S.may_give S.may_alias O.contents request.now.file.now
-        (map (λ word. word.now) request.now.sources.items) request.now.limits
-        (option_map (λ name. name.now) request.now.trace)
-        (map (λ word. word.now) request.now.sinks.items) None
-        shelf.old shelf.new out.old out.new err.old err.new result }
+    shelf: &S,
+) -> Result<Conclusion, Refusal>
+    ensures ok { IfOk result (IsRun (S.may_give shelf.now) request.now) }
+    ensures refused { IfErr result
+        (IsNoRun (S.may_give shelf.now) (S.may_alias shelf.now) request.now) }
 {
-    match report_here(alloc, request, shelf) {
-        Ok(reported) => tell(alloc, request, &reported, shelf, out, err),
-        Err(refusal) => refusal.report(err),
-    }
+    let RunInputs { inputs, sinks } = match prepare(alloc, request, shelf) {
+        Ok(loaded) => loaded,
+        Err(refusal) => return Err(refusal),
+    };
+    let limits = limits_of(request);
+    let network = inputs.document.network();
+    let report = match run_here(alloc, network, &inputs.given, &limits) {
+        Ok(report) => report,
+        Err(_) => return Err(Refusal::NoMemory),
+    };
+    let reported = Reported {
+        inputs,
+        sinks,
+        report,
+    };
+    conclusion_of(alloc, request, &reported)
 }
 
-/// The command `kpn run FILE --workers N`, which runs the network by workers on threads of their own:
-/// by one if N is 0, and by `MAX_WORKERS` if N is more. All else is as `run_command` has it, the
-/// report too.
-pub fn run_command_by_workers<R: Threads + Wait + Clock + Sync, S: Shelf, O: Write, E: Write>(
+/// The same by as many workers as are asked for, on threads of their own: by one for 0, and by `MAX_WORKERS` for more.
+/// Without a number it is `run_command`.
+pub fn run_command_by_workers<R: Threads + Wait + Clock + Sync, S: Shelf>(
     rt: &R,
     alloc: Global,
     request: &RunRequest<'_>,
-    workers: usize,
-    shelf: &mut S,
-    out: &mut O,
-    err: &mut E,
-) -> u8
-    ensures { AnswersRun S.may_give S.may_alias O.contents request.now.file.now
-        (map (λ word. word.now) request.now.sources.items) request.now.limits
-        (option_map (λ name. name.now) request.now.trace)
-        (map (λ word. word.now) request.now.sinks.items) (Some workers)
-        shelf.old shelf.new out.old out.new err.old err.new result }
+    shelf: &S,
+) -> Result<Conclusion, Refusal>
+    ensures ok { IfOk result (IsRun (S.may_give shelf.now) request.now) }
+    ensures refused { IfErr result
+        (IsNoRun (S.may_give shelf.now) (S.may_alias shelf.now) request.now) }
 {
-    match report_by_workers(rt, alloc, request, workers, shelf) {
-        Ok(reported) => tell(alloc, request, &reported, shelf, out, err),
-        Err(refusal) => refusal.report(err),
-    }
+    let Some(workers) = request.workers else {
+        return run_command(alloc, request, shelf);
+    };
+    let RunInputs { inputs, sinks } = match prepare(alloc, request, shelf) {
+        Ok(loaded) => loaded,
+        Err(refusal) => return Err(refusal),
+    };
+    let limits = limits_of(request);
+    let network = inputs.document.network();
+    let report = match run_by_workers(rt, alloc, network, &inputs.given, workers, &limits) {
+        Ok(report) => report,
+        Err(refusal) => return Err(refusal),
+    };
+    let reported = Reported {
+        inputs,
+        sinks,
+        report,
+    };
+    conclusion_of(alloc, request, &reported)
 }
 
-// Makes all texts, stores the files, and then writes the report.
-fn tell<'a, S: Shelf, O: Write, E: Write>(
-    alloc: Global,
-    request: &RunRequest<'a>,
-    reported: &Reported<'a>,
-    shelf: &mut S,
-    out: &mut O,
-    err: &mut E,
-) -> u8
-    requires { IsReported (S.may_give shelf.old) request.now.file.now
-        (map (λ word. word.now) request.now.sources.items)
-        (map (λ word. word.now) request.now.sinks.items) request.now.limits reported.now }
-    ensures { TellsReport S.may_give O.contents request.now.limits
-        (option_map (λ name. name.now) request.now.trace) reported.now
-        shelf.old shelf.new out.old out.new err.old err.new result }
-{
-    let files = match files_of(alloc, request, reported) {
-        Ok(files) => files,
-        Err(refusal) => return refusal.report(err),
-    };
-    let conclusion = match conclusion_of(alloc, &request.limits, reported) {
-        Ok(conclusion) => conclusion,
-        Err(refusal) => return refusal.report(err),
-    };
-    match store_files(shelf, &files) {
-        Ok(()) => conclude(Ok(conclusion), out, err),
-        Err(fault) => Refusal::Output(fault).report(err),
-    }
-}
-
-// The text of a report and its status.
+// The files of a run, the text of its report, and its status.
 fn conclusion_of(
     alloc: Global,
-    limits: &Limits,
+    request: &RunRequest<'_>,
     reported: &Reported<'_>,
 ) -> Result<Conclusion, Refusal>
     requires { IsReport reported.now.inputs.document.tables reported.now.inputs.given.items
-        limits.now reported.now.report }
-    ensures ok { IfOk result (λ conclusion. IsReportText limits.now reported.now
-        conclusion.text.items conclusion.status) }
+        (limits_of request.now) reported.now.report }
+    ensures ok { IfOk result (IsConcluded request.now reported.now) }
     ensures refused { IfErr result (λ refusal. refusal ≡ Refusal.NoMemory) }
 {
+    let files = files_of(alloc, request.trace, request.take, reported)?;
     let document = &reported.inputs.document;
     let report = &reported.report;
     let network = document.network();
     network.known();
-    let text = text_of(alloc, document, limits.take, report)?;
+    let text = text_of(alloc, document, request.take, report)?;
     let status = status_of(report.outcome);
-    Ok(Conclusion { text, status })
+    Ok(Conclusion {
+        text,
+        status,
+        files,
+    })
 }

@@ -8,7 +8,7 @@ use Rattle.kpn_audit.specs.Stored.{history_in}
 use Rattle.kpn_shelf.specs.Shelf.{Loads}
 use Rattle.kpn_audited.specs.Audited.{IsToldOf}
 use Rattle.kpn_stats_command.specs.declared.figures.Figures.{Figures}
-use Rattle.kpn_stats_command.specs.declared.stats_text.StatsTables.{StatsTables}
+use Rattle.kpn_request.specs.declared.tables.StatsTables.{StatsTables}
 use Rattle.kpn_stats_command.specs.Figures.{AreFigures}
 use Rattle.kpn_stats_command.specs.StatsText.{stats_text}
 

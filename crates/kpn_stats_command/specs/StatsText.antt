@@ -15,8 +15,8 @@ use Rattle.kpn_stats_command.specs.declared.figures.ChannelFigures.{ChannelFigur
 use Rattle.kpn_stats_command.specs.declared.figures.ProcessFigures.{ProcessFigures}
 use Rattle.kpn_stats_command.specs.declared.figures.Figures.{Figures}
 use Rattle.kpn_stats_command.specs.declared.table.Row.{Row}
-use Rattle.kpn_stats_command.specs.declared.stats_text.StatsTables.{StatsTables}
-use Rattle.kpn_stats_command.specs.declared.stats_text.StatsTables.TheVariants.{People, Channels, Processes}
+use Rattle.kpn_request.specs.declared.tables.StatsTables.{StatsTables}
+use Rattle.kpn_request.specs.declared.tables.StatsTables.TheVariants.{People, Channels, Processes}
 use Rattle.kpn_stats_command.specs.Figures.{no_channel, no_process}
 use Rattle.kpn_stats_command.specs.Layout.{tabbed_table, aligned_table}
 

@@ -5,10 +5,11 @@ ghost use Rattle.kpn_audited.specs.Audited.{IsFound, IsRefusalOfAudit, IsTextFor
 ghost use Rattle.kpn_stats_command.specs.Answers.{AreStats, AreTables};
 
 use crate::figures::count;
-use crate::stats_text::{StatsTables, text_of};
+use crate::stats_text::text_of;
 use kpn_audited::{Audited, Finding, load_audited};
 use kpn_conclusion::Conclusion;
 use kpn_refusals::Refusal;
+use kpn_request::StatsTables;
 use kpn_shelf::Shelf;
 use std::alloc::{AllocError, Global};
 

@@ -7,4 +7,3 @@ mod stats_text;
 mod table;
 
 pub use command::stats_command;
-pub use stats_text::StatsTables;

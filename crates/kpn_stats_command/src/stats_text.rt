@@ -10,20 +10,10 @@ use kpn_history::How;
 use kpn_lang::Sequence;
 use kpn_net::Wait;
 use kpn_pieces::push_number;
+use kpn_request::StatsTables;
 use kpn_text::Document;
 use kpn_trace_text::how_word;
 use std::alloc::{AllocError, Global};
-
-/// Which tables the command writes.
-#[derive(Clone, Copy, Debug, PartialEq, Eq)]
-pub enum StatsTables {
-    /// Both tables in columns, and advice on capacities.
-    People,
-    /// The table of the channels with tabs.
-    Channels,
-    /// The table of the processes with tabs.
-    Processes,
-}
 
 /// The tables of a history of the document's network. There is a capacity and there are figures for each channel.
 pub(crate) fn text_of(

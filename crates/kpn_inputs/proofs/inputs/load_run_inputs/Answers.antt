@@ -3,6 +3,7 @@ use Rattle.std.proofs.Common.{rules, ◌≡◌, ℕ, List, All, map, IfErr, Ok, 
 use Rattle.std.proofs.lemmas.Result.{IfErr-weaker}
 use Rattle.std.proofs.lemmas.List.Elements.{All-map}
 use Rattle.kpn_net.specs.Iteration.{sources}
+use Rattle.kpn_refusals.specs.declared.refusal.Refusal.TheVariants.{SourceWord}
 use Rattle.kpn_inputs.specs.declared.sources.FileOption.{FileOption}
 use Rattle.kpn_inputs.specs.declared.sources.NamedEnd.{NamedEnd}
 use Rattle.kpn_inputs.specs.Description.{IsRefusalOfDescription}
@@ -43,8 +44,8 @@ unfolding name now
 returns-in_err-options-clause-refused g c =
     let may_give = g.S.Shelf.may_give c.args.shelf.now in
     let words = map now c.args.words.now in
-    let h : IfErr c.from_residual.result (IsRefusalOfWords words) = search rules in
-    IfErr-weaker c.from_residual.result (IsRefusalOfWords words) _
+    let h : IfErr c.from_residual.result (IsRefusalOfWords SourceWord words) = search rules in
+    IfErr-weaker c.from_residual.result (IsRefusalOfWords SourceWord words) _
     (words_refused may_give c.args.file.now words (map name c.args.sinks.now))
     h
 

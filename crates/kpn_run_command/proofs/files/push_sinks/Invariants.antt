@@ -1,6 +1,7 @@
 -- The files so far, and those of the sinks that are still to come, are all.
 use Rattle.std.proofs.Common.{◌≡◌, ◌++◌, drop, map}
-use Rattle.kpn_run_command.specs.Files.{stored_as, sink_files}
+use Rattle.kpn_conclusion.specs.Conclusion.{stored_as}
+use Rattle.kpn_run_command.specs.Files.{sink_files}
 use Rattle.kpn_run_command.proofs.files.push_sinks.Given as goal
 
 abbrev pub invariant-loop-sink : goal.invariant-loop-sink

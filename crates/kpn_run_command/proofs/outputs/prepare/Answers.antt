@@ -1,0 +1,48 @@
+-- An output that can't be made ready refuses the run.
+use Rattle.std.proofs.Common.{◌≡◌, ℕ, List, map, length, ap, sym, subst, ◌∙◌}
+use Rattle.std.proofs.lemmas.List.{length-map}
+use Rattle.kpn_request.specs.RunRequest.{RunRequest}
+use Rattle.kpn_text.specs.Document.{Document}
+use Rattle.kpn_inputs.specs.declared.sources.NamedEnd.{NamedEnd}
+use Rattle.kpn_inputs.specs.declared.sources.FileOption.{FileOption}
+use Rattle.kpn_inputs.specs.Inputs.{AreNamedSinks}
+use Rattle.kpn_inputs.specs.Sources.{name_in, file_in}
+use Rattle.kpn_run_command.specs.Outputs.{AreSinks, outputs_of}
+use Rattle.kpn_run_command.proofs.Apart.{now, unready}
+use Rattle.kpn_run_command.proofs.outputs.prepare.Goals as goal
+
+name : FileOption → List ℕ
+name o = o.name.now
+
+file : FileOption → List ℕ
+file o = o.file.now
+
+-- the sinks that these options name are those of the words
+are_sinks : (request : RunRequest) (d : Document) (named : List NamedEnd) (options handed : List FileOption)
+    → handed ≡ options → map name options ≡ map name_in request.sinks → map file options ≡ map file_in request.sinks
+    → AreNamedSinks d (map name handed) (map file handed) named → AreSinks request d named
+are_sinks request d named options handed same names files are =
+    subst (λ ns. AreNamedSinks d ns (map file_in request.sinks) named) (ap (map name) same ∙ names)
+    (subst (λ fs. AreNamedSinks d (map name handed) fs named) (ap (map file) same ∙ files) are)
+
+pub returns-clause-refused : goal.returns-clause-refused
+unfolding name file
+returns-clause-refused g c =
+    let request = c.args.request.now in
+    let loaded = c.in-Ok.loaded in
+    let long : length c.deref-2.result.now ≡ length (outputs_of request) =
+    ap length c.deref-2.ensures.value ∙ sym (length-map c.in_ok-outputs.outputs.names.items now)
+    ∙ ap length c.in_ok-outputs.ensures.outputs in
+    unready (g.S.Shelf.may_alias c.args.shelf.now) request (g.S.Shelf.may_give c.args.shelf.now)
+    c.in_ok-outputs.ensures.apart (length c.deref-2.result.now) long
+    (record {
+      document = loaded.inputs.document;
+      given = loaded.inputs.given.items;
+      are_inputs = c.in-Ok.ensures.ok;
+      named = loaded.sinks.items;
+      are_sinks =
+          are_sinks request loaded.inputs.document loaded.sinks.items c.in_ok-outputs.outputs.sinks.items
+          c.deref.result.now c.deref.ensures.value c.in_ok-outputs.ensures.names c.in_ok-outputs.ensures.files
+          c.in-Ok.ensures.sinks;
+    })
+    c.in-Err-make_ready.refusal c.in-Err-make_ready.ensures
