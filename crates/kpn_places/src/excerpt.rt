@@ -1,5 +1,5 @@
 //! What is shown of a place in a text: where it is, the line, and a caret under the place.
-ghost use Rattle.std.specs.Prelude.{◌≡◌, ◌++◌, map, OnOk};
+ghost use Rattle.std.specs.Prelude.{◌≡◌, ◌++◌, OnOk};
 ghost use Rattle.kpn_places.specs.Excerpt as spec;
 
 use crate::lines::{Place, front, line_before, line_behind, place_at};
@@ -12,7 +12,7 @@ const MAX_SHOWN: usize = 100;
 /// The bytes of a longer line that are shown on each side of a place.
 const SIDE: usize = 50;
 
-/// `NAME:LINE:COLUMN: ` for a byte of a text.
+/// `NAME:LINE:COLUMN: ` for a byte of a text. Bytes of the name outside 32 to 126 are shown as `?`.
 pub fn push_where(out: &mut Vec<u8>, name: &[u8], text: &[u8], at: usize) -> Result<(), AllocError>
     ensures { OnOk result (out.new.items ≡ out.old.items ++ spec.where_text name.now text.now at) }
 {
@@ -25,7 +25,7 @@ fn push_place(out: &mut Vec<u8>, name: &[u8], place: Place) -> Result<(), AllocE
 {
     let mut line = Buffer::new();
     let mut column = Buffer::new();
-    out.extend_from_slice(name)?;
+    out.extend(name.iter().map(|byte| plain(*byte)))?;
     out.extend_from_slice(b":")?;
     out.extend_from_slice(line.format(place.line).as_bytes())?;
     out.extend_from_slice(b":")?;
@@ -93,42 +93,28 @@ fn push_line(out: &mut Vec<u8>, before: &[u8], behind: &[u8]) -> Result<(), Allo
     ensures { OnOk result
         (out.new.items ≡ out.old.items ++ spec.line_text before.now behind.now) }
 {
-    push_visible(out, before)?;
-    push_visible(out, behind)?;
-    out.extend_from_slice(b"\n")?;
-    Ok(())
+    out.extend(before.iter().map(|byte| visible(*byte)))?;
+    out.extend(behind.iter().map(|byte| visible(*byte)))?;
+    out.extend_from_slice(b"\n")
 }
 
 fn push_caret(out: &mut Vec<u8>, before: &[u8]) -> Result<(), AllocError>
     ensures { OnOk result (out.new.items ≡ out.old.items ++ spec.caret_text before.now) }
 {
-    push_blank(out, before)?;
-    out.extend_from_slice(b"^\n")?;
-    Ok(())
-}
-
-fn push_visible(out: &mut Vec<u8>, bytes: &[u8]) -> Result<(), AllocError>
-    ensures { OnOk result (out.new.items ≡ out.old.items ++ map spec.visible bytes.now) }
-{
-    for byte in bytes {
-        out.push(visible(*byte))?;
-    }
-    Ok(())
-}
-
-fn push_blank(out: &mut Vec<u8>, bytes: &[u8]) -> Result<(), AllocError>
-    ensures { OnOk result (out.new.items ≡ out.old.items ++ map spec.blank bytes.now) }
-{
-    for byte in bytes {
-        out.push(blank(*byte))?;
-    }
-    Ok(())
+    out.extend(before.iter().map(|byte| blank(*byte)))?;
+    out.extend_from_slice(b"^\n")
 }
 
 fn visible(byte: u8) -> u8
     ensures { result ≡ spec.visible byte }
 {
-    if byte == b'\t' || (32 <= byte && byte <= 126) {
+    if byte == b'\t' { b'\t' } else { plain(byte) }
+}
+
+fn plain(byte: u8) -> u8
+    ensures { result ≡ spec.plain byte }
+{
+    if 32 <= byte && byte <= 126 {
         byte
     } else {
         b'?'

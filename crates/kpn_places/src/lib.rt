@@ -12,4 +12,4 @@ pub use concerned::{Places, concerned_places};
 pub use excerpt::{push_excerpt, push_where};
 pub use lines::{Place, front, line_start, place_at};
 pub use names::name_at;
-pub use spots::{Spot, spot_at};
+pub use spots::{Spot, is_port, spot_at};
