@@ -135,7 +135,8 @@ pub(crate) fn advice(case: Case) -> &'static [u8]
             b"Look for a `}` that is missing. The network comes last, behind all processes.",
         Case::UnknownVariable =>
             b"Assign to it first, or make it a parameter. An item comes by `read PORT VARIABLE;`.",
-        Case::PortAsVariable => b"Read an item into a variable first, by `read PORT VARIABLE;`.",
+        Case::PortAsVariable =>
+            b"Write a variable in its place. An item of an in port comes by `read PORT VARIABLE;`.",
         Case::UnknownInPort =>
             b"Behind `read` stand an in port and a variable. Declare the port behind `in`.",
         Case::UnknownOutPort =>

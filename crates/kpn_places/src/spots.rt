@@ -156,7 +156,8 @@ pub fn spot_at(tokens: &[Lexeme<'_>], at: usize) -> Spot
     Spot::Outside
 }
 
-/// Whether the name at this byte is that of a port or a parameter of the process in which it stands.
+/// Whether the head of the process in which this byte stands has the name there, as a port or a parameter. If the name
+/// is no variable, it is a port.
 pub fn is_port(text: &[u8], tokens: &[Lexeme<'_>], at: usize) -> bool
     ensures { result ≡ spec.is_port text.now tokens.now at }
 {
