@@ -1,5 +1,5 @@
 //! What is shown of a place in a text: where it is, the line, and a caret under the place.
-ghost use Rattle.std.specs.Prelude.{◌≡◌, ◌++◌, OnOk};
+ghost use Rattle.std.specs.Prelude.{◌≡◌, ◌++◌, map, OnOk};
 ghost use Rattle.kpn_places.specs.Excerpt as spec;
 
 use crate::lines::{Position, front, line_before, line_behind, place_at};
@@ -25,7 +25,7 @@ fn push_place(out: &mut Vec<u8>, name: &[u8], place: Position) -> Result<(), All
 {
     let mut line = Buffer::new();
     let mut column = Buffer::new();
-    out.extend(name.iter().map(|byte| plain(*byte)))?;
+    push_plain(out, name)?;
     out.extend_from_slice(b":")?;
     out.extend_from_slice(line.format(place.line).as_bytes())?;
     out.extend_from_slice(b":")?;
@@ -93,16 +93,45 @@ fn push_line(out: &mut Vec<u8>, before: &[u8], behind: &[u8]) -> Result<(), Allo
     ensures { OnOk result
         (out.new.items ≡ out.old.items ++ spec.line_text before.now behind.now) }
 {
-    out.extend(before.iter().map(|byte| visible(*byte)))?;
-    out.extend(behind.iter().map(|byte| visible(*byte)))?;
-    out.extend_from_slice(b"\n")
+    push_visible(out, before)?;
+    push_visible(out, behind)?;
+    out.extend_from_slice(b"\n")?;
+    Ok(())
 }
 
 fn push_caret(out: &mut Vec<u8>, before: &[u8]) -> Result<(), AllocError>
     ensures { OnOk result (out.new.items ≡ out.old.items ++ spec.caret_text before.now) }
 {
-    out.extend(before.iter().map(|byte| blank(*byte)))?;
-    out.extend_from_slice(b"^\n")
+    push_blank(out, before)?;
+    out.extend_from_slice(b"^\n")?;
+    Ok(())
+}
+
+fn push_plain(out: &mut Vec<u8>, bytes: &[u8]) -> Result<(), AllocError>
+    ensures { OnOk result (out.new.items ≡ out.old.items ++ map spec.plain bytes.now) }
+{
+    for byte in bytes {
+        out.push(plain(*byte))?;
+    }
+    Ok(())
+}
+
+fn push_visible(out: &mut Vec<u8>, bytes: &[u8]) -> Result<(), AllocError>
+    ensures { OnOk result (out.new.items ≡ out.old.items ++ map spec.visible bytes.now) }
+{
+    for byte in bytes {
+        out.push(visible(*byte))?;
+    }
+    Ok(())
+}
+
+fn push_blank(out: &mut Vec<u8>, bytes: &[u8]) -> Result<(), AllocError>
+    ensures { OnOk result (out.new.items ≡ out.old.items ++ map spec.blank bytes.now) }
+{
+    for byte in bytes {
+        out.push(blank(*byte))?;
+    }
+    Ok(())
 }
 
 fn visible(byte: u8) -> u8
