@@ -1,4 +1,5 @@
 """What the scripts that measure whole programs share: one run of a program, and the builds of programs for it."""
+import argparse
 import os
 import pathlib
 import subprocess
@@ -29,6 +30,20 @@ class Run:
             sys.exit(f'{" ".join(map(str, words))} ended with {child.returncode}: {self.told}')
         self.seconds = usage.ru_utime + usage.ru_stime
         self.memory = usage.ru_maxrss * 1024
+
+
+def asked(about, words, options=()):
+    """What the command line asks for: these words in their order and these options, each of the kind of its default.
+    The default of a word that may come many times is a list, and that of an option with no value is False."""
+    parser = argparse.ArgumentParser(description=about, formatter_class=argparse.RawDescriptionHelpFormatter)
+    for name, default in words.items():
+        many = isinstance(default, list)
+        parser.add_argument(name, nargs='*' if many else '?', type=type(default[0] if many else default),
+                            default=default)
+    for name, default in dict(options).items():
+        kind = {'action': 'store_true'} if default is False else {'type': type(default), 'default': default}
+        parser.add_argument(f'--{name}', **kind)
+    return parser.parse_args()
 
 
 def best(runs):

@@ -51,7 +51,7 @@ def tell(folder, kpn, plain, title, text, wanted):
 
 
 def main():
-    counts = [int(word) for word in sys.argv[1:]] or [1_000_000, 10_000_000]
+    counts = measure.asked(__doc__, {'events': [1_000_000, 10_000_000]}).events
     kpn = measure.kpn()
     with tempfile.TemporaryDirectory() as folder:
         plain = measure.plain(HERE.parent / 'run/plain.rs', folder)

@@ -28,7 +28,7 @@ def best(run, capacity, items):
 
 
 def main():
-    items = int(sys.argv[1]) if len(sys.argv) > 1 else 20_000_000
+    items = measure.asked(__doc__, {'items': 20_000_000}).items
     parts = measure.parts()
     with tempfile.TemporaryDirectory() as folder:
         plain = measure.plain(HERE / 'plain.rs', folder)

@@ -32,7 +32,7 @@ def run(parts, shape, length, processes, walks):
 
 
 def main():
-    steps = int(sys.argv[1]) if len(sys.argv) > 1 else 100_000_000
+    steps = measure.asked(__doc__, {'steps': 100_000_000}).steps
     parts = measure.parts()
     for shape in SHAPES:
         for length in LENGTHS:

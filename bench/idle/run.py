@@ -15,7 +15,6 @@ All depends on what else runs, so the load is printed too. If the machine is vir
 and some runs then seem to take far more. It is no part of the gate. Words: the number of items, by default 10,000, and
 `--program FILE` for a program that was built before.
 """
-import argparse
 import os
 import pathlib
 import shutil
@@ -89,13 +88,10 @@ class Way:
 
 
 def main():
-    words = argparse.ArgumentParser(description=__doc__, formatter_class=argparse.RawDescriptionHelpFormatter)
-    words.add_argument('items', nargs='?', type=int, default=10_000)
-    words.add_argument('--program', type=pathlib.Path)
-    asked = words.parse_args()
+    asked = measure.asked(__doc__, {'items': 10_000}, {'program': ''})
     with tempfile.TemporaryDirectory(prefix='kpn-idle-') as name:
         folder = pathlib.Path(name)
-        program = asked.program.resolve() if asked.program else built(folder)
+        program = pathlib.Path(asked.program).resolve() if asked.program else built(folder)
         ways = [Way(f'workers {workers:2}', program, workers) for workers in WORKERS]
         ways.append(Way('plain Rust', measure.plain(HERE / 'plain.rs', folder)))
         for way in ways:

@@ -9,7 +9,6 @@ turns, and the best of three runs of each counts, or of `--runs N`, by the time 
 `--before PROGRAM` names another build of `kpn`, which takes its turns as well. With `--instructions` it only counts the
 machine instructions a commit, by callgrind.
 """
-import argparse
 import os
 import pathlib
 import re
@@ -127,15 +126,10 @@ def measure_all(folder, builds, plain, hops, runs):
 
 
 def main():
-    words = argparse.ArgumentParser(description=__doc__, formatter_class=argparse.RawDescriptionHelpFormatter)
-    words.add_argument('hops', nargs='?', type=int, default=4_000_000)
-    words.add_argument('--runs', type=int, default=3)
-    words.add_argument('--before', type=pathlib.Path)
-    words.add_argument('--instructions', action='store_true')
-    asked = words.parse_args()
+    asked = measure.asked(__doc__, {'hops': 4_000_000}, {'runs': 3, 'before': '', 'instructions': False})
     builds = {'kpn': measure.kpn()}
     if asked.before:
-        builds['before'] = asked.before.resolve()
+        builds['before'] = pathlib.Path(asked.before).resolve()
     with tempfile.TemporaryDirectory() as folder:
         plain = measure.plain(HERE / 'plain.rs', folder)
         if asked.instructions:

@@ -34,7 +34,7 @@ def measured(programs, count):
 
 
 def main():
-    turns = int(sys.argv[1]) if len(sys.argv) > 1 else 1_000_000
+    turns = measure.asked(__doc__, {'turns': 1_000_000}).turns
     parts = measure.parts()
     with tempfile.TemporaryDirectory() as folder:
         plain = measure.plain(HERE / 'plain.rs', folder)

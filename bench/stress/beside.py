@@ -80,12 +80,12 @@ class Beside:
 
 
 def main():
-    seconds = float(sys.argv[1]) if len(sys.argv) > 1 else 60
-    chance = random.Random(int(sys.argv[2]) if len(sys.argv) > 2 else None)
-    program = pathlib.Path(sys.argv[3]).resolve() if len(sys.argv) > 3 else measure.kpn()
+    asked = measure.asked(__doc__, {'seconds': 60.0, 'seed': time.time_ns(), 'program': ''})
+    chance = random.Random(asked.seed)
+    program = pathlib.Path(asked.program).resolve() if asked.program else measure.kpn()
     with tempfile.TemporaryDirectory() as folder:
         beside = Beside(program, folder, chance)
-        end = time.monotonic() + seconds
+        end = time.monotonic() + asked.seconds
         while time.monotonic() < end:
             beside.network()
     for (what, came), count in sorted(beside.counts.items()):

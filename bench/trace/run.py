@@ -54,7 +54,7 @@ def tell(events, own, plain):
 
 
 def main():
-    events = int(sys.argv[1]) if len(sys.argv) > 1 else 10_000_000
+    events = measure.asked(__doc__, {'events': 10_000_000}).events
     parts = measure.parts()
     with tempfile.TemporaryDirectory() as folder:
         plain = measure.plain(HERE / 'plain.rs', folder)

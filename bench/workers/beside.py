@@ -55,7 +55,7 @@ def coarse(folder, kpn, turns):
 
 
 def main():
-    hops = int(sys.argv[1]) if len(sys.argv) > 1 else 4_000_000
+    hops = measure.asked(__doc__, {'hops': 4_000_000}).hops
     kpn = measure.kpn()
     with tempfile.TemporaryDirectory() as folder:
         for title, text, wanted in one_thread.measured_networks(hops):

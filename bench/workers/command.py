@@ -8,7 +8,6 @@ by themselves. All have to write the same. It is no part of the gate. A word may
 are put on a channel; the default is 4,000,000. The command lines take turns, and the best of three runs of each counts,
 or of `--runs N`. `--only WORD` leaves out each network without this word in its title.
 """
-import argparse
 import pathlib
 import sys
 import tempfile
@@ -81,11 +80,7 @@ def told(command, words, runs):
 
 
 def main():
-    words = argparse.ArgumentParser(description=__doc__, formatter_class=argparse.RawDescriptionHelpFormatter)
-    words.add_argument('hops', nargs='?', type=int, default=4_000_000)
-    words.add_argument('--runs', type=int, default=3)
-    words.add_argument('--only', default='')
-    asked = words.parse_args()
+    asked = measure.asked(__doc__, {'hops': 4_000_000}, {'runs': 3, 'only': ''})
     kpn = measure.kpn()
     with tempfile.TemporaryDirectory() as folder:
         for command in measured_commands(asked.hops):

@@ -1,5 +1,5 @@
 -- Which kind of fault a fault of a description is.
-use Rattle.std.specs.Prelude.{ℕ, nat_eq, nat_lt, if◌then◌else◌, List, length, codes}
+use Rattle.std.specs.Prelude.{ℕ, Bool, nat_eq, nat_lt, if◌then◌else◌, List, length, codes}
 use Rattle.std.specs.Str.{bytes_eq}
 use Rattle.kpn_lang.specs.declared.program.ProgramFault.{ProgramFault}
 use Rattle.kpn_lang.specs.declared.program.ProgramFault.TheVariants as program
@@ -11,7 +11,7 @@ use Rattle.kpn_text.specs.declared.fault.TextFault.TheVariants as fault
 use Rattle.kpn_tokens.specs.declared.tokens.Lexeme.{Lexeme}
 use Rattle.kpn_places.specs.declared.spots.Spot.{Spot}
 use Rattle.kpn_places.specs.declared.spots.Spot.TheVariants as spot
-use Rattle.kpn_places.specs.Spots.{spot_at}
+use Rattle.kpn_places.specs.Spots.{spot_at, is_port}
 use Rattle.kpn_explain_command.specs.declared.sentences.Case.{Case}
 use Rattle.kpn_explain_command.specs.declared.sentences.Case.TheVariants as case
 
@@ -29,13 +29,17 @@ grammar_case text at = if nat_lt at (length text) then case.Misplaced else case.
 
 -- ---- names, by where they stand
 
-abbrev pub unknown_case : Spot → Case
-unknown_case spot.InPort = case.UnknownInPort
-unknown_case spot.OutPort = case.UnknownOutPort
-unknown_case spot.Program = case.UnknownProcess
-unknown_case spot.Reads = case.UnknownChannel
-unknown_case spot.Writes = case.UnknownChannel
-unknown_case other = case.UnknownVariable
+-- a name that is no variable may be one of a port
+abbrev pub variable_case : (is_port : Bool) → Case
+variable_case is_port = if is_port then case.PortAsVariable else case.UnknownVariable
+
+abbrev pub unknown_case : Spot → (is_port : Bool) → Case
+unknown_case spot.InPort is_port = case.UnknownInPort
+unknown_case spot.OutPort is_port = case.UnknownOutPort
+unknown_case spot.Program is_port = case.UnknownProcess
+unknown_case spot.Reads is_port = case.UnknownChannel
+unknown_case spot.Writes is_port = case.UnknownChannel
+unknown_case other is_port = variable_case is_port
 
 abbrev pub double_case : Spot → Case
 double_case spot.Process = case.DoubleProcess
@@ -73,7 +77,7 @@ abbrev pub case_of : (text : List ℕ) → List Lexeme → (name : List ℕ) →
 case_of text ls name (fault.TooLong at) = long_case text
 case_of text ls name (fault.Token at) = token_case name
 case_of text ls name (fault.Grammar at) = grammar_case text at
-case_of text ls name (fault.UnknownName at) = unknown_case (spot_at at ls)
+case_of text ls name (fault.UnknownName at) = unknown_case (spot_at at ls) (is_port text ls at)
 case_of text ls name (fault.DoubleName at) = double_case (spot_at at ls)
 case_of text ls name (fault.Program process broken) = program_case broken
 case_of text ls name (fault.Net broken) = net_case name broken

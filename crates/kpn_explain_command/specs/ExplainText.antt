@@ -14,7 +14,7 @@ use Rattle.kpn_places.specs.Names.{name_at}
 use Rattle.kpn_explain_command.specs.declared.sentences.Case.{Case}
 use Rattle.kpn_explain_command.specs.declared.sentences.Case.TheVariants.{Misplaced, EarlyEnd}
 use Rattle.kpn_explain_command.specs.Cases.{case_of}
-use Rattle.kpn_explain_command.specs.Choices.{choices}
+use Rattle.kpn_explain_command.specs.Choices.{choices, may_stand}
 use Rattle.kpn_explain_command.specs.Sentences.{is_named, said, advice, other}
 
 -- ---- the first line
@@ -44,12 +44,16 @@ is_grammar Misplaced = true
 is_grammar EarlyEnd = true
 is_grammar rest = false
 
--- what may stand at the place, for such a fault
-abbrev pub alternatives : (text : List ℕ) (at : ℕ) → Case → List ℕ
-alternatives text at c = if is_grammar c then listed (choices (take at text)) else []
+-- what may stand behind a text: nothing, if it is whole
+abbrev pub behind : (front : List ℕ) → List ℕ
+behind front = if may_stand front [] then codes "; nothing may follow the network" else listed (choices front)
+
+-- the same, for such a fault
+abbrev pub alternatives : (front : List ℕ) → Case → List ℕ
+alternatives front c = if is_grammar c then behind front else []
 
 abbrev pub sentence : (text : List ℕ) (at : ℕ) → Case → List ℕ
-sentence text at c = subject (name_at text at) c ++ said c ++ alternatives text at c
+sentence text at c = subject (name_at text at) c ++ said c ++ alternatives (take at text) c
 
 -- ---- the whole
 
@@ -70,12 +74,10 @@ abbrev pub told_at : (file text : List ℕ) → TextFault → Places → Case �
 told_at file text f p c =
     first_part file text f p.first c ++ second_part file text p.second c ++ advice_line c
 
-abbrev pub told_with : (file text : List ℕ) → List Lexeme → TextFault → Places → List ℕ
-told_with file text ls f p = told_at file text f p (case_of text ls (name_at text p.first) f)
-
 -- the text for a fault of a text with these tokens
 abbrev pub told_by : (file text : List ℕ) → List Lexeme → TextFault → List ℕ
-told_by file text ls f = told_with file text ls f (places_of text ls f)
+told_by file text ls f =
+    let places = places_of text ls f in told_at file text f places (case_of text ls (name_at text places.first) f)
 
 -- no tokens, if there is a fault among them
 abbrev pub tokens_in : Result (List Lexeme) LexFault → List Lexeme

@@ -1,7 +1,7 @@
 -- The sentences for each kind of fault.
 use Rattle.std.specs.Prelude.{ℕ, Bool, true, false, List, codes}
 use Rattle.kpn_explain_command.specs.declared.sentences.Case.{Case}
-use Rattle.kpn_explain_command.specs.declared.sentences.Case.TheVariants.{LongText, LongName, BadNumber, NoToken, Misplaced, EarlyEnd, UnknownVariable, UnknownInPort, UnknownOutPort, UnknownProcess, UnknownChannel, DoubleProcess, DoublePort, AssignedPort, DoubleInstance, DoubleChannel, LargeProgram, DeepProgram, BrokenProgram, LargeNetwork, PortCount, NoWriter, TwoWriters, NoReader, TwoReaders, BadCapacity, BadLimit, BrokenNetwork, NoMemory}
+use Rattle.kpn_explain_command.specs.declared.sentences.Case.TheVariants.{LongText, LongName, BadNumber, NoToken, Misplaced, EarlyEnd, UnknownVariable, PortAsVariable, UnknownInPort, UnknownOutPort, UnknownProcess, UnknownChannel, DoubleProcess, DoublePort, AssignedPort, DoubleInstance, DoubleChannel, LargeProgram, DeepProgram, BrokenProgram, LargeNetwork, PortCount, NoWriter, TwoWriters, NoReader, TwoReaders, BadCapacity, BadLimit, BrokenNetwork, NoMemory}
 
 -- whether the sentence begins with the name at the place
 abbrev pub is_named : Case → Bool
@@ -25,6 +25,7 @@ said NoToken = codes "no name, number or mark begins with this byte"
 said Misplaced = codes "this may not stand here"
 said EarlyEnd = codes "the text ends too early"
 said UnknownVariable = codes " is read before anything is assigned to it"
+said PortAsVariable = codes " is a port of this process, and no variable"
 said UnknownInPort = codes " is no in port of this process"
 said UnknownOutPort = codes " is no out port of this process"
 said UnknownProcess = codes " is no process of this text"
@@ -52,11 +53,12 @@ said NoMemory = codes "memory ran out"
 abbrev pub advice : Case → List ℕ
 advice LongText = codes "Cut the text down: leave out comments, or make two networks."
 advice LongName = codes "Choose a shorter name."
-advice BadNumber = codes "Write a smaller number. For a negative one write `-` before it."
+advice BadNumber = codes "Write a smaller number. The least value is that of `(-9223372036854775807 - 1)`."
 advice NoToken = codes "Names have letters, digits and `_`. A comment goes from `#` to the end of its line."
 advice Misplaced = codes "Look also at what stands just before it: something may be missing there."
 advice EarlyEnd = codes "Look for a `}` that is missing. The network comes last, behind all processes."
 advice UnknownVariable = codes "Assign to it first, or make it a parameter. An item comes by `read PORT VARIABLE;`."
+advice PortAsVariable = codes "Write a variable in its place. An item of an in port comes by `read PORT VARIABLE;`."
 advice UnknownInPort = codes "Behind `read` stand an in port and a variable. Declare the port behind `in`."
 advice UnknownOutPort = codes "Behind `write` stand an out port and an expression. Declare the port behind `out`."
 advice UnknownProcess = codes "Write the process before the network, or correct the name."

@@ -6,7 +6,7 @@ use crate::sentences::Case;
 use kpn_lang::ProgramFault;
 use kpn_limits::MAX_TEXT_BYTES;
 use kpn_net::NetFault;
-use kpn_places::{Spot, spot_at};
+use kpn_places::{Spot, is_port, spot_at};
 use kpn_text::TextFault;
 use kpn_tokens::Lexeme;
 
@@ -18,7 +18,9 @@ pub(crate) fn case_of(text: &[u8], tokens: &[Lexeme<'_>], name: &[u8], fault: Te
         TextFault::TooLong(_) => long_case(text),
         TextFault::Token(_) => token_case(name),
         TextFault::Grammar(at) => grammar_case(text, at),
-        TextFault::UnknownName(at) => unknown_case(spot_at(tokens, at)),
+        TextFault::UnknownName(at) => {
+            unknown_case(spot_at(tokens, at), is_port(text, tokens, at))
+        }
         TextFault::DoubleName(at) => double_case(spot_at(tokens, at)),
         TextFault::Program(_, broken) => program_case(broken),
         TextFault::Net(broken) => net_case(name, broken),
@@ -56,15 +58,25 @@ fn grammar_case(text: &[u8], at: usize) -> Case
     }
 }
 
-fn unknown_case(spot: Spot) -> Case
-    ensures { result ≡ spec.unknown_case spot }
+fn unknown_case(spot: Spot, is_port: bool) -> Case
+    ensures { result ≡ spec.unknown_case spot is_port }
 {
     match spot {
         Spot::InPort => Case::UnknownInPort,
         Spot::OutPort => Case::UnknownOutPort,
         Spot::Program => Case::UnknownProcess,
         Spot::Reads | Spot::Writes => Case::UnknownChannel,
-        _ => Case::UnknownVariable,
+        _ => variable_case(is_port),
+    }
+}
+
+fn variable_case(is_port: bool) -> Case
+    ensures { result ≡ spec.variable_case is_port }
+{
+    if is_port {
+        Case::PortAsVariable
+    } else {
+        Case::UnknownVariable
     }
 }
 

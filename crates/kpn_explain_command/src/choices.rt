@@ -112,8 +112,8 @@ fn push_choice(
     Ok(())
 }
 
-// Whether a word may stand behind a text.
-fn may_stand(alloc: Global, front: &[u8], word: &[u8]) -> Result<bool, AllocError>
+/// Whether a word may stand behind a text. The empty word may, if the text is whole.
+pub(crate) fn may_stand(alloc: Global, front: &[u8], word: &[u8]) -> Result<bool, AllocError>
     ensures { IfOk result (λ may. may ≡ spec.may_stand front.now word.now) }
 {
     let mut text = Vec::new(alloc);

@@ -1,14 +1,14 @@
 //! The text that explains a fault of a description.
-ghost use Rattle.std.specs.Prelude.{◌≡◌, ◌++◌, take, IfOk, OnOk};
+ghost use Rattle.std.specs.Prelude.{◌≡◌, ◌++◌, IfOk, OnOk};
 ghost use Rattle.kpn_tokens.specs.Lexing.{lexemes_of};
 ghost use Rattle.kpn_refusals.specs.Refusal.{refusal_line};
 ghost use Rattle.kpn_explain_command.specs.Choices as spoken;
 ghost use Rattle.kpn_explain_command.specs.ExplainText as spec;
 
 use crate::cases::case_of;
-use crate::choices::choices;
+use crate::choices::{choices, may_stand};
 use crate::sentences::{Case, advice, is_named, other, said};
-use kpn_places::{Places, concerned_places, front, name_at, push_excerpt, push_where};
+use kpn_places::{concerned_places, front, name_at, push_excerpt, push_where};
 use kpn_refusals::Refusal;
 use kpn_text::TextFault;
 use kpn_tokens::{LexFault, Lexeme, lexemes};
@@ -49,35 +49,7 @@ fn told_by(
         told.items ≡ spec.told_by file.now text.now tokens.now fault) }
 {
     let places = concerned_places(alloc, text, tokens, fault)?;
-    told_with(alloc, file, text, tokens, fault, places)
-}
-
-fn told_with(
-    alloc: Global,
-    file: &[u8],
-    text: &[u8],
-    tokens: &[Lexeme<'_>],
-    fault: TextFault,
-    places: Places,
-) -> Result<Vec<u8>, AllocError>
-    ensures { IfOk result (λ told.
-        told.items ≡ spec.told_with file.now text.now tokens.now fault places) }
-{
     let case = case_of(text, tokens, name_at(text, places.first), fault);
-    told_at(alloc, file, text, fault, places, case)
-}
-
-fn told_at(
-    alloc: Global,
-    file: &[u8],
-    text: &[u8],
-    fault: TextFault,
-    places: Places,
-    case: Case,
-) -> Result<Vec<u8>, AllocError>
-    ensures { IfOk result (λ told.
-        told.items ≡ spec.told_at file.now text.now fault places case) }
-{
     let mut told = Vec::new(alloc);
     push_first(alloc, &mut told, file, text, fault, places.first, case)?;
     push_second(&mut told, file, text, places.second, case)?;
@@ -143,7 +115,7 @@ fn push_sentence(
 {
     push_subject(told, name_at(text, at), case)?;
     told.extend_from_slice(said(case))?;
-    push_alternatives(alloc, told, text, at, case)?;
+    push_alternatives(alloc, told, front(text, at), case)?;
     Ok(())
 }
 
@@ -159,19 +131,17 @@ fn push_subject(told: &mut Vec<u8>, name: &[u8], case: Case) -> Result<(), Alloc
     Ok(())
 }
 
-// What may stand there, for a fault of the grammar.
+// What may stand behind a text, for a fault of the grammar.
 fn push_alternatives(
     alloc: Global,
     told: &mut Vec<u8>,
-    text: &[u8],
-    at: usize,
+    front: &[u8],
     case: Case,
 ) -> Result<(), AllocError>
-    ensures { OnOk result
-        (told.new.items ≡ told.old.items ++ spec.alternatives text.now at case) }
+    ensures { OnOk result (told.new.items ≡ told.old.items ++ spec.alternatives front.now case) }
 {
     if is_grammar(case) {
-        push_choices(alloc, told, text, at)?;
+        push_behind(alloc, told, front)?;
     }
     Ok(())
 }
@@ -182,11 +152,22 @@ fn is_grammar(case: Case) -> bool
     matches!(case, Case::Misplaced | Case::EarlyEnd)
 }
 
-fn push_choices(alloc: Global, told: &mut Vec<u8>, text: &[u8], at: usize) -> Result<(), AllocError>
-    ensures { OnOk result (told.new.items
-        ≡ told.old.items ++ spec.listed (spoken.choices (take at text.now))) }
+// What may stand behind a text. Nothing may, if it is whole.
+fn push_behind(alloc: Global, told: &mut Vec<u8>, front: &[u8]) -> Result<(), AllocError>
+    ensures { OnOk result (told.new.items ≡ told.old.items ++ spec.behind front.now) }
 {
-    let found = choices(alloc, front(text, at))?;
+    if may_stand(alloc, front, b"")? {
+        told.extend_from_slice(b"; nothing may follow the network")
+    } else {
+        push_choices(alloc, told, front)
+    }
+}
+
+fn push_choices(alloc: Global, told: &mut Vec<u8>, front: &[u8]) -> Result<(), AllocError>
+    ensures { OnOk result
+        (told.new.items ≡ told.old.items ++ spec.listed (spoken.choices front.now)) }
+{
+    let found = choices(alloc, front)?;
     push_listed(told, &found)?;
     Ok(())
 }

@@ -19,6 +19,8 @@ pub(crate) enum Case {
     EarlyEnd,
     /// A variable is not known.
     UnknownVariable,
+    /// A port stands in place of a variable.
+    PortAsVariable,
     /// An in port is not known.
     UnknownInPort,
     /// An out port is not known.
@@ -89,6 +91,7 @@ pub(crate) fn said(case: Case) -> &'static [u8]
         Case::Misplaced => b"this may not stand here",
         Case::EarlyEnd => b"the text ends too early",
         Case::UnknownVariable => b" is read before anything is assigned to it",
+        Case::PortAsVariable => b" is a port of this process, and no variable",
         Case::UnknownInPort => b" is no in port of this process",
         Case::UnknownOutPort => b" is no out port of this process",
         Case::UnknownProcess => b" is no process of this text",
@@ -122,7 +125,8 @@ pub(crate) fn advice(case: Case) -> &'static [u8]
     match case {
         Case::LongText => b"Cut the text down: leave out comments, or make two networks.",
         Case::LongName => b"Choose a shorter name.",
-        Case::BadNumber => b"Write a smaller number. For a negative one write `-` before it.",
+        Case::BadNumber =>
+            b"Write a smaller number. The least value is that of `(-9223372036854775807 - 1)`.",
         Case::NoToken =>
             b"Names have letters, digits and `_`. A comment goes from `#` to the end of its line.",
         Case::Misplaced =>
@@ -131,6 +135,8 @@ pub(crate) fn advice(case: Case) -> &'static [u8]
             b"Look for a `}` that is missing. The network comes last, behind all processes.",
         Case::UnknownVariable =>
             b"Assign to it first, or make it a parameter. An item comes by `read PORT VARIABLE;`.",
+        Case::PortAsVariable =>
+            b"Write a variable in its place. An item of an in port comes by `read PORT VARIABLE;`.",
         Case::UnknownInPort =>
             b"Behind `read` stand an in port and a variable. Declare the port behind `in`.",
         Case::UnknownOutPort =>

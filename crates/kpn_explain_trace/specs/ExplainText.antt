@@ -1,6 +1,7 @@
 -- The texts that `kpn explain` writes of a trace that is refused or is not legal.
-use Rattle.std.specs.Prelude.{ℕ, ◌+◌, pos, List, ◌++◌, get_or, codes}
+use Rattle.std.specs.Prelude.{ℕ, ◌+◌, nat_eq, if◌then◌else◌, pos, List, ◌++◌, get_or, codes}
 use Rattle.std.specs.Fmt.{decimal}
+use Rattle.std.specs.List.{starts_with}
 use Rattle.kpn_history.specs.declared.event.Event.TheVariants.{Get}
 use Rattle.kpn_history.specs.declared.stored.Trace.{Trace}
 use Rattle.kpn_trace_text.specs.declared.fault.TraceFault.{TraceFault}
@@ -14,10 +15,14 @@ use Rattle.kpn_explain_trace.specs.Words.{sentence}
 
 -- ---- refused bytes
 
--- the line that a fault concerns
-abbrev pub bad_line : TraceFault → ℕ
-bad_line (BadEvent line) = line
-bad_line other = 1
+-- the line that ends the first lines of a trace of this beginning
+abbrev pub head_line : (bytes : List ℕ) → ℕ
+head_line bytes = if starts_with nat_eq bytes (codes "kpn-trace 2\n") then 2 else 1
+
+-- the line of these bytes that a fault concerns
+abbrev pub bad_line : (bytes : List ℕ) → TraceFault → ℕ
+bad_line bytes (BadEvent line) = line
+bad_line bytes other = head_line bytes
 
 -- what is wrong, and in brackets what the error line of other commands says
 abbrev pub fault_words : TraceFault → List ℕ
@@ -34,7 +39,7 @@ advice NoMemory = codes "Free some memory.\n"
 
 abbrev pub refused_text : (name bytes : List ℕ) → TraceFault → List ℕ
 refused_text name bytes fault =
-    let at = line_start bytes (bad_line fault) in
+    let at = line_start bytes (bad_line bytes fault) in
     where_text name bytes at ++ fault_words fault ++ excerpt bytes at ++ advice fault
 
 -- ---- an event that is not legal

@@ -22,7 +22,7 @@ pub(crate) fn refused_text(
     ensures { IfOk result (λ text.
         text.items ≡ spec.refused_text name.now bytes.now fault.now) }
 {
-    let at = line_start(bytes, bad_line(fault));
+    let at = line_start(bytes, bad_line(bytes, fault));
     let mut text = Vec::new(alloc);
     push_where(&mut text, name, bytes, at)?;
     push_fault(&mut text, fault)?;
@@ -76,12 +76,23 @@ fn head_lines(version: Version) -> usize
 }
 
 // The line that a fault concerns.
-fn bad_line(fault: &TraceFault) -> usize
-    ensures { result ≡ spec.bad_line fault.now }
+fn bad_line(bytes: &[u8], fault: &TraceFault) -> usize
+    ensures { result ≡ spec.bad_line bytes.now fault.now }
 {
     match fault {
         TraceFault::BadEvent(line) => *line,
-        TraceFault::BadHead | TraceFault::NoMemory => 1,
+        TraceFault::BadHead | TraceFault::NoMemory => head_line(bytes),
+    }
+}
+
+// The last of the first lines of a trace that begins like this. A right first line names the version.
+fn head_line(bytes: &[u8]) -> usize
+    ensures { result ≡ spec.head_line bytes.now }
+{
+    if bytes.starts_with(b"kpn-trace 2\n") {
+        2
+    } else {
+        1
     }
 }
 

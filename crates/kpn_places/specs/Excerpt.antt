@@ -1,12 +1,16 @@
 -- What is shown of a place in a text: where it is, the line, and a caret under the place.
-use Rattle.std.specs.Prelude.{ℕ, ◌+◌, ◌-◌, Bool, ◌||◌, ◌&&◌, ◌==◌, nat_le, if◌then◌else◌, List, ◌++◌, length, take, drop, map, codes}
+use Rattle.std.specs.Prelude.{ℕ, ◌+◌, ◌-◌, Bool, ◌&&◌, ◌==◌, nat_le, if◌then◌else◌, List, ◌++◌, length, take, drop, map, codes}
 use Rattle.std.specs.Fmt.{decimal}
-use Rattle.kpn_places.specs.declared.lines.Place.{Place}
+use Rattle.kpn_places.specs.declared.lines.Position.{Position}
 use Rattle.kpn_places.specs.Lines.{place_at, last_line, first_line}
 
+-- the bytes from 32 to 126 are shown as they are, others as `?`
+abbrev pub plain : (byte : ℕ) → ℕ
+plain b = if nat_le 32 b && nat_le b 126 then b else 63
+
 -- `NAME:LINE:COLUMN: `
-abbrev pub place_text : (name : List ℕ) → Place → List ℕ
-place_text name p = name ++ codes ":" ++ decimal p.line ++ codes ":" ++ decimal p.column ++ codes ": "
+abbrev pub place_text : (name : List ℕ) → Position → List ℕ
+place_text name p = map plain name ++ codes ":" ++ decimal p.line ++ codes ":" ++ decimal p.column ++ codes ": "
 
 -- the same of a byte of a text
 abbrev pub where_text : (name text : List ℕ) (at : ℕ) → List ℕ
@@ -14,9 +18,9 @@ where_text name text at = place_text name (place_at text at)
 
 -- ---- the line
 
--- tabs and the bytes from 32 to 126 are shown as they are, others as `?`
+-- the same of a line, in which tabs stay too
 abbrev pub visible : (byte : ℕ) → ℕ
-visible b = if b == 9 || (nat_le 32 b && nat_le b 126) then b else 63
+visible b = if b == 9 then 9 else plain b
 
 -- what keeps the columns below a byte: a tab, or a space
 abbrev pub blank : (byte : ℕ) → ℕ

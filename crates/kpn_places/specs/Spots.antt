@@ -1,6 +1,7 @@
 -- Where a token stands in a description that follows the grammar. Processes and the network begin with reserved words
 -- that stand nowhere else, so a walk over the tokens needs no tree.
-use Rattle.std.specs.Prelude.{ℕ, Bool, true, false, nat_eq, if◌then◌else◌, List, [], ◌∷◌}
+use Rattle.std.specs.Prelude.{ℕ, Bool, true, false, ◌||◌, nat_eq, if◌then◌else◌, List, [], ◌∷◌}
+use Rattle.std.specs.Str.{bytes_eq}
 use Rattle.kpn_tokens.specs.declared.tokens.Keyword.{Keyword}
 use Rattle.kpn_tokens.specs.declared.tokens.Keyword.TheVariants as word
 use Rattle.kpn_tokens.specs.declared.tokens.Lexeme.{Lexeme}
@@ -10,6 +11,7 @@ use Rattle.kpn_tokens.specs.declared.tokens.Token.{Token}
 use Rattle.kpn_tokens.specs.declared.tokens.Token.TheVariants as token
 use Rattle.kpn_places.specs.declared.spots.Spot.{Spot}
 use Rattle.kpn_places.specs.declared.spots.Spot.TheVariants as spot
+use Rattle.kpn_places.specs.Names.{name_at}
 
 -- ---- from token to token
 
@@ -100,3 +102,24 @@ spot_from at now (l ∷ ls) = if nat_eq l.start at then now else spot_from at (b
 
 abbrev pub spot_at : (at : ℕ) → List Lexeme → Spot
 spot_at at ls = spot_from at spot.Outside ls
+
+-- ---- ports
+
+abbrev pub is_same_name : (text : List ℕ) (at start : ℕ) → Bool
+is_same_name text at start = bytes_eq (name_at text start) (name_at text at)
+
+-- the name was found, with the token that begins at `start`: a process has ports of its own
+abbrev pub found_then : (text : List ℕ) (at : ℕ) (now : Spot) (start : ℕ) (found : Bool) → Bool
+found_then text at spot.Process start found = false
+found_then text at spot.Port start found = is_same_name text at start || found
+found_then text at other start found = found
+
+abbrev pub is_port_from : (text : List ℕ) (at : ℕ) (now : Spot) (found : Bool) → List Lexeme → Bool
+is_port_from text at now found [] = false
+is_port_from text at now found (l ∷ ls) =
+    if nat_eq l.start at then found
+    else is_port_from text at (behind now l.token) (found_then text at now l.start found) ls
+
+-- the name at a byte is that of a port or a parameter of the process in which it stands
+abbrev pub is_port : (text : List ℕ) → List Lexeme → (at : ℕ) → Bool
+is_port text ls at = is_port_from text at spot.Outside false ls

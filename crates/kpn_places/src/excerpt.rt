@@ -2,7 +2,7 @@
 ghost use Rattle.std.specs.Prelude.{◌≡◌, ◌++◌, map, OnOk};
 ghost use Rattle.kpn_places.specs.Excerpt as spec;
 
-use crate::lines::{Place, front, line_before, line_behind, place_at};
+use crate::lines::{Position, front, line_before, line_behind, place_at};
 use itoa::Buffer;
 use std::alloc::AllocError;
 
@@ -12,7 +12,7 @@ const MAX_SHOWN: usize = 100;
 /// The bytes of a longer line that are shown on each side of a place.
 const SIDE: usize = 50;
 
-/// `NAME:LINE:COLUMN: ` for a byte of a text.
+/// `NAME:LINE:COLUMN: ` for a byte of a text. Bytes of the name outside 32 to 126 are shown as `?`.
 pub fn push_where(out: &mut Vec<u8>, name: &[u8], text: &[u8], at: usize) -> Result<(), AllocError>
     ensures { OnOk result (out.new.items ≡ out.old.items ++ spec.where_text name.now text.now at) }
 {
@@ -20,12 +20,12 @@ pub fn push_where(out: &mut Vec<u8>, name: &[u8], text: &[u8], at: usize) -> Res
 }
 
 // `NAME:LINE:COLUMN: `
-fn push_place(out: &mut Vec<u8>, name: &[u8], place: Place) -> Result<(), AllocError>
+fn push_place(out: &mut Vec<u8>, name: &[u8], place: Position) -> Result<(), AllocError>
     ensures { OnOk result (out.new.items ≡ out.old.items ++ spec.place_text name.now place) }
 {
     let mut line = Buffer::new();
     let mut column = Buffer::new();
-    out.extend_from_slice(name)?;
+    push_plain(out, name)?;
     out.extend_from_slice(b":")?;
     out.extend_from_slice(line.format(place.line).as_bytes())?;
     out.extend_from_slice(b":")?;
@@ -107,6 +107,15 @@ fn push_caret(out: &mut Vec<u8>, before: &[u8]) -> Result<(), AllocError>
     Ok(())
 }
 
+fn push_plain(out: &mut Vec<u8>, bytes: &[u8]) -> Result<(), AllocError>
+    ensures { OnOk result (out.new.items ≡ out.old.items ++ map spec.plain bytes.now) }
+{
+    for byte in bytes {
+        out.push(plain(*byte))?;
+    }
+    Ok(())
+}
+
 fn push_visible(out: &mut Vec<u8>, bytes: &[u8]) -> Result<(), AllocError>
     ensures { OnOk result (out.new.items ≡ out.old.items ++ map spec.visible bytes.now) }
 {
@@ -128,7 +137,13 @@ fn push_blank(out: &mut Vec<u8>, bytes: &[u8]) -> Result<(), AllocError>
 fn visible(byte: u8) -> u8
     ensures { result ≡ spec.visible byte }
 {
-    if byte == b'\t' || (32 <= byte && byte <= 126) {
+    if byte == b'\t' { b'\t' } else { plain(byte) }
+}
+
+fn plain(byte: u8) -> u8
+    ensures { result ≡ spec.plain byte }
+{
+    if 32 <= byte && byte <= 126 {
         byte
     } else {
         b'?'

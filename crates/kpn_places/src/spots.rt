@@ -2,6 +2,7 @@
 ghost use Rattle.std.specs.Prelude.{◌≡◌, IfOk};
 ghost use Rattle.kpn_places.specs.Spots as spec;
 
+use crate::names::name_at;
 use kpn_tokens::{Keyword, Lexeme, Mark, Token};
 use std::alloc::{AllocError, Global};
 
@@ -153,4 +154,38 @@ pub fn spot_at(tokens: &[Lexeme<'_>], at: usize) -> Spot
         now = behind(now, &lexeme.token);
     }
     Spot::Outside
+}
+
+/// Whether the head of the process in which this byte stands has the name there, as a port or a parameter. If the name
+/// is no variable, it is a port.
+pub fn is_port(text: &[u8], tokens: &[Lexeme<'_>], at: usize) -> bool
+    ensures { result ≡ spec.is_port text.now tokens.now at }
+{
+    let mut now = Spot::Outside;
+    let mut found = false;
+    for lexeme in tokens {
+        if lexeme.start == at {
+            return found;
+        }
+        found = found_then(text, at, now, lexeme.start, found);
+        now = behind(now, &lexeme.token);
+    }
+    false
+}
+
+// Whether the name was found, with the token that begins at `start`. A process has ports of its own.
+fn found_then(text: &[u8], at: usize, now: Spot, start: usize, found: bool) -> bool
+    ensures { result ≡ spec.found_then text.now at now start found }
+{
+    match now {
+        Spot::Process => false,
+        Spot::Port => is_same_name(text, at, start) || found,
+        _ => found,
+    }
+}
+
+fn is_same_name(text: &[u8], at: usize, start: usize) -> bool
+    ensures { result ≡ spec.is_same_name text.now at start }
+{
+    name_at(text, start) == name_at(text, at)
 }

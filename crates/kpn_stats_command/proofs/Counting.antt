@@ -8,13 +8,14 @@ use Rattle.std.proofs.lemmas.List.{take-append-le, get_or-set_same, get_or-set_o
 use Rattle.std.proofs.lemmas.List.Sums.{sum_by_push}
 use Rattle.kpn_net.specs.Tables.{Tables}
 use Rattle.kpn_history.specs.declared.event.Event.{Event}
-use Rattle.kpn_history.specs.declared.event.Event.TheVariants.{Get, Put, WaitEmpty, WaitFull, Ended, Feed, Close, Take, Leave, Grow}
+use Rattle.kpn_history.specs.declared.event.Event.TheVariants.{Get, Put, WaitEmpty, WaitFull, Feed, Take, Grow}
+use Rattle.kpn_history.specs.Talks.{process_of, channel_of}
 use Rattle.kpn_history.specs.Channels.{written_in, read_in, written_on, read_on, unread_on, is_growth_of}
 use Rattle.kpn_history.proofs.Events.{flat_map-push}
 use Rattle.kpn_stats_command.specs.declared.figures.ChannelFigures.{ChannelFigures}
 use Rattle.kpn_stats_command.specs.declared.figures.ProcessFigures.{ProcessFigures}
 use Rattle.kpn_stats_command.specs.declared.figures.Figures.{Figures}
-use Rattle.kpn_stats_command.specs.Figures.{waits_for_item, waits_for_room, is_get_of, is_put_of, is_wait_empty_of, is_wait_full_of, unread_behind, IsMostUnread, CountsChannel, CountsProcess, CountChannels, CountProcesses, AreFigures, no_channel, no_process, channel_of, channel_counts_then, with_most, channel_then, channel_total, channels_at, channels_then, process_of, process_then, process_total, processes_at, processes_then}
+use Rattle.kpn_stats_command.specs.Figures.{waits_for_item, waits_for_room, is_get_of, is_put_of, is_wait_empty_of, is_wait_full_of, unread_behind, IsMostUnread, CountsChannel, CountsProcess, CountChannels, CountProcesses, AreFigures, no_channel, no_process, channel_counts_then, with_most, channel_then, channel_total, channels_then, process_then, process_total, processes_then, changed_at}
 
 -- ---- lists
 
@@ -25,6 +26,57 @@ count_push f xs x = sum_by_push (λ y. cond (f y) 1 0) xs x
 length_push_flat : {X A : Type 0} (f : X → List A) (xs : List X) (x : X)
     → length (flat_map f (xs ++ x ∷ [])) ≡ length (flat_map f xs) + length (f x)
 length_push_flat f xs x = ap length (flat_map-push f xs x) ∙ length-append (flat_map f xs) (f x)
+
+-- a count and one event more
+count_next : (test : Event → Bool) (H : List Event) (e : Event) (n m : ℕ) → m ≡ n + cond (test e) 1 0
+    → n ≡ count_by test H → m ≡ count_by test (H ++ e ∷ [])
+count_next test H e n m adds was = omega (arith, adds, was, count_push test H e)
+
+-- the same of items
+items_next : (items : Event → List ℤ) (H : List Event) (e : Event) (n m : ℕ) → m ≡ n + length (items e)
+    → n ≡ length (flat_map items H) → m ≡ length (flat_map items (H ++ e ∷ []))
+items_next items H e n m adds was = omega (arith, adds, was, length_push_flat items H e)
+
+-- ---- figures in a list
+
+-- this holds of the figures at each number
+abbrev pub Each : {F : Type 0} → (none : F) → (ℕ → F → Type 0) → List F → Type 0
+Each none Holds figures = (k : ℕ) → k < length figures → Holds k (get_or figures k none)
+
+each_first : {F : Type 0} (none : F) (Holds : ℕ → F → Type 0) (n : ℕ) (figures : List F) → figures ≡ replicate n none
+    → ((k : ℕ) → Holds k none) → Each none Holds figures
+each_first none Holds n figures made first k below =
+    let there : k < n = omega (arith, below, ap length made, length-replicate n none) in
+    subst (Holds k) (sym (ap (λ xs. get_or xs k none) made ∙ get_or-replicate n k none none there)) (first k)
+
+-- one event more, which is one at this number
+each_next : {F : Type 0} (none : F) (step : F → F) (Before After : ℕ → F → Type 0) (place : Option ℕ)
+    → ((k : ℕ) (f : F) → place ≡ Some k → Before k f → After k (step f))
+    → ((k : ℕ) (f : F) → place ≢ Some k → Before k f → After k f)
+    → (figures more : List F) → more ≡ changed_at none step place figures → Each none Before figures
+    → Each none After more
+each_next none step Before After None own other figures more made was k below =
+    let same = ap (λ xs. get_or xs k none) made in
+    subst (After k) (sym same) (other k _ (λ on. absurd cc) (was k (omega (arith, below, ap length made))))
+each_next none step Before After (Some d) own other figures more made was k below =
+    let f = step (get_or figures d none) in
+    let there : k < length figures = omega (arith, below, ap length made, length-set figures d f) in
+    let now = ap (λ xs. get_or xs k none) made in
+    elim (eqb_tells k d) [
+      | inl same ↦
+          let known : get_or (set figures d f) k none ≡ step (get_or figures k none) =
+          subst (λ j. get_or (set figures d f) j none ≡ step (get_or figures j none)) (sym same.1)
+          (get_or-set_same figures d f none (subst (λ j. j < length figures) same.1 there)) in
+          subst (After k) (sym (now ∙ known)) (own k (get_or figures k none) (ap Some (sym same.1)) (was k there))
+      | inr differs ↦
+          subst (After k) (sym (now ∙ get_or-set_other figures d k f none differs.1))
+          (other k (get_or figures k none) (λ on. differs.1 cc) (was k there))
+    ]
+
+as_many : {F : Type 0} (none : F) (step : F → F) (place : Option ℕ) (figures : List F)
+    → length (changed_at none step place figures) ≡ length figures
+as_many none step None figures = refl
+as_many none step (Some d) figures = length-set figures d _
 
 -- ---- the most unread items
 
@@ -102,215 +154,100 @@ if_off : {A : Type 0} (b : Bool) (x y : A) → b ≡ false → cond b x y ≡ y
 if_off true x y is = absurd cc
 if_off false x y is = refl
 
-one_item : (b : Bool) (v : ℤ) → b ≡ true → length (cond b (v ∷ []) []) ≡ 1
-one_item b v is = ap length (if_on b (v ∷ []) [] is)
+-- an event at this number counts, and an event at another one does not
+one : (d c : ℕ) → Some d ≡ Some c → cond {A = ℕ} (nat_eq d c) 1 0 ≡ 1
+one d c is = if_on (nat_eq d c) 1 0 (eq-eqb d c cc)
 
-no_item : (b : Bool) (v : ℤ) → b ≡ false → length (cond b (v ∷ []) []) ≡ 0
-no_item b v is = ap length (if_off b (v ∷ []) [] is)
+none : (d c : ℕ) → Some d ≢ Some c → cond {A = ℕ} (nat_eq d c) 1 0 ≡ 0
+none d c differs = if_off (nat_eq d c) 1 0 (ne_eqb d c (λ same. differs (ap Some same)))
 
-one : (b : Bool) → b ≡ true → cond {A = ℕ} b 1 0 ≡ 1
-one b is = if_on b 1 0 is
+one_item : (d c : ℕ) (v : ℤ) → Some d ≡ Some c → length (cond (nat_eq d c) (v ∷ []) []) ≡ 1
+one_item d c v is = ap length (if_on (nat_eq d c) (v ∷ []) [] (eq-eqb d c cc))
 
-none : (b : Bool) → b ≡ false → cond {A = ℕ} b 1 0 ≡ 0
-none b is = if_off b 1 0 is
+no_item : (d c : ℕ) (v : ℤ) → Some d ≢ Some c → length (cond (nat_eq d c) (v ∷ []) []) ≡ 0
+no_item d c v differs = ap length (if_off (nat_eq d c) (v ∷ []) [] (ne_eqb d c (λ same. differs (ap Some same))))
 
-same_number : (d c : ℕ) → Some d ≡ Some c → nat_eq d c ≡ true
-same_number d c is = eq-eqb d c cc
+-- an event on the channel adds to its figures
+
+put_more : (c : ℕ) (e : Event) (f : ChannelFigures) → channel_of e ≡ Some c
+    → (channel_counts_then f e).put ≡ f.put + length (written_in c e)
+put_more c (Put p d v) f is = omega (arith, one_item d c v is)
+put_more c (Feed d v) f is = omega (arith, one_item d c v is)
+put_more c event f is = omega arith
+
+read_more : (c : ℕ) (e : Event) (f : ChannelFigures) → channel_of e ≡ Some c
+    → (channel_counts_then f e).read ≡ f.read + length (read_in c e)
+read_more c (Get p d v) f is = omega (arith, one_item d c v is)
+read_more c (Take d v) f is = omega (arith, one_item d c v is)
+read_more c event f is = omega arith
+
+growths_more : (c : ℕ) (e : Event) (f : ChannelFigures) → channel_of e ≡ Some c
+    → (channel_counts_then f e).growths ≡ f.growths + cond (is_growth_of c e) 1 0
+growths_more c (Grow p d n) f is = omega (arith, one d c is)
+growths_more c event f is = omega arith
+
+waits_empty_more : (c : ℕ) (e : Event) (f : ChannelFigures) → channel_of e ≡ Some c
+    → (channel_counts_then f e).waits_empty ≡ f.waits_empty + cond (waits_for_item c e) 1 0
+waits_empty_more c (WaitEmpty p d) f is = omega (arith, one d c is)
+waits_empty_more c event f is = omega arith
+
+waits_full_more : (c : ℕ) (e : Event) (f : ChannelFigures) → channel_of e ≡ Some c
+    → (channel_counts_then f e).waits_full ≡ f.waits_full + cond (waits_for_room c e) 1 0
+waits_full_more c (WaitFull p d) f is = omega (arith, one d c is)
+waits_full_more c event f is = omega arith
+
+most_same : (e : Event) (f : ChannelFigures) → (channel_counts_then f e).most ≡ f.most
+most_same (Get p c v) f = refl
+most_same event f = refl
+
+total_more : (e : Event) (f : ChannelFigures) → channel_total (channel_counts_then f e) ≤ channel_total f + 1
+total_more (Get p c v) f = omega arith
+total_more event f = omega arith
 
 adds_on : (c : ℕ) (e : Event) (f : ChannelFigures) → channel_of e ≡ Some c → AddsChannel c e f (channel_counts_then f e)
-adds_on c (Get p d v) f is = let at = one_item (nat_eq d c) v (same_number d c is) in
+adds_on c e f is =
     record {
-      put = omega arith;
-      read = omega (arith, at);
-      growths = omega arith;
-      waits_empty = omega arith;
-      waits_full = omega arith;
-      most = refl;
-      total = omega arith;
-    }
-adds_on c (Put p d v) f is = let at = one_item (nat_eq d c) v (same_number d c is) in
-    record {
-      put = omega (arith, at);
-      read = omega arith;
-      growths = omega arith;
-      waits_empty = omega arith;
-      waits_full = omega arith;
-      most = refl;
-      total = omega arith;
-    }
-adds_on c (WaitEmpty p d) f is = let at = one (nat_eq d c) (same_number d c is) in
-    record {
-      put = omega arith;
-      read = omega arith;
-      growths = omega arith;
-      waits_empty = omega (arith, at);
-      waits_full = omega arith;
-      most = refl;
-      total = omega arith;
-    }
-adds_on c (WaitFull p d) f is = let at = one (nat_eq d c) (same_number d c is) in
-    record {
-      put = omega arith;
-      read = omega arith;
-      growths = omega arith;
-      waits_empty = omega arith;
-      waits_full = omega (arith, at);
-      most = refl;
-      total = omega arith;
-    }
-adds_on c (Ended p how) f is = absurd cc
-adds_on c (Feed d v) f is = let at = one_item (nat_eq d c) v (same_number d c is) in
-    record {
-      put = omega (arith, at);
-      read = omega arith;
-      growths = omega arith;
-      waits_empty = omega arith;
-      waits_full = omega arith;
-      most = refl;
-      total = omega arith;
-    }
-adds_on c (Close d) f is =
-    record {
-      put = omega arith;
-      read = omega arith;
-      growths = omega arith;
-      waits_empty = omega arith;
-      waits_full = omega arith;
-      most = refl;
-      total = omega arith;
-    }
-adds_on c (Take d v) f is = let at = one_item (nat_eq d c) v (same_number d c is) in
-    record {
-      put = omega arith;
-      read = omega (arith, at);
-      growths = omega arith;
-      waits_empty = omega arith;
-      waits_full = omega arith;
-      most = refl;
-      total = omega arith;
-    }
-adds_on c (Leave d) f is =
-    record {
-      put = omega arith;
-      read = omega arith;
-      growths = omega arith;
-      waits_empty = omega arith;
-      waits_full = omega arith;
-      most = refl;
-      total = omega arith;
-    }
-adds_on c (Grow p d n) f is = let at = one (nat_eq d c) (same_number d c is) in
-    record {
-      put = omega arith;
-      read = omega arith;
-      growths = omega (arith, at);
-      waits_empty = omega arith;
-      waits_full = omega arith;
-      most = refl;
-      total = omega arith;
+      put = put_more c e f is;
+      read = read_more c e f is;
+      growths = growths_more c e f is;
+      waits_empty = waits_empty_more c e f is;
+      waits_full = waits_full_more c e f is;
+      most = most_same e f;
+      total = total_more e f;
     }
 
-other_number : (d c : ℕ) → Some d ≢ Some c → nat_eq d c ≡ false
-other_number d c differs = ne_eqb d c (λ same. differs (ap Some same))
+-- an event on another one adds nothing
+
+none_put : (c : ℕ) (e : Event) → channel_of e ≢ Some c → length (written_in c e) ≡ 0
+none_put c (Put p d v) differs = no_item d c v differs
+none_put c (Feed d v) differs = no_item d c v differs
+none_put c event differs = refl
+
+none_read : (c : ℕ) (e : Event) → channel_of e ≢ Some c → length (read_in c e) ≡ 0
+none_read c (Get p d v) differs = no_item d c v differs
+none_read c (Take d v) differs = no_item d c v differs
+none_read c event differs = refl
+
+no_growth : (c : ℕ) (e : Event) → channel_of e ≢ Some c → cond {A = ℕ} (is_growth_of c e) 1 0 ≡ 0
+no_growth c (Grow p d n) differs = none d c differs
+no_growth c event differs = refl
+
+no_wait_for_item : (c : ℕ) (e : Event) → channel_of e ≢ Some c → cond {A = ℕ} (waits_for_item c e) 1 0 ≡ 0
+no_wait_for_item c (WaitEmpty p d) differs = none d c differs
+no_wait_for_item c event differs = refl
+
+no_wait_for_room : (c : ℕ) (e : Event) → channel_of e ≢ Some c → cond {A = ℕ} (waits_for_room c e) 1 0 ≡ 0
+no_wait_for_room c (WaitFull p d) differs = none d c differs
+no_wait_for_room c event differs = refl
 
 adds_off : (c : ℕ) (e : Event) (f : ChannelFigures) → channel_of e ≢ Some c → AddsChannel c e f f
-adds_off c (Get p d v) f differs = let at = no_item (nat_eq d c) v (other_number d c differs) in
+adds_off c e f differs =
     record {
-      put = omega arith;
-      read = omega (arith, at);
-      growths = omega arith;
-      waits_empty = omega arith;
-      waits_full = omega arith;
-      most = refl;
-      total = omega arith;
-    }
-adds_off c (Put p d v) f differs = let at = no_item (nat_eq d c) v (other_number d c differs) in
-    record {
-      put = omega (arith, at);
-      read = omega arith;
-      growths = omega arith;
-      waits_empty = omega arith;
-      waits_full = omega arith;
-      most = refl;
-      total = omega arith;
-    }
-adds_off c (WaitEmpty p d) f differs = let at = none (nat_eq d c) (other_number d c differs) in
-    record {
-      put = omega arith;
-      read = omega arith;
-      growths = omega arith;
-      waits_empty = omega (arith, at);
-      waits_full = omega arith;
-      most = refl;
-      total = omega arith;
-    }
-adds_off c (WaitFull p d) f differs = let at = none (nat_eq d c) (other_number d c differs) in
-    record {
-      put = omega arith;
-      read = omega arith;
-      growths = omega arith;
-      waits_empty = omega arith;
-      waits_full = omega (arith, at);
-      most = refl;
-      total = omega arith;
-    }
-adds_off c (Ended p how) f differs =
-    record {
-      put = omega arith;
-      read = omega arith;
-      growths = omega arith;
-      waits_empty = omega arith;
-      waits_full = omega arith;
-      most = refl;
-      total = omega arith;
-    }
-adds_off c (Feed d v) f differs = let at = no_item (nat_eq d c) v (other_number d c differs) in
-    record {
-      put = omega (arith, at);
-      read = omega arith;
-      growths = omega arith;
-      waits_empty = omega arith;
-      waits_full = omega arith;
-      most = refl;
-      total = omega arith;
-    }
-adds_off c (Close d) f differs =
-    record {
-      put = omega arith;
-      read = omega arith;
-      growths = omega arith;
-      waits_empty = omega arith;
-      waits_full = omega arith;
-      most = refl;
-      total = omega arith;
-    }
-adds_off c (Take d v) f differs = let at = no_item (nat_eq d c) v (other_number d c differs) in
-    record {
-      put = omega arith;
-      read = omega (arith, at);
-      growths = omega arith;
-      waits_empty = omega arith;
-      waits_full = omega arith;
-      most = refl;
-      total = omega arith;
-    }
-adds_off c (Leave d) f differs =
-    record {
-      put = omega arith;
-      read = omega arith;
-      growths = omega arith;
-      waits_empty = omega arith;
-      waits_full = omega arith;
-      most = refl;
-      total = omega arith;
-    }
-adds_off c (Grow p d n) f differs = let at = none (nat_eq d c) (other_number d c differs) in
-    record {
-      put = omega arith;
-      read = omega arith;
-      growths = omega (arith, at);
-      waits_empty = omega arith;
-      waits_full = omega arith;
+      put = omega (arith, none_put c e differs);
+      read = omega (arith, none_read c e differs);
+      growths = omega (arith, no_growth c e differs);
+      waits_empty = omega (arith, no_wait_for_item c e differs);
+      waits_full = omega (arith, no_wait_for_room c e differs);
       most = refl;
       total = omega arith;
     }
@@ -318,10 +255,9 @@ adds_off c (Grow p d n) f differs = let at = none (nat_eq d c) (other_number d c
 next_channel : (H : List Event) (e : Event) (c : ℕ) (f g : ChannelFigures) → AddsChannel c e f g
     → CountedChannel H c f → CountedChannel (H ++ e ∷ []) c (with_most g)
 next_channel H e c f g adds was =
-    let put : g.put ≡ length (written_on (H ++ e ∷ []) c) =
-    adds.put ∙ ap (λ n. n + length (written_in c e)) was.counts.put ∙ sym (length_push_flat (written_in c) H e) in
-    let read : g.read ≡ length (read_on (H ++ e ∷ []) c) =
-    adds.read ∙ ap (λ n. n + length (read_in c e)) was.counts.read ∙ sym (length_push_flat (read_in c) H e) in
+    let counts = was.counts in
+    let put = items_next (written_in c) H e f.put g.put adds.put counts.put in
+    let read = items_next (read_in c) H e f.read g.read adds.read counts.read in
     let unread : length (written_on (H ++ e ∷ []) c) - length (read_on (H ++ e ∷ []) c) ≡ g.put - g.read =
     omega (arith, put, read) in
     record {
@@ -330,16 +266,10 @@ next_channel H e c f g adds was =
         read = read;
         most =
             subst (λ m. IsMostUnread (H ++ e ∷ []) c (max m (g.put - g.read))) (sym adds.most)
-            (most_push H e c f.most (g.put - g.read) was.counts.most unread);
-        growths =
-            adds.growths ∙ ap (λ n. n + cond (is_growth_of c e) 1 0) was.counts.growths
-            ∙ sym (count_push (is_growth_of c) H e);
-        waits_empty =
-            adds.waits_empty ∙ ap (λ n. n + cond (waits_for_item c e) 1 0) was.counts.waits_empty
-            ∙ sym (count_push (waits_for_item c) H e);
-        waits_full =
-            adds.waits_full ∙ ap (λ n. n + cond (waits_for_room c e) 1 0) was.counts.waits_full
-            ∙ sym (count_push (waits_for_room c) H e);
+            (most_push H e c f.most (g.put - g.read) counts.most unread);
+        growths = count_next (is_growth_of c) H e f.growths g.growths adds.growths counts.growths;
+        waits_empty = count_next (waits_for_item c) H e f.waits_empty g.waits_empty adds.waits_empty counts.waits_empty;
+        waits_full = count_next (waits_for_room c) H e f.waits_full g.waits_full adds.waits_full counts.waits_full;
       };
       total = omega (arith, adds.total, was.total, length_push H e);
     }
@@ -352,55 +282,17 @@ most_stands H c f is =
     let stays : max f.most (f.put - f.read) ≡ f.most = omega (arith, last, now, is.counts.put, is.counts.read) in
     ap (λ m. record f { most = m }) stays
 
-pub on_channel : (H : List Event) (e : Event) (c : ℕ) (f : ChannelFigures) → channel_of e ≡ Some c
-    → CountedChannel H c f → CountedChannel (H ++ e ∷ []) c (channel_then f e)
-on_channel H e c f is was = next_channel H e c f (channel_counts_then f e) (adds_on c e f is) was
-
-pub off_channel : (H : List Event) (e : Event) (c : ℕ) (f : ChannelFigures) → channel_of e ≢ Some c
+off_channel : (H : List Event) (e : Event) (c : ℕ) (f : ChannelFigures) → channel_of e ≢ Some c
     → CountedChannel H c f → CountedChannel (H ++ e ∷ []) c f
 off_channel H e c f differs was =
     subst (CountedChannel (H ++ e ∷ []) c) (most_stands H c f was) (next_channel H e c f f (adds_off c e f differs) was)
 
 abbrev pub CountedChannels : List Event → List ChannelFigures → Type 0
-CountedChannels H figures = (c : ℕ) → c < length figures → CountedChannel H c (get_or figures c no_channel)
+CountedChannels H figures = Each no_channel (CountedChannel H) figures
 
--- one event more
-channels_next_at : (H : List Event) (e : Event) (figures : List ChannelFigures) (o : Option ℕ) → channel_of e ≡ o
-    → CountedChannels H figures → CountedChannels (H ++ e ∷ []) (channels_at figures e o)
-channels_next_at H e figures None is was c below = off_channel H e c _ (λ on. absurd cc) (was c below)
-channels_next_at H e figures (Some d) is was c below =
-    let f = channel_then (get_or figures d no_channel) e in
-    let there : c < length figures = omega (arith, below, length-set figures d f) in
-    elim (eqb_tells c d) [
-      | inl same ↦
-          let known : get_or (set figures d f) c no_channel ≡ channel_then (get_or figures c no_channel) e =
-          subst (λ k. get_or (set figures d f) k no_channel ≡ channel_then (get_or figures k no_channel) e) (sym same.1)
-          (get_or-set_same figures d f no_channel (subst (λ k. k < length figures) same.1 there)) in
-          subst (CountedChannel (H ++ e ∷ []) c) (sym known)
-          (on_channel H e c (get_or figures c no_channel) (is ∙ ap Some (sym same.1)) (was c there))
-      | inr other ↦
-          subst (CountedChannel (H ++ e ∷ []) c) (sym (get_or-set_other figures d c f no_channel other.1))
-          (off_channel H e c (get_or figures c no_channel)
-          (λ on. other.1 cc) (was c there))
-    ]
-
-pub channels_next : (H : List Event) (e : Event) (figures more : List ChannelFigures)
-    → more ≡ channels_then figures e → CountedChannels H figures → CountedChannels (H ++ e ∷ []) more
-channels_next H e figures more made was =
-    subst (CountedChannels (H ++ e ∷ [])) (sym made) (channels_next_at H e figures (channel_of e) refl was)
-
-channels_length_at : (figures : List ChannelFigures) (e : Event) (o : Option ℕ)
-    → length (channels_at figures e o) ≡ length figures
-channels_length_at figures e None = refl
-channels_length_at figures e (Some d) = length-set figures d _
-
-pub channels_first : (n : ℕ) (figures : List ChannelFigures) → figures ≡ replicate n no_channel
-    → CountedChannels [] figures
-channels_first n figures made c below =
-    let there : c < n = omega (arith, below, ap length made, length-replicate n no_channel) in
-    subst (CountedChannel [] c)
-    (sym (ap (λ xs. get_or xs c no_channel) made ∙ get_or-replicate n c no_channel no_channel there))
-    (record {
+no_event_on : (c : ℕ) → CountedChannel [] c no_channel
+no_event_on c =
+    record {
       counts = record {
         put = refl;
         read = refl;
@@ -410,7 +302,7 @@ channels_first n figures made c below =
         waits_full = refl;
       };
       total = omega arith;
-    })
+    }
 
 -- ---- processes
 
@@ -426,7 +318,7 @@ record AddsProcess (p : ℕ) (e : Event) (f g : ProcessFigures) : Type 0 where
   total : process_total g ≤ process_total f + 1
 
 own_adds : (p : ℕ) (e : Event) (f : ProcessFigures) → process_of e ≡ Some p → AddsProcess p e f (process_then f e)
-own_adds p (Get q c v) f is = let at = one (nat_eq q p) (same_number q p is) in
+own_adds p (Get q c v) f is = let at = one q p is in
     record {
       gets = omega (arith, at);
       puts = omega arith;
@@ -434,7 +326,7 @@ own_adds p (Get q c v) f is = let at = one (nat_eq q p) (same_number q p is) in
       waits_full = omega arith;
       total = omega arith;
     }
-own_adds p (Put q c v) f is = let at = one (nat_eq q p) (same_number q p is) in
+own_adds p (Put q c v) f is = let at = one q p is in
     record {
       gets = omega arith;
       puts = omega (arith, at);
@@ -442,7 +334,7 @@ own_adds p (Put q c v) f is = let at = one (nat_eq q p) (same_number q p is) in
       waits_full = omega arith;
       total = omega arith;
     }
-own_adds p (WaitEmpty q c) f is = let at = one (nat_eq q p) (same_number q p is) in
+own_adds p (WaitEmpty q c) f is = let at = one q p is in
     record {
       gets = omega arith;
       puts = omega arith;
@@ -450,7 +342,7 @@ own_adds p (WaitEmpty q c) f is = let at = one (nat_eq q p) (same_number q p is)
       waits_full = omega arith;
       total = omega arith;
     }
-own_adds p (WaitFull q c) f is = let at = one (nat_eq q p) (same_number q p is) in
+own_adds p (WaitFull q c) f is = let at = one q p is in
     record {
       gets = omega arith;
       puts = omega arith;
@@ -458,95 +350,65 @@ own_adds p (WaitFull q c) f is = let at = one (nat_eq q p) (same_number q p is) 
       waits_full = omega (arith, at);
       total = omega arith;
     }
-own_adds p event f is = absurd cc
+own_adds p event f is =
+    record {
+      gets = omega arith;
+      puts = omega arith;
+      waits_empty = omega arith;
+      waits_full = omega arith;
+      total = omega arith;
+    }
+
+no_get : (p : ℕ) (e : Event) → process_of e ≢ Some p → cond {A = ℕ} (is_get_of p e) 1 0 ≡ 0
+no_get p (Get q c v) differs = none q p differs
+no_get p event differs = refl
+
+no_put : (p : ℕ) (e : Event) → process_of e ≢ Some p → cond {A = ℕ} (is_put_of p e) 1 0 ≡ 0
+no_put p (Put q c v) differs = none q p differs
+no_put p event differs = refl
+
+no_wait_empty : (p : ℕ) (e : Event) → process_of e ≢ Some p → cond {A = ℕ} (is_wait_empty_of p e) 1 0 ≡ 0
+no_wait_empty p (WaitEmpty q c) differs = none q p differs
+no_wait_empty p event differs = refl
+
+no_wait_full : (p : ℕ) (e : Event) → process_of e ≢ Some p → cond {A = ℕ} (is_wait_full_of p e) 1 0 ≡ 0
+no_wait_full p (WaitFull q c) differs = none q p differs
+no_wait_full p event differs = refl
 
 other_adds : (p : ℕ) (e : Event) (f : ProcessFigures) → process_of e ≢ Some p → AddsProcess p e f f
-other_adds p (Get q c v) f differs = let at = none (nat_eq q p) (other_number q p differs) in
+other_adds p e f differs =
     record {
-      gets = omega (arith, at);
-      puts = omega arith;
-      waits_empty = omega arith;
-      waits_full = omega arith;
-      total = omega arith;
-    }
-other_adds p (Put q c v) f differs = let at = none (nat_eq q p) (other_number q p differs) in
-    record {
-      gets = omega arith;
-      puts = omega (arith, at);
-      waits_empty = omega arith;
-      waits_full = omega arith;
-      total = omega arith;
-    }
-other_adds p (WaitEmpty q c) f differs = let at = none (nat_eq q p) (other_number q p differs) in
-    record {
-      gets = omega arith;
-      puts = omega arith;
-      waits_empty = omega (arith, at);
-      waits_full = omega arith;
-      total = omega arith;
-    }
-other_adds p (WaitFull q c) f differs = let at = none (nat_eq q p) (other_number q p differs) in
-    record {
-      gets = omega arith;
-      puts = omega arith;
-      waits_empty = omega arith;
-      waits_full = omega (arith, at);
-      total = omega arith;
-    }
-other_adds p event f differs =
-    record {
-      gets = omega arith;
-      puts = omega arith;
-      waits_empty = omega arith;
-      waits_full = omega arith;
+      gets = omega (arith, no_get p e differs);
+      puts = omega (arith, no_put p e differs);
+      waits_empty = omega (arith, no_wait_empty p e differs);
+      waits_full = omega (arith, no_wait_full p e differs);
       total = omega arith;
     }
 
 next_process : (H : List Event) (e : Event) (p : ℕ) (f g : ProcessFigures) → AddsProcess p e f g
     → CountedProcess H p f → CountedProcess (H ++ e ∷ []) p g
 next_process H e p f g adds was =
+    let counts = was.counts in
     record {
       counts = record {
-        gets = adds.gets ∙ ap (λ n. n + cond (is_get_of p e) 1 0) was.counts.gets ∙ sym (count_push (is_get_of p) H e);
-        puts = adds.puts ∙ ap (λ n. n + cond (is_put_of p e) 1 0) was.counts.puts ∙ sym (count_push (is_put_of p) H e);
+        gets = count_next (is_get_of p) H e f.gets g.gets adds.gets counts.gets;
+        puts = count_next (is_put_of p) H e f.puts g.puts adds.puts counts.puts;
         waits_empty =
-            adds.waits_empty ∙ ap (λ n. n + cond (is_wait_empty_of p e) 1 0) was.counts.waits_empty
-            ∙ sym (count_push (is_wait_empty_of p) H e);
-        waits_full =
-            adds.waits_full ∙ ap (λ n. n + cond (is_wait_full_of p e) 1 0) was.counts.waits_full
-            ∙ sym (count_push (is_wait_full_of p) H e);
+            count_next (is_wait_empty_of p) H e f.waits_empty g.waits_empty adds.waits_empty counts.waits_empty;
+        waits_full = count_next (is_wait_full_of p) H e f.waits_full g.waits_full adds.waits_full counts.waits_full;
       };
       total = omega (arith, adds.total, was.total, length_push H e);
     }
 
 abbrev pub CountedProcesses : List Event → List ProcessFigures → Type 0
-CountedProcesses H figures = (p : ℕ) → p < length figures → CountedProcess H p (get_or figures p no_process)
+CountedProcesses H figures = Each no_process (CountedProcess H) figures
 
-processes_next_at : (H : List Event) (e : Event) (figures : List ProcessFigures) (o : Option ℕ) → process_of e ≡ o
-    → CountedProcesses H figures → CountedProcesses (H ++ e ∷ []) (processes_at figures e o)
-processes_next_at H e figures None is was p below =
-    let f = get_or figures p no_process in
-    next_process H e p f f (other_adds p e f (λ on. absurd cc)) (was p below)
-processes_next_at H e figures (Some d) is was p below =
-    let g = process_then (get_or figures d no_process) e in
-    let f = get_or figures p no_process in
-    let there : p < length figures = omega (arith, below, length-set figures d g) in
-    elim (eqb_tells p d) [
-      | inl same ↦
-          let known : get_or (set figures d g) p no_process ≡ process_then (get_or figures p no_process) e =
-          subst (λ k. get_or (set figures d g) k no_process ≡ process_then (get_or figures k no_process) e) (sym same.1)
-          (get_or-set_same figures d g no_process (subst (λ k. k < length figures) same.1 there)) in
-          subst (CountedProcess (H ++ e ∷ []) p) (sym known)
-          (next_process H e p f (process_then f e) (own_adds p e f (is ∙ ap Some (sym same.1))) (was p there))
-      | inr other ↦
-          subst (CountedProcess (H ++ e ∷ []) p) (sym (get_or-set_other figures d p g no_process other.1))
-          (next_process H e p f f (other_adds p e f (λ on. other.1 cc)) (was p there))
-    ]
-
-processes_length_at : (figures : List ProcessFigures) (e : Event) (o : Option ℕ)
-    → length (processes_at figures e o) ≡ length figures
-processes_length_at figures e None = refl
-processes_length_at figures e (Some d) = length-set figures d _
+no_event_of : (p : ℕ) → CountedProcess [] p no_process
+no_event_of p =
+    record {
+      counts = record { gets = refl; puts = refl; waits_empty = refl; waits_full = refl };
+      total = omega arith;
+    }
 
 -- ---- both, as far as the events were counted
 
@@ -563,18 +425,10 @@ pub nothing_counted : (t : Tables) (channels : List ChannelFigures) (processes :
 nothing_counted t channels processes no_channels no_processes =
     record {
       channel_count = ap length no_channels ∙ length-replicate (length t.channels) no_channel;
-      each_channel = channels_first (length t.channels) channels no_channels;
+      each_channel = each_first no_channel (CountedChannel []) (length t.channels) channels no_channels no_event_on;
       process_count = ap length no_processes ∙ length-replicate (length t.instances) no_process;
-      each_process = λ p below.
-          let there : p < length t.instances =
-          omega (arith, below, ap length no_processes, length-replicate (length t.instances) no_process) in
-          subst (CountedProcess [] p)
-          (sym (ap (λ xs. get_or xs p no_process) no_processes
-          ∙ get_or-replicate (length t.instances) p no_process no_process there))
-          (record {
-            counts = record { gets = refl; puts = refl; waits_empty = refl; waits_full = refl };
-            total = omega arith;
-          });
+      each_process =
+          each_first no_process (CountedProcess []) (length t.instances) processes no_processes no_event_of;
     }
 
 pub one_more_counted : (t : Tables) (events : List Event) (k : ℕ) (d : Event) (channels now : List ChannelFigures)
@@ -583,14 +437,21 @@ pub one_more_counted : (t : Tables) (events : List Event) (k : ℕ) (d : Event) 
     → CountedSoFar t (take (k + 1) events) now after
 one_more_counted t events k d channels now processes after below was counted followed =
     let e = get_or events k d in
+    let H = take k events in
     subst (λ H. CountedSoFar t H now after) (sym (take_more events k d below))
     (record {
-      channel_count = ap length counted ∙ channels_length_at channels e (channel_of e) ∙ was.channel_count;
-      each_channel = channels_next (take k events) e channels now counted was.each_channel;
-      process_count = ap length followed ∙ processes_length_at processes e (process_of e) ∙ was.process_count;
+      channel_count =
+          ap length counted ∙ as_many no_channel (λ f. channel_then f e) (channel_of e) channels ∙ was.channel_count;
+      each_channel =
+          each_next no_channel (λ f. channel_then f e) (CountedChannel H) (CountedChannel (H ++ e ∷ [])) (channel_of e)
+          (λ c f is. next_channel H e c f (channel_counts_then f e) (adds_on c e f is)) (off_channel H e) channels now
+          counted was.each_channel;
+      process_count =
+          ap length followed ∙ as_many no_process (λ f. process_then f e) (process_of e) processes ∙ was.process_count;
       each_process =
-          subst (CountedProcesses (take k events ++ e ∷ [])) (sym followed)
-          (processes_next_at (take k events) e processes (process_of e) refl was.each_process);
+          each_next no_process (λ f. process_then f e) (CountedProcess H) (CountedProcess (H ++ e ∷ [])) (process_of e)
+          (λ p f is. next_process H e p f (process_then f e) (own_adds p e f is))
+          (λ p f differs. next_process H e p f f (other_adds p e f differs)) processes after followed was.each_process;
     })
 
 -- one more can be counted

@@ -2,7 +2,8 @@
 use Rattle.std.specs.Prelude.{◌≡◌, ℕ, ◌+◌, ◌-◌, ◌<◌, ◌≤◌, max, Bool, false, nat_eq, List, length, take, count_by, Option, Some, None, slice_index_or, slice_set}
 use Rattle.kpn_net.specs.Tables.{Tables}
 use Rattle.kpn_history.specs.declared.event.Event.{Event}
-use Rattle.kpn_history.specs.declared.event.Event.TheVariants.{Get, Put, WaitEmpty, WaitFull, Ended, Feed, Close, Take, Leave, Grow}
+use Rattle.kpn_history.specs.declared.event.Event.TheVariants.{Get, Put, WaitEmpty, WaitFull, Feed, Take, Grow}
+use Rattle.kpn_history.specs.Talks.{process_of, channel_of}
 use Rattle.kpn_history.specs.Channels.{written_on, read_on, unread_on, is_growth_of}
 use Rattle.kpn_stats_command.specs.declared.figures.ChannelFigures.{ChannelFigures}
 use Rattle.kpn_stats_command.specs.declared.figures.ProcessFigures.{ProcessFigures}
@@ -94,19 +95,6 @@ pub record AreFigures (t : Tables) (H : List Event) (figures : Figures) : Type 0
 
 -- ---- scaffolding: one event more
 
--- the channel that an event is on
-abbrev pub channel_of : Event → Option ℕ
-channel_of (Get p c v) = Some c
-channel_of (Put p c v) = Some c
-channel_of (WaitEmpty p c) = Some c
-channel_of (WaitFull p c) = Some c
-channel_of (Ended p how) = None
-channel_of (Feed c v) = Some c
-channel_of (Close c) = Some c
-channel_of (Take c v) = Some c
-channel_of (Leave c) = Some c
-channel_of (Grow p c n) = Some c
-
 -- the figures of a channel and one event on it, without the most unread items
 abbrev pub channel_counts_then : ChannelFigures → Event → ChannelFigures
 channel_counts_then f (Get p c v) = record f { read = f.read + 1 }
@@ -129,21 +117,14 @@ channel_then f event = with_most (channel_counts_then f event)
 abbrev pub channel_total : ChannelFigures → ℕ
 channel_total f = f.put + f.read + f.growths + f.waits_empty + f.waits_full
 
+-- the figures after a step of those with this number, if there are such
+abbrev pub changed_at : {F : Type 0} → (none : F) → (step : F → F) → Option ℕ → List F → List F
+changed_at none step None figures = figures
+changed_at none step (Some k) figures = slice_set figures k (step (slice_index_or figures k none))
+
 -- the figures of the channels after one event more
-abbrev pub channels_at : List ChannelFigures → Event → Option ℕ → List ChannelFigures
-channels_at figures event None = figures
-channels_at figures event (Some c) = slice_set figures c (channel_then (slice_index_or figures c no_channel) event)
-
 abbrev pub channels_then : List ChannelFigures → Event → List ChannelFigures
-channels_then figures event = channels_at figures event (channel_of event)
-
--- the process whose event this is; a growth is an event of none
-abbrev pub process_of : Event → Option ℕ
-process_of (Get p c v) = Some p
-process_of (Put p c v) = Some p
-process_of (WaitEmpty p c) = Some p
-process_of (WaitFull p c) = Some p
-process_of event = None
+channels_then figures event = changed_at no_channel (λ f. channel_then f event) (channel_of event) figures
 
 abbrev pub process_then : ProcessFigures → Event → ProcessFigures
 process_then f (Get p c v) = record f { gets = f.gets + 1 }
@@ -155,9 +136,6 @@ process_then f event = f
 abbrev pub process_total : ProcessFigures → ℕ
 process_total f = f.gets + f.puts + f.waits_empty + f.waits_full
 
-abbrev pub processes_at : List ProcessFigures → Event → Option ℕ → List ProcessFigures
-processes_at figures event None = figures
-processes_at figures event (Some p) = slice_set figures p (process_then (slice_index_or figures p no_process) event)
-
+-- the figures of the processes after one event more
 abbrev pub processes_then : List ProcessFigures → Event → List ProcessFigures
-processes_then figures event = processes_at figures event (process_of event)
+processes_then figures event = changed_at no_process (λ f. process_then f event) (process_of event) figures

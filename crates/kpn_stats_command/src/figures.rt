@@ -1,6 +1,6 @@
 //! The figures of a history. One pass over its events counts them.
 ghost use Rattle.std.specs.Prelude.{◌≡◌, ◌+◌, ◌<◌, ◌^◌, ℕ, length, replicate, slice_index_or, IfOk};
-ghost use Rattle.kpn_stats_command.specs.Figures.{AreFigures, no_channel, no_process, channel_of, process_of, channel_then, process_then, channel_counts_then, channel_total, process_total, channels_then, processes_then};
+ghost use Rattle.kpn_stats_command.specs.Figures.{AreFigures, no_channel, no_process, channel_then, process_then, channel_counts_then, channel_total, process_total, channels_then, processes_then};
 
 use kpn_history::Event;
 use kpn_lang::Sequence;
@@ -99,7 +99,7 @@ fn count_on_channel(channels: &mut Vec<ChannelFigures>, event: Event)
         → channel_total (slice_index_or channels.old.items c no_channel) + 1 < 2 ^ 64 }
     ensures { channels.new.items ≡ channels_then channels.old.items event }
 {
-    let Some(c) = channel_of(event) else {
+    let Some(c) = event.channel() else {
         return;
     };
     if c < channels.len() {
@@ -112,35 +112,11 @@ fn count_of_process(processes: &mut Vec<ProcessFigures>, event: Event)
         → process_total (slice_index_or processes.old.items p no_process) + 1 < 2 ^ 64 }
     ensures { processes.new.items ≡ processes_then processes.old.items event }
 {
-    let Some(p) = process_of(event) else {
+    let Some(p) = event.process() else {
         return;
     };
     if p < processes.len() {
         processes[p] = process_then(processes[p], event);
-    }
-}
-
-fn channel_of(event: Event) -> Option<usize>
-    ensures { result ≡ channel_of event }
-{
-    match event {
-        Event::Get(_, c, _) | Event::Put(_, c, _) => Some(c.into()),
-        Event::WaitEmpty(_, c) | Event::WaitFull(_, c) => Some(c.into()),
-        Event::Feed(c, _) | Event::Take(c, _) => Some(c.into()),
-        Event::Close(c) | Event::Leave(c) => Some(c.into()),
-        Event::Grow(_, c, _) => Some(c.into()),
-        Event::Ended(_, _) => None,
-    }
-}
-
-// The process whose event this is, if it counts.
-fn process_of(event: Event) -> Option<usize>
-    ensures { result ≡ process_of event }
-{
-    match event {
-        Event::Get(p, _, _) | Event::Put(p, _, _) => Some(p.into()),
-        Event::WaitEmpty(p, _) | Event::WaitFull(p, _) => Some(p.into()),
-        _ => None,
     }
 }
 
