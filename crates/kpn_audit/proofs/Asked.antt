@@ -1,6 +1,6 @@
--- A read or a write at which a process stands is at a port of it, and the channel there is one of the network. An event
--- of no process that is not one of the outside is a growth.
-use Rattle.std.proofs.Common.{◌≡◌, ◌≢◌, ℕ, ◌<◌, true, false, ℤ, length, slice_index, refl, eq-eqb, arith}
+-- A read or a write at which a process stands is at a port of it. An event of no process that is not one of the outside
+-- is a growth.
+use Rattle.std.proofs.Common.{◌≡◌, ◌≢◌, ℕ, ◌<◌, Bool, true, false, ℤ, List, length, Option, refl, sym, subst, eq-eqb, arith}
 use Rattle.kpn_net.specs.Tables.{Tables, instance_at, program_of}
 use Rattle.kpn_net.specs.Faults.{IsNetwork}
 use Rattle.kpn_net.proofs.Networks.{IsProgram-of, IsInstance-of}
@@ -10,8 +10,12 @@ use Rattle.kpn_history.specs.Talks.{is_of_process}
 use Rattle.kpn_history.specs.Channels.{is_growth_of}
 use Rattle.kpn_step.specs.declared.stop.Stop.TheVariants.{WantRead, WantWrite}
 use Rattle.kpn_step.proofs.MayStep.{at_port}
-use Rattle.kpn_configuration.specs.Configuration.{Configuration, frame_in}
+use Rattle.kpn_chan.specs.Channel.{is_full, next_item}
+use Rattle.kpn_configuration.specs.Configuration.{Configuration, channel_in, frame_in, IsFree}
+use Rattle.kpn_configuration.specs.Changes.{IsChannelAt}
 use Rattle.kpn_configuration.specs.Due.{Stands}
+use Rattle.kpn_audit.specs.declared.scene.Doing.TheVariants.{Reads, Writes}
+use Rattle.kpn_audit.specs.Scene.{IsDoing}
 
 module _ (t : Tables) (network : IsNetwork t) (s : Configuration) (p : ℕ) (there : p < length t.instances) (port : ℕ)
   where
@@ -22,9 +26,6 @@ module _ (t : Tables) (network : IsNetwork t) (s : Configuration) (p : ℕ) (the
         let long = (IsInstance-of t network p there).ins in
         omega (arith, below, long)
 
-    pub read_there : port < length (instance_at t p).ins → slice_index (instance_at t p).ins port < length t.channels
-    read_there below = (IsInstance-of t network p there).channels.ins.each port 0 below
-
     pub out_port : (v : ℤ) → Stands t s p (WantWrite port v) → port < length (instance_at t p).outs
     out_port v stands =
         let below =
@@ -32,9 +33,17 @@ module _ (t : Tables) (network : IsNetwork t) (s : Configuration) (p : ℕ) (the
         let long = (IsInstance-of t network p there).outs in
         omega (arith, below, long)
 
-    pub write_there : port < length (instance_at t p).outs
-        → slice_index (instance_at t p).outs port < length t.channels
-    write_there below = (IsInstance-of t network p there).channels.outs.each port 0 below
+-- what a free process at a read or a write is doing
+module _ (t : Tables) (H : List Event) (event : Event) (quota : ℕ) (s : Configuration) (p c : ℕ) (free : IsFree s p)
+    (port : ℕ) where
+  pub reads_there : IsChannelAt (instance_at t p).ins port c → Stands t s p (WantRead port) → (next : Option ℤ)
+      → next ≡ next_item (channel_in s c) → IsDoing t H event quota s p (Reads c next)
+  reads_there at stands next is = (free, record { port = port; channel = at; stands = stands }, is)
+
+  pub writes_there : IsChannelAt (instance_at t p).outs port c → (v w : ℤ) → v ≡ w → Stands t s p (WantWrite port w)
+      → (full : Bool) → full ≡ is_full (channel_in s c) → IsDoing t H event quota s p (Writes c v full)
+  writes_there at v w same stands full is =
+      (free, record { port = port; channel = at; stands = subst (λ x. Stands t s p (WantWrite port x)) (sym same) stands }, is)
 
 pub growth_left : (e : Event) → is_of_process e ≡ false → ((c : ℕ) (v : ℤ) → e ≢ Feed c v) → ((c : ℕ) → e ≢ Close c)
     → ((c : ℕ) (v : ℤ) → e ≢ Take c v) → ((c : ℕ) → e ≢ Leave c) → (c : ℕ) × (is_growth_of c e ≡ true)

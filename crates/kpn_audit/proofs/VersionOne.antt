@@ -3,7 +3,7 @@ use Rattle.std.proofs.Common.{◌≡◌, ℕ, zero, suc, ◌+◌, ◌<◌, Bool,
 use Rattle.std.specs.Prelude.{nat_lt, if◌then◌else◌}
 use Rattle.std.specs.Option.{option_map}
 use Rattle.std.proofs.lemmas.Bool.{lt-ltb}
-use Rattle.std.proofs.lemmas.List.Sums.{sum_by_push}
+use Rattle.std.proofs.lemmas.List.Sums.{sum_by-cons, sum_by_push}
 use Rattle.kpn_net.specs.declared.tables.Growth.TheVariants as growth
 use Rattle.kpn_net.specs.Tables.{Tables, channel_at, capacity, grown}
 use Rattle.kpn_history.specs.declared.event.Event.{Event}
@@ -45,7 +45,9 @@ pub growth_behind : (t : Tables) → t.growth ≡ growth.One → (B events : Lis
 growth_behind t one B [] k p c n first at there is = absurd cc
 growth_behind t one B (e ∷ events) zero p c n first at there is =
     let same : e ≡ Grow p c n = cc in
-    let one_here : growths c (Grow p c n ∷ []) ≡ 1 = ap (λ b. cond {A = ℕ} b 1 0 + 0) (eq-eqb c c refl) in
+    let one_here : growths c (Grow p c n ∷ []) ≡ 1 =
+    sum_by-cons (λ x. cond {A = ℕ} (is_growth_of c x) 1 0) (Grow p c n) []
+    ∙ ap (λ b. cond {A = ℕ} b 1 0 + 0) (eq-eqb c c refl) in
     ap (λ x. Some (told t B x)) same
     ∙ ap (λ m. Some (Grow p c m)) (one_more t one B c n first there is)
     ∙ ap (λ m. Some (Grow p c (first + (growths c B + m)))) (sym one_here)
@@ -53,7 +55,11 @@ growth_behind t one B (e ∷ events) zero p c n first at there is =
 growth_behind t one B (e ∷ events) (suc k) p c n first at there is =
     let told_first = sum_by_push (λ x. cond {A = ℕ} (is_growth_of c x) 1 0) B (told t B e) in
     let same = ap (λ b. cond {A = ℕ} b 1 0) (growth_told t B c e) in
-    let rest = growths c (take (suc k) events) in
+    let here : ℕ = cond {A = ℕ} (is_growth_of c e) 1 0 in
+    let rest : ℕ = growths c (take (suc k) events) in
+    let cons : growths c (e ∷ take (suc k) events) ≡ here + rest =
+    sum_by-cons (λ x. cond {A = ℕ} (is_growth_of c x) 1 0) e (take (suc k) events) in
     growth_behind t one (B ++ told t B e ∷ []) events k p c n first at there is
     ∙ ap (λ m. Some (Grow p c (first + (m + rest)))) (told_first ∙ ap (λ m. growths c B + m) same)
-    ∙ ap (λ m. Some (Grow p c (first + m))) (add_assoc (growths c B) (cond {A = ℕ} (is_growth_of c e) 1 0) rest)
+    ∙ ap (λ m. Some (Grow p c (first + m))) (add_assoc (growths c B) here rest)
+    ∙ ap (λ m. Some (Grow p c (first + (growths c B + m)))) (sym cons)

@@ -1,10 +1,12 @@
 //! What a configuration shows of the process or the channel of an event.
 ghost use Rattle.std.specs.Prelude.{◌≡◌, ◌<◌, ℕ, true, false, List, length};
+ghost use Rattle.kpn_net.specs.Tables.{instance_at};
 ghost use Rattle.kpn_step.specs.declared.stop.Stop.TheVariants.{WantRead, WantWrite, Paused};
 ghost use Rattle.kpn_history.specs.declared.event.Event.{Event};
 ghost use Rattle.kpn_history.specs.Talks.{is_of, is_of_process};
 ghost use Rattle.kpn_history.specs.Legal.{HasNumbers};
 ghost use Rattle.kpn_history.specs.Stops.{OwesNothing};
+ghost use Rattle.kpn_configuration.specs.Changes.{IsChannelAt};
 ghost use Rattle.kpn_configuration.specs.Configuration.{IsConfiguration, IsFree};
 ghost use Rattle.kpn_configuration.specs.Due.{Stands};
 ghost use Rattle.kpn_configuration.specs.Run.{IsRun};
@@ -22,6 +24,24 @@ use kpn_net::{Network, Wait};
 use kpn_step::Stop;
 use std::alloc::Allocator;
 
+/// The channel at an in port of process `p`.
+fn in_channel(network: &Network, p: usize, port: usize) -> usize
+    requires process { p < length network.now.instances }
+    requires port { port < length (instance_at network.now p).ins }
+    ensures { IsChannelAt (instance_at network.now p).ins port result }
+{
+    network.ins(p)[port]
+}
+
+/// The channel at an out port of process `p`.
+fn out_channel(network: &Network, p: usize, port: usize) -> usize
+    requires process { p < length network.now.instances }
+    requires port { port < length (instance_at network.now p).outs }
+    ensures { IsChannelAt (instance_at network.now p).outs port result }
+{
+    network.outs(p)[port]
+}
+
 /// Process `p` is at a read.
 fn reads<A: Allocator>(
     configuration: &Configuration<A>,
@@ -37,7 +57,7 @@ fn reads<A: Allocator>(
         → IsDoing network.now H event quota configuration.now p result }
 {
     network.known();
-    let c = network.ins(p)[port];
+    let c = in_channel(network, p, port);
     Doing::Reads(c, configuration.channel(c).peek())
 }
 
@@ -57,7 +77,7 @@ fn writes<A: Allocator>(
         → IsDoing network.now H event quota configuration.now p result }
 {
     network.known();
-    let c = network.outs(p)[port];
+    let c = out_channel(network, p, port);
     Doing::Writes(c, item, configuration.channel(c).is_full())
 }
 
