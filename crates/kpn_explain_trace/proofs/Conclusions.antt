@@ -41,10 +41,10 @@ module _ (d : Document) (own : Tables) (same : own ≡ d.tables) (name bytes : L
   concludes_budget k is made = budget k (subst (λ n. IsRefusal n trace steps (Budget k)) same is) made refl
 
   pub concludes_illegal : (k : ℕ) → IsRefusal d.tables trace steps (Illegal k) → (scene : Scene)
-      → IsSceneBefore own trace k scene → text ≡ illegal_text d name bytes trace k scene
+      → IsSceneBefore own trace k steps scene → text ≡ illegal_text d name bytes trace k scene
       → IsConclusion d name bytes trace steps text 1
   concludes_illegal k is scene stands made =
-      illegal k is scene (subst (λ n. IsSceneBefore n trace k scene) same stands) made refl
+      illegal k is scene (subst (λ n. IsSceneBefore n trace k steps scene) same stands) made refl
 
 -- ---- refusals
 
