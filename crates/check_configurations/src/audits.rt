@@ -63,8 +63,9 @@ fn an_audit_is_refused_at_its_start_and_in_its_course(rt: HostRuntime) -> Result
     Ok(())
 }
 
+/// An audit is refused until its heap suffices, and then it finds the history legal.
 #[test]
-fn an_audit_is_refused_until_its_heap_suffices(rt: HostRuntime) -> Result<(), Fail> {
+fn refutes_always_out_of_memory(rt: HostRuntime) -> Result<(), Fail> {
     let network = copying(rt.alloc())?;
     let size = sufficient_size(rt.alloc(), &network, &ONE)?.unwrap_or(0);
     assert!(rt; size > 64);

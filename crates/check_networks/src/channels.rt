@@ -138,6 +138,8 @@ fn a_growth_that_is_refused_changes_nothing(rt: HostRuntime) -> Result<(), Fail>
 
     filling.destroy_empty();
     assert_eq!(rt; channel.cap(), Some(2));
+    channel.grow()?;
+    assert_eq!(rt; channel.cap(), Some(3));
     channel.grow_to(5)?;
     assert!(rt; channel.cap() == Some(5) && !channel.is_full());
     put_numbers(&mut channel, 7, 10)?;

@@ -11,4 +11,6 @@ mod histories;
 #[cfg(test)]
 mod networks;
 #[cfg(test)]
+mod rounds;
+#[cfg(test)]
 mod worked;

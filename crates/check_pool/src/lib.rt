@@ -15,6 +15,10 @@ mod looking;
 #[cfg(test)]
 mod meeting;
 #[cfg(test)]
+mod memory;
+#[cfg(test)]
+mod moving;
+#[cfg(test)]
 mod networks;
 #[cfg(test)]
 mod outside;

@@ -61,6 +61,26 @@ fn a_text_that_ends_early_is_refused(rt: HostRuntime) -> Result<(), Fail> {
     Ok(())
 }
 
+/// Nothing but blanks and comments may stand behind the network.
+#[test]
+fn refutes_accepts_words_after_the_network(rt: HostRuntime) -> Result<(), Fail> {
+    for (text, fault) in [
+        ("network { } # the end", None),
+        ("network { } x", Some(TextFault::Grammar(12))),
+        ("network { }\n\nnetwork { }", Some(TextFault::Grammar(13))),
+        ("network { };", Some(TextFault::Grammar(11))),
+    ] {
+        assert_eq!(rt; fault_of(rt.alloc(), text.as_bytes()), fault);
+    }
+    Ok(())
+}
+
+/// While there is memory, a network is read.
+#[test]
+fn refutes_always_out_of_memory(rt: HostRuntime) {
+    assert_eq!(rt; fault_of(rt.alloc(), COPY.as_bytes()), None);
+}
+
 #[test]
 fn a_text_has_at_most_1048576_bytes(rt: HostRuntime) -> Result<(), Fail> {
     let too_long = Some(TextFault::TooLong(MAX_TEXT_BYTES));

@@ -31,10 +31,10 @@ event_there t trace steps k is =
 module _ (d : Document) (own : Tables) (same : own ≡ d.tables) (name bytes : List ℕ) (trace : Trace Global)
     (steps : ℕ) (text : List ℕ) where
   pub concludes_illegal : (k : ℕ) → IsRefusal d.tables trace steps (Illegal k) → (scene : Scene)
-      → IsSceneBefore own trace k scene → text ≡ illegal_text d name bytes trace k scene
+      → IsSceneBefore own trace k steps scene → text ≡ illegal_text d name bytes trace k scene
       → IsConclusion d name bytes trace steps text 1
   concludes_illegal k is scene stands made =
-      illegal k is scene (subst (λ n. IsSceneBefore n trace k scene) same stands) made refl
+      illegal k is scene (subst (λ n. IsSceneBefore n trace k steps scene) same stands) made refl
 
 -- ---- refusals
 

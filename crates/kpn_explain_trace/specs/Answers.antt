@@ -29,7 +29,7 @@ pub data IsConclusion (d : Document) (name bytes : List ℕ) (trace : Trace Glob
       → text ≡ audit_text d.names.channels audit → status ≡ 0
       → IsConclusion d name bytes trace steps text status
   illegal : (k : ℕ) → IsRefusal d.tables trace steps (Illegal k) → (scene : Scene)
-      → IsSceneBefore d.tables trace k scene
+      → IsSceneBefore d.tables trace k steps scene
       → text ≡ illegal_text d name bytes trace k scene → status ≡ 1
       → IsConclusion d name bytes trace steps text status
   budget : (k : ℕ) → IsRefusal d.tables trace steps (Budget k) → text ≡ event_line (codes "budget") k → status ≡ 5

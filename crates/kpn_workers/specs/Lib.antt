@@ -1,2 +1,3 @@
 pub mod Fed
 pub mod Ending
+pub mod Causes

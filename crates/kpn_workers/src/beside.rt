@@ -1,7 +1,8 @@
 //! A run whose workers have threads of their own, beside what its caller does: feed, take and look.
-ghost use Rattle.std.specs.Prelude.{◌≡◌, ◌<◌, ◌≤◌, [], length, IfOk, vec_capacity};
+ghost use Rattle.std.specs.Prelude.{◌≡◌, ◌<◌, ◌≤◌, Bool, [], length, IfOk, vec_len, vec_capacity};
 ghost use Rattle.std.specs.List.{sum_by};
 ghost use Rattle.kpn_run_state.specs.Kept.{IsBook};
+ghost use Rattle.kpn_workers.specs.Causes.{is_out_of_memory, is_abandoned, cause_of};
 
 use crate::fault::RunFault;
 use crate::threads::{Ended, work_side_by_side};
@@ -82,6 +83,10 @@ pub fn run_beside<'n, R: Threads + Wait + Clock + Sync, G: Gate, C: Client, F: F
     requires workers { (0 < workers) × (workers ≤ MAX_WORKERS) }
     ensures network { IfOk result (λ ran. ran.book.tables ≡ network.now) }
     ensures book { IfOk result (λ ran. IsBook ran.book) }
+    ensures count { IfOk result (λ ran. vec_len ran.workers ≡ workers) }
+    // whether each worker and each feeder had a thread of its own is the only thing left open
+    ensures fault { IfOk result (λ ran.
+        (had_threads : Bool) × (ran.fault ≡ cause_of had_threads ran.workers.items)) }
     ensures commits { IfOk result (λ ran.
         ran.book.commits ≡ sum_by (λ worked. worked.commits) ran.workers.items) }
 {
@@ -115,6 +120,9 @@ fn run_job<
     requires workers { (workers ≡ J.parts) × (0 < workers) × (workers ≤ MAX_WORKERS) }
     ensures network { IfOk result (λ ran. ran.book.tables ≡ J.network) }
     ensures book { IfOk result (λ ran. IsBook ran.book) }
+    ensures count { IfOk result (λ ran. vec_len ran.workers ≡ workers) }
+    ensures fault { IfOk result (λ ran.
+        (had_threads : Bool) × (ran.fault ≡ cause_of had_threads ran.workers.items)) }
     ensures commits { IfOk result (λ ran.
         ran.book.commits ≡ sum_by (λ worked. worked.commits) ran.workers.items) }
 {
@@ -150,7 +158,8 @@ fn run_job<
 fn record_each<J: Job>(seats: &[WorkerSeat<J>], records: &mut Vec<Worked>)
     requires empty { records.old.items ≡ [] }
     requires room { length seats.now ≤ vec_capacity records.old }
-    ensures { sum_by (λ worked. worked.commits) records.new.items
+    ensures count { vec_len records.new ≡ length seats.now }
+    ensures commits { sum_by (λ worked. worked.commits) records.new.items
         ≡ sum_by (λ seat. seat.commits) seats.now }
 {
     'seats: for i in 0..seats.len() {
@@ -163,21 +172,31 @@ fn record_each<J: Job>(seats: &[WorkerSeat<J>], records: &mut Vec<Worked>)
 }
 
 /// What kept the workers from their work, if anything did.
-fn fault_of(had_threads: bool, workers: &[Worked]) -> Option<RunFault> {
+fn fault_of(had_threads: bool, workers: &[Worked]) -> Option<RunFault>
+    ensures { result ≡ cause_of had_threads workers.now }
+{
     if !had_threads {
         return Some(RunFault::Threads);
     }
-    if workers
-        .iter()
-        .any(|worked| worked.why == Some(Why::NoMemory))
-    {
+    if workers.iter().any(|worked| is_out_of_memory(worked.why)) {
         return Some(RunFault::NoMemory);
     }
-    if workers
-        .iter()
-        .all(|worked| worked.why == Some(Why::Abandoned))
-    {
+    if workers.iter().all(|worked| is_abandoned(worked.why)) {
         return Some(RunFault::Abandoned);
     }
     None
+}
+
+/// Whether a worker ended since memory ran out at its commit.
+fn is_out_of_memory(why: Option<Why>) -> bool
+    ensures { result ≡ is_out_of_memory why }
+{
+    matches!(why, Some(Why::NoMemory))
+}
+
+/// Whether a worker ended since the gate made it.
+fn is_abandoned(why: Option<Why>) -> bool
+    ensures { result ≡ is_abandoned why }
+{
+    matches!(why, Some(Why::Abandoned))
 }
