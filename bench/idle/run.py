@@ -2,7 +2,7 @@
 """What workers take of a processor while they wait for a feed, and how long an item takes from its feed to its take.
 
 One process copies the items of a source to a sink. A thread of its own feeds an item after each pause, and the calling
-thread sleeps until it can take one. The program makes only public calls of `kpn_workers`. Its source is main.rt.txt,
+thread sleeps until it can take one. The program makes only public calls of `kpn_pool`. Its source is main.rt.txt,
 since the gate wants each .rt file in a crate that it proves. The build is that of optimised.py, in a copy of the tree:
 optimised, and not proved. Beside it is a plain Rust program of three threads, which hand the items on by channels of
 std. It prints for 1, 4 and 16 workers
@@ -29,7 +29,7 @@ sys.path.append(str(HERE.parent))
 
 import measure
 
-CRATE, USES = 'bench_idle', 'kpn_limits kpn_workers kpn_text anyhow'
+CRATE, USES = 'bench_idle', 'kpn_limits kpn_book kpn_pool kpn_text anyhow'
 WORKERS, RUNS = (1, 4, 16), 9
 
 # the pauses in microseconds: of a wait, and between items

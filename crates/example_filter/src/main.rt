@@ -5,10 +5,11 @@
 #![tactic(auto)]
 
 use anyhow::{Result, ensure};
+use kpn_book::{Limits, Report};
 use kpn_lang::Sequence;
 use kpn_net::Network;
+use kpn_pool::{CommitsAll, run};
 use kpn_text::read_network;
-use kpn_workers::{CommitsAll, Limits, Report, run};
 use std::alloc::Global;
 use std::io::Write;
 use std::sync::Wait;

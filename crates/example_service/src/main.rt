@@ -3,12 +3,13 @@
 #![tactic(auto)]
 
 use anyhow::{Result, ensure};
+use kpn_book::{Limits, Refused};
 use kpn_net::Network;
-use kpn_text::read_network;
-use kpn_workers::{
-    Awaited, Client, CommitsAll, Feeder, Job, Limits, Outside, Ran, Refused, Shared, SinkSeat,
-    SourceSeat, Why, close, feed_when_room, run_beside, take_when_there,
+use kpn_pool::{
+    Awaited, Client, CommitsAll, Feeder, Job, Outside, Ran, Shared, SinkSeat, SourceSeat, Why,
+    close, feed_when_room, run_beside, take_when_there,
 };
+use kpn_text::read_network;
 use std::alloc::Global;
 use std::sync::Wait;
 use std::thread::Threads;
