@@ -13,7 +13,7 @@ text_of-requires c =
     _ found.audited
 
 pub returns-in_ok-text_of-in-Legal : goal.returns-in_ok-text_of-in-Legal
-returns-in_ok-text_of-in-Legal c = rw c.in-Legal.is ((c.in_ok-text_of-in-Legal.ensures, refl), c.new.ensures)
+returns-in_ok-text_of-in-Legal c = rw c.in-Legal.is ((c.in_ok-text_of-in-Legal.ensures, refl), c.new.ensures.items)
 
 pub returns-in-NotLegal : goal.returns-in-NotLegal
 returns-in-NotLegal c = rw c.in-NotLegal.is c.conclusion.ensures

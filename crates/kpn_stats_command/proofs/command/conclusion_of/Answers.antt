@@ -37,7 +37,7 @@ returns-in_ok-text-in-Legal c =
         },
         refl,
       ),
-      c.new.ensures,
+      c.new.ensures.items,
     )
 
 pub returns-in-NotLegal : goal.returns-in-NotLegal
