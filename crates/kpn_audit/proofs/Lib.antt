@@ -7,3 +7,5 @@ pub mod Summed
 pub mod Replaying
 pub mod Telling
 pub mod SceneAt
+pub mod Asked
+pub mod VersionOne
