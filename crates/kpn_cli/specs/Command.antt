@@ -1,5 +1,5 @@
 -- What the program does on a command line: it answers what the words ask for, and carries the answer out.
-use Rattle.std.specs.Prelude.{◌≡◌, ℕ, List, Option, Some, None, map, option_map, Result, IfOk, IfErr, ⊤}
+use Rattle.std.specs.Prelude.{◌≡◌, ℕ, List, Option, Some, None, map, option_map, IsSome, Result, IfOk, IfErr, ⊤}
 use Rattle.kpn_text.specs.Document.{canonical_text}
 use Rattle.kpn_refusals.specs.declared.refusal.Refusal.{Refusal}
 use Rattle.kpn_refusals.specs.declared.refusal.Refusal.TheVariants.{NoMemory}
@@ -99,12 +99,14 @@ pub data Runs {S I O E : Type 0} (may_give : S → Loads) (may_alias : S → Ali
 
 -- ---- scaffolding: what the parts of the code answer
 
--- a request is answered without workers; or it asks for a run by workers, and the input is as it was
+-- A request is answered without workers. Or it asks for a run by workers: then this run is handed back, and the input is
+-- as it was.
 abbrev pub ComesTo : {I : Type 0} → (may_give : Loads) (may_alias : Aliases) (remaining : I → Option (List ℕ))
     → Request → (input read : I) → Progress → Type 0
 ComesTo may_give may_alias remaining request input read (Answered answer) =
     IsAnswer may_give may_alias remaining request input read answer
-ComesTo may_give may_alias remaining request input read (NeedsWorkers run) = (request ≡ Run run) × (read ≡ input)
+ComesTo may_give may_alias remaining request input read (NeedsWorkers run) =
+    (request ≡ Run run) × IsSome run.workers × (read ≡ input)
 
 -- the status for words that are not understood, or for want of memory to read them
 abbrev pub fault_status : WordsFault → ℕ

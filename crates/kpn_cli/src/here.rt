@@ -22,14 +22,15 @@ use std::io::Read;
 
 /// How far a request is answered without workers.
 #[derive(Drop)]
-pub(crate) enum Progress<'a> {
+pub enum Progress<'a> {
+    /// It is answered.
     Answered(Result<Conclusion, Refusal>),
     /// It asks for this run by workers. Nothing of it is done yet.
     NeedsWorkers(RunRequest<'a>),
 }
 
 /// Answers everything except a run by workers, which it hands back.
-pub(crate) fn answer_here<'a, S: Shelf, I: Read>(
+pub fn answer_here<'a, S: Shelf, I: Read>(
     alloc: Global,
     request: Request<'a>,
     shelf: &S,

@@ -7,5 +7,6 @@ mod here;
 mod program;
 mod usage;
 
+pub use here::{Progress, answer_here};
 pub use kpn_shelf::{FileShelf, MemoryShelf, Shelf};
 pub use program::command;

@@ -8,10 +8,10 @@ pub text_of-requires-clause-channels : goal.text_of-requires-clause-channels
 text_of-requires-clause-channels c =
     let a = c.args.audited.now in
     let found = subst (IsFinding a.document.tables a.trace c.requires.0) c.in-Legal.is c.requires.1 in
-    journals_within a.document.tables a.trace c.in-Legal.audit.now found.audited
+    journals_within a.document.tables a.trace _ found.audited
 
 pub returns-in_ok-text_of-in-Legal : goal.returns-in_ok-text_of-in-Legal
-returns-in_ok-text_of-in-Legal c = rw c.in-Legal.is ((c.in_ok-text_of-in-Legal.ensures, refl), c.new.ensures)
+returns-in_ok-text_of-in-Legal c = rw c.in-Legal.is ((c.in_ok-text_of-in-Legal.ensures, refl), c.new.ensures.items)
 
 pub returns-in-NotLegal : goal.returns-in-NotLegal
 returns-in-NotLegal c = rw c.in-NotLegal.is c.conclusion.ensures

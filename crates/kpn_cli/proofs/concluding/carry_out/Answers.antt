@@ -18,10 +18,11 @@ returns-in-Err-write_whole g c =
     unwritten
     (subst (λ (files : List StoredFile). AreStored g.S.Shelf.may_give files c.args.shelf.now c.store_files.new.shelf)
     (ap (map stored_as) c.deref.ensures.value) c.in-Ok.ensures.stored)
-    c.report-in-Err-write_whole.ensures
+    c.report.ensures
 
 pub returns-in-Err : goal.returns-in-Err
 returns-in-Err g c =
     cut_short c.in-Err.fault
     (subst (λ (files : List StoredFile). IsCutShort g.S.Shelf.may_give files c.args.shelf.now c.store_files.new.shelf)
-    (ap (map stored_as) c.deref.ensures.value) c.in-Err.ensures.cut_short) refl c.report.ensures
+    (ap (map stored_as) c.deref.ensures.value) c.in-Err.ensures.cut_short) refl
+    c.report-in-Err.ensures

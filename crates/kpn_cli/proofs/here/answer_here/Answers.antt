@@ -1,5 +1,5 @@
 -- Each command answers what it is asked for.
-use Rattle.std.proofs.Common.{List, map, refl, subst}
+use Rattle.std.proofs.Common.{List, map, refl, rules, subst}
 use Rattle.kpn_cli.proofs.here.answer_here.Goals as goal
 
 pub returns-in-Alone : goal.returns-in-Alone
@@ -35,14 +35,14 @@ returns-in-Draw g c = rw c.in-Draw.is (refl, (c.draw_command.ensures.ok, c.draw_
 pub returns-in-Audit : goal.returns-in-Audit
 returns-in-Audit g c = rw c.in-Audit.is (refl, (c.audit_command.ensures.ok, c.audit_command.ensures.refused))
 
-pub returns-in-Stats : goal.returns-in-Stats
-returns-in-Stats g c = rw c.in-Stats.is (refl, (c.stats_command.ensures.ok, c.stats_command.ensures.refused))
+pub returns : goal.returns
+returns g c = rw c.in-Stats.is (refl, (c.stats_command.ensures.ok, c.stats_command.ensures.refused))
 
-pub returns-in-Run-None : goal.returns-in-Run-None
-returns-in-Run-None g c = rw c.in-Run.is (refl, (c.run_command.ensures.ok, c.run_command.ensures.refused))
+pub returns-in-Run : goal.returns-in-Run
+returns-in-Run g c = rw c.in-Run.is (refl, (c.run_command.ensures.ok, c.run_command.ensures.refused))
 
-pub returns-in-Run-Some : goal.returns-in-Run-Some
-returns-in-Run-Some g c = (c.in-Run.is, refl)
+pub returns-in-Some : goal.returns-in-Some
+returns-in-Some g c = (c.in-Run.is, search rules, refl)
 
 pub returns-in-Rounds : goal.returns-in-Rounds
 returns-in-Rounds g c =

@@ -37,5 +37,5 @@ returns-clause-ok g c =
             c.deref.ensures.value;
       },
       refl,
-      c.new.ensures,
+      c.new.ensures.items,
     )

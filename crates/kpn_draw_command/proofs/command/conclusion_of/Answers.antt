@@ -10,10 +10,10 @@ text_of-requires c =
     let a = c.args.audited.now in
     let found = subst (IsFinding a.document.tables a.trace c.requires.0) c.in-Legal.is c.requires.1 in
     whole_audit a.document.tables a.document.tables refl (subst IsNetwork c.network.ensures c.known.ensures) a.trace
-    c.in-Legal.audit.now found.audited
+    _ found.audited
 
 pub returns-in_ok-text_of-in-Legal : goal.returns-in_ok-text_of-in-Legal
-returns-in_ok-text_of-in-Legal c = rw c.in-Legal.is ((c.in_ok-text_of-in-Legal.ensures, refl), c.new.ensures)
+returns-in_ok-text_of-in-Legal c = rw c.in-Legal.is ((c.in_ok-text_of-in-Legal.ensures, refl), c.new.ensures.items)
 
 pub returns-in-NotLegal : goal.returns-in-NotLegal
 returns-in-NotLegal c = rw c.in-NotLegal.is c.conclusion.ensures

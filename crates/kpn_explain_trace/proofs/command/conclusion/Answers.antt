@@ -24,7 +24,7 @@ returns-in_ok-text_of-in-Legal-clause-ok c =
     c.in_ok-finding.ensures.found in (
       legal c.in-Legal.audit (subst (IsFinding t trace c.args.steps) c.in-Legal.is found)
           c.in_ok-text_of-in-Legal.ensures refl,
-      c.new.ensures,
+      c.new.ensures.items,
     )
 
 pub illegal-requires : goal.illegal-requires

@@ -22,5 +22,5 @@ returns-in_ok-refused_text-in-Err-clause-ok c = (
   refused c.in-Err.fault c.in-Err.ensures.refused
       (c.in_ok-refused_text-in-Err.ensures
       ∙ ap (λ name. refused_text name c.args.bytes.now c.in-Err.fault) c.as_bytes.ensures.value) refl,
-  c.new.ensures,
+  c.new.ensures.items,
 )

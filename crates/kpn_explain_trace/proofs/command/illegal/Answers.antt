@@ -20,5 +20,5 @@ returns-clause-ok c = (
       ∙ ap
       (λ name. illegal_text c.args.document.now name c.args.bytes.now c.args.trace.now c.args.k c.in-Ok.scene)
       c.as_bytes.ensures.value),
-  c.new.ensures,
+  c.new.ensures.items,
 )

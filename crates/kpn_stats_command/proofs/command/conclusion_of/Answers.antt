@@ -10,7 +10,7 @@ pub text_of-requires-clause-caps : goal.text_of-requires-clause-caps
 text_of-requires-clause-caps c =
     let a = c.args.audited.now in
     let found = subst (IsFinding a.document.tables a.trace c.requires.0) c.in-Legal.is c.requires.1 in
-    caps_there a.document.tables a.trace c.requires.0 c.in-Legal.audit.now found
+    caps_there a.document.tables a.trace c.requires.0 _ found
 
 pub text_of-requires-clause-channels : goal.text_of-requires-clause-channels
 text_of-requires-clause-channels c =
@@ -37,7 +37,7 @@ returns-in_ok-text-in-Legal c =
         },
         refl,
       ),
-      c.new.ensures,
+      c.new.ensures.items,
     )
 
 pub returns-in-NotLegal : goal.returns-in-NotLegal
