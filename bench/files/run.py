@@ -495,10 +495,11 @@ def nothing(folder):
 
 @case
 def nothing_twice(folder):
-    """Nothing is lost there."""
+    """Nothing is lost there. But one word is refused as for a file."""
     both(folder)
-    expect(run_both(folder, '--trace', '/dev/null', '--sink', 'z=/dev/null'), (BOTH_REPORT, b'', 0))
+    expect(run_both(folder, '--trace', '/dev/null', '--sink', 'z=//dev/null'), (BOTH_REPORT, b'', 0))
     expect(run_both(folder, '--sink', 'y=/dev/null', '--sink', 'z=//dev/null'), (BOTH_REPORT, b'', 0))
+    is_refused_sink(folder, '--trace', '/dev/null', '--sink', 'z=/dev/null')
 
 
 @case
