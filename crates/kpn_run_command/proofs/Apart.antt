@@ -1,5 +1,5 @@
 -- Outputs that are apart, one more at a time, and outputs that are refused.
-use Rattle.std.proofs.Common.{◌≡◌, ◌≢◌, ◌<◌, ◌+◌, ℕ, suc, List, Bor, [], ◌∷◌, ◌++◌, All, Option, Some, map, length, get_or, take, drop, refl, inl, inr, sym, ap, subst, ◌∙◌, arith, drop-cons}
+use Rattle.std.proofs.Common.{◌≡◌, ◌≢◌, ◌<◌, ◌+◌, ℕ, suc, List, Bor, [], ◌∷◌, ◌++◌, All, Option, Some, map, length, get_or, take, drop, refl, inl, inr, sym, ap, subst, ◌∙◌, drop-cons}
 use Rattle.std.proofs.lemmas.List.{take-append-drop, take_more, map-append}
 use Rattle.std.proofs.lemmas.List.Elements.{All-push}
 use Rattle.std.proofs.lemmas.List.Quantifiers.{all_pairs_push}
@@ -20,12 +20,6 @@ one_more P words i word below before more =
     (All-push P (take i words) (get_or words i word) before more)
 
 module _ (request : RunRequest) where
-  pub apart_none : AreApart request []
-  apart_none = record {
-    no_inputs = λ k d below. absurd (omega arith);
-    each_other = λ i j d less below. absurd (omega arith);
-  }
-
   -- one more output
   pub apart_more : (outputs : List (List ℕ)) (name : List ℕ) → AreApart request outputs → IsApart request name
       → All (λ other. name ≢ other) outputs → AreApart request (outputs ++ name ∷ [])
