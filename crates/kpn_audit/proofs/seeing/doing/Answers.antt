@@ -10,8 +10,8 @@ at_stop-requires-clause-free g c =
     let free : IsFree c.args.configuration.now c.args.p = record { lives = search rules; free = search rules } in
     c.step_on-stop.ensures.free free
 
-pub returns-clause-doing : goal.returns-clause-doing
-returns-clause-doing g c H event run nothing places own numbers =
+pub returns-in-Nobody-clause-doing : goal.returns-in-Nobody-clause-doing
+returns-in-Nobody-clause-doing g c H event run nothing places own numbers =
     let t = c.args.network.now in
     let s = c.args.configuration.now in
     let p = c.args.p in
