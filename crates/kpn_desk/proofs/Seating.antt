@@ -75,12 +75,12 @@ same_channel (b ∷ before) (t ∷ seats) (suc i) d below so_far =
 
 -- one seat more is that of a sink
 pub sink_more : (t : Tables) (before seats : List EndSeat) (i : ℕ) (d : EndSeat) → i < length seats
-    → HaveTaken before seats → AreSinks t (take i before) → d ≡ get_or seats i d
-    → is_sink (channel_at t d.channel) ≡ true → AreSinks t (take (i + 1) before)
-sink_more t before seats i d below so_far sinks at sink =
+    → HaveTaken before seats → AreSinks t (take i before)
+    → is_sink (channel_at t (get_or seats i d).channel) ≡ true → AreSinks t (take (i + 1) before)
+sink_more t before seats i d below so_far sinks sink =
     let same = same_channel before seats i d below so_far in
     All-more (λ (e : EndSeat). is_sink (channel_at t e.channel) ≡ true) before i d same.0 sinks
-    (subst (λ n. is_sink (channel_at t n) ≡ true) (ap (λ (e : EndSeat). e.channel) at ∙ same.1) sink)
+    (subst (λ n. is_sink (channel_at t n) ≡ true) same.1 sink)
 
 same_count : (before seats : List EndSeat) → HaveTaken before seats → length before ≡ length seats
 same_count [] [] so_far = refl
@@ -97,17 +97,16 @@ all_sinks t before seats n so_far all sinks =
 
 -- the take from one of them is refused
 pub refused_at : (t : Tables) (before seats : List EndSeat) (i : ℕ) (d : EndSeat) (cause : Refused) → i < length seats
-    → HaveTaken before seats → d ≡ get_or seats i d → MayRefuseTake (is_sink (channel_at t d.channel)) cause
+    → HaveTaken before seats → MayRefuseTake (is_sink (channel_at t (get_or seats i d).channel)) cause
     → MayRefuseTakes t before cause
-refused_at t before seats i d cause below so_far at refused =
+refused_at t before seats i d cause below so_far refused =
     let same = same_channel before seats i d below so_far in
     record {
       place = i;
       seat = get_or before i d;
       there = slice_get-get_or before i d same.0;
       refused =
-          subst (λ n. MayRefuseTake (is_sink (channel_at t n)) cause)
-          (ap (λ (e : EndSeat). e.channel) at ∙ same.1) refused;
+          subst (λ n. MayRefuseTake (is_sink (channel_at t n)) cause) same.1 refused;
     }
 
 -- ---- a seat that is found by its channel

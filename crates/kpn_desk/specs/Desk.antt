@@ -20,11 +20,11 @@ pub record Desk : Type 0 where
 
 -- a desk of the run of a network by so many workers: the book is one of this network, and the total is the number of
 -- its commits
-pub record IsDesk (t : Tables) (workers : ℕ) (d : Desk) : Type 0 where
+pub record IsDesk (t : Tables) (count : ℕ) (d : Desk) : Type 0 where
   pub network : d.book.tables ≡ t
   pub book : IsBook d.book
   pub counted : d.total ≡ d.book.commits
-  pub workers : d.workers ≡ workers
+  pub workers : d.workers ≡ count
 
 -- ---- what a worker claims
 

@@ -1,5 +1,5 @@
 -- A step leaves the process of its turn as it was, and the gate answers for this process.
-use Rattle.std.proofs.Common.{◌≡◌, ◌<◌, length, get_or, Some, sym, ap, ◌∙◌, subst, rules, arith}
+use Rattle.std.proofs.Common.{◌≡◌, ◌<◌, length, Some, sym, ap, ◌∙◌, subst, rules, arith}
 use Rattle.std.specs.Prelude.{slice_get}
 use Rattle.kpn_desk.specs.declared.gate.Go.TheVariants.{On, Abandon}
 use Rattle.kpn_desk.specs.Batch.{claimed_by, LetsThrough}
@@ -11,8 +11,7 @@ turns-preserved g c =
     let may = g.G.Gate.may_answer c.args.gate.now c.args.worker in
     let turn = c.index-turns-i.result in
     let below : c.turns.i < length c.turns.turns = search rules in
-    let is : turn ≡ get_or c.turns.turns c.turns.i turn = search rules in
-    let same = c.step-process.ensures.claimed ∙ ap (λ t. t.claimed) is in
+    let same = c.step-process.ensures.claimed in
     let kept = claimed_by-set c.turns.turns c.turns.i c.step-process.new.self turn below same in
     let there =
     claimed_at c.turns.turns c.turns.i turn below ∙ ap Some (sym (c.step-process.ensures.process ∙ same)) in
@@ -29,8 +28,7 @@ returns-in-Abandon g c =
     let may = g.G.Gate.may_answer c.args.gate.now c.args.worker in
     let turn = c.index-turns-i.result in
     let below : c.turns.i < length c.turns.turns = search rules in
-    let is : turn ≡ get_or c.turns.turns c.turns.i turn = search rules in
-    let same = c.step-process.ensures.claimed ∙ ap (λ t. t.claimed) is in
+    let same = c.step-process.ensures.claimed in
     let kept = claimed_by-set c.turns.turns c.turns.i c.step-process.new.self turn below same in
     let there =
     claimed_at c.turns.turns c.turns.i turn below ∙ ap Some (sym (c.step-process.ensures.process ∙ same)) in

@@ -4,7 +4,7 @@ use Rattle.kpn_desk.proofs.Seating.{none_taken, taken_at, sink_more, all_sinks, 
 use Rattle.kpn_desk.proofs.outside_seats.take_from_each.Goals as goal
 
 pub seats-init : goal.seats-init
-seats-init g c = record { taken = none_taken c.args.seats.now; sinks = tt; desk = refl }
+seats-init g c = record { taken = none_taken c.args.seats.now; sinks = λ k d below. absurd (omega (arith, below)); desk = refl }
 
 pub seats-preserved : goal.seats-preserved
 seats-preserved g c =
@@ -16,7 +16,7 @@ seats-preserved g c =
           (record { channel = c.take_all.ensures.channel; items = c.take_all.ensures.taken });
       sinks =
           sink_more g.J.Job.network c.args.seats.now c.seats.seats c.seats.i c.index-seats-i.result below
-          c.seats.invariant.taken c.seats.invariant.sinks (search rules) c.in_ok-take_all.ensures.sink;
+          c.seats.invariant.taken c.seats.invariant.sinks c.in_ok-take_all.ensures.sink;
       desk =
           still_with_book c.args.desk.now c.seats.desk c.take_all.new.desk c.seats.invariant.desk
           c.in_ok-take_all.ensures.desk;
@@ -35,7 +35,7 @@ returns-in_err-take_all-clause-may_refuse g c =
     let p = err_from_is_err_and c.from_residual.result c.from_residual.ensures.1 in
     rw (p.1, p.2)
     (refused_at g.J.Job.network c.args.seats.now c.seats.seats c.seats.i c.index-seats-i.result
-    c.in_err-take_all.field-0.0 below c.seats.invariant.taken (search rules) c.in_err-take_all.ensures.may_refuse)
+    c.in_err-take_all.field-0.0 below c.seats.invariant.taken c.in_err-take_all.ensures.may_refuse)
 
 pub returns-clause-sinks : goal.returns-clause-sinks
 returns-clause-sinks g c =
