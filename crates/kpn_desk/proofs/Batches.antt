@@ -1,11 +1,14 @@
 -- What a worker does with several processes, one turn after the other.
-use Rattle.std.proofs.Common.{◌≡◌, ℕ, ◌+◌, ◌-◌, ◌<◌, Option, List, [], ◌∷◌, ◌++◌, length, take, drop, get_or, refl, sym, subst}
-use Rattle.std.specs.Prelude.{slice_set}
+use Rattle.std.proofs.Common.{◌≡◌, ℕ, zero, suc, ◌+◌, ◌-◌, ◌<◌, Option, Some, List, [], ◌∷◌, ◌++◌, length, take, drop, get_or, inl, inr, refl, sym, ap, ◌∙◌, subst, arith}
+use Rattle.std.specs.Prelude.{slice_set, slice_get}
+use Rattle.std.proofs.lemmas.Bool.{cases_order}
 use Rattle.std.proofs.lemmas.List.{take_more, take_more_set}
 use Rattle.kpn_run_state.specs.Book.{Book}
 use Rattle.kpn_desk.specs.declared.seat.Why.{Why}
 use Rattle.kpn_desk.specs.Desk.{Desk}
-use Rattle.kpn_desk.specs.Batch.{Turn, Batch, CommitsOrDrops, PutsBack, InTurn, IsEnd, Settles}
+use Rattle.kpn_desk.specs.declared.gate.Go.{Go}
+use Rattle.kpn_desk.specs.declared.gate.Go.TheVariants.{On, Abandon}
+use Rattle.kpn_desk.specs.Batch.{Turn, Batch, CommitsOrDrops, PutsBack, InTurn, IsEnd, Settles, claimed_by, LetsThrough}
 
 -- ---- one turn more
 
@@ -31,6 +34,53 @@ pub one_more_set : (Does : Turn → Book → Book → Type 0) (turns : List Turn
 one_more_set Does turns i turn before between after there so_far does =
     subst (λ xs. InTurn Does xs before after) (sym (take_more_set turns i turn there))
     (then_one Does (take i turns) turn before between after so_far does)
+
+-- ---- the gate
+
+-- a turn of the same process in the place of another
+pub claimed_by-set : (turns : List Turn) (i : ℕ) (turn d : Turn) → i < length turns
+    → turn.claimed ≡ (get_or turns i d).claimed → claimed_by (slice_set turns i turn) ≡ claimed_by turns
+claimed_by-set [] i turn d below same = absurd (omega (arith, below))
+claimed_by-set (t ∷ turns) zero turn d below same = ap (λ p. p ∷ claimed_by turns) same
+claimed_by-set (t ∷ turns) (suc i) turn d below same =
+    ap (λ ps. t.claimed ∷ ps) (claimed_by-set turns i turn d (omega (arith, below)) same)
+
+-- the process of a turn
+pub claimed_at : (turns : List Turn) (i : ℕ) (d : Turn) → i < length turns
+    → slice_get (claimed_by turns) i ≡ Some (get_or turns i d).claimed
+claimed_at [] i d below = absurd (omega (arith, below))
+claimed_at (t ∷ turns) zero d below = refl
+claimed_at (t ∷ turns) (suc i) d below = claimed_at turns i d (omega (arith, below))
+
+same_process : (o : Option ℕ) (p q : ℕ) → o ≡ Some p → o ≡ Some q → p ≡ q
+same_process o p q a b = let e : ◌≡◌ {A = Option ℕ} (Some p) (Some q) = sym a ∙ b in cc
+
+-- one process more was let through
+pub through_more : (may : ℕ → Go → Type 0) (processes : List ℕ) (i p : ℕ) → slice_get processes i ≡ Some p → may p On
+    → ((j q : ℕ) → j < i → slice_get processes j ≡ Some q → may q On)
+    → (j q : ℕ) → j < i + 1 → slice_get processes j ≡ Some q → may q On
+through_more may processes i p there answer so_far j q less at =
+    elim (cases_order j i) [
+      | inl same ↦
+          let is : slice_get processes i ≡ Some q = subst (λ n. slice_get processes n ≡ Some q) same at in
+          subst (λ x. may x On) (same_process (slice_get processes i) p q there is) answer
+      | inr (inl earlier) ↦ so_far j q earlier at
+      | inr (inr later) ↦ absurd (omega (arith, less, later))
+    ]
+
+-- the gate has made the worker end at this one
+pub stopped_at : (may : ℕ → Go → Type 0) (processes : List ℕ) (i p held : ℕ) → slice_get processes i ≡ Some p
+    → may p Abandon → ((j q : ℕ) → j < i → slice_get processes j ≡ Some q → may q On)
+    → LetsThrough may i held processes
+stopped_at may processes i p held there answer so_far = record {
+  through = so_far;
+  next = λ q less at. subst (λ x. may x Abandon) (same_process (slice_get processes i) p q there at) answer;
+}
+
+-- it has let all of them through
+pub let_all : (may : ℕ → Go → Type 0) (processes : List ℕ) (held : ℕ)
+    → ((j q : ℕ) → j < held → slice_get processes j ≡ Some q → may q On) → LetsThrough may held held processes
+let_all may processes held all = record { through = all; next = λ q less at. absurd (omega (arith, less)) }
 
 -- ---- a batch
 

@@ -1,12 +1,15 @@
 -- The seats of the outside, channel by channel, and item by item.
-use Rattle.std.proofs.Common.{◌≡◌, ◌≢◌, ℕ, ◌+◌, ◌<◌, ◌≤◌, ℤ, pos, Bool, cond, List, [], ◌∷◌, ◌++◌, length, map, take, get_or, zero, suc, refl, sym, ap, ◌∙◌, subst, arith}
+use Rattle.std.proofs.Common.{◌≡◌, ◌≢◌, ℕ, ◌+◌, ◌<◌, ◌≤◌, true, ℤ, pos, Bool, cond, List, [], ◌∷◌, ◌++◌, length, map, take, get_or, zero, suc, refl, sym, ap, ◌∙◌, subst, arith}
 use Rattle.std.specs.Prelude.{slice_set}
 use Rattle.std.proofs.lemmas.List.{take_more, take_all, append_assoc}
 use Rattle.std.proofs.lemmas.List.Elements.{All-more}
+use Rattle.std.proofs.lemmas.Option.{slice_get-get_or}
 use Rattle.std.specs.List.{All, filter, range_with_len}
 use Rattle.std.proofs.lemmas.List.FromFn.{filter_of_map_range_with_len_more}
 use Rattle.kpn_desk.specs.Desk.{Desk, with_book}
-use Rattle.kpn_desk.specs.OutsideSeats.{EndSeat, new_end, with_item, HasNoSeat, TakesMore, HaveTaken}
+use Rattle.kpn_net.specs.Tables.{Tables, channel_at, is_sink}
+use Rattle.kpn_run_state.specs.declared.answers.Refused.{Refused}
+use Rattle.kpn_desk.specs.OutsideSeats.{EndSeat, new_end, with_item, HasNoSeat, TakesMore, HaveTaken, AreSinks, MayRefuseTake, MayRefuseTakes}
 use Rattle.kpn_lang.proofs.Prefixes.{IsPrefix-refl, IsPrefix-trans}
 
 -- one channel more is looked at
@@ -57,6 +60,54 @@ taken_at [] [] i s d below so_far more = absurd (omega (arith, below))
 taken_at (b ∷ before) (t ∷ seats) zero s d below so_far more = (takes_more b t s so_far.0 more, so_far.1)
 taken_at (b ∷ before) (t ∷ seats) (suc i) s d below so_far more =
     (so_far.0, taken_at before seats i s d (omega (arith, below)) so_far.1 more)
+
+-- a seat that is looked at has the channel that it had
+pub same_channel : (before seats : List EndSeat) (i : ℕ) (d : EndSeat) → i < length seats → HaveTaken before seats
+    → (i < length before) × ((get_or seats i d).channel ≡ (get_or before i d).channel)
+same_channel [] (t ∷ seats) i d below so_far = absurd so_far
+same_channel (b ∷ before) [] i d below so_far = absurd so_far
+same_channel [] [] i d below so_far = absurd (omega (arith, below))
+same_channel (b ∷ before) (t ∷ seats) zero d below so_far = (omega arith, so_far.0.channel)
+same_channel (b ∷ before) (t ∷ seats) (suc i) d below so_far =
+    let rest = same_channel before seats i d (omega (arith, below)) so_far.1 in
+    let there = rest.0 in
+    (omega (arith, there), rest.1)
+
+-- one seat more is that of a sink
+pub sink_more : (t : Tables) (before seats : List EndSeat) (i : ℕ) (d : EndSeat) → i < length seats
+    → HaveTaken before seats → AreSinks t (take i before)
+    → is_sink (channel_at t (get_or seats i d).channel) ≡ true → AreSinks t (take (i + 1) before)
+sink_more t before seats i d below so_far sinks sink =
+    let same = same_channel before seats i d below so_far in
+    All-more (λ (e : EndSeat). is_sink (channel_at t e.channel) ≡ true) before i d same.0 sinks
+    (subst (λ n. is_sink (channel_at t n) ≡ true) same.1 sink)
+
+same_count : (before seats : List EndSeat) → HaveTaken before seats → length before ≡ length seats
+same_count [] [] so_far = refl
+same_count [] (t ∷ seats) so_far = absurd so_far
+same_count (b ∷ before) [] so_far = absurd so_far
+same_count (b ∷ before) (t ∷ seats) so_far = ap suc (same_count before seats so_far.1)
+
+-- all of them are
+pub all_sinks : (t : Tables) (before seats : List EndSeat) (n : ℕ) → HaveTaken before seats → length seats ≤ n
+    → AreSinks t (take n before) → AreSinks t before
+all_sinks t before seats n so_far all sinks =
+    let same = same_count before seats so_far in
+    subst (AreSinks t) (take_all n before (omega (arith, same, all))) sinks
+
+-- the take from one of them is refused
+pub refused_at : (t : Tables) (before seats : List EndSeat) (i : ℕ) (d : EndSeat) (cause : Refused) → i < length seats
+    → HaveTaken before seats → MayRefuseTake (is_sink (channel_at t (get_or seats i d).channel)) cause
+    → MayRefuseTakes t before cause
+refused_at t before seats i d cause below so_far refused =
+    let same = same_channel before seats i d below so_far in
+    record {
+      place = i;
+      seat = get_or before i d;
+      there = slice_get-get_or before i d same.0;
+      refused =
+          subst (λ n. MayRefuseTake (is_sink (channel_at t n)) cause) same.1 refused;
+    }
 
 -- ---- a seat that is found by its channel
 

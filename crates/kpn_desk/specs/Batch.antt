@@ -1,6 +1,5 @@
 -- What a worker does with several processes in one hold of the lock, one after the other.
-use Rattle.std.specs.Prelude.{◌≡◌, ℕ, ◌<◌, ◌-◌, ◌⊎◌, true, List, [], ◌∷◌, take, drop, min, Option, Some, None}
-use Rattle.std.specs.Int.{div_ceil}
+use Rattle.std.specs.Prelude.{◌≡◌, ℕ, ◌<◌, ◌-◌, ◌⊎◌, true, List, [], ◌∷◌, map, take, drop, slice_get, Option, Some, None}
 use Rattle.kpn_step.specs.Frame.{Frame}
 use Rattle.kpn_step.specs.Stops.{Advanced}
 use Rattle.kpn_configuration.specs.Configuration.{frame_in}
@@ -10,6 +9,8 @@ use Rattle.kpn_run_state.specs.Book.{Book, IsHeld, IsClaimed, put_back}
 use Rattle.kpn_run_state.specs.Commits.{IsOwnAdvance, Commits}
 use Rattle.kpn_desk.specs.declared.seat.Why.{Why}
 use Rattle.kpn_desk.specs.declared.seat.Why.TheVariants.{Abandoned, NoMemory}
+use Rattle.kpn_desk.specs.declared.gate.Go.{Go}
+use Rattle.kpn_desk.specs.declared.gate.Go.TheVariants.{On, Abandon}
 use Rattle.kpn_desk.specs.Desk.{Desk}
 
 -- the process that was claimed last, if one was, with its frame, and the steps that were made last, with their process
@@ -30,9 +31,9 @@ pub record Batch : Type 0 where
   pub held : ℕ
   pub passed : ℕ
 
--- how many processes a worker claims of so many that are ready
-abbrev pub share_of : (workers ready : ℕ) → ℕ
-share_of workers ready = min (div_ceil ready workers) 8
+-- the processes that were claimed last, in the order of the turns
+abbrev pub claimed_by : List Turn → List ℕ
+claimed_by turns = map (λ (turn : Turn). turn.claimed) turns
 
 -- ---- one turn
 
@@ -57,6 +58,15 @@ abbrev pub PutsBack : Turn → Book → Book → Type 0
 PutsBack turn before after =
     (IsHeld before turn.claimed × (after ≡ put_back turn.claimed before))
     ⊎ ((¬ IsHeld before turn.claimed) × (after ≡ before))
+
+-- ---- the gate
+
+-- the gate, which may answer so, has let the first ones of the processes through; if more are held, it made the worker
+-- end at the next one
+pub record LetsThrough (may_answer : (process : ℕ) → Go → Type 0) (passed held : ℕ) (processes : List ℕ) : Type 0
+  where
+    pub through : (i p : ℕ) → i < passed → slice_get processes i ≡ Some p → may_answer p On
+    pub next : (p : ℕ) → passed < held → slice_get processes passed ≡ Some p → may_answer p Abandon
 
 -- ---- one turn after the other
 

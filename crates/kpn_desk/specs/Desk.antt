@@ -1,25 +1,44 @@
 -- What lies under the lock of a run, and what holds of it whenever the lock is free.
-use Rattle.std.specs.Prelude.{◌≡◌, ◌≤◌, ◌<◌, ◌+◌, ℕ, Bool, true, false, Option, Some, None}
+use Rattle.std.specs.Prelude.{◌≡◌, ◌≤◌, ◌<◌, ◌+◌, ℕ, Bool, true, false, min, max, count_by, Option, Some, None}
+use Rattle.std.specs.Int.{div_ceil}
 use Rattle.kpn_net.specs.Tables.{Tables}
 use Rattle.kpn_history.specs.Ends.{IsSettled}
+use Rattle.kpn_history.specs.Views.{is_ready}
 use Rattle.kpn_run_state.specs.Book.{Book}
 use Rattle.kpn_run_state.specs.Kept.{IsBook}
 use Rattle.kpn_desk.specs.declared.seat.Why.{Why}
 use Rattle.kpn_desk.specs.declared.seat.Why.TheVariants.{Halted, Settled, Limit}
 
--- the book of the run, the total of the ledger in which commits are counted, the mark that the workers have to end, and
--- how many of them have not ended
+-- the book of the run, the total of the ledger in which commits are counted, the mark that the workers have to end, how
+-- many workers there are, and how many of them have not ended
 pub record Desk : Type 0 where
   pub book : Book
   pub total : ℕ
   pub halts : Bool
+  pub workers : ℕ
   pub working : ℕ
 
--- a desk of the run of a network: the book is one of this network, and the total is the number of its commits
-pub record IsDesk (t : Tables) (d : Desk) : Type 0 where
+-- a desk of the run of a network by so many workers: the book is one of this network, and the total is the number of
+-- its commits
+pub record IsDesk (t : Tables) (count : ℕ) (d : Desk) : Type 0 where
   pub network : d.book.tables ≡ t
   pub book : IsBook d.book
   pub counted : d.total ≡ d.book.commits
+  pub workers : d.workers ≡ count
+
+-- ---- what a worker claims
+
+-- how many processes are ready
+abbrev pub ready_in : Book → ℕ
+ready_in b = count_by is_ready b.schedule.states
+
+-- how many processes a worker claims of so many that are ready
+abbrev pub share_of : (workers ready : ℕ) → ℕ
+share_of workers ready = min (div_ceil ready workers) 8
+
+-- how many of the ready processes one of so many workers claims
+abbrev pub share_in : (workers : ℕ) → Book → ℕ
+share_in workers b = share_of (max workers 1) (ready_in b)
 
 -- ---- what changes it
 

@@ -3,7 +3,7 @@ use Rattle.std.specs.Prelude.{◌≡◌, ◌≢◌, ℕ, ℤ, Bool, true, false,
 use Rattle.std.specs.List.{filter, remove, All}
 use Rattle.kpn_lang.specs.Prefix.{IsPrefix}
 use Rattle.kpn_net.specs.declared.tables.ChannelSpec.{ChannelSpec}
-use Rattle.kpn_net.specs.Tables.{Tables, channel_at}
+use Rattle.kpn_net.specs.Tables.{Tables, channel_at, is_sink}
 use Rattle.kpn_net.specs.Faults.{channel_numbers}
 use Rattle.kpn_chan.specs.Channel.{unread}
 use Rattle.kpn_history.specs.declared.event.Event.{Event}
@@ -88,6 +88,10 @@ HaveTaken [] [] = Unit {0}
 HaveTaken (x ∷ xs) (y ∷ ys) = TakesMore x y × HaveTaken xs ys
 HaveTaken xs ys = ⊥
 
+-- each of these seats is that of a sink of the network
+abbrev pub AreSinks : Tables → List EndSeat → Type 0
+AreSinks t seats = All (λ (seat : EndSeat). is_sink (channel_at t seat.channel) ≡ true) seats
+
 -- ---- why a call of the outside may be refused, whatever has happened: `is_there` says whether the network has a
 -- source, or a sink, with its number
 
@@ -111,6 +115,13 @@ MayRefuseTake is_there NoSuchEnd = is_there ≡ false
 MayRefuseTake is_there SinkLeft = is_there ≡ true
 MayRefuseTake is_there NoMemory = is_there ≡ true
 MayRefuseTake is_there other = ⊥
+
+-- taking from the sinks of these seats, one after the other: the take from one of them is refused
+pub record MayRefuseTakes (t : Tables) (seats : List EndSeat) (cause : Refused) : Type 0 where
+  pub place : ℕ
+  pub seat : EndSeat
+  pub there : slice_get seats place ≡ Some seat
+  pub refused : MayRefuseTake (is_sink (channel_at t seat.channel)) cause
 
 -- a snapshot for a seat that has fed these items to a source: if the seat is of another run, it has fed something, or
 -- has no such source

@@ -1,6 +1,8 @@
 //! The turns that a worker makes between two holds of the lock, in the order of their claims.
-ghost use Rattle.std.specs.Prelude.{◌≡◌, ◌<◌, ◌≤◌, take, length};
-ghost use Rattle.kpn_desk.specs.Batch.{InTurn, Claims, CommitsOrDrops, PutsBack, Settles};
+ghost use Rattle.std.specs.Prelude.{◌≡◌, ◌↔◌, ◌<◌, ◌≤◌, IsTrue, take, length};
+ghost use Rattle.kpn_run_state.specs.Stepping.{ClaimsNobody};
+ghost use Rattle.kpn_desk.specs.Batch.{InTurn, Claims, CommitsOrDrops, PutsBack, Settles, claimed_by, LetsThrough};
+ghost use Rattle.kpn_desk.specs.Desk.{share_in};
 
 use crate::crew::BATCH;
 use crate::desk::Desk;
@@ -37,7 +39,9 @@ impl<'n, J: Job> Model for Batch<'n, J> {
 
 impl<'n, J: Job> Batch<'n, J> {
     /// No process is claimed.
-    pub(crate) fn new() -> Self {
+    pub(crate) fn new() -> Self
+        ensures { result.held ≡ 0 }
+    {
         Batch {
             turns: ArrayVec::from_array_in(
                 (),
@@ -58,22 +62,34 @@ impl<'n, J: Job> Batch<'n, J> {
     }
 
     /// How many processes are claimed.
-    pub(crate) fn len(&self) -> usize {
+    pub(crate) fn len(&self) -> usize
+        ensures { result ≡ self.now.held }
+    {
         self.held
     }
 
     /// Claims a worker's share of those that are ready, at most 8. Returns whether there is one.
     pub(crate) fn claim<A: Allocator>(&mut self, desk: &mut Desk<'n, J, A>) -> bool
-        ensures { InTurn Claims (take self.new.held self.new.turns) desk.old.book desk.new.book }
+        ensures claims { InTurn Claims (take self.new.held self.new.turns) desk.old.book desk.new.book }
+        ensures share { self.new.held ≤ share_in J.parts desk.old.book }
+        ensures all { self.new.held < share_in J.parts desk.old.book
+            → ClaimsNobody desk.new.book }
+        ensures some { IsTrue result ↔ (0 < self.new.held) }
     {
-        let most = desk.crew.share(desk.ready());
+        desk.known();
+        let most = desk.share();
         self.held = claim_each(desk, self.turns.as_mut_slice(), most);
         self.passed = 0;
         self.held > 0
     }
 
     /// Steps each process and asks the gate for it, in order, until the gate ends the worker.
-    pub(crate) fn step<G: Gate>(&mut self, gate: &G, worker: usize, quota: u32) {
+    pub(crate) fn step<G: Gate>(&mut self, gate: &G, worker: usize, quota: u32)
+        ensures held { self.new.held ≡ self.old.held }
+        ensures claimed { claimed_by self.new.turns ≡ claimed_by self.old.turns }
+        ensures gate { LetsThrough (G.may_answer gate.now worker) self.new.passed self.new.held
+            (claimed_by self.new.turns) }
+    {
         let held = self.held;
         self.passed = step_each(gate, worker, quota, self.turns.as_mut_slice(), held);
     }
@@ -112,6 +128,7 @@ fn claim_each<'n, J: Job, A: Allocator>(
     requires { most ≤ length turns.old }
     ensures claims { InTurn Claims (take result turns.new) desk.old.book desk.new.book }
     ensures count { result ≤ most }
+    ensures all { result < most → ClaimsNobody desk.new.book }
 {
     'turns: for i in 0..most {
         let turn = &mut turns[i];
@@ -132,13 +149,17 @@ fn step_each<J: Job, G: Gate>(
     held: usize,
 ) -> usize
     requires { held ≤ length turns.old }
-    ensures { result ≤ held }
+    ensures count { result ≤ held }
+    ensures claimed { claimed_by turns.new ≡ claimed_by turns.old }
+    ensures gate { LetsThrough (G.may_answer gate.now worker) result held
+        (claimed_by turns.new) }
 {
     'turns: for i in 0..held {
         let turn = &mut turns[i];
         let process = turn.step(quota);
-        if gate.between(worker, process) == Go::Abandon {
-            return i;
+        match gate.between(worker, process) {
+            Go::On => {}
+            Go::Abandon => return i,
         }
     }
     held

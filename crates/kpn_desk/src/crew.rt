@@ -28,7 +28,7 @@
 //! The worker that keeps watch rests for a short time. Then the others have committed, and so are there to take the
 //! process up, or this one has waited in vain and joins, and by its claim sees to the next process.
 ghost use Rattle.std.specs.Prelude.{◌≡◌, true, max};
-ghost use Rattle.kpn_desk.specs.Batch.{share_of};
+ghost use Rattle.kpn_desk.specs.Desk.{share_of};
 
 use std::mem;
 use std::time::{Clock, Duration, Instant};
@@ -122,8 +122,6 @@ impl Pace {
 /// How many workers there are of each kind, what their turns take, and whether somebody outside waits.
 #[derive(Clone, Copy, Default)]
 pub(crate) struct Crew {
-    // all, those that have ended too
-    workers: usize,
     // those that have not ended
     working: usize,
     busy: usize,
@@ -147,11 +145,19 @@ pub(crate) struct Crew {
     owes_call: bool,
 }
 
+/// How many processes one of so many workers claims if so many are ready: its part of them, but no more than a batch.
+pub(crate) fn share(workers: usize, ready: usize) -> usize
+    ensures { result ≡ share_of (max workers 1) ready }
+{
+    ready.div_ceil(workers.max(1)).min(BATCH)
+}
+
 impl Crew {
     /// So many workers, none of which has come yet.
-    pub(crate) fn new(workers: usize) -> Crew {
+    pub(crate) fn new(workers: usize) -> Crew
+        ensures { result.working ≡ workers }
+    {
         Crew {
-            workers,
             working: workers,
             ..Crew::default()
         }
@@ -182,13 +188,6 @@ impl Crew {
     /// A worker is busy from now on.
     pub(crate) fn join(&mut self) {
         self.busy = self.busy.saturating_add(1);
-    }
-
-    /// How many processes a worker claims if so many are ready: its part of them, but no more than a batch.
-    pub(crate) fn share(&self, ready: usize) -> usize
-        ensures { result ≡ share_of (max self.now.workers 1) ready }
-    {
-        ready.div_ceil(self.workers.max(1)).min(BATCH)
     }
 
     /// A worker is back from so many turns, which left the lock free for so long if they were measured; from none if it

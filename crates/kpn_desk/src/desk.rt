@@ -5,12 +5,12 @@ ghost use Rattle.kpn_history.specs.Views.{Agrees, AreCounts};
 ghost use Rattle.kpn_run_state.specs.Kept.{IsBook};
 ghost use Rattle.kpn_desk.specs.declared.crew.Awaited.TheVariants.{There, Ended};
 ghost use Rattle.kpn_desk.specs.declared.crew.Need.TheVariants.{Item, Room};
-ghost use Rattle.kpn_desk.specs.Desk.{halted, IsReason};
+ghost use Rattle.kpn_desk.specs.Desk.{halted, IsReason, ready_in, share_in};
 ghost use Rattle.kpn_desk.specs.Waiting.{IsMet};
 ghost use Rattle.kpn_run_state.specs.Snapshot.{ShowsARun, ShowsJournals, IsBelowKahn, IsKahnAtRest};
 ghost use Rattle.kpn_desk.specs.Invariant.{AreBelowLeast, AreReadThenQueued, AreWithinCapacity, AreBlockedCounts, AreOwedGrowths, AreLeastWhenQuiet, HasNoneLeftToGrow, HasNoneLeftAtStop};
 
-use crate::crew::{Awaited, Crew, Need};
+use crate::crew::{Awaited, Crew, Need, share};
 use crate::job::Job;
 use crate::outside_seats::SinkSeat;
 use crate::seat::Why;
@@ -28,6 +28,7 @@ pub struct Desk<'n, J: Job, A: Allocator = Global> {
     pub(crate) book: Book<'n, A>,
     pub(crate) total: ledger::Book<J>,
     halts: bool,
+    workers: usize,
     // no contract sees which workers step and which rest, only how many have not ended
     pub(crate) crew: Crew,
 }
@@ -45,14 +46,16 @@ impl<'n, J: Job, A: Allocator> Model for Desk<'n, J, A> {
       book = d.book;
       total = d.total.total;
       halts = d.halts;
+      workers = d.workers;
       working = d.crew.working;
     } };
 
     ghost invariant = { λ d.
-        IsDesk J.network (record {
+        IsDesk J.network J.parts (record {
           book = d.book;
           total = d.total.total;
           halts = d.halts;
+          workers = d.workers;
           working = d.crew.working;
         }) };
 }
@@ -66,14 +69,17 @@ impl<'n, J: Job, A: Allocator + Copy> Desk<'n, J, A> {
         workers: usize,
     ) -> Result<Self, AllocError>
         requires network { network.now ≡ J.network }
+        requires workers { workers ≡ J.parts }
         requires total { total.total ≡ 0 }
-        ensures { IfOk result (λ desk. desk.halts ≡ false) }
+        ensures halts { IfOk result (λ desk. desk.halts ≡ false) }
+        ensures working { IfOk result (λ desk. desk.working ≡ workers) }
     {
         let book = Book::new(alloc, network)?;
         Ok(Desk {
             book,
             total,
             halts: false,
+            workers,
             crew: Crew::new(workers),
         })
     }
@@ -86,11 +92,12 @@ impl<'n, J: Job, A: Allocator> Desk<'n, J, A> {
     /// blocked processes are exact; each growth took the smallest awaited full channel of a blocked cycle or of a
     /// settled network; when every process has ended or waits on an empty channel, the journals are that solution; no
     /// blocked cycle has a full channel below the limit; and under the policy `all` no process waits on one once the
-    /// book is settled.
+    /// book is settled. There are as many workers as the ledger has parts.
     pub fn known(&self)
         ensures network { self.now.book.tables ≡ J.network }
         ensures book { IsBook self.now.book }
         ensures counted { self.now.total ≡ self.now.book.commits }
+        ensures workers { self.now.workers ≡ J.parts }
         ensures below { AreBelowLeast self.now.book }
         ensures queued { AreReadThenQueued self.now.book }
         ensures within { AreWithinCapacity self.now.book }
@@ -156,8 +163,17 @@ impl<'n, J: Job, A: Allocator> Desk<'n, J, A> {
     }
 
     /// How many processes are ready.
-    pub(crate) fn ready(&self) -> usize {
+    pub(crate) fn ready(&self) -> usize
+        ensures { result ≡ ready_in self.now.book }
+    {
         self.book.counts().ready
+    }
+
+    /// How many of them a worker claims.
+    pub(crate) fn share(&self) -> usize
+        ensures { result ≡ share_in self.now.workers self.now.book }
+    {
+        share(self.workers, self.ready())
     }
 
     /// Whether a worker has a place here, or a reason to end.

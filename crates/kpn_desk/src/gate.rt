@@ -1,4 +1,6 @@
 //! What is asked between the steps of a process and their commit.
+ghost use Rattle.std.specs.Prelude.{◌≡◌};
+ghost use Rattle.kpn_desk.specs.declared.gate.Go.TheVariants.{On};
 
 /// Whether a worker goes on.
 #[derive(Clone, Copy, Debug, PartialEq, Eq)]
@@ -12,11 +14,18 @@ pub enum Go {
 
 /// Is asked after the steps of a process and before they are committed, while nobody holds the lock on its behalf.
 pub trait Gate: Sync {
+    ghost use Rattle.std.specs.Prelude.{ℕ};
+    ghost use Rattle.kpn_desk.specs.declared.gate.Go.{Go};
+
+    /// What it may answer when it is asked for this worker and this process; by default either.
+    ghost may_answer: { Self → (worker process : ℕ) → Go → Type 0 } = { λ _ _ _ _. Unit {0} };
+
     /// Whether this worker, which has stepped this process, goes on. Both are numbers from 0. However long the answer
     /// takes, other workers go on with other processes. A worker claims up to eight at once, and asks for each in the
     /// order of its claims: so a gate that waits here for one that the same worker asks for later never meets
     /// it.
-    fn between(&self, worker: usize, process: usize) -> Go;
+    fn between(&self, worker: usize, process: usize) -> Go
+        ensures { may_answer self.now worker process result };
 }
 
 /// The commit gate that lets every commit through.
@@ -24,6 +33,8 @@ pub trait Gate: Sync {
 pub struct CommitsAll;
 
 impl Gate for CommitsAll {
+    ghost may_answer = { λ _ _ _ go. go ≡ On };
+
     fn between(&self, _worker: usize, _process: usize) -> Go {
         Go::On
     }

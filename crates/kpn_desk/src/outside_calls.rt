@@ -1,12 +1,13 @@
 //! The calls of the outside on a shared desk. Each waits for the lock, and only those that say so wait for more.
-ghost use Rattle.std.specs.Prelude.{◌≡◌, ◌<◌, ◌≤◌, ◌++◌, length, take, IfOk, IfErr, OnErr, OnOk, IsTrue, true};
+ghost use Rattle.std.specs.Prelude.{◌≡◌, ◌≢◌, ◌<◌, ◌≤◌, ℤ, ◌++◌, length, take, IfOk, IfErr, OnErr, OnOk, IsTrue, true, Err};
 ghost use Rattle.kpn_lang.specs.Prefix.{IsPrefix};
 ghost use Rattle.kpn_net.specs.Tables.{channel_at, is_source, is_sink};
 ghost use Rattle.kpn_chan.specs.Channel.{unread};
 ghost use Rattle.kpn_configuration.specs.Configuration.{channel_in};
 ghost use Rattle.kpn_desk.specs.declared.crew.Awaited.TheVariants.{There};
 ghost use Rattle.kpn_desk.specs.declared.outside_calls.SnapFault.TheVariants.{NoMemory};
-ghost use Rattle.kpn_desk.specs.OutsideSeats.{with_item, with_taken, HaveTaken, TakesMore, FeedsUntil, MayRefuseFeed, MayRefuseEnd, MayRefuseTake, MayRefuseSnapshot};
+ghost use Rattle.kpn_desk.specs.OutsideSeats.{with_item, with_taken, HaveTaken, TakesMore, FeedsUntil, MayRefuseFeed, MayRefuseEnd, MayRefuseTake, MayRefuseTakes, MayRefuseSnapshot, AreSinks};
+ghost use Rattle.kpn_run_state.specs.declared.answers.Refused.TheVariants.{Full};
 ghost use Rattle.kpn_desk.specs.Waiting.{IsFullSource};
 ghost use Rattle.std.specs.Sync.Mutex.{mutex_guard_value};
 ghost use Rattle.kpn_run_state.specs.Snapshot.{ShowsARun, shown_on, IsBelowKahn, IsKahnAtRest};
@@ -126,7 +127,9 @@ pub fn take_each<J: Job, A: Allocator, B: Allocator, R: Wait>(
     shared: &Shared<'_, J, A>,
     seats: &mut [SinkSeat<B>],
 ) -> Result<(), Refused>
-    ensures { HaveTaken seats.old seats.new }
+    ensures taken { HaveTaken seats.old seats.new }
+    ensures sinks { OnOk result (AreSinks J.network seats.old) }
+    ensures refused { IfErr result (MayRefuseTakes J.network seats.old) }
 {
     let mut desk = shared.lock(rt);
     let taken = take_from_each(&mut desk, seats);
@@ -144,7 +147,9 @@ pub fn take_when_due<J: Job, A: Allocator, B: Allocator, R: Wait + Clock>(
     shared: &Shared<'_, J, A>,
     seats: &mut [SinkSeat<B>],
 ) -> Result<bool, Refused>
-    ensures { HaveTaken seats.old seats.new }
+    ensures taken { HaveTaken seats.old seats.new }
+    ensures sinks { OnOk result (AreSinks J.network seats.old) }
+    ensures refused { IfErr result (MayRefuseTakes J.network seats.old) }
 {
     let mut desk = shared.lock_when_due(rt, seats);
     let goes_on = !desk.crew.has_ended();
@@ -228,6 +233,7 @@ pub fn feed_when_room<J: Job, A: Allocator + Copy, B: Allocator, R: Wait + Clock
         → is_source (channel_at J.network seat.old.channel) ≡ true) }
     ensures refused { IfErr result (λ cause. FeedsUntil items.now seat.old seat.new (λ item.
         MayRefuseFeed (is_source (channel_at J.network seat.old.channel)) item cause)) }
+    ensures never_full { (item : ℤ) → result ≢ Err (Full item) }
 {
     let source = seat.channel();
     let (desk, _) = shared.lock_when(rt, Need::Room { source, bound });
@@ -255,6 +261,7 @@ fn feed_first<'l, 'n, J: Job, A: Allocator + Copy, B: Allocator>(
         → is_source (channel_at J.network seat.old.channel) ≡ true) }
     ensures refused { IfErr result (λ cause. FeedsUntil items.now seat.old seat.new (λ item.
         MayRefuseFeed (is_source (channel_at J.network seat.old.channel)) item cause)) }
+    ensures never_full { (item : ℤ) → result ≢ Err (Full item) }
 {
     let mut desk = desk;
     let before = seat.fed().len();

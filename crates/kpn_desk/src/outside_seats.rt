@@ -8,7 +8,7 @@ ghost use Rattle.kpn_configuration.specs.Configuration.{channel_in};
 ghost use Rattle.kpn_run_state.specs.Appending.{AppendsAll};
 ghost use Rattle.kpn_run_state.specs.Refusals.{RefusesFeed, RefusesClose, RefusesTake, RefusesLeave, Feeds, Closes, Takes, Leaves};
 ghost use Rattle.kpn_desk.specs.Desk.{with_book};
-ghost use Rattle.kpn_desk.specs.OutsideSeats.{with_item, with_taken, HaveTaken, new_end, AreRecorded, FeedsUntil, TakesFirst, MayRefuseFeed, MayRefuseEnd, MayRefuseTake};
+ghost use Rattle.kpn_desk.specs.OutsideSeats.{with_item, with_taken, HaveTaken, new_end, AreRecorded, FeedsUntil, TakesFirst, MayRefuseFeed, MayRefuseEnd, MayRefuseTake, MayRefuseTakes, AreSinks};
 
 use crate::desk::Desk;
 use crate::job::Job;
@@ -250,6 +250,8 @@ pub(crate) fn take_from_each<J: Job, A: Allocator, B: Allocator>(
     seats: &mut [SinkSeat<A>],
 ) -> Result<(), Refused>
     ensures seats { HaveTaken seats.old seats.new }
+    ensures sinks { OnOk result (AreSinks J.network seats.old) }
+    ensures may_refuse { IfErr result (MayRefuseTakes J.network seats.old) }
     ensures desk { desk.new ≡ with_book desk.new.book desk.old }
 {
     'seats: for i in 0..seats.len() {

@@ -82,10 +82,10 @@ fn conclusion(
             status: 0,
             files: Vec::new(alloc),
         }),
-        Finding::NotLegal(Flaw::Illegal(k)) => {
-            illegal(alloc, document, name, bytes, trace, k, steps)
-        }
-        Finding::NotLegal(Flaw::Budget(k)) => Ok(Flaw::Budget(k).conclusion(alloc)?),
+        Finding::NotLegal(flaw) => match flaw {
+            Flaw::Illegal(k) => illegal(alloc, document, name, bytes, trace, k, steps),
+            Flaw::Budget(_) => Ok(flaw.conclusion(alloc)?),
+        },
     }
 }
 

@@ -17,9 +17,16 @@ abbrev pub is_abandoned : Option Why → Bool
 is_abandoned (Some why.Abandoned) = true
 is_abandoned other = false
 
+-- memory ran out in a worker
+abbrev pub ran_out : List Worked → Bool
+ran_out workers = list_any (λ (w : Worked). is_out_of_memory w.why) workers
+
+-- the gate made every worker end
+abbrev pub all_abandoned : List Worked → Bool
+all_abandoned workers = list_all (λ (w : Worked). is_abandoned w.why) workers
+
 -- the first of these: a thread could not be started; memory ran out in a worker; the gate made every worker end
 abbrev pub cause_of : (had_threads : Bool) → List Worked → Option RunFault
 cause_of had_threads workers =
     if not had_threads then Some Threads else
-    (if list_any (λ (w : Worked). is_out_of_memory w.why) workers then Some NoMemory else
-    (if list_all (λ (w : Worked). is_abandoned w.why) workers then Some Abandoned else None))
+    (if ran_out workers then Some NoMemory else (if all_abandoned workers then Some Abandoned else None))

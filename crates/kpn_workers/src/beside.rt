@@ -2,7 +2,7 @@
 ghost use Rattle.std.specs.Prelude.{◌≡◌, ◌<◌, ◌≤◌, Bool, [], length, IfOk, vec_len, vec_capacity};
 ghost use Rattle.std.specs.List.{sum_by};
 ghost use Rattle.kpn_run_state.specs.Kept.{IsBook};
-ghost use Rattle.kpn_workers.specs.Causes.{is_out_of_memory, is_abandoned, cause_of};
+ghost use Rattle.kpn_workers.specs.Causes.{is_out_of_memory, is_abandoned, ran_out, all_abandoned, cause_of};
 
 use crate::fault::RunFault;
 use crate::threads::{Ended, work_side_by_side};
@@ -178,13 +178,27 @@ fn fault_of(had_threads: bool, workers: &[Worked]) -> Option<RunFault>
     if !had_threads {
         return Some(RunFault::Threads);
     }
-    if workers.iter().any(|worked| is_out_of_memory(worked.why)) {
+    if has_run_out(workers) {
         return Some(RunFault::NoMemory);
     }
-    if workers.iter().all(|worked| is_abandoned(worked.why)) {
+    if have_abandoned(workers) {
         return Some(RunFault::Abandoned);
     }
     None
+}
+
+/// Whether memory ran out in a worker.
+fn has_run_out(workers: &[Worked]) -> bool
+    ensures { result ≡ ran_out workers.now }
+{
+    workers.iter().any(|worked| is_out_of_memory(worked.why))
+}
+
+/// Whether the gate made every worker end.
+fn have_abandoned(workers: &[Worked]) -> bool
+    ensures { result ≡ all_abandoned workers.now }
+{
+    workers.iter().all(|worked| is_abandoned(worked.why))
 }
 
 /// Whether a worker ended since memory ran out at its commit.

@@ -1,6 +1,8 @@
 -- Each finding has its text under its status.
 use Rattle.std.proofs.Common.{refl, subst}
 use Rattle.kpn_net.specs.Tables.{Tables}
+use Rattle.kpn_audited.specs.declared.flaw.Flaw.{Flaw}
+use Rattle.kpn_audited.specs.Flaw.{IsTold}
 use Rattle.kpn_audited.specs.Audited.{IsFinding, IsFlaw}
 use Rattle.kpn_audited.proofs.Found.{journals_within}
 use Rattle.kpn_explain_trace.specs.Answers.{legal, budget}
@@ -34,18 +36,21 @@ illegal-requires c =
     let found =
     subst (λ (n : Tables). IsFinding n trace c.args.steps c.in_ok-finding.finding) c.network.ensures
     c.in_ok-finding.ensures.found in
-    subst (IsFlaw t trace c.args.steps) c.in-NotLegal-Illegal.field-0-is
-    (subst (IsFinding t trace c.args.steps) c.in-NotLegal-Illegal.is found)
+    subst (IsFlaw t trace c.args.steps) c.in-Illegal.is
+    (subst (IsFinding t trace c.args.steps) c.in-NotLegal.is found)
 
-pub returns-in_ok-conclusion-in-NotLegal-Budget-clause-ok : goal.returns-in_ok-conclusion-in-NotLegal-Budget-clause-ok
-returns-in_ok-conclusion-in-NotLegal-Budget-clause-ok c =
+pub returns-in_ok-conclusion-in-Budget-clause-ok : goal.returns-in_ok-conclusion-in-Budget-clause-ok
+returns-in_ok-conclusion-in-Budget-clause-ok c =
     let t = c.args.document.now.tables in
     let trace = c.args.trace.now in
+    let made = c.in_ok-conclusion-in-Budget.field-0 in
     let found =
     subst (λ (n : Tables). IsFinding n trace c.args.steps c.in_ok-finding.finding) c.network.ensures
     c.in_ok-finding.ensures.found in
     let is =
-    subst (IsFlaw t trace c.args.steps) c.in-NotLegal-Budget.field-0-is
-    (subst (IsFinding t trace c.args.steps) c.in-NotLegal-Budget.is found) in
-    let told = c.in_ok-conclusion-in-NotLegal-Budget.ensures in
-    (budget c.in-NotLegal-Budget.k is told.0.0 told.0.1, told.1)
+    subst (IsFlaw t trace c.args.steps) c.in-Budget.is
+    (subst (IsFinding t trace c.args.steps) c.in-NotLegal.is found) in
+    let told =
+    subst (λ (f : Flaw). IsTold f made.text.items made.status) c.in-Budget.is
+    c.in_ok-conclusion-in-Budget.ensures.0 in
+    (budget c.in-Budget.field-0 is told.0 told.1, c.in_ok-conclusion-in-Budget.ensures.1)

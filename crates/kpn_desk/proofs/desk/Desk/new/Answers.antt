@@ -7,4 +7,5 @@ invariant_of-result g c =
       network = c.in_ok-book.ensures.tables ∙ c.requires.network;
       book = c.in_ok-book.ensures.book;
       counted = c.requires.total ∙ sym c.in_ok-book.ensures.commits;
+      workers = c.requires.workers;
     }
