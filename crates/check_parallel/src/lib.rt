@@ -3,8 +3,6 @@
 #![tactic(auto)]
 
 #[cfg(test)]
-mod commits;
-#[cfg(test)]
 mod runs;
 #[cfg(test)]
 mod serving;

@@ -15,10 +15,6 @@ mod looking;
 #[cfg(test)]
 mod meeting;
 #[cfg(test)]
-mod memory;
-#[cfg(test)]
-mod moving;
-#[cfg(test)]
 mod networks;
 #[cfg(test)]
 mod outside;
