@@ -28,12 +28,12 @@ impl<'a> Model for RunRequest<'a> {
     ghost Value = { spec.RunRequest };
 
     ghost view = { λ r. record {
-        file = r.file.now;
-        sources = map (λ word. word.now) r.sources.items;
-        sinks = map (λ word. word.now) r.sinks.items;
-        commits = r.commits;
-        take = r.take;
-        trace = option_map (λ name. name.now) r.trace;
-        workers = r.workers;
+      file = r.file.now;
+      sources = map (λ word. word.now) r.sources.items;
+      sinks = map (λ word. word.now) r.sinks.items;
+      commits = r.commits;
+      take = r.take;
+      trace = option_map (λ name. name.now) r.trace;
+      workers = r.workers;
     } };
 }
