@@ -1,6 +1,5 @@
 //! An event of each kind with its line.
-use kpn_history::{Event, How};
-use kpn_trace_text::{Version, event_line, read_event};
+use kpn_trace::{Event, How, Version, event_line, read_event};
 use std::alloc::Global;
 use std::test::Fail;
 

@@ -1,6 +1,5 @@
 //! A trace is read while memory runs out, because a heap is full for a while, and once more with memory.
-use kpn_history::Event;
-use kpn_trace_text::{TraceFault, read_trace};
+use kpn_trace::{Event, TraceFault, read_trace};
 use linked_list_allocator::LocalHeap;
 use std::test::Fail;
 
