@@ -1,7 +1,7 @@
 //! Traces of events, under the policy `cycles`.
-use kpn_history::{Event, Trace, Version};
 use kpn_lang::Sequence;
 use kpn_net::{Growth, Policy};
+use kpn_trace::{Event, Trace, Version};
 use std::alloc::{AllocError, Global};
 
 /// The trace of these events.
