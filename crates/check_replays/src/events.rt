@@ -7,11 +7,11 @@ ghost use Rattle.kpn_configuration.specs.Due.{Stands, ReadsFrom, WritesTo, stop_
 use anyhow::{Result, bail, ensure};
 use arrayvec::ArrayVec;
 use kpn_configuration::Configuration;
-use kpn_history::{Event, How};
 use kpn_lang::Fault;
 use kpn_limits::MAX_PORTS;
 use kpn_net::{Network, Wait};
 use kpn_step::Stop;
+use kpn_trace::{Event, How};
 
 /// The processes that an event woke, in the order in which the call returns them.
 pub(crate) type Woken = Result<ArrayVec<usize, MAX_PORTS>>;
