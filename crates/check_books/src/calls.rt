@@ -1,9 +1,9 @@
 //! The calls of a book. Each function returns the call's answer as text.
 use crate::words::Call;
 use anyhow::{Result, ensure};
+use kpn_book::{Book, Claim, View};
 use kpn_lang::Program;
 use kpn_net::Network;
-use kpn_run_state::{Book, Claim, View};
 use kpn_step::{Advance, Frame, advance};
 use linked_list_allocator::LocalHeap;
 use std::alloc::{Allocator, Global};
@@ -122,18 +122,23 @@ fn write_ends<A: Allocator>(text: &mut String, view: &View<A>) -> Result<()> {
     Ok(())
 }
 
-/// A snapshot: its journals, which are short, and then the other lists.
-fn view<A: Allocator>(alloc: Global, heap: &LocalHeap, book: &Book<'_, A>) -> Result<String> {
-    let Ok(view) = book.snapshot(heap) else {
-        return Ok(format!(in alloc; "Err(NoMemory)")?);
-    };
+/// A view: its journals, which are short, and then the other lists.
+fn view_text<A: Allocator>(alloc: Global, view: &View<A>) -> Result<String> {
     let mut text = format!(in alloc; "Ok")?;
     for journal in view.journals.as_slice() {
         let items = journal.piece_at(0);
         write!(text, "\n  journal {items:?}")?;
     }
-    write_ends(&mut text, &view)?;
+    write_ends(&mut text, view)?;
     Ok(text)
+}
+
+/// A snapshot.
+fn view<A: Allocator>(alloc: Global, heap: &LocalHeap, book: &Book<'_, A>) -> Result<String> {
+    match book.snapshot(heap) {
+        Ok(view) => view_text(alloc, &view),
+        Err(_) => Ok(format!(in alloc; "Err(NoMemory)")?),
+    }
 }
 
 /// Makes a call.
