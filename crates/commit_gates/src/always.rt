@@ -1,5 +1,5 @@
 //! A gate with one answer.
-use kpn_desk::{Gate, Go};
+use kpn_pool::{Gate, Go};
 
 /// Gives each worker the same answer.
 #[derive(Drop)]

@@ -1,7 +1,7 @@
 //! A gate that holds one of two processes until the other comes.
 use crate::MOST_TURNS;
 use crate::flag::Flag;
-use kpn_desk::{Gate, Go};
+use kpn_pool::{Gate, Go};
 use std::sync::atomic::{AtomicU64, Ordering};
 use std::thread;
 
