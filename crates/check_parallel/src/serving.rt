@@ -1,10 +1,11 @@
 //! Runs beside a client that takes, and feeds if nobody else does.
 use commit_gates::Always;
-use kpn_text::read_network;
-use kpn_workers::{
-    Awaited, Client, Feeder, Go, Job, Limits, Outside, Refused, Shared, SinkSeat, SourceSeat, Why,
-    close, feed_when_room, run_beside, take_when_there,
+use kpn_book::{Limits, Refused};
+use kpn_pool::{
+    Awaited, Client, Feeder, Go, Job, Outside, Shared, SinkSeat, SourceSeat, Why, close,
+    feed_when_room, run_beside, take_when_there,
 };
+use kpn_text::read_network;
 use std::alloc::Global;
 use std::sync::Wait;
 use std::test::Fail;
