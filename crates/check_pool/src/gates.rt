@@ -1,6 +1,6 @@
 //! Gates that hold a process until another one has come, or pause.
 use commit_gates::{Flag, MOST_TURNS};
-use kpn_desk::{Gate, Go};
+use kpn_pool::{Gate, Go};
 use std::sync::atomic::{AtomicU64, Ordering};
 use std::thread;
 

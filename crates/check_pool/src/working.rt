@@ -1,5 +1,5 @@
 //! Two or three workers at once.
-use kpn_desk::{Gate, Job, Shared, WorkerSeat, work};
+use kpn_pool::{Gate, Job, Shared, WorkerSeat, work};
 use std::sync::Wait;
 use std::thread;
 use std::thread::Threads;
