@@ -1,3 +1,2 @@
-pub mod Whole
 pub mod Lines
 pub mod Conclusions

@@ -1,8 +1,8 @@
 //! The drawing of a network: a line for each process, source, sink and channel.
-ghost use Rattle.std.specs.Prelude.{◌≡◌, ◌<◌, ◌++◌, length, codes, option_map, OnOk, IfOk, IfSome};
+ghost use Rattle.std.specs.Prelude.{◌≡◌, ◌<◌, ◌++◌, length, codes, option_map, OnOk, IfOk};
 ghost use Rattle.kpn_net.specs.Tables.{channel_at, capacity};
 ghost use Rattle.kpn_draw_command.specs.DrawText.{drawing, head, each_below, process_line, process_title, state_line, filling, outside_line, end_node, capacity_label, growth_label, flow_line, boldness, thickness, arrow, closing, edge_label, edge_line, channel_lines};
-ghost use Rattle.kpn_draw_command.specs.Found.{state_of, flow_of, IsStateWithin, IsWhole};
+ghost use Rattle.kpn_draw_command.specs.Found.{state_of, flow_of};
 
 use crate::found::{Flow, flow_of, state_of};
 use kpn_audit::Audit;
@@ -19,7 +19,6 @@ pub(crate) fn text_of(
     document: &Document,
     audit: Option<&Audit>,
 ) -> Result<Vec<u8>, AllocError>
-    requires { IfSome (option_map (λ a. a.now) audit) (IsWhole document.now.tables) }
     ensures { IfOk result (λ text.
         text.items ≡ drawing document.now (option_map (λ a. a.now) audit.entry)) }
 {
@@ -46,14 +45,13 @@ fn push_processes(
     document: &Document,
     audit: Option<&Audit>,
 ) -> Result<(), AllocError>
-    requires { IfSome (option_map (λ a. a.now) audit) (IsWhole document.now.tables) }
     ensures { let d = document.now in
         OnOk result (text.new.items ≡ text.old.items ++ each_below (length d.tables.instances)
         (λ p. process_line d p (state_of (option_map (λ a. a.now) audit.entry) p))) }
 {
     let network = document.network();
     for p in 0..network.instances() {
-        let state = state_of(network, audit, p);
+        let state = state_of(audit, p);
         push_process(text, document, p, state)?;
     }
     Ok(())
@@ -66,8 +64,7 @@ fn push_process(
     p: usize,
     state: State,
 ) -> Result<(), AllocError>
-    requires there { p < length document.now.tables.instances }
-    requires within { IsStateWithin document.now.tables state }
+    requires { p < length document.now.tables.instances }
     ensures { OnOk result
         (text.new.items ≡ text.old.items ++ process_line document.now p state) }
 {
@@ -91,14 +88,12 @@ fn push_title(text: &mut Vec<u8>, document: &Document, p: usize) -> Result<(), A
     ensures { OnOk result (text.new.items ≡ text.old.items ++ process_title document.now p) }
 {
     let network = document.network();
-    network.known();
     let process = document.process_name(network.program_number(p));
     push_between(text, document.instance_name(p), b": ", process)
 }
 
 // What a process waits for, or how it has ended.
 fn push_state(text: &mut Vec<u8>, document: &Document, state: State) -> Result<(), AllocError>
-    requires { IsStateWithin document.now.tables state }
     ensures { OnOk result
         (text.new.items ≡ text.old.items ++ state_line document.now.names.channels state) }
 {
@@ -127,7 +122,6 @@ fn push_channels(
     document: &Document,
     audit: Option<&Audit>,
 ) -> Result<(), AllocError>
-    requires { IfSome (option_map (λ a. a.now) audit) (IsWhole document.now.tables) }
     ensures { let d = document.now in
         OnOk result (text.new.items ≡ text.old.items ++ each_below (length d.tables.channels)
         (λ c. channel_lines d c (flow_of d.tables (option_map (λ a. a.now) audit.entry) c))) }

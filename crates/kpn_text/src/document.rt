@@ -1,12 +1,13 @@
 //! Documents: networks with the names of their parts.
 
-ghost use Rattle.std.specs.Prelude.{◌≡◌, ◌<◌, length};
+ghost use Rattle.std.specs.Prelude.{◌≡◌, map};
 ghost use Rattle.kpn_names.specs.NetworkNames.{AreNamed, process_names};
 ghost use Rattle.kpn_names.specs.Names.{number_of, name_at};
 ghost use Rattle.kpn_text.specs.Document as spec;
 ghost use Rattle.kpn_text.specs.Spells.{IsSpelled};
 
-use kpn_names::NetworkNames;
+use kpn_lang::Sequence;
+use kpn_names::{NetworkNames, ProcessNames};
 use kpn_net::Network;
 use std::marker::Model;
 
@@ -64,28 +65,25 @@ impl Document {
         &self.names
     }
 
-    /// The name of the process with this number.
+    /// The name of the process with this number; no bytes if there is none.
     pub fn process_name(&self, i: usize) -> &[u8]
-        requires { i < length self.now.tables.programs }
         ensures { result.now ≡ name_at (process_names self.now.names) i }
     {
-        self.names.processes.as_slice()[i].name.as_slice()
+        process_name_in(self.names.processes.as_slice(), i)
     }
 
-    /// The name of the instance with this number.
+    /// The name of the instance with this number; no bytes if there is none.
     pub fn instance_name(&self, p: usize) -> &[u8]
-        requires { p < length self.now.tables.instances }
         ensures { result.now ≡ name_at self.now.names.instances p }
     {
-        self.names.instances.as_slice()[p].as_slice()
+        name_in(self.names.instances.as_slice(), p)
     }
 
-    /// The name of the channel with this number.
+    /// The name of the channel with this number; no bytes if there is none.
     pub fn channel_name(&self, c: usize) -> &[u8]
-        requires { c < length self.now.tables.channels }
         ensures { result.now ≡ name_at self.now.names.channels c }
     {
-        self.names.channels.as_slice()[c].as_slice()
+        name_in(self.names.channels.as_slice(), c)
     }
 
     /// The number of the channel with this name, or `None` if there is none.
@@ -98,5 +96,23 @@ impl Document {
             .as_slice()
             .iter()
             .position(|channel| name == channel.as_slice())
+    }
+}
+
+fn name_in(names: &[Sequence<u8>], number: usize) -> &[u8]
+    ensures { result.now ≡ name_at names.now number }
+{
+    match names.get(number) {
+        Some(name) => name.as_slice(),
+        None => b"",
+    }
+}
+
+fn process_name_in(processes: &[ProcessNames], number: usize) -> &[u8]
+    ensures { result.now ≡ name_at (map (λ p. p.name) processes.now) number }
+{
+    match processes.get(number) {
+        Some(names) => names.name.as_slice(),
+        None => b"",
     }
 }

@@ -1,16 +1,8 @@
 -- Each finding has its text under its status.
 use Rattle.std.proofs.Common.{subst}
 use Rattle.kpn_audit_command.specs.Answers.{IsFinding}
-use Rattle.kpn_draw_command.proofs.Whole.{whole_audit}
 use Rattle.kpn_draw_command.proofs.Conclusions.{concludes_legal, concludes_other}
 use Rattle.kpn_draw_command.proofs.command.conclusion.Goals as goal
-
-pub text_of-requires : goal.text_of-requires
-text_of-requires c =
-    let t = c.network-network.result.now in
-    let found = subst (IsFinding t c.args.trace.now c.args.steps) c.in-Legal.is c.in_ok-found.ensures.found in
-    whole_audit c.args.document.now.tables t c.network-network.ensures c.known.ensures c.args.trace.now c.in-Legal.audit
-    found.audited
 
 pub returns-in_ok-text_of-in-Legal-clause-ok : goal.returns-in_ok-text_of-in-Legal-clause-ok
 returns-in_ok-text_of-in-Legal-clause-ok c =

@@ -1,0 +1,12 @@
+-- The name is that of the process with the number.
+use Rattle.std.proofs.Common.{List, ℕ, [], sym, ap, ◌∙◌}
+use Rattle.std.proofs.lemmas.List.{get_or-map}
+use Rattle.kpn_names.specs.declared.network_names.ProcessNames.{ProcessNames}
+use Rattle.kpn_text.proofs.document.process_name_in.Goals as goal
+
+pub returns-in-Some : goal.returns-in-Some
+returns-in-Some c =
+    let name : ProcessNames → List ℕ = λ p. p.name in
+    let found =
+    get_or-map name c.args.processes.now c.args.number c.in-Some.names.now [] c.in-Some.ensures.lookup.3.0 in
+    c.as_slice.ensures ∙ ap name c.in-Some.ensures.lookup.1 ∙ sym found
