@@ -1,7 +1,6 @@
 //! Command lines, run over shelves and devices in memory.
 
-use kpn_cli::command::command;
-use kpn_cli::{MemoryShelf, Shelf};
+use kpn_cli::{MemoryShelf, Shelf, command};
 use std::alloc::{AllocError, Global};
 use std::io::ErrorKind;
 use std::sync::Wait;

@@ -1,8 +1,7 @@
 //! One call that fails: of a shelf for one of its names, of an input, or of the place for faults.
 
 use crate::lines::words_of;
-use kpn_cli::command::command;
-use kpn_cli::{MemoryShelf, Shelf};
+use kpn_cli::{MemoryShelf, Shelf, command};
 use kpn_items::{ItemFault, WriteFault};
 use std::alloc::{AllocError, Global};
 use std::io::ErrorKind;

@@ -14,8 +14,7 @@
 #![tactic(auto)]
 
 use anyhow::Result;
-use kpn_cli::command::command;
-use kpn_cli::{FileShelf, Shelf};
+use kpn_cli::{FileShelf, Shelf, command};
 use std::alloc::Global;
 use std::io::Write;
 use std::sync::Wait;

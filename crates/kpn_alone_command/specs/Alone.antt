@@ -1,5 +1,5 @@
 -- `kpn alone NAME`, from the bytes that come in to the bytes that go out.
-use Rattle.std.specs.Prelude.{◌≡◌, ◌≢◌, ℕ, ◌-◌, ◌^◌, ℤ, List, [], ◌∷◌, Option, IfSome}
+use Rattle.std.specs.Prelude.{◌≡◌, ◌≢◌, ℕ, ◌-◌, ◌^◌, ℤ, List, [], ◌∷◌, Option, IfSome, Result, IfOk, IfErr, OnOk, IsErrOf}
 use Rattle.std.specs.Io.KnownBytes.{IsAtEnd}
 use Rattle.kpn_lang.specs.declared.talk.Said.{Said}
 use Rattle.kpn_step.specs.declared.stop.AloneStop.{AloneStop}
@@ -8,7 +8,8 @@ use Rattle.kpn_items.specs.Input.{LosesItsFront}
 use Rattle.kpn_items.specs.ItemFile.{Spells, TellsFirstBadLine}
 use Rattle.kpn_refusals.specs.declared.refusal.Refusal.{Refusal}
 use Rattle.kpn_refusals.specs.declared.refusal.Refusal.TheVariants.{UnknownProcess, Input}
-use Rattle.kpn_refusals.specs.Answer.{Answers}
+use Rattle.kpn_conclusion.specs.declared.Conclusion.{Conclusion}
+use Rattle.kpn_conclusion.specs.Conclusion.{Succeeds}
 use Rattle.kpn_alone_command.specs.declared.built_in.BuiltIn.{BuiltIn}
 use Rattle.kpn_alone_command.specs.BuiltIn.{name_of, program_of}
 use Rattle.kpn_alone_command.specs.AloneText.{alone_text}
@@ -39,16 +40,14 @@ IsRefusalOfAlone name came_in UnknownProcess = IsUnknown name
 IsRefusalOfAlone name came_in (Input fault) = IfSome came_in (λ bytes. TellsFirstBadLine bytes fault)
 IsRefusalOfAlone name came_in other = WantsMemory other
 
--- what `kpn alone NAME` does with an input, an output and a place for faults, each as it was and as it is after it, and
--- the status that it returns
-pub record RunsAlone {I O E : Type 0} (remaining : I → Option (List ℕ)) (contents : O → Option (List ℕ))
-    (name : List ℕ)
-    (input read : I) (out written : O) (err told : E) (status : ℕ) : Type 0 where
-  pub answers : Answers contents (IsAloneText name (remaining input)) (IsRefusalOfAlone name (remaining input)) out
-      written err told status
-  -- with an unknown name it refuses before it reads the input
-  pub unknown : IsUnknown name → status ≡ 2
+-- What `kpn alone NAME` answers on an input, which is given as it was and as it is afterwards.
+pub record RunsAlone {I : Type 0} (remaining : I → Option (List ℕ)) (name : List ℕ) (input read : I)
+    (answer : Result Conclusion Refusal) : Type 0 where
+  pub right : IfOk answer (Succeeds (IsAloneText name (remaining input)))
+  pub cause : IfErr answer (IsRefusalOfAlone name (remaining input))
+  -- an unknown name is refused before the input is read
+  pub unknown : IsUnknown name → IsErrOf answer UnknownProcess
   pub unread : IsUnknown name → read ≡ input
-  -- under success it read all of the input, and in any case the input loses only some bytes from its front
-  pub whole : status ≡ 0 → IsAtEnd (remaining read)
+  -- with a conclusion all of the input is read, and in any case the input loses only some bytes from its front
+  pub whole : OnOk answer (IsAtEnd (remaining read))
   pub rest : LosesItsFront (remaining input) (remaining read)

@@ -1,2 +1,1 @@
-pub mod AuditText
 pub mod Answers

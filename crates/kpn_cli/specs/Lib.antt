@@ -1,1 +1,2 @@
+pub mod Concludes
 pub mod Command

@@ -1,9 +1,11 @@
-//! The program `kpn`: the command that the words of a command line mean, over a shelf of files, a reader
-//! and two writers.
+//! The program `kpn`: it answers what the words of a command line ask for, over a shelf of files, a reader and two
+//! writers.
 #![tactic(auto)]
 
-pub mod command;
-pub mod here;
-mod told;
+mod concluding;
+mod here;
+mod program;
+mod usage;
 
 pub use kpn_shelf::{FileShelf, MemoryShelf, Shelf};
+pub use program::command;

@@ -1,4 +1,3 @@
-pub mod CheckText
 pub mod TextOf
 pub mod RoundsText
 pub mod Rounds

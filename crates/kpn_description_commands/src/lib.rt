@@ -3,12 +3,10 @@
 #![tactic(auto)]
 
 mod check;
-mod check_text;
 mod print;
 mod rounds;
 mod rounds_text;
 
 pub use check::check_command;
-pub use check_text::check_line;
 pub use print::print_command;
 pub use rounds::rounds_command;

@@ -7,15 +7,12 @@ use Rattle.kpn_audit.specs.declared.findings.Audit.{Audit}
 use Rattle.kpn_refusals.specs.declared.refusal.Refusal.{Refusal}
 use Rattle.kpn_shelf.specs.Shelf.{Loads}
 use Rattle.kpn_inputs.specs.Description.{IsDescribed, IsRefusalOfCommand}
-use Rattle.kpn_audit_command.specs.Answers.{IsTraced, IsFoundLegal, IsNotLegal, IsRefusalOfAudit}
+use Rattle.kpn_audited.specs.Audited.{IsToldOf, IsRefusalOfAudit}
 use Rattle.kpn_draw_command.specs.DrawText.{drawing}
 
--- the text and the status for a network and a trace: the network drawn after a legal history, 0; or what `kpn audit`
--- writes for one that is not legal
-pub data IsConclusion (d : Document) (trace : Trace Global) (steps : ℕ) (text : List ℕ) (status : ℕ) : Type 0 where
-  legal : (audit : Audit Global) → IsFoundLegal d.tables trace steps audit → text ≡ drawing d (Some audit) → status ≡ 0
-      → IsConclusion d trace steps text status
-  not_legal : IsNotLegal d.tables trace steps text status → IsConclusion d trace steps text status
+-- the network drawn after a legal history
+abbrev pub IsDrawing : Document → Trace Global → Audit Global → (text : List ℕ) → Type 0
+IsDrawing d trace audit text = text ≡ drawing d (Some audit)
 
 -- the one file spells a network, and this is its drawing
 pub record IsDrawnAlone (may_give : Loads) (file : List ℕ) (text : List ℕ) (status : ℕ) : Type 0 where
@@ -25,16 +22,11 @@ pub record IsDrawnAlone (may_give : Loads) (file : List ℕ) (text : List ℕ) (
   pub succeeded : status ≡ 0
 
 -- the one file spells a network, the other a trace, and this is the text and the status for both
-pub record IsDrawnAfter (may_give : Loads) (file trace : List ℕ) (steps : ℕ) (text : List ℕ) (status : ℕ) : Type 0
-  where
-    pub document : Document
-    pub described : IsDescribed may_give file document
-    pub stored : Trace Global
-    pub traced : IsTraced may_give trace stored
-    pub concluded : IsConclusion document stored steps text status
+abbrev pub IsDrawnAfter : (may_give : Loads) (file trace : List ℕ) (steps : ℕ) → (text : List ℕ) (status : ℕ) → Type 0
+IsDrawnAfter may_give file trace steps text status = IsToldOf IsDrawing may_give file trace steps text status
 
 -- a network is drawn by itself, or after the history of a trace
-abbrev pub IsDrawn : (may_give : Loads) (file : List ℕ) (trace : Option (List ℕ)) (steps : ℕ) (text : List ℕ)
+abbrev pub IsDrawn : (may_give : Loads) (file : List ℕ) (trace : Option (List ℕ)) (steps : ℕ) → (text : List ℕ)
     (status : ℕ) → Type 0
 IsDrawn may_give file None steps text status = IsDrawnAlone may_give file text status
 IsDrawn may_give file (Some trace) steps text status = IsDrawnAfter may_give file trace steps text status

@@ -9,14 +9,14 @@ use Rattle.kpn_refusals.specs.declared.refusal.Refusal.{Refusal}
 use Rattle.kpn_refusals.specs.declared.refusal.Refusal.TheVariants.{Description, NoMemory}
 use Rattle.kpn_refusals.specs.Refusal.{status_of}
 use Rattle.kpn_shelf.specs.Shelf.{Loads}
-use Rattle.kpn_description_commands.specs.CheckText.{check_text}
+use Rattle.kpn_summary.specs.Counts.{summary_text}
 use Rattle.kpn_explain_command.specs.Answers.{IsExplained, right, wrong, IsRefusalOfExplaining, AreItemsExplained, right_items, wrong_line, IsRefusalOfItems}
 use Rattle.kpn_explain_command.specs.ExplainText.{explained}
 use Rattle.kpn_explain_command.specs.ItemsText.{items_line, explained_item}
 
 module _ (may_give : Loads) (file bytes : List ℕ) (loaded : may_give file (Ok bytes)) where
   pub is_right : (d : Document) → Spells bytes d → (text : List ℕ) (status : ℕ)
-      → (text ≡ check_text d) × (status ≡ 0) → IsExplained may_give file text status
+      → (text ≡ summary_text d) × (status ≡ 0) → IsExplained may_give file text status
   is_right d spelled text status made =
       right d (record { bytes = bytes; loaded = loaded; read = spelled }) made.0 made.1
 

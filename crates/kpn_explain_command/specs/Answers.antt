@@ -10,7 +10,7 @@ use Rattle.kpn_refusals.specs.declared.refusal.Refusal.TheVariants.{Input, Descr
 use Rattle.kpn_refusals.specs.Refusal.{status_of}
 use Rattle.kpn_shelf.specs.Shelf.{Loads, IsRefusalOfLoad, IsLoadedAs}
 use Rattle.kpn_inputs.specs.Description.{IsDescribed, IsRefused}
-use Rattle.kpn_description_commands.specs.CheckText.{check_text}
+use Rattle.kpn_summary.specs.Counts.{summary_text}
 use Rattle.kpn_explain_command.specs.ExplainText.{explained}
 use Rattle.kpn_explain_command.specs.ItemsText.{items_line, explained_item}
 
@@ -18,7 +18,7 @@ use Rattle.kpn_explain_command.specs.ItemsText.{items_line, explained_item}
 
 -- the text and the status for a file: the line of `kpn check`, 0, if it spells a network; else the fault explained, 1
 pub data IsExplained (may_give : Loads) (file : List ℕ) (text : List ℕ) (status : ℕ) : Type 0 where
-  right : (d : Document) → IsDescribed may_give file d → text ≡ check_text d → status ≡ 0
+  right : (d : Document) → IsDescribed may_give file d → text ≡ summary_text d → status ≡ 0
       → IsExplained may_give file text status
   wrong : (bytes : List ℕ) (fault : TextFault) → may_give file (Ok bytes) → Refuses bytes fault
       → text ≡ explained file bytes fault → status ≡ 1 → IsExplained may_give file text status

@@ -1,40 +1,28 @@
 //! `kpn explain FILE --items` reads an item file, and counts its items or explains its first bad line.
 ghost use Rattle.std.specs.Prelude.{◌≡◌, ◌++◌, length, IfOk, IfErr, OnOk};
+ghost use Rattle.kpn_conclusion.specs.Conclusion.{Tells};
 ghost use Rattle.kpn_refusals.specs.declared.refusal.Refusal.TheVariants.{NoMemory};
-ghost use Rattle.kpn_refusals.specs.Answer.{Concludes};
 ghost use Rattle.kpn_explain_command.specs.Answers.{AreItemsExplained, IsRefusalOfItems};
 ghost use Rattle.kpn_explain_command.specs.ItemsText as spec;
 ghost use Rattle.kpn_places.specs.Lines as lines;
 
 use crate::explained::push_bracket;
 use crate::loading::load;
+use kpn_conclusion::Conclusion;
 use kpn_items::{ItemFault, items_of};
 use kpn_pieces::push_number;
 use kpn_places::{line_start, push_excerpt, push_where};
-use kpn_refusals::{Conclusion, Refusal, conclude};
+use kpn_refusals::Refusal;
 use kpn_shelf::Shelf;
 use std::alloc::{AllocError, Global};
-use std::io::Write;
 
-/// The command `kpn explain FILE --items` over a shelf, an output and a place for faults. It returns the exit status.
-pub fn explain_items_command<S: Shelf, O: Write, E: Write>(
+/// What `kpn explain FILE --items` comes to.
+pub fn explain_items_command<S: Shelf>(
     alloc: Global,
     file: &str,
     shelf: &S,
-    out: &mut O,
-    err: &mut E,
-) -> u8
-    ensures { let may_give = S.may_give shelf.now in
-        Concludes O.contents (AreItemsExplained may_give file.now)
-        (IsRefusalOfItems may_give file.now) out.old out.new err.old err.new result }
-{
-    conclude(answer(alloc, file, shelf), out, err)
-}
-
-// What is said of a file.
-fn answer<S: Shelf>(alloc: Global, file: &str, shelf: &S) -> Result<Conclusion, Refusal>
-    ensures ok { IfOk result (λ made.
-        AreItemsExplained (S.may_give shelf.now) file.now made.text.items made.status) }
+) -> Result<Conclusion, Refusal>
+    ensures ok { IfOk result (Tells (AreItemsExplained (S.may_give shelf.now) file.now)) }
     ensures refused { IfErr result (IsRefusalOfItems (S.may_give shelf.now) file.now) }
 {
     let bytes = load(alloc, shelf, file)?;
@@ -48,25 +36,33 @@ fn answer<S: Shelf>(alloc: Global, file: &str, shelf: &S) -> Result<Conclusion, 
 
 // The line that counts the items.
 fn right(alloc: Global, items: &[i64]) -> Result<Conclusion, Refusal>
-    ensures ok { IfOk result (λ made.
-        (made.text.items ≡ spec.items_line (length items.now)) × (made.status ≡ 0)) }
+    ensures ok { IfOk result
+        (Tells (λ text status. (text ≡ spec.items_line (length items.now)) × (status ≡ 0))) }
     ensures refused { IfErr result (λ refusal. refusal ≡ NoMemory) }
 {
     let mut text = Vec::new(alloc);
     push_number(&mut text, b"ok: ", items.len(), b" items\n")?;
-    Ok(Conclusion { text, status: 0 })
+    Ok(Conclusion {
+        text,
+        status: 0,
+        files: Vec::new(alloc),
+    })
 }
 
 // The first bad line, explained.
 fn wrong(alloc: Global, file: &str, bytes: &[u8], line: usize) -> Result<Conclusion, Refusal>
-    ensures ok { IfOk result (λ made.
-        (made.text.items ≡ spec.explained_item file.now bytes.now line) × (made.status ≡ 1)) }
+    ensures ok { IfOk result (Tells (λ text status.
+        (text ≡ spec.explained_item file.now bytes.now line) × (status ≡ 1))) }
     ensures refused { IfErr result (λ refusal. refusal ≡ NoMemory) }
 {
     let mut text = Vec::new(alloc);
     push_item_place(alloc, &mut text, file.as_bytes(), bytes, line)?;
     push_item_advice(&mut text)?;
-    Ok(Conclusion { text, status: 1 })
+    Ok(Conclusion {
+        text,
+        status: 1,
+        files: Vec::new(alloc),
+    })
 }
 
 fn push_item_place(

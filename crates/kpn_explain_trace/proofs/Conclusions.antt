@@ -1,12 +1,11 @@
 -- What is found of the bytes of a trace, as what is explained of them.
-use Rattle.std.proofs.Common.{◌≡◌, ℕ, ◌<◌, List, length, Ok, codes, refl, subst, arith}
+use Rattle.std.proofs.Common.{◌≡◌, ℕ, ◌<◌, List, length, Ok, refl, subst, arith}
 use Rattle.std.specs.declared.alloc.Global.{Global}
 use Rattle.kpn_net.specs.Tables.{Tables}
 use Rattle.kpn_history.specs.declared.stored.Trace.{Trace}
 use Rattle.kpn_trace_text.specs.TraceText.{Spells}
 use Rattle.kpn_text.specs.Document.{Document}
-use Rattle.kpn_audit.specs.declared.findings.Audit.{Audit}
-use Rattle.kpn_audit.specs.declared.findings.AuditFault.TheVariants.{Illegal, Budget}
+use Rattle.kpn_audit.specs.declared.findings.AuditFault.TheVariants.{Illegal}
 use Rattle.kpn_audit.specs.declared.scene.Scene.{Scene}
 use Rattle.kpn_audit.specs.Audit.{IsRefusal}
 use Rattle.kpn_audit.specs.Scene.{IsSceneBefore}
@@ -16,10 +15,9 @@ use Rattle.kpn_refusals.specs.declared.refusal.Refusal.{Refusal}
 use Rattle.kpn_refusals.specs.declared.refusal.Refusal.TheVariants as refusal
 use Rattle.kpn_shelf.specs.Shelf.{Loads}
 use Rattle.kpn_inputs.specs.Description.{IsDescribed}
-use Rattle.kpn_audit_command.specs.AuditText.{audit_text, finding_line}
-use Rattle.kpn_audit_command.specs.Answers.{IsFoundLegal, IsNoFinding, IsRefusalOfAudit}
+use Rattle.kpn_audited.specs.Audited.{IsNoFinding, IsRefusalOfAudit}
 use Rattle.kpn_explain_trace.specs.ExplainText.{illegal_text}
-use Rattle.kpn_explain_trace.specs.Answers.{IsConclusion, IsNoExplanation, legal, illegal, budget}
+use Rattle.kpn_explain_trace.specs.Answers.{IsConclusion, IsNoExplanation, illegal}
 
 -- ---- conclusions
 
@@ -32,14 +30,6 @@ event_there t trace steps k is =
 
 module _ (d : Document) (own : Tables) (same : own ≡ d.tables) (name bytes : List ℕ) (trace : Trace Global)
     (steps : ℕ) (text : List ℕ) where
-  pub concludes_legal : (audit : Audit Global) → IsFoundLegal own trace steps audit
-      → text ≡ audit_text d.names.channels audit → IsConclusion d name bytes trace steps text 0
-  concludes_legal audit is made = legal audit (subst (λ n. IsFoundLegal n trace steps audit) same is) made refl
-
-  pub concludes_budget : (k : ℕ) → IsRefusal own trace steps (Budget k) → text ≡ finding_line (codes "budget") k
-      → IsConclusion d name bytes trace steps text 5
-  concludes_budget k is made = budget k (subst (λ n. IsRefusal n trace steps (Budget k)) same is) made refl
-
   pub concludes_illegal : (k : ℕ) → IsRefusal d.tables trace steps (Illegal k) → (scene : Scene)
       → IsSceneBefore own trace k scene → text ≡ illegal_text d name bytes trace k scene
       → IsConclusion d name bytes trace steps text 1

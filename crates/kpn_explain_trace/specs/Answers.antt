@@ -16,8 +16,9 @@ use Rattle.kpn_refusals.specs.declared.refusal.Refusal.{Refusal}
 use Rattle.kpn_refusals.specs.declared.refusal.Refusal.TheVariants as refusal
 use Rattle.kpn_shelf.specs.Shelf.{Loads}
 use Rattle.kpn_inputs.specs.Description.{IsDescribed}
-use Rattle.kpn_audit_command.specs.AuditText.{audit_text, finding_line}
-use Rattle.kpn_audit_command.specs.Answers.{IsFoundLegal}
+use Rattle.kpn_audited.specs.AuditText.{audit_text}
+use Rattle.kpn_audited.specs.Flaw.{event_line}
+use Rattle.kpn_audited.specs.Audited.{IsFoundLegal}
 use Rattle.kpn_explain_trace.specs.ExplainText.{refused_text, illegal_text}
 
 -- the text and the status for a trace: the lines of the audit if its history is legal, 0; what stands before the first
@@ -31,7 +32,7 @@ pub data IsConclusion (d : Document) (name bytes : List ℕ) (trace : Trace Glob
       → IsSceneBefore d.tables trace k scene
       → text ≡ illegal_text d name bytes trace k scene → status ≡ 1
       → IsConclusion d name bytes trace steps text status
-  budget : (k : ℕ) → IsRefusal d.tables trace steps (Budget k) → text ≡ finding_line (codes "budget") k → status ≡ 5
+  budget : (k : ℕ) → IsRefusal d.tables trace steps (Budget k) → text ≡ event_line (codes "budget") k → status ≡ 5
       → IsConclusion d name bytes trace steps text status
 
 -- the text and the status for the bytes of a trace: why they are refused, 1; or those for the trace that they spell

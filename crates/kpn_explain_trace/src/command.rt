@@ -1,52 +1,35 @@
 //! The command reads a network and a trace, and explains what an audit of the trace finds.
 ghost use Rattle.std.specs.Prelude.{◌≡◌, ◌<◌, ℕ, length, IfOk, IfErr};
-ghost use Rattle.kpn_refusals.specs.Answer.{Concludes};
+ghost use Rattle.kpn_conclusion.specs.Conclusion.{Tells};
 ghost use Rattle.kpn_audit.specs.declared.findings.AuditFault.TheVariants.{Illegal};
 ghost use Rattle.kpn_audit.specs.Audit.{IsRefusal};
-ghost use Rattle.kpn_audit_command.specs.Answers.{IsNoFinding, IsRefusalOfAudit};
+ghost use Rattle.kpn_audited.specs.Audited.{IsNoFinding, IsRefusalOfAudit};
 ghost use Rattle.kpn_explain_trace.specs.Answers.{IsConclusion, IsExplained, IsExplanation, IsNoExplanation};
 
 use crate::text::{illegal_text, refused_text};
-use kpn_audit::{AuditFault, audit, scene_before};
-use kpn_audit_command::audit_text::{finding_text, text_of};
+use kpn_audit::scene_before;
+use kpn_audited::{Finding, Flaw, audit_trace, text_of};
+use kpn_conclusion::Conclusion;
 use kpn_history::Trace;
 use kpn_inputs::load_document;
-use kpn_refusals::{Conclusion, Refusal, conclude};
+use kpn_refusals::Refusal;
 use kpn_shelf::Shelf;
 use kpn_text::Document;
 use kpn_trace_text::{TraceFault, read_trace};
 use std::alloc::Global;
-use std::io::Write;
 
-/// The command `kpn explain FILE TRACE` over a shelf, an output and a place for faults. Each process may make `steps`
-/// steps before each of its events. It reads the description first, then the trace. For a trace that is legal, and for
-/// one out of steps, it writes what `kpn audit` writes. It returns the exit status.
-pub fn explain_trace_command<S: Shelf, O: Write, E: Write>(
-    alloc: Global,
-    file: &str,
-    trace: &str,
-    steps: u64,
-    shelf: &S,
-    out: &mut O,
-    err: &mut E,
-) -> u8
-    ensures { let may_give = S.may_give shelf.now in
-        Concludes O.contents (IsExplained may_give file.now trace.now steps)
-        (IsRefusalOfAudit may_give file.now trace.now) out.old out.new err.old err.new result }
-{
-    conclude(answer(alloc, file, trace, steps, shelf), out, err)
-}
-
-// What is explained of the trace, as a text with its status.
-fn answer<S: Shelf>(
+/// What `kpn explain FILE TRACE` comes to. Each process may make `steps` steps before each of its events. It reads the
+/// description first, then the trace. For a trace that is legal, and for one out of steps, it tells what `kpn audit`
+/// tells.
+pub fn explain_trace_command<S: Shelf>(
     alloc: Global,
     file: &str,
     trace: &str,
     steps: u64,
     shelf: &S,
 ) -> Result<Conclusion, Refusal>
-    ensures ok { IfOk result (λ made.
-        IsExplained (S.may_give shelf.now) file.now trace.now steps made.text.items made.status) }
+    ensures ok { IfOk result
+        (Tells (IsExplained (S.may_give shelf.now) file.now trace.now steps)) }
     ensures refused { IfErr result (IsRefusalOfAudit (S.may_give shelf.now) file.now trace.now) }
 {
     let document = load_document(alloc, shelf, file)?;
@@ -64,8 +47,8 @@ fn explanation(
     bytes: &[u8],
     steps: u64,
 ) -> Result<Conclusion, Refusal>
-    ensures ok { IfOk result (λ made.
-        IsExplanation document.now name.now bytes.now steps made.text.items made.status) }
+    ensures ok { IfOk result
+        (Tells (IsExplanation document.now name.now bytes.now steps)) }
     ensures refused { IfErr result (IsNoExplanation document.now.tables bytes.now) }
 {
     match read_trace(alloc, bytes) {
@@ -74,6 +57,7 @@ fn explanation(
         Err(fault) => Ok(Conclusion {
             text: refused_text(alloc, name.as_bytes(), bytes, &fault)?,
             status: 1,
+            files: Vec::new(alloc),
         }),
     }
 }
@@ -87,23 +71,21 @@ fn conclusion(
     trace: &Trace,
     steps: u64,
 ) -> Result<Conclusion, Refusal>
-    ensures ok { IfOk result (λ made.
-        IsConclusion document.now name.now bytes.now trace.now steps
-        made.text.items made.status) }
+    ensures ok { IfOk result
+        (Tells (IsConclusion document.now name.now bytes.now trace.now steps)) }
     ensures refused { IfErr result (IsNoFinding document.now.tables trace.now) }
 {
-    match audit(alloc, document.network(), trace, steps) {
-        Ok(audit) => Ok(Conclusion {
+    let finding = audit_trace(alloc, document.network(), trace, steps)?;
+    match finding {
+        Finding::Legal(audit) => Ok(Conclusion {
             text: text_of(alloc, document, &audit)?,
             status: 0,
+            files: Vec::new(alloc),
         }),
-        Err(AuditFault::Illegal(k)) => illegal(alloc, document, name, bytes, trace, k, steps),
-        Err(AuditFault::Budget(k)) => Ok(Conclusion {
-            text: finding_text(alloc, "budget", k)?,
-            status: 5,
-        }),
-        Err(AuditFault::PolicyDiffers) => Err(Refusal::PolicyDiffers),
-        Err(AuditFault::NoMemory) => Err(Refusal::NoMemoryToAudit),
+        Finding::NotLegal(Flaw::Illegal(k)) => {
+            illegal(alloc, document, name, bytes, trace, k, steps)
+        }
+        Finding::NotLegal(Flaw::Budget(k)) => Ok(Flaw::Budget(k).conclusion(alloc)?),
     }
 }
 
@@ -118,14 +100,17 @@ fn illegal(
     steps: u64,
 ) -> Result<Conclusion, Refusal>
     requires { IsRefusal document.now.tables trace.now steps (Illegal k) }
-    ensures ok { IfOk result (λ made.
-        IsConclusion document.now name.now bytes.now trace.now steps
-        made.text.items made.status) }
+    ensures ok { IfOk result
+        (Tells (IsConclusion document.now name.now bytes.now trace.now steps)) }
     ensures refused { IfErr result (IsNoFinding document.now.tables trace.now) }
 {
     let Ok(scene) = scene_before(alloc, document.network(), trace, k, steps) else {
         return Err(Refusal::NoMemoryToAudit);
     };
     let text = illegal_text(alloc, document, name.as_bytes(), bytes, trace, k, scene)?;
-    Ok(Conclusion { text, status: 1 })
+    Ok(Conclusion {
+        text,
+        status: 1,
+        files: Vec::new(alloc),
+    })
 }

@@ -1,3 +1,2 @@
 pub mod FaultLine
 pub mod Refusal
-pub mod Answer

@@ -4,27 +4,19 @@ use Rattle.std.proofs.Common.{◌≡◌, ℕ, ℤ, ◌≤◌, Bool, cond, List, 
 use Rattle.std.specs.List.{flat_map}
 use Rattle.std.proofs.lemmas.List.Sums.{sum-map}
 use Rattle.std.proofs.lemmas.List.{take-map, length-map}
-use Rattle.std.proofs.lemmas.List.FromFn.{length-map-range_with_len}
 use Rattle.std.specs.declared.alloc.Global.{Global}
-use Rattle.kpn_net.specs.declared.tables.ChannelSpec.{ChannelSpec}
 use Rattle.kpn_net.specs.Tables.{Tables}
-use Rattle.kpn_text.specs.Document.{Document}
 use Rattle.kpn_history.specs.declared.event.Event.{Event}
 use Rattle.kpn_history.specs.declared.event.Event.TheVariants.{Grow}
 use Rattle.kpn_history.specs.declared.stored.Version.{Version}
 use Rattle.kpn_history.specs.declared.stored.Version.TheVariants.{One, Two}
 use Rattle.kpn_history.specs.declared.stored.Trace.{Trace}
-use Rattle.kpn_history.specs.Channels.{written_in, read_in, written_on, read_on, is_growth_of, capacity_after}
-use Rattle.kpn_audit.specs.declared.findings.Audit.{Audit}
-use Rattle.kpn_audit.specs.Stored.{audited_under, told, told_behind, history_of, tables_for, history_in}
-use Rattle.kpn_audit_command.specs.Answers.{IsFoundLegal, IsNotLegal}
+use Rattle.kpn_history.specs.Channels.{written_in, read_in, written_on, read_on, is_growth_of}
+use Rattle.kpn_audit.specs.Stored.{told, told_behind, history_of, tables_for, history_in}
 use Rattle.kpn_stats_command.specs.declared.figures.ChannelFigures.{ChannelFigures}
 use Rattle.kpn_stats_command.specs.declared.figures.ProcessFigures.{ProcessFigures}
 use Rattle.kpn_stats_command.specs.declared.figures.Figures.{Figures}
-use Rattle.kpn_stats_command.specs.declared.stats_text.StatsTables.{StatsTables}
 use Rattle.kpn_stats_command.specs.Figures.{waits_for_item, waits_for_room, is_get_of, is_put_of, is_wait_empty_of, is_wait_full_of, unread_behind, IsMostUnread, CountsChannel, CountsProcess, AreFigures}
-use Rattle.kpn_stats_command.specs.StatsText.{stats_text}
-use Rattle.kpn_stats_command.specs.Answers as answers
 
 -- ---- events without the capacities of growths
 
@@ -138,7 +130,7 @@ process_alike H G p f alike counts =
       waits_full = counts.waits_full ∙ same_count (is_wait_full_of p) (λ q d n. refl) H G alike;
     }
 
-of_history : (t : Tables) (trace : Trace Global) (figures : Figures) → AreFigures t trace.events figures
+pub of_history : (t : Tables) (trace : Trace Global) (figures : Figures) → AreFigures t trace.events figures
     → AreFigures t (history_in t trace) figures
 of_history t trace figures are =
     let alike = history_plain trace.version (tables_for t trace) trace.events in
@@ -148,33 +140,3 @@ of_history t trace figures are =
       process_count = are.process_count;
       processes = λ p below. process_alike trace.events (history_in t trace) p _ alike (are.processes p below);
     }
-
--- ---- what the text says of a document
-
-same_channels : (v : Version) (t : Tables) → (audited_under v t).channels ≡ t.channels
-same_channels One t = refl
-same_channels Two t = refl
-
--- the audit has a capacity for each channel
-pub caps_there : (t own : Tables) (trace : Trace Global) (steps : ℕ) (audit : Audit Global) → own ≡ t
-    → IsFoundLegal own trace steps audit → length audit.caps ≡ length t.channels
-caps_there t own trace steps audit same found =
-    ap length found.audited.caps
-    ∙ length-map-range_with_len (capacity_after (tables_for own trace) (history_in own trace)) 0
-    (length (tables_for own trace).channels)
-    ∙ ap (λ (channels : List ChannelSpec). length channels) (same_channels trace.version own)
-    ∙ ap (λ (n : Tables). length n.channels) same
-
-pub concludes_legal : (tables : StatsTables) (d : Document) (own : Tables) → own ≡ d.tables
-    → (trace : Trace Global) (steps : ℕ) (audit : Audit Global) (figures : Figures) (text : List ℕ)
-    → IsFoundLegal own trace steps audit → AreFigures own trace.events figures
-    → text ≡ stats_text tables d audit figures → answers.IsConclusion tables d trace steps text 0
-concludes_legal tables d own same trace steps audit figures text found are made =
-    answers.told audit figures (subst (λ t. IsFoundLegal t trace steps audit) same found)
-    (of_history d.tables trace figures (subst (λ t. AreFigures t trace.events figures) same are)) made refl
-
-pub concludes_other : (tables : StatsTables) (d : Document) (own : Tables) → own ≡ d.tables
-    → (trace : Trace Global) (steps : ℕ) (text : List ℕ) (status : ℕ) → IsNotLegal own trace steps text status
-    → answers.IsConclusion tables d trace steps text status
-concludes_other tables d own same trace steps text status is =
-    answers.not_legal (subst (λ t. IsNotLegal t trace steps text status) same is)

@@ -1,6 +1,5 @@
 //! The text that `kpn stats` writes of a legal history.
-ghost use Rattle.std.specs.Prelude.{◌≡◌, ◌++◌, ◌<◌, length, map, IfOk, OnOk};
-ghost use Rattle.kpn_names.specs.Names.{name_at};
+ghost use Rattle.std.specs.Prelude.{◌≡◌, ◌++◌, ◌<◌, length, map, slice_index_or, None, IfOk, OnOk};
 ghost use Rattle.kpn_stats_command.specs.StatsText.{stats_text, people_text, number_cell, channel_heading, channel_row, channel_rows, process_heading, process_row, process_rows, end_cell, advice, advice_line, advice_for, row_of};
 
 use crate::figures::{ChannelFigures, Figures, ProcessFigures};
@@ -33,9 +32,7 @@ pub(crate) fn text_of(
     audit: &Audit,
     figures: &Figures,
 ) -> Result<Vec<u8>, AllocError>
-    requires caps { length audit.now.caps ≡ length document.now.tables.channels }
-    requires channels { length figures.now.channels ≡ length document.now.tables.channels }
-    requires processes { length figures.now.processes ≡ length document.now.tables.instances }
+    requires { length figures.now.channels ≡ length document.now.tables.channels }
     ensures { IfOk result (λ text.
         text.items ≡ stats_text tables document.now audit.now figures.now) }
 {
@@ -67,9 +64,7 @@ fn push_people(
     channels: &[ChannelFigures],
     processes: &[ProcessFigures],
 ) -> Result<(), AllocError>
-    requires caps { length audit.now.caps ≡ length document.now.tables.channels }
-    requires channels { length channels.now ≡ length document.now.tables.channels }
-    requires processes { length processes.now ≡ length document.now.tables.instances }
+    requires { length channels.now ≡ length document.now.tables.channels }
     ensures { OnOk result (text.new.items
         ≡ text.old.items ++ people_text document.now audit.now channels.now processes.now) }
 {
@@ -90,8 +85,7 @@ fn channel_rows(
     audit: &Audit,
     figures: &[ChannelFigures],
 ) -> Result<Vec<Row>, AllocError>
-    requires caps { length audit.now.caps ≡ length document.now.tables.channels }
-    requires channels { length figures.now ≡ length document.now.tables.channels }
+    requires { length figures.now ≡ length document.now.tables.channels }
     ensures { IfOk result (λ rows. rows.items ≡ channel_rows document.now audit.now figures.now) }
 {
     let mut rows = Vec::new(alloc);
@@ -129,13 +123,12 @@ fn channel_row(
     c: usize,
 ) -> Result<Row, AllocError>
     requires channel { c < length document.now.tables.channels }
-    requires caps { length audit.now.caps ≡ length document.now.tables.channels }
     requires channels { length figures.now ≡ length document.now.tables.channels }
     ensures { IfOk result (λ row. row ≡ channel_row document.now audit.now figures.now c) }
 {
     let f = figures[c];
     let first = as_number(document.network().cap_of(c));
-    let last = as_number(audit.caps.as_slice()[c]);
+    let last = as_number(last_cap(audit, c));
     let left = f.put.saturating_sub(f.read);
     let numbers = [
         Some(f.put),
@@ -155,6 +148,13 @@ fn channel_row(
     )
 }
 
+// The capacity of a channel after the history; none for a source.
+fn last_cap(audit: &Audit, c: usize) -> Option<u32>
+    ensures { result ≡ slice_index_or audit.now.caps c None }
+{
+    audit.caps.as_slice().get(c).copied().unwrap_or(None)
+}
+
 // A capacity as a number.
 fn as_number(cap: Option<u32>) -> Option<usize>
     ensures { result ≡ cap }
@@ -172,7 +172,6 @@ fn process_rows(
     audit: &Audit,
     figures: &[ProcessFigures],
 ) -> Result<Vec<Row>, AllocError>
-    requires processes { length figures.now ≡ length document.now.tables.instances }
     ensures { IfOk result (λ rows. rows.items ≡ process_rows document.now audit.now figures.now) }
 {
     let mut rows = Vec::new(alloc);
@@ -199,8 +198,7 @@ fn process_row(
     figures: &[ProcessFigures],
     p: usize,
 ) -> Result<Row, AllocError>
-    requires process { p < length document.now.tables.instances }
-    requires processes { length figures.now ≡ length document.now.tables.instances }
+    requires { p < length figures.now }
     ensures { IfOk result (λ row. row ≡ process_row document.now audit.now figures.now p) }
 {
     let f = figures[p];
@@ -238,27 +236,15 @@ fn end_cell(
         (None, Wait::Nobody) => text.push(b'-')?,
         (None, Wait::Empty(c)) => {
             text.extend_from_slice(b"waits ")?;
-            text.extend_from_slice(name_of(document, c))?;
+            text.extend_from_slice(document.channel_name(c))?;
         }
         (None, Wait::Full(c)) => {
             text.extend_from_slice(b"waits ")?;
-            text.extend_from_slice(name_of(document, c))?;
+            text.extend_from_slice(document.channel_name(c))?;
             text.extend_from_slice(b" full")?;
         }
     }
     Ok(Sequence::from_vec(text))
-}
-
-// The name of a channel; no bytes if there is none.
-fn name_of(document: &Document, c: usize) -> &[u8]
-    ensures { result.now ≡ name_at document.now.names.channels c }
-{
-    document.known();
-    if c < document.network().channels() {
-        document.channel_name(c)
-    } else {
-        b""
-    }
 }
 
 fn row_of(alloc: Global, name: &[u8], cells: Vec<Sequence<u8>>) -> Result<Row, AllocError>
@@ -319,14 +305,11 @@ fn push_advice(
     audit: &Audit,
     figures: &[ChannelFigures],
 ) -> Result<(), AllocError>
-    requires caps { length audit.now.caps ≡ length document.now.tables.channels }
-    requires channels { length figures.now ≡ length document.now.tables.channels }
     ensures { OnOk result
         (text.new.items ≡ text.old.items ++ advice document.now audit.now figures.now) }
 {
-    let caps = audit.caps.as_slice();
     for (c, f) in figures.iter().enumerate() {
-        push_advice_line(text, document.channel_name(c), caps[c], *f)?;
+        push_advice_line(text, document.channel_name(c), last_cap(audit, c), *f)?;
     }
     Ok(())
 }

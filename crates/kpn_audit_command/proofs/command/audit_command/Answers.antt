@@ -1,14 +1,15 @@
--- What goes out is a conclusion.
-use Rattle.kpn_refusals.proofs.Answers.{concludes_given}
-use Rattle.kpn_audit_command.specs.Answers.{IsAudited, IsRefusalOfAudit}
+-- What is told is told of what an audit finds.
 use Rattle.kpn_audit_command.proofs.command.audit_command.Goals as goal
 
-pub returns : goal.returns
-returns g c =
-    let may_give = g.S.Shelf.may_give c.args.shelf.now in
-    let file = c.args.file.now in
-    let trace = c.args.trace.now in
-    concludes_given g.O.Write.contents (IsAudited may_give file trace c.args.steps)
-    (IsRefusalOfAudit may_give file trace) c.args.out.now c.conclude.new.out c.args.err.now c.conclude.new.err
-    c.conclude.result c.answer.result (λ made. made.text.items) (λ made. made.status) c.answer.ensures.ok
-    c.answer.ensures.refused c.conclude.ensures
+pub conclusion_of-requires : goal.conclusion_of-requires
+conclusion_of-requires g c = (c.args.steps, c.in_ok-audited.ensures.ok.found)
+
+pub returns-clause-ok : goal.returns-clause-ok
+returns-clause-ok g c = (
+  record {
+    audited = c.in_ok-audited.audited;
+    is_audited = c.in_ok-audited.ensures.ok;
+    told = c.in_ok-conclusion.ensures.0;
+  },
+  c.in_ok-conclusion.ensures.1,
+)

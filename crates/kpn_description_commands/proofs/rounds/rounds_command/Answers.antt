@@ -1,15 +1,41 @@
--- What goes out is an answer.
-use Rattle.std.proofs.Common.{map}
-use Rattle.kpn_inputs.specs.Inputs.{IsRefusalOfInputs}
-use Rattle.kpn_refusals.proofs.Answers.{answers_given}
-use Rattle.kpn_description_commands.specs.Rounds.{IsRounds}
+-- The lists are those of the channels, and the text is that of the lists.
+use Rattle.std.proofs.Common.{◌≡◌, length, ap, ◌∙◌, refl, arith}
+use Rattle.std.proofs.lemmas.List.FromFn.{length-map-range_with_len}
+use Rattle.kpn_net.specs.Tables.{Tables}
+use Rattle.kpn_net.specs.Iteration.{given_by, iterate, lists_of}
+use Rattle.kpn_description_commands.specs.RoundsText.{rounds_text}
 use Rattle.kpn_description_commands.proofs.rounds.rounds_command.Goals as goal
 
-pub returns : goal.returns
-returns g c =
-    let may_give = g.S.Shelf.may_give c.args.shelf.now in
-    let file = c.args.file.now in
-    let words = map (λ w. w.now) c.args.words.now in
-    answers_given g.O.Write.contents (IsRounds may_give file c.args.n words) (IsRefusalOfInputs may_give file words)
-    c.args.out.now c.give.new.out c.args.err.now c.give.new.err c.give.result
-    c.answer.result (λ text. text.items) c.answer.ensures.ok c.answer.ensures.refused c.give.ensures
+pub text_of-requires : goal.text_of-requires
+text_of-requires g c =
+    let net = c.network.result.now in
+    let slice : c.as_slice.result.now ≡ c.in_ok-lists.lists = c.as_slice.ensures in
+    let long =
+    length-map-range_with_len (iterate net (given_by net c.deref.result.now) c.args.n) 0 (length net.channels) in
+    let all =
+    ap length slice ∙ ap length c.in_ok-lists.ensures ∙ long
+    ∙ ap (λ (n : Tables). length n.channels) c.network.ensures in
+    omega (arith, all)
+
+pub returns-clause-ok : goal.returns-clause-ok
+returns-clause-ok g c =
+    let d = c.in_ok-inputs.inputs.document in
+    let n = c.args.n in
+    let slice : c.as_slice.result.now ≡ c.in_ok-lists.lists = c.as_slice.ensures in
+    let text : c.in_ok-text.text.items ≡ rounds_text d.names.channels c.as_slice.result.now = c.in_ok-text.ensures in
+    let net : c.network.result.now ≡ d.tables = c.network.ensures in (
+      record {
+        document = d;
+        given = c.in_ok-inputs.inputs.given.items;
+        are_inputs = c.in_ok-inputs.ensures.ok;
+        made =
+            text
+            ∙ ap (rounds_text d.names.channels) (slice ∙ c.in_ok-lists.ensures)
+            ∙ ap (λ t. rounds_text d.names.channels (lists_of t (iterate t (given_by t c.deref.result.now) n))) net
+            ∙ ap
+            (λ lists. rounds_text d.names.channels (lists_of d.tables (iterate d.tables (given_by d.tables lists) n)))
+            c.deref.ensures.value;
+      },
+      refl,
+      c.new.ensures,
+    )

@@ -1,16 +1,12 @@
--- The files spell the document and the trace, and the conclusion is theirs.
-use Rattle.std.proofs.lemmas.Result.{IfOk-weaker}
+-- What is told is told of what an audit finds.
 use Rattle.kpn_draw_command.proofs.command.drawn_after.Goals as goal
 
 pub returns-clause-ok : goal.returns-clause-ok
-returns-clause-ok g c =
-    let d = c.in_ok-document.document in
-    IfOk-weaker c.conclusion.result _ _
-    (λ made concluded. record {
-      document = d;
-      described = c.in_ok-document.ensures.ok;
-      stored = c.in_ok-trace.trace;
-      traced = c.in_ok-trace.ensures.ok;
-      concluded = concluded;
-    })
-    c.conclusion.ensures.ok
+returns-clause-ok g c = (
+  record {
+    audited = c.in_ok-audited.audited;
+    is_audited = c.in_ok-audited.ensures.ok;
+    told = c.in_ok-conclusion.ensures.0;
+  },
+  c.in_ok-conclusion.ensures.1,
+)

@@ -8,7 +8,7 @@ use Rattle.kpn_explain_trace.proofs.command.explanation.Goals as goal
 
 pub returns-in-Ok-clause-ok : goal.returns-in-Ok-clause-ok
 returns-in-Ok-clause-ok c =
-    IfOk-weaker c.conclusion.result _ _ (λ made concluded. spelled c.in-Ok.trace c.in-Ok.ensures.ok concluded)
+    IfOk-weaker c.conclusion.result _ _ (λ made concluded. (spelled c.in-Ok.trace c.in-Ok.ensures.ok concluded.0, concluded.1))
     c.conclusion.ensures.ok
 
 pub returns-in-Ok-clause-refused : goal.returns-in-Ok-clause-refused
@@ -18,8 +18,9 @@ returns-in-Ok-clause-refused c =
     c.conclusion.ensures.refused
 
 pub returns-in_ok-refused_text-in-Err-clause-ok : goal.returns-in_ok-refused_text-in-Err-clause-ok
-returns-in_ok-refused_text-in-Err-clause-ok c =
-    refused c.in-Err.fault c.in-Err.ensures.refused
-    (c.in_ok-refused_text-in-Err.ensures
-    ∙ ap (λ name. refused_text name c.args.bytes.now c.in-Err.fault) c.as_bytes.ensures.value)
-    refl
+returns-in_ok-refused_text-in-Err-clause-ok c = (
+  refused c.in-Err.fault c.in-Err.ensures.refused
+      (c.in_ok-refused_text-in-Err.ensures
+      ∙ ap (λ name. refused_text name c.args.bytes.now c.in-Err.fault) c.as_bytes.ensures.value) refl,
+  c.new.ensures,
+)

@@ -13,10 +13,12 @@ illegal_text-requires c =
     event_there c.args.document.now.tables c.args.trace.now c.args.steps c.args.k c.requires
 
 pub returns-clause-ok : goal.returns-clause-ok
-returns-clause-ok c =
-    concludes_illegal c.args.document.now c.network.result.now c.network.ensures c.args.name.now c.args.bytes.now
-    c.args.trace.now c.args.steps c.in_ok-text.text.items c.args.k c.requires c.in-Ok.scene c.in-Ok.ensures
-    (c.in_ok-text.ensures
-    ∙ ap
-    (λ name. illegal_text c.args.document.now name c.args.bytes.now c.args.trace.now c.args.k c.in-Ok.scene)
-    c.as_bytes.ensures.value)
+returns-clause-ok c = (
+  concludes_illegal c.args.document.now c.network.result.now c.network.ensures c.args.name.now c.args.bytes.now
+      c.args.trace.now c.args.steps c.in_ok-text.text.items c.args.k c.requires c.in-Ok.scene c.in-Ok.ensures
+      (c.in_ok-text.ensures
+      ∙ ap
+      (λ name. illegal_text c.args.document.now name c.args.bytes.now c.args.trace.now c.args.k c.in-Ok.scene)
+      c.as_bytes.ensures.value),
+  c.new.ensures,
+)

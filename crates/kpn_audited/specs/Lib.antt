@@ -1,0 +1,3 @@
+pub mod AuditText
+pub mod Flaw
+pub mod Audited

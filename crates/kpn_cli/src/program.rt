@@ -1,0 +1,61 @@
+//! The whole program: what the words of a command line ask for is answered, and the answer is carried out.
+ghost use Rattle.std.specs.Prelude.{map};
+ghost use Rattle.std.specs.String.{string_bytes};
+ghost use Rattle.kpn_cli.specs.Command.{IsAnswer, Runs};
+
+use crate::concluding::conclude;
+use crate::here::{Progress, answer_here};
+use crate::usage::refuse;
+use kpn_command_line::{Request, read_words};
+use kpn_conclusion::Conclusion;
+use kpn_refusals::Refusal;
+use kpn_run_command::run_command_by_workers;
+use kpn_shelf::Shelf;
+use std::alloc::Global;
+use std::io::{Read, Write};
+use std::sync::Wait;
+use std::thread::Threads;
+use std::time::Clock;
+
+/// The program over a shelf of files, an input, an output and a place for faults. The first of the words is the name
+/// that the user called the program by. It returns the status of the program: 0 for success and for help, 1 for a
+/// refused input, a device that fails or an illegal trace, 2 for words that are not understood, 3 for a run that has
+/// clogged, 4 for one that has jammed, 5 for one that has stopped or an audit without steps left, 6 for want of memory, 7
+/// for workers that came to no outcome. Only a run by workers may wait.
+pub fn command<R: Threads + Wait + Clock + Sync, S: Shelf, I: Read, O: Write, E: Write>(
+    rt: &R,
+    alloc: Global,
+    words: &[String],
+    shelf: &mut S,
+    input: &mut I,
+    out: &mut O,
+    err: &mut E,
+) -> u8
+    ensures { Runs S.may_give S.may_alias I.remaining O.contents (map string_bytes words.now)
+        shelf.old shelf.new input.old input.new out.old out.new err.old err.new result }
+{
+    match read_words(alloc, words) {
+        Ok(request) => {
+            let answer = answer(rt, alloc, request, shelf, input);
+            conclude(answer, shelf, out, err)
+        }
+        Err(fault) => refuse(&fault, err),
+    }
+}
+
+// The answer to a request, by workers if it asks for a run by them.
+fn answer<R: Threads + Wait + Clock + Sync, S: Shelf, I: Read>(
+    rt: &R,
+    alloc: Global,
+    request: Request<'_>,
+    shelf: &S,
+    input: &mut I,
+) -> Result<Conclusion, Refusal>
+    ensures { IsAnswer (S.may_give shelf.now) (S.may_alias shelf.now) I.remaining request.entry
+        input.old input.new result }
+{
+    match answer_here(alloc, request, shelf, input) {
+        Progress::Answered(answer) => answer,
+        Progress::NeedsWorkers(run) => run_command_by_workers(rt, alloc, &run, shelf),
+    }
+}

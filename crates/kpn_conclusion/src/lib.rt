@@ -1,0 +1,18 @@
+//! Conclusions: what a command comes to that nothing refuses.
+#![tactic(auto)]
+
+/// A file to store.
+#[derive(Debug, Drop)]
+pub struct OutputFile {
+    pub name: String,
+    pub bytes: Vec<u8>,
+}
+
+/// The text that a command writes, the status that the program then ends with, and the files that it stores before, in
+/// this order.
+#[derive(Debug, Drop)]
+pub struct Conclusion {
+    pub text: Vec<u8>,
+    pub status: u8,
+    pub files: Vec<OutputFile>,
+}

@@ -1,0 +1,13 @@
+-- What a run is asked for, with the bytes of its words.
+use Rattle.std.specs.Prelude.{ℕ, List, Option}
+
+-- the file of the description, the words behind the `--source` options and those behind the `--sink` options, the most
+-- commits, how many items the run wants of each sink, the file for the trace, and how many workers run the network
+pub record RunRequest : Type 0 where
+  pub file : List ℕ
+  pub sources : List (List ℕ)
+  pub sinks : List (List ℕ)
+  pub commits : ℕ
+  pub take : Option ℕ
+  pub trace : Option (List ℕ)
+  pub workers : Option ℕ

@@ -1,0 +1,33 @@
+-- The figures are those of the history, and there is one for each channel of the network.
+use Rattle.std.proofs.Common.{◌∙◌, ap, length, refl, subst}
+use Rattle.kpn_net.specs.Tables.{Tables}
+use Rattle.kpn_stats_command.specs.Figures.{AreFigures}
+use Rattle.kpn_stats_command.proofs.Told.{of_history}
+use Rattle.kpn_stats_command.proofs.command.conclusion_of.Goals as goal
+
+pub text_of-requires : goal.text_of-requires
+text_of-requires c =
+    c.in_ok-figures-in-Legal.ensures.channel_count ∙ ap (λ (t : Tables). length t.channels) c.network.ensures
+
+pub returns-in_ok-text-in-Legal : goal.returns-in_ok-text-in-Legal
+returns-in_ok-text-in-Legal c =
+    let a = c.args.audited.now in
+    let figures = c.in_ok-figures-in-Legal.figures in
+    let counted =
+    subst (λ events. AreFigures c.network.result.now events figures) c.as_slice.ensures
+    c.in_ok-figures-in-Legal.ensures in
+    let are = subst (λ (t : Tables). AreFigures t a.trace.events figures) c.network.ensures counted in
+    rw c.in-Legal.is (
+      (
+        record {
+          figures = figures;
+          are = of_history a.document.tables a.trace figures are;
+          made = c.in_ok-text-in-Legal.ensures;
+        },
+        refl,
+      ),
+      c.new.ensures,
+    )
+
+pub returns-in-NotLegal : goal.returns-in-NotLegal
+returns-in-NotLegal c = rw c.in-NotLegal.is c.conclusion.ensures
