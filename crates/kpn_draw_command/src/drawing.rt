@@ -8,7 +8,7 @@ use crate::found::{Flow, flow_of, state_of};
 use kpn_audit::Audit;
 use kpn_history::{How, State};
 use kpn_net::{End, Network};
-use kpn_pieces::{push_between, push_number};
+use kpn_pieces::{Pushed, push_between, push_number};
 use kpn_text::Document;
 use kpn_trace_text::how_word;
 use std::alloc::{AllocError, Global};
@@ -31,7 +31,7 @@ pub(crate) fn text_of(
 }
 
 // The lines that hold for all boxes and edges.
-fn push_head(text: &mut Vec<u8>) -> Result<(), AllocError>
+fn push_head(text: &mut Vec<u8>) -> Pushed
     ensures { OnOk result (text.new.items ≡ text.old.items ++ head) }
 {
     text.extend_from_slice(
@@ -40,11 +40,7 @@ fn push_head(text: &mut Vec<u8>) -> Result<(), AllocError>
     text.extend_from_slice(b"  edge [fontname=\"sans-serif\", fontsize=11];\n")
 }
 
-fn push_processes(
-    text: &mut Vec<u8>,
-    document: &Document,
-    audit: Option<&Audit>,
-) -> Result<(), AllocError>
+fn push_processes(text: &mut Vec<u8>, document: &Document, audit: Option<&Audit>) -> Pushed
     ensures { let d = document.now in
         OnOk result (text.new.items ≡ text.old.items ++ each_below (length d.tables.instances)
         (λ p. process_line d p (state_of (option_map (λ a. a.now) audit.entry) p))) }
@@ -58,12 +54,7 @@ fn push_processes(
 }
 
 // The line of a process in this state.
-fn push_process(
-    text: &mut Vec<u8>,
-    document: &Document,
-    p: usize,
-    state: State,
-) -> Result<(), AllocError>
+fn push_process(text: &mut Vec<u8>, document: &Document, p: usize, state: State) -> Pushed
     requires { p < length document.now.tables.instances }
     ensures { OnOk result
         (text.new.items ≡ text.old.items ++ process_line document.now p state) }
@@ -76,14 +67,14 @@ fn push_process(
 }
 
 // The end of a label, and the style of its box or edge.
-fn push_closing(text: &mut Vec<u8>, style: &[u8]) -> Result<(), AllocError>
+fn push_closing(text: &mut Vec<u8>, style: &[u8]) -> Pushed
     ensures { OnOk result (text.new.items ≡ text.old.items ++ closing style.now) }
 {
     push_between(text, b"\"", style, b"];\n")
 }
 
 // The instance and its process.
-fn push_title(text: &mut Vec<u8>, document: &Document, p: usize) -> Result<(), AllocError>
+fn push_title(text: &mut Vec<u8>, document: &Document, p: usize) -> Pushed
     requires { p < length document.now.tables.instances }
     ensures { OnOk result (text.new.items ≡ text.old.items ++ process_title document.now p) }
 {
@@ -93,7 +84,7 @@ fn push_title(text: &mut Vec<u8>, document: &Document, p: usize) -> Result<(), A
 }
 
 // What a process waits for, or how it has ended.
-fn push_state(text: &mut Vec<u8>, document: &Document, state: State) -> Result<(), AllocError>
+fn push_state(text: &mut Vec<u8>, document: &Document, state: State) -> Pushed
     ensures { OnOk result
         (text.new.items ≡ text.old.items ++ state_line document.now.names.channels state) }
 {
@@ -117,11 +108,7 @@ fn filling(state: State) -> &'static [u8]
     }
 }
 
-fn push_channels(
-    text: &mut Vec<u8>,
-    document: &Document,
-    audit: Option<&Audit>,
-) -> Result<(), AllocError>
+fn push_channels(text: &mut Vec<u8>, document: &Document, audit: Option<&Audit>) -> Pushed
     ensures { let d = document.now in
         OnOk result (text.new.items ≡ text.old.items ++ each_below (length d.tables.channels)
         (λ c. channel_lines d c (flow_of d.tables (option_map (λ a. a.now) audit.entry) c))) }
@@ -136,7 +123,7 @@ fn push_channels(
 }
 
 // The line of the outside at a channel, if it is a source or a sink.
-fn push_outside(text: &mut Vec<u8>, network: &Network, c: usize) -> Result<(), AllocError>
+fn push_outside(text: &mut Vec<u8>, network: &Network, c: usize) -> Pushed
     ensures { OnOk result
         (text.new.items ≡ text.old.items ++ outside_line (channel_at network.now c) c) }
 {
@@ -155,12 +142,7 @@ fn push_outside(text: &mut Vec<u8>, network: &Network, c: usize) -> Result<(), A
 }
 
 // The line of a channel, with what went over it.
-fn push_edge(
-    text: &mut Vec<u8>,
-    document: &Document,
-    c: usize,
-    flow: Option<Flow>,
-) -> Result<(), AllocError>
+fn push_edge(text: &mut Vec<u8>, document: &Document, c: usize, flow: Option<Flow>) -> Pushed
     requires { c < length document.now.tables.channels }
     ensures { OnOk result (text.new.items ≡ text.old.items ++ edge_line document.now c flow) }
 {
@@ -172,12 +154,7 @@ fn push_edge(
 }
 
 // The name of a channel, its capacity, and what went over it.
-fn push_label(
-    text: &mut Vec<u8>,
-    document: &Document,
-    c: usize,
-    flow: Option<Flow>,
-) -> Result<(), AllocError>
+fn push_label(text: &mut Vec<u8>, document: &Document, c: usize, flow: Option<Flow>) -> Pushed
     requires { c < length document.now.tables.channels }
     ensures { OnOk result (text.new.items ≡ text.old.items ++ edge_label document.now c flow) }
 {
@@ -187,7 +164,7 @@ fn push_label(
 }
 
 // From the writer of a channel to its reader.
-fn push_arrow(text: &mut Vec<u8>, network: &Network, c: usize) -> Result<(), AllocError>
+fn push_arrow(text: &mut Vec<u8>, network: &Network, c: usize) -> Pushed
     requires { c < length network.now.channels }
     ensures { OnOk result (text.new.items ≡ text.old.items ++ arrow network.now c) }
 {
@@ -198,7 +175,7 @@ fn push_arrow(text: &mut Vec<u8>, network: &Network, c: usize) -> Result<(), All
 }
 
 // The box or the ellipse at an end of a channel.
-fn push_end(text: &mut Vec<u8>, c: usize, end: End) -> Result<(), AllocError>
+fn push_end(text: &mut Vec<u8>, c: usize, end: End) -> Pushed
     ensures { OnOk result (text.new.items ≡ text.old.items ++ end_node c end) }
 {
     match end {
@@ -208,7 +185,7 @@ fn push_end(text: &mut Vec<u8>, c: usize, end: End) -> Result<(), AllocError>
 }
 
 // The capacity of a channel at first.
-fn push_capacity(text: &mut Vec<u8>, cap: Option<u32>) -> Result<(), AllocError>
+fn push_capacity(text: &mut Vec<u8>, cap: Option<u32>) -> Pushed
     ensures { OnOk result (text.new.items ≡ text.old.items ++ capacity_label cap) }
 {
     match cap {
@@ -217,7 +194,7 @@ fn push_capacity(text: &mut Vec<u8>, cap: Option<u32>) -> Result<(), AllocError>
     }
 }
 
-fn push_flow(text: &mut Vec<u8>, flow: Option<Flow>) -> Result<(), AllocError>
+fn push_flow(text: &mut Vec<u8>, flow: Option<Flow>) -> Pushed
     ensures { OnOk result (text.new.items ≡ text.old.items ++ flow_line flow) }
 {
     let Some(flow) = flow else {
@@ -229,7 +206,7 @@ fn push_flow(text: &mut Vec<u8>, flow: Option<Flow>) -> Result<(), AllocError>
 }
 
 // The capacity that a channel has grown to.
-fn push_growth(text: &mut Vec<u8>, grown: Option<u32>) -> Result<(), AllocError>
+fn push_growth(text: &mut Vec<u8>, grown: Option<u32>) -> Pushed
     ensures { OnOk result (text.new.items ≡ text.old.items ++ growth_label grown) }
 {
     match grown {

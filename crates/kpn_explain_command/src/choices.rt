@@ -4,6 +4,7 @@ ghost use Rattle.kpn_grammar.specs.Reading.{description_of};
 ghost use Rattle.kpn_explain_command.specs.Choices as spec;
 
 use kpn_grammar::{GrammarFault, description};
+use kpn_pieces::Pushed;
 use kpn_tokens::{Keyword, LexFault, Lexeme, Mark, lexemes};
 use std::alloc::{AllocError, Global};
 
@@ -20,7 +21,7 @@ pub(crate) fn choices(alloc: Global, front: &[u8]) -> Result<Vec<u8>, AllocError
 }
 
 // Any name, or else words of settings.
-fn push_name(alloc: Global, found: &mut Vec<u8>, front: &[u8]) -> Result<(), AllocError>
+fn push_name(alloc: Global, found: &mut Vec<u8>, front: &[u8]) -> Pushed
     ensures { OnOk result (found.new.items ≡ found.old.items ++ spec.name_choices front.now) }
 {
     if may_stand(alloc, front, b"x")? {
@@ -30,7 +31,7 @@ fn push_name(alloc: Global, found: &mut Vec<u8>, front: &[u8]) -> Result<(), All
     push_settings(alloc, found, front)
 }
 
-fn push_settings(alloc: Global, found: &mut Vec<u8>, front: &[u8]) -> Result<(), AllocError>
+fn push_settings(alloc: Global, found: &mut Vec<u8>, front: &[u8]) -> Pushed
     ensures { OnOk result (found.new.items ≡ found.old.items ++ spec.setting_choices front.now) }
 {
     push_word(alloc, found, front, b"cycles")?;
@@ -40,12 +41,7 @@ fn push_settings(alloc: Global, found: &mut Vec<u8>, front: &[u8]) -> Result<(),
     Ok(())
 }
 
-fn push_keywords(
-    alloc: Global,
-    found: &mut Vec<u8>,
-    front: &[u8],
-    words: &[Keyword],
-) -> Result<(), AllocError>
+fn push_keywords(alloc: Global, found: &mut Vec<u8>, front: &[u8], words: &[Keyword]) -> Pushed
     ensures { OnOk result
         (found.new.items ≡ found.old.items ++ spec.keyword_choices front.now words.now) }
 {
@@ -55,12 +51,7 @@ fn push_keywords(
     Ok(())
 }
 
-fn push_marks(
-    alloc: Global,
-    found: &mut Vec<u8>,
-    front: &[u8],
-    marks: &[Mark],
-) -> Result<(), AllocError>
+fn push_marks(alloc: Global, found: &mut Vec<u8>, front: &[u8], marks: &[Mark]) -> Pushed
     ensures { OnOk result
         (found.new.items ≡ found.old.items ++ spec.mark_choices front.now marks.now) }
 {
@@ -71,12 +62,7 @@ fn push_marks(
 }
 
 // A word between backticks, if it may stand behind the text.
-fn push_word(
-    alloc: Global,
-    found: &mut Vec<u8>,
-    front: &[u8],
-    word: &[u8],
-) -> Result<(), AllocError>
+fn push_word(alloc: Global, found: &mut Vec<u8>, front: &[u8], word: &[u8]) -> Pushed
     ensures { OnOk result
         (found.new.items ≡ found.old.items ++ spec.word_choice front.now word.now) }
 {
@@ -86,7 +72,7 @@ fn push_word(
     Ok(())
 }
 
-fn push_quoted(found: &mut Vec<u8>, word: &[u8]) -> Result<(), AllocError>
+fn push_quoted(found: &mut Vec<u8>, word: &[u8]) -> Pushed
     ensures { OnOk result (found.new.items ≡ found.old.items ++ spec.quoted word.now) }
 {
     found.extend_from_slice(b" `")?;
@@ -102,7 +88,7 @@ fn push_choice(
     front: &[u8],
     word: &[u8],
     label: &[u8],
-) -> Result<(), AllocError>
+) -> Pushed
     ensures { OnOk result
         (found.new.items ≡ found.old.items ++ spec.choice front.now word.now label.now) }
 {

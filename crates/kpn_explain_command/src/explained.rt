@@ -7,6 +7,7 @@ ghost use Rattle.kpn_explain_command.specs.ExplainText as spec;
 use crate::cases::case_of;
 use crate::choices::{choices, may_stand};
 use crate::sentences::{Case, advice, is_named, other, said};
+use kpn_pieces::Pushed;
 use kpn_places::{concerned_places, front, name_at, push_excerpt, push_where};
 use kpn_refusals::Refusal;
 use kpn_text::TextFault;
@@ -64,7 +65,7 @@ fn push_first(
     fault: TextFault,
     at: usize,
     case: Case,
-) -> Result<(), AllocError>
+) -> Pushed
     ensures { OnOk result (told.new.items
         ≡ told.old.items ++ spec.first_part file.now text.now fault at case) }
 {
@@ -81,7 +82,7 @@ fn push_second(
     text: &[u8],
     place: Option<usize>,
     case: Case,
-) -> Result<(), AllocError>
+) -> Pushed
     ensures { OnOk result
         (told.new.items ≡ told.old.items ++ spec.second_part file.now text.now place case) }
 {
@@ -95,7 +96,7 @@ fn push_second(
     Ok(())
 }
 
-fn push_advice(told: &mut Vec<u8>, case: Case) -> Result<(), AllocError>
+fn push_advice(told: &mut Vec<u8>, case: Case) -> Pushed
     ensures { OnOk result (told.new.items ≡ told.old.items ++ spec.advice_line case) }
 {
     told.extend_from_slice(advice(case))?;
@@ -103,13 +104,7 @@ fn push_advice(told: &mut Vec<u8>, case: Case) -> Result<(), AllocError>
     Ok(())
 }
 
-fn push_sentence(
-    alloc: Global,
-    told: &mut Vec<u8>,
-    text: &[u8],
-    at: usize,
-    case: Case,
-) -> Result<(), AllocError>
+fn push_sentence(alloc: Global, told: &mut Vec<u8>, text: &[u8], at: usize, case: Case) -> Pushed
     ensures { OnOk result (told.new.items ≡ told.old.items ++ spec.sentence text.now at case) }
 {
     push_subject(told, name_at(text, at), case)?;
@@ -119,7 +114,7 @@ fn push_sentence(
 }
 
 // The name at the place, if the sentence begins with it.
-fn push_subject(told: &mut Vec<u8>, name: &[u8], case: Case) -> Result<(), AllocError>
+fn push_subject(told: &mut Vec<u8>, name: &[u8], case: Case) -> Pushed
     ensures { OnOk result (told.new.items ≡ told.old.items ++ spec.subject name.now case) }
 {
     if is_named(case) {
@@ -137,7 +132,7 @@ fn push_alternatives(
     text: &[u8],
     at: usize,
     case: Case,
-) -> Result<(), AllocError>
+) -> Pushed
     ensures { OnOk result
         (told.new.items ≡ told.old.items ++ spec.alternatives text.now at case) }
 {
@@ -154,7 +149,7 @@ fn is_grammar(case: Case) -> bool
 }
 
 // What may stand behind a text. Nothing may, if it is whole.
-fn push_behind(alloc: Global, told: &mut Vec<u8>, front: &[u8]) -> Result<(), AllocError>
+fn push_behind(alloc: Global, told: &mut Vec<u8>, front: &[u8]) -> Pushed
     ensures { OnOk result (told.new.items ≡ told.old.items ++ spec.behind front.now) }
 {
     if may_stand(alloc, front, b"")? {
@@ -164,7 +159,7 @@ fn push_behind(alloc: Global, told: &mut Vec<u8>, front: &[u8]) -> Result<(), Al
     push_listed(told, &found)
 }
 
-fn push_listed(told: &mut Vec<u8>, found: &[u8]) -> Result<(), AllocError>
+fn push_listed(told: &mut Vec<u8>, found: &[u8]) -> Pushed
     ensures { OnOk result (told.new.items ≡ told.old.items ++ spec.listed found.now) }
 {
     if found.len() == 0 {
@@ -174,7 +169,7 @@ fn push_listed(told: &mut Vec<u8>, found: &[u8]) -> Result<(), AllocError>
     }
 }
 
-fn push_some(told: &mut Vec<u8>, found: &[u8]) -> Result<(), AllocError>
+fn push_some(told: &mut Vec<u8>, found: &[u8]) -> Pushed
     ensures { OnOk result (told.new.items ≡ told.old.items ++ spec.some_listed found.now) }
 {
     told.extend_from_slice(b"; here may stand:")?;
@@ -183,11 +178,7 @@ fn push_some(told: &mut Vec<u8>, found: &[u8]) -> Result<(), AllocError>
 }
 
 /// What the error line of a refusal says behind `kpn: `, between brackets.
-pub(crate) fn push_bracket(
-    alloc: Global,
-    told: &mut Vec<u8>,
-    refusal: &Refusal,
-) -> Result<(), AllocError>
+pub(crate) fn push_bracket(alloc: Global, told: &mut Vec<u8>, refusal: &Refusal) -> Pushed
     ensures { OnOk result (told.new.items ≡ told.old.items ++ spec.bracket refusal.now) }
 {
     let line = line_of(alloc, refusal)?;

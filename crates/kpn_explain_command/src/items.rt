@@ -10,11 +10,11 @@ use crate::explained::push_bracket;
 use crate::loading::load;
 use kpn_conclusion::Conclusion;
 use kpn_items::{ItemFault, items_of};
-use kpn_pieces::push_number;
+use kpn_pieces::{Pushed, push_number};
 use kpn_places::{line_start, push_excerpt, push_where};
 use kpn_refusals::Refusal;
 use kpn_shelf::Shelf;
-use std::alloc::{AllocError, Global};
+use std::alloc::Global;
 
 /// What `kpn explain FILE --items` comes to.
 pub fn explain_items_command<S: Shelf>(
@@ -71,7 +71,7 @@ fn push_item_place(
     file: &[u8],
     text: &[u8],
     line: usize,
-) -> Result<(), AllocError>
+) -> Pushed
     ensures { OnOk result (told.new.items
         ≡ told.old.items ++ spec.item_place file.now text.now line (lines.line_start text.now line)) }
 {
@@ -85,7 +85,7 @@ fn push_line_at(
     text: &[u8],
     line: usize,
     at: usize,
-) -> Result<(), AllocError>
+) -> Pushed
     ensures { OnOk result (told.new.items
         ≡ told.old.items ++ spec.item_place file.now text.now line at) }
 {
@@ -96,7 +96,7 @@ fn push_line_at(
     Ok(())
 }
 
-fn push_item_advice(told: &mut Vec<u8>) -> Result<(), AllocError>
+fn push_item_advice(told: &mut Vec<u8>) -> Pushed
     ensures { OnOk result (told.new.items ≡ told.old.items ++ spec.item_advice) }
 {
     told.extend_from_slice(

@@ -6,7 +6,7 @@ ghost use Rattle.kpn_explain_trace.specs.ExplainText as spec;
 use crate::words::push_sentence;
 use kpn_audit::Scene;
 use kpn_history::{Trace, Version};
-use kpn_pieces::push_number;
+use kpn_pieces::{Pushed, push_number};
 use kpn_places::{line_start, push_excerpt, push_where};
 use kpn_text::Document;
 use kpn_trace_text::TraceFault;
@@ -56,7 +56,7 @@ pub(crate) fn illegal_text(
 }
 
 // The line of an event that is not legal, and some advice.
-fn push_end(text: &mut Vec<u8>, bytes: &[u8], at: usize) -> Result<(), AllocError>
+fn push_end(text: &mut Vec<u8>, bytes: &[u8], at: usize) -> Pushed
     ensures { OnOk result (text.new.items ≡ text.old.items ++ spec.end_text bytes.now at) }
 {
     push_excerpt(text, bytes, at)?;
@@ -97,7 +97,7 @@ fn head_line(bytes: &[u8]) -> usize
 }
 
 // What is wrong with bytes that are refused.
-fn push_fault(text: &mut Vec<u8>, fault: &TraceFault) -> Result<(), AllocError>
+fn push_fault(text: &mut Vec<u8>, fault: &TraceFault) -> Pushed
     ensures { OnOk result (text.new.items ≡ text.old.items ++ spec.fault_words fault.now) }
 {
     match fault {
@@ -117,7 +117,7 @@ fn push_fault(text: &mut Vec<u8>, fault: &TraceFault) -> Result<(), AllocError>
 }
 
 // What to do about a fault.
-fn push_advice(text: &mut Vec<u8>, fault: &TraceFault) -> Result<(), AllocError>
+fn push_advice(text: &mut Vec<u8>, fault: &TraceFault) -> Pushed
     ensures { OnOk result (text.new.items ≡ text.old.items ++ spec.advice fault.now) }
 {
     match fault {

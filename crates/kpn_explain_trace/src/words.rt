@@ -5,10 +5,9 @@ ghost use Rattle.kpn_explain_trace.specs.Words as spec;
 use crate::names::{push_channel, push_process};
 use kpn_audit::{Doing, GrowthOwed, Scene, Side};
 use kpn_history::{Event, How, Version};
-use kpn_pieces::{push_between, push_item, push_number};
+use kpn_pieces::{Pushed, push_between, push_item, push_number};
 use kpn_text::Document;
 use kpn_trace_text::how_word;
-use std::alloc::AllocError;
 
 /// `event K: EVENT; but SCENE`.
 pub(crate) fn push_sentence(
@@ -18,7 +17,7 @@ pub(crate) fn push_sentence(
     k: usize,
     event: Event,
     scene: Scene,
-) -> Result<(), AllocError>
+) -> Pushed
     ensures { OnOk result
         (text.new.items ≡ text.old.items ++ spec.sentence document.now version k event scene) }
 {
@@ -29,12 +28,7 @@ pub(crate) fn push_sentence(
 }
 
 // An event.
-fn push_event(
-    text: &mut Vec<u8>,
-    document: &Document,
-    version: Version,
-    event: Event,
-) -> Result<(), AllocError>
+fn push_event(text: &mut Vec<u8>, document: &Document, version: Version, event: Event) -> Pushed
     ensures { OnOk result
         (text.new.items ≡ text.old.items ++ spec.event_words document.now version event) }
 {
@@ -87,7 +81,7 @@ fn push_moved(
     item: i64,
     preposition: &[u8],
     c: usize,
-) -> Result<(), AllocError>
+) -> Pushed
     ensures { OnOk result (text.new.items ≡ text.old.items
         ++ spec.moved_words document.now verb.now item preposition.now c) }
 {
@@ -96,13 +90,7 @@ fn push_moved(
 }
 
 // A process waits on a channel.
-fn push_wait(
-    text: &mut Vec<u8>,
-    document: &Document,
-    p: usize,
-    c: usize,
-    after: &[u8],
-) -> Result<(), AllocError>
+fn push_wait(text: &mut Vec<u8>, document: &Document, p: usize, c: usize, after: &[u8]) -> Pushed
     ensures { OnOk result
         (text.new.items ≡ text.old.items ++ spec.wait_words document.now p c after.now) }
 {
@@ -113,12 +101,7 @@ fn push_wait(
 }
 
 // What the outside does to a channel.
-fn push_outside(
-    text: &mut Vec<u8>,
-    document: &Document,
-    verb: &[u8],
-    c: usize,
-) -> Result<(), AllocError>
+fn push_outside(text: &mut Vec<u8>, document: &Document, verb: &[u8], c: usize) -> Pushed
     ensures { OnOk result
         (text.new.items ≡ text.old.items ++ spec.outside_words document.now verb.now c) }
 {
@@ -127,7 +110,7 @@ fn push_outside(
 }
 
 // How a process ends.
-fn push_end(text: &mut Vec<u8>, verb: &[u8], how: How) -> Result<(), AllocError>
+fn push_end(text: &mut Vec<u8>, verb: &[u8], how: How) -> Pushed
     ensures { OnOk result (text.new.items ≡ text.old.items ++ spec.end_words verb.now how) }
 {
     push_between(text, verb, how_word(how).as_bytes(), b"`")
@@ -141,7 +124,7 @@ fn push_growth(
     p: usize,
     c: usize,
     cap: u32,
-) -> Result<(), AllocError>
+) -> Pushed
     ensures { OnOk result
         (text.new.items ≡ text.old.items ++ spec.growth_words document.now version p c cap) }
 {
@@ -151,7 +134,7 @@ fn push_growth(
 }
 
 // How a channel grows: in version 1 an event does not state the new capacity.
-fn push_growing(text: &mut Vec<u8>, version: Version, cap: u32) -> Result<(), AllocError>
+fn push_growing(text: &mut Vec<u8>, version: Version, cap: u32) -> Pushed
     ensures { OnOk result (text.new.items ≡ text.old.items ++ spec.growing_words version cap) }
 {
     match version {
@@ -161,7 +144,7 @@ fn push_growing(text: &mut Vec<u8>, version: Version, cap: u32) -> Result<(), Al
 }
 
 // What stands before an event.
-fn push_scene(text: &mut Vec<u8>, document: &Document, scene: Scene) -> Result<(), AllocError>
+fn push_scene(text: &mut Vec<u8>, document: &Document, scene: Scene) -> Pushed
     ensures { OnOk result (text.new.items ≡ text.old.items ++ spec.scene_words document.now scene) }
 {
     match scene {
@@ -180,7 +163,7 @@ fn push_scene(text: &mut Vec<u8>, document: &Document, scene: Scene) -> Result<(
 }
 
 // The growth that has to come first.
-fn push_owed(text: &mut Vec<u8>, document: &Document, growth: GrowthOwed) -> Result<(), AllocError>
+fn push_owed(text: &mut Vec<u8>, document: &Document, growth: GrowthOwed) -> Pushed
     ensures { OnOk result (text.new.items ≡ text.old.items ++ spec.owed_words document.now growth) }
 {
     text.extend_from_slice(b"first ")?;
@@ -195,7 +178,7 @@ fn push_owed(text: &mut Vec<u8>, document: &Document, growth: GrowthOwed) -> Res
 }
 
 // How many processes and channels there are.
-fn push_counts(text: &mut Vec<u8>, document: &Document) -> Result<(), AllocError>
+fn push_counts(text: &mut Vec<u8>, document: &Document) -> Pushed
     ensures { OnOk result (text.new.items ≡ text.old.items ++ spec.count_words document.now) }
 {
     let network = document.network();
@@ -209,7 +192,7 @@ fn push_counts(text: &mut Vec<u8>, document: &Document) -> Result<(), AllocError
 }
 
 // What a process is doing.
-fn push_doing(text: &mut Vec<u8>, document: &Document, doing: Doing) -> Result<(), AllocError>
+fn push_doing(text: &mut Vec<u8>, document: &Document, doing: Doing) -> Pushed
     ensures { OnOk result (text.new.items ≡ text.old.items ++ spec.doing_words document.now doing) }
 {
     match doing {
@@ -230,12 +213,7 @@ fn push_doing(text: &mut Vec<u8>, document: &Document, doing: Doing) -> Result<(
 }
 
 // A process comes to read from a channel, which has this item next.
-fn push_read(
-    text: &mut Vec<u8>,
-    document: &Document,
-    c: usize,
-    next: Option<i64>,
-) -> Result<(), AllocError>
+fn push_read(text: &mut Vec<u8>, document: &Document, c: usize, next: Option<i64>) -> Pushed
     ensures { OnOk result
         (text.new.items ≡ text.old.items ++ spec.read_words document.now c next) }
 {
@@ -245,13 +223,7 @@ fn push_read(
 }
 
 // A process comes to write an item to a channel, which is full or not.
-fn push_write(
-    text: &mut Vec<u8>,
-    document: &Document,
-    c: usize,
-    item: i64,
-    is_full: bool,
-) -> Result<(), AllocError>
+fn push_write(text: &mut Vec<u8>, document: &Document, c: usize, item: i64, is_full: bool) -> Pushed
     ensures { OnOk result
         (text.new.items ≡ text.old.items ++ spec.write_words document.now c item is_full) }
 {
@@ -261,7 +233,7 @@ fn push_write(
 }
 
 // The next item of a channel.
-fn push_next(text: &mut Vec<u8>, before: &[u8], next: Option<i64>) -> Result<(), AllocError>
+fn push_next(text: &mut Vec<u8>, before: &[u8], next: Option<i64>) -> Pushed
     ensures { OnOk result (text.new.items ≡ text.old.items ++ spec.next_words before.now next) }
 {
     text.extend_from_slice(before)?;
@@ -272,7 +244,7 @@ fn push_next(text: &mut Vec<u8>, before: &[u8], next: Option<i64>) -> Result<(),
 }
 
 // Whether a channel is full.
-fn push_room(text: &mut Vec<u8>, is_full: bool) -> Result<(), AllocError>
+fn push_room(text: &mut Vec<u8>, is_full: bool) -> Pushed
     ensures { OnOk result (text.new.items ≡ text.old.items ++ spec.room_words is_full) }
 {
     if is_full {
@@ -283,7 +255,7 @@ fn push_room(text: &mut Vec<u8>, is_full: bool) -> Result<(), AllocError>
 }
 
 // How a channel stands to the outside.
-fn push_side(text: &mut Vec<u8>, side: Side) -> Result<(), AllocError>
+fn push_side(text: &mut Vec<u8>, side: Side) -> Pushed
     ensures { OnOk result (text.new.items ≡ text.old.items ++ spec.side_words side) }
 {
     match side {

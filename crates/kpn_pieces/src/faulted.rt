@@ -2,12 +2,12 @@
 ghost use Rattle.std.specs.Prelude.{◌≡◌, ◌++◌, OnOk};
 ghost use Rattle.kpn_pieces.specs.Faulted.{faulted_line};
 
+use crate::Pushed;
 use kpn_history::How;
 use kpn_trace_text::how_word;
-use std::alloc::AllocError;
 
 /// `fault NAME CAUSE`, and a line feed. The word for the cause is that of a trace. Call it only for an end by a fault.
-pub fn push_faulted(text: &mut Vec<u8>, name: &[u8], how: How) -> Result<(), AllocError>
+pub fn push_faulted(text: &mut Vec<u8>, name: &[u8], how: How) -> Pushed
     ensures { OnOk result (text.new.items ≡ text.old.items ++ faulted_line name.now how) }
 {
     text.extend_from_slice(b"fault ")?;

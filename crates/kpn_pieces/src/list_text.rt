@@ -2,11 +2,11 @@
 ghost use Rattle.std.specs.Prelude.{◌≡◌, ◌++◌, OnOk};
 ghost use Rattle.kpn_pieces.specs.ListText.{items_text, list_line, spaced, spaced_item};
 
+use crate::Pushed;
 use itoa::Buffer;
-use std::alloc::AllocError;
 
 /// `NAME:`, the items with a space before each, and a line feed.
-pub fn push_list(text: &mut Vec<u8>, name: &[u8], items: &[i64]) -> Result<(), AllocError>
+pub fn push_list(text: &mut Vec<u8>, name: &[u8], items: &[i64]) -> Pushed
     ensures { OnOk result (text.new.items ≡ text.old.items ++ list_line name.now items.now) }
 {
     text.extend_from_slice(name)?;
@@ -14,7 +14,7 @@ pub fn push_list(text: &mut Vec<u8>, name: &[u8], items: &[i64]) -> Result<(), A
 }
 
 /// `:`, the items with a space before each, and a line feed.
-pub fn push_items(text: &mut Vec<u8>, items: &[i64]) -> Result<(), AllocError>
+pub fn push_items(text: &mut Vec<u8>, items: &[i64]) -> Pushed
     ensures { OnOk result (text.new.items ≡ text.old.items ++ items_text items.now) }
 {
     text.push(b':')?;
@@ -24,7 +24,7 @@ pub fn push_items(text: &mut Vec<u8>, items: &[i64]) -> Result<(), AllocError>
 }
 
 /// The items with a space before each.
-pub fn push_spaced_items(text: &mut Vec<u8>, items: &[i64]) -> Result<(), AllocError>
+pub fn push_spaced_items(text: &mut Vec<u8>, items: &[i64]) -> Pushed
     ensures { OnOk result (text.new.items ≡ text.old.items ++ spaced items.now) }
 {
     for item in items {
@@ -34,7 +34,7 @@ pub fn push_spaced_items(text: &mut Vec<u8>, items: &[i64]) -> Result<(), AllocE
 }
 
 // An item behind a space.
-fn push_spaced(text: &mut Vec<u8>, item: i64) -> Result<(), AllocError>
+fn push_spaced(text: &mut Vec<u8>, item: i64) -> Pushed
     ensures { OnOk result (text.new.items ≡ text.old.items ++ spaced_item item) }
 {
     let mut buffer = Buffer::new();

@@ -8,7 +8,7 @@ use kpn_audit::Audit;
 use kpn_history::How;
 use kpn_lang::Sequence;
 use kpn_net::Wait;
-use kpn_pieces::push_number;
+use kpn_pieces::{Pushed, push_number};
 use kpn_text::Document;
 use kpn_trace_text::how_word;
 use std::alloc::{AllocError, Global};
@@ -63,7 +63,7 @@ fn push_people(
     audit: &Audit,
     channels: &[ChannelFigures],
     processes: &[ProcessFigures],
-) -> Result<(), AllocError>
+) -> Pushed
     requires { length channels.now ≡ length document.now.tables.channels }
     ensures { OnOk result (text.new.items
         ≡ text.old.items ++ people_text document.now audit.now channels.now processes.now) }
@@ -304,7 +304,7 @@ fn push_advice(
     document: &Document,
     audit: &Audit,
     figures: &[ChannelFigures],
-) -> Result<(), AllocError>
+) -> Pushed
     ensures { OnOk result
         (text.new.items ≡ text.old.items ++ advice document.now audit.now figures.now) }
 {
@@ -320,7 +320,7 @@ fn push_advice_line(
     name: &[u8],
     last: Option<u32>,
     figures: ChannelFigures,
-) -> Result<(), AllocError>
+) -> Pushed
     ensures { OnOk result
         (text.new.items ≡ text.old.items ++ advice_line name.now last figures) }
 {
@@ -332,12 +332,7 @@ fn push_advice_line(
 }
 
 // What the advice says of a capacity.
-fn push_advice_for(
-    text: &mut Vec<u8>,
-    waits: usize,
-    last: usize,
-    most: usize,
-) -> Result<(), AllocError>
+fn push_advice_for(text: &mut Vec<u8>, waits: usize, last: usize, most: usize) -> Pushed
     ensures { OnOk result (text.new.items ≡ text.old.items ++ advice_for waits last most) }
 {
     if waits == 0 {
