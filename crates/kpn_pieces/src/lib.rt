@@ -7,7 +7,4 @@ mod pieces;
 
 pub use faulted::push_faulted;
 pub use list_text::{push_items, push_list, push_spaced_items};
-pub use pieces::{push_between, push_item, push_number};
-use std::alloc::AllocError;
-/// What a call gives that writes behind a text. The error is that memory ran out.
-pub type Pushed = Result<(), AllocError>;
+pub use pieces::{Pushed, push_between, push_item, push_number};

@@ -2,8 +2,11 @@
 ghost use Rattle.std.specs.Prelude.{◌≡◌, ◌++◌, OnOk};
 ghost use Rattle.std.specs.Fmt.{decimal, signed_decimal};
 
-use crate::Pushed;
 use itoa::Buffer;
+use std::alloc::AllocError;
+
+/// What a call gives that writes behind a text. The error is that memory ran out.
+pub type Pushed = Result<(), AllocError>;
 
 /// A text between two others.
 pub fn push_between(text: &mut Vec<u8>, before: &[u8], piece: &[u8], after: &[u8]) -> Pushed
