@@ -1,7 +1,7 @@
 -- What is shown of a place in a text: where it is, the line, and a caret under the place.
 use Rattle.std.specs.Prelude.{ℕ, ◌+◌, ◌-◌, Bool, ◌&&◌, ◌==◌, nat_le, if◌then◌else◌, List, ◌++◌, length, take, drop, map, codes}
 use Rattle.std.specs.Fmt.{decimal}
-use Rattle.kpn_places.specs.declared.lines.Place.{Place}
+use Rattle.kpn_places.specs.declared.lines.Position.{Position}
 use Rattle.kpn_places.specs.Lines.{place_at, last_line, first_line}
 
 -- the bytes from 32 to 126 are shown as they are, others as `?`
@@ -9,7 +9,7 @@ abbrev pub plain : (byte : ℕ) → ℕ
 plain b = if nat_le 32 b && nat_le b 126 then b else 63
 
 -- `NAME:LINE:COLUMN: `
-abbrev pub place_text : (name : List ℕ) → Place → List ℕ
+abbrev pub place_text : (name : List ℕ) → Position → List ℕ
 place_text name p = map plain name ++ codes ":" ++ decimal p.line ++ codes ":" ++ decimal p.column ++ codes ": "
 
 -- the same of a byte of a text

@@ -1,21 +1,21 @@
 -- Lines and columns of a text, and the two parts of the line at a byte.
 use Rattle.std.specs.Prelude.{ℕ, ◌+◌, ◌-◌, ◌==◌, nat_eq, if◌then◌else◌, List, [], ◌∷◌, length, take, drop, fold, Option, Some, None, position}
-use Rattle.kpn_places.specs.declared.lines.Place.{Place}
+use Rattle.kpn_places.specs.declared.lines.Position.{Position}
 
-abbrev pub first_place : Place
+abbrev pub first_place : Position
 first_place = record { line = 1; column = 1 }
 
 -- the place behind a byte: a line feed ends its line
-abbrev pub next_place : Place → (byte : ℕ) → Place
+abbrev pub next_place : Position → (byte : ℕ) → Position
 next_place p b =
     if b == 10 then record { line = p.line + 1; column = 1 } else record { line = p.line; column = p.column + 1 }
 
 -- the place behind a text
-abbrev pub place_behind : (text : List ℕ) → Place
+abbrev pub place_behind : (text : List ℕ) → Position
 place_behind text = fold next_place first_place text
 
 -- the place of this byte of a text, or of its end
-abbrev pub place_at : (text : List ℕ) (at : ℕ) → Place
+abbrev pub place_at : (text : List ℕ) (at : ℕ) → Position
 place_at text at = place_behind (take at text)
 
 -- the bytes of the last line of a text, of which the column counts one more

@@ -2,7 +2,7 @@
 ghost use Rattle.std.specs.Prelude.{◌≡◌, ◌++◌, OnOk};
 ghost use Rattle.kpn_places.specs.Excerpt as spec;
 
-use crate::lines::{Place, front, line_before, line_behind, place_at};
+use crate::lines::{Position, front, line_before, line_behind, place_at};
 use itoa::Buffer;
 use std::alloc::AllocError;
 
@@ -20,7 +20,7 @@ pub fn push_where(out: &mut Vec<u8>, name: &[u8], text: &[u8], at: usize) -> Res
 }
 
 // `NAME:LINE:COLUMN: `
-fn push_place(out: &mut Vec<u8>, name: &[u8], place: Place) -> Result<(), AllocError>
+fn push_place(out: &mut Vec<u8>, name: &[u8], place: Position) -> Result<(), AllocError>
     ensures { OnOk result (out.new.items ≡ out.old.items ++ spec.place_text name.now place) }
 {
     let mut line = Buffer::new();

@@ -10,6 +10,6 @@ mod spots;
 
 pub use concerned::{Places, concerned_places};
 pub use excerpt::{push_excerpt, push_where};
-pub use lines::{Place, front, line_start, place_at};
+pub use lines::{front, line_start};
 pub use names::name_at;
 pub use spots::{Spot, is_port, spot_at};

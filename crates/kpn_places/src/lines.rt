@@ -4,20 +4,20 @@ ghost use Rattle.kpn_places.specs.Lines as spec;
 
 /// A place in a text: its line, and its column, which counts bytes. Both count from 1.
 #[derive(Clone, Copy, Debug, PartialEq, Eq)]
-pub struct Place {
+pub(crate) struct Position {
     pub line: usize,
     pub column: usize,
 }
 
 /// The place of this byte of a text. If the text is shorter, it is the place of its end.
-pub fn place_at(text: &[u8], at: usize) -> Place
+pub(crate) fn place_at(text: &[u8], at: usize) -> Position
     ensures { result ≡ spec.place_at text.now at }
 {
     place_behind(front(text, at))
 }
 
 /// The place behind a text.
-fn place_behind(text: &[u8]) -> Place
+fn place_behind(text: &[u8]) -> Position
     ensures exact { result ≡ spec.place_behind text.now }
     ensures some { 1 ≤ result.column }
     ensures within { result.column ≤ length text.now + 1 }
@@ -32,7 +32,7 @@ fn place_behind(text: &[u8]) -> Place
             column += 1;
         }
     }
-    Place { line, column }
+    Position { line, column }
 }
 
 /// The bytes of a text before this one.
