@@ -48,12 +48,12 @@ is_grammar rest = false
 abbrev pub behind : (front : List ℕ) → List ℕ
 behind front = if may_stand front [] then codes "; nothing may follow the network" else listed (choices front)
 
--- what may stand at the place, for such a fault
-abbrev pub alternatives : (text : List ℕ) (at : ℕ) → Case → List ℕ
-alternatives text at c = if is_grammar c then behind (take at text) else []
+-- the same, for such a fault
+abbrev pub alternatives : (front : List ℕ) → Case → List ℕ
+alternatives front c = if is_grammar c then behind front else []
 
 abbrev pub sentence : (text : List ℕ) (at : ℕ) → Case → List ℕ
-sentence text at c = subject (name_at text at) c ++ said c ++ alternatives text at c
+sentence text at c = subject (name_at text at) c ++ said c ++ alternatives (take at text) c
 
 -- ---- the whole
 

@@ -2,6 +2,7 @@
 ghost use Rattle.std.specs.Prelude.{◌≡◌, ◌++◌, IfOk, OnOk};
 ghost use Rattle.kpn_tokens.specs.Lexing.{lexemes_of};
 ghost use Rattle.kpn_refusals.specs.Refusal.{refusal_line};
+ghost use Rattle.kpn_explain_command.specs.Choices as spoken;
 ghost use Rattle.kpn_explain_command.specs.ExplainText as spec;
 
 use crate::cases::case_of;
@@ -109,7 +110,7 @@ fn push_sentence(alloc: Global, told: &mut Vec<u8>, text: &[u8], at: usize, case
 {
     push_subject(told, name_at(text, at), case)?;
     told.extend_from_slice(said(case))?;
-    push_alternatives(alloc, told, text, at, case)?;
+    push_alternatives(alloc, told, front(text, at), case)?;
     Ok(())
 }
 
@@ -125,19 +126,12 @@ fn push_subject(told: &mut Vec<u8>, name: &[u8], case: Case) -> Pushed
     Ok(())
 }
 
-// What may stand there, for a fault of the grammar.
-fn push_alternatives(
-    alloc: Global,
-    told: &mut Vec<u8>,
-    text: &[u8],
-    at: usize,
-    case: Case,
-) -> Pushed
-    ensures { OnOk result
-        (told.new.items ≡ told.old.items ++ spec.alternatives text.now at case) }
+// What may stand behind a text, for a fault of the grammar.
+fn push_alternatives(alloc: Global, told: &mut Vec<u8>, front: &[u8], case: Case) -> Pushed
+    ensures { OnOk result (told.new.items ≡ told.old.items ++ spec.alternatives front.now case) }
 {
     if is_grammar(case) {
-        push_behind(alloc, told, front(text, at))?;
+        push_behind(alloc, told, front)?;
     }
     Ok(())
 }
@@ -153,10 +147,19 @@ fn push_behind(alloc: Global, told: &mut Vec<u8>, front: &[u8]) -> Pushed
     ensures { OnOk result (told.new.items ≡ told.old.items ++ spec.behind front.now) }
 {
     if may_stand(alloc, front, b"")? {
-        return told.extend_from_slice(b"; nothing may follow the network");
+        told.extend_from_slice(b"; nothing may follow the network")
+    } else {
+        push_choices(alloc, told, front)
     }
+}
+
+fn push_choices(alloc: Global, told: &mut Vec<u8>, front: &[u8]) -> Pushed
+    ensures { OnOk result
+        (told.new.items ≡ told.old.items ++ spec.listed (spoken.choices front.now)) }
+{
     let found = choices(alloc, front)?;
-    push_listed(told, &found)
+    push_listed(told, &found)?;
+    Ok(())
 }
 
 fn push_listed(told: &mut Vec<u8>, found: &[u8]) -> Pushed
