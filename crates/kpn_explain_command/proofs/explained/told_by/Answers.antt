@@ -13,6 +13,6 @@ returns c =
     let fault = c.args.fault in
     subst (λ p. c.push_advice.new.told.items
     ≡ spec.told_at file text fault p (case_of text ls (name_at text p.first) fault)) c.in_ok-places.ensures
-    (subst (λ k. c.push_advice.new.told.items ≡ spec.told_at file text fault c.in_ok-places.field-0 k)
+    (subst (λ k. c.push_advice.new.told.items ≡ spec.told_at file text fault c.in_ok-places.places k)
     (c.case_of-case.ensures ∙ ap (λ n. case_of text ls n fault) c.name_at.ensures)
     (search rules))
