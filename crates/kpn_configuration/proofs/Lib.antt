@@ -21,3 +21,4 @@ pub mod Woken
 pub mod Waking
 pub mod Verdicts
 pub mod Determined
+pub mod Complete

@@ -2,6 +2,8 @@
 //! on the calling thread only.
 #![tactic(auto)]
 
+mod complete;
+pub mod complete_laws;
 mod feeding;
 mod here;
 pub mod laws;

@@ -21,6 +21,7 @@ use kpn_schedule::Schedule;
 use std::alloc::{AllocError, Allocator, Global};
 use std::marker::Model;
 
+mod complete;
 mod outside;
 mod processes;
 
