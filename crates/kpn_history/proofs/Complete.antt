@@ -27,16 +27,13 @@ use Rattle.kpn_history.proofs.Kahn.{below_one_iterate, below_least}
 use Rattle.kpn_history.proofs.Finished.{finished_cases, complete-process}
 
 -- a family with another list at one channel
-with_list : (c : ℕ) (xs : List ℤ) (X : Family) → Family
-unfolding with_list
+abbrev with_list : (c : ℕ) (xs : List ℤ) (X : Family) (d : ℕ) → List ℤ
 with_list c xs X d = cond (eqb d c) xs (X d)
 
 with_list-here : (c : ℕ) (xs : List ℤ) (X : Family) → with_list c xs X c ≡ xs
-unfolding with_list
 with_list-here c xs X = ap (λ b. cond b xs (X c)) (eq-eqb c c refl)
 
 with_list-other : (c : ℕ) (xs : List ℤ) (X : Family) (d : ℕ) → (d ≡ c → ⊥) → with_list c xs X d ≡ X d
-unfolding with_list
 with_list-other c xs X d differ = ap (λ b. cond b xs (X d)) (ne_eqb d c differ)
 
 -- a family is below another one with this list at one channel, if it is so there and elsewhere

@@ -1,9 +1,11 @@
 -- Complete channels of reports: the walk along the states of the view, and the laws of complete channels for the lists
 -- of the run.
-use Rattle.std.proofs.Common.{◌≡◌, ◌↔◌, ℕ, ◌+◌, ◌<◌, ◌≤◌, Bool, true, false, IsTrue, ℤ, List, length, get_or, refl, sym, ◌∙◌, subst}
+use Rattle.std.proofs.Common.{◌≡◌, ◌↔◌, ℕ, ◌+◌, ◌<◌, ◌≤◌, Bool, true, false, IsTrue, ℤ, List, length, get_or, slice_get, Some, refl, sym, ap, ◌∙◌, subst, arith}
 use Rattle.std.proofs.lemmas.Bool.{false≢true}
 use Rattle.std.proofs.lemmas.List.{get_or_default}
+use Rattle.std.proofs.lemmas.Option.{get_or_from_slice_get, slice_get_within}
 use Rattle.kpn_lang.specs.Prefix.{IsPrefix}
+use Rattle.kpn_lang.proofs.Prefixes.{same_from_prefix}
 use Rattle.kpn_net.specs.declared.tables.End.{End}
 use Rattle.kpn_net.specs.declared.tables.End.TheVariants.{Process, Source, Sink}
 use Rattle.kpn_net.specs.declared.wait.Wait.TheVariants.{Nobody, Empty, Full}
@@ -16,11 +18,12 @@ use Rattle.kpn_history.specs.declared.event.How.{How}
 use Rattle.kpn_history.specs.declared.state.State.{State}
 use Rattle.kpn_history.specs.declared.state.State.TheVariants.{Ready, Held, WaitsEmpty, WaitsFull, Ended}
 use Rattle.kpn_history.specs.declared.state.View.{View}
-use Rattle.kpn_history.specs.Channels.{written_on, is_closed}
+use Rattle.kpn_history.specs.Channels.{written_on, read_on, is_closed}
 use Rattle.kpn_history.specs.Legal.{Legal}
 use Rattle.kpn_history.specs.Views.{IsStateOf, Agrees}
 use Rattle.kpn_history.specs.Complete.{IsComplete, IsFedFrom}
 use Rattle.kpn_history.proofs.EndsOnce.{ended_by}
+use Rattle.kpn_history.proofs.Journals.{reads_begin_writes}
 use Rattle.kpn_history.proofs.OwnWaits.{wait_on_empty}
 use Rattle.kpn_history.proofs.Finished.{process-complete}
 use Rattle.kpn_history.proofs.Complete.{least_if_complete, begins_complete, complete_same}
@@ -29,8 +32,9 @@ use Rattle.kpn_history.proofs.CompleteWalks.{Walked, complete_source, complete_i
 use Rattle.kpn_run_here.specs.declared.outcome.Limits.{Limits}
 use Rattle.kpn_run_here.specs.declared.outcome.Outcome.TheVariants as outcome
 use Rattle.kpn_run_here.specs.declared.report.Report.{Report}
-use Rattle.kpn_run_here.specs.Reports.{events_of, journal_of, AreSupplied, IsReport}
-use Rattle.kpn_run_here.proofs.Agreement.{journal_is, fed_begins, is_quiet}
+use Rattle.kpn_run_here.specs.Reports.{events_of, journal_of, taken_of, sink_numbers, AreSupplied, IsReport}
+use Rattle.kpn_run_here.proofs.Agreement.{journal_is, fed_begins, is_quiet, taken_is}
+use Rattle.kpn_run_here.proofs.Parts.{sink_at, sink_is}
 
 -- ---- the walk
 
@@ -149,6 +153,28 @@ module _ (t : Tables) (network : IsNetwork t) (lists : List (List ℤ)) where
       subst (IsLeast t (given_by t lists) c) (sym (journal_is t lists limits report is c below))
       (least_if_complete t network (events_of report) is.legal (given_by t lists)
       (fed_from limits report is supplied) c complete)
+
+  -- what was taken from a complete sink, if it is all
+  pub taken_is_least : (limits : Limits) (report : Report) → IsReport t lists limits report
+      → AreSupplied t lists (events_of report) → (sink c : ℕ) → slice_get (sink_numbers t) sink ≡ Some c
+      → IsComplete t (events_of report) c → length (taken_of report sink) ≡ length (journal_of report c)
+      → IsLeast t (given_by t lists) c (taken_of report sink)
+  taken_is_least limits report is supplied sink c at complete whole =
+      let there = slice_get_within (sink_numbers t) sink c at in
+      let same : sink_at t sink ≡ c = get_or_from_slice_get (sink_numbers t) sink c 0 at in
+      let below : c < length t.channels =
+      subst (λ d. d < length t.channels) same (let is_sink_at = sink_is t sink there in is_sink_at.0) in
+      let taken : taken_of report sink ≡ read_on (events_of report) c =
+      taken_is t lists limits report is sink there ∙ ap (read_on (events_of report)) same in
+      let journal = journal_is t lists limits report is c below in
+      let long : length (written_on (events_of report) c) ≤ length (read_on (events_of report) c) =
+      let a = ap length taken in let b = ap length journal in omega arith in
+      let all : taken_of report sink ≡ journal_of report c =
+      taken
+      ∙ same_from_prefix (read_on (events_of report) c) (written_on (events_of report) c)
+      (reads_begin_writes t (events_of report) is.legal c) long
+      ∙ sym journal in
+      subst (IsLeast t (given_by t lists) c) (sym all) (report_is_least limits report is supplied c below complete)
 
   pub reports_same : (limits more : Limits) (report other : Report) → IsReport t lists limits report
       → IsReport t lists more other → AreSupplied t lists (events_of report) → AreSupplied t lists (events_of other)
