@@ -1,9 +1,9 @@
 //! The program `kpn`: the command line over the system's files, its standard input and its two outputs.
 #![tactic(auto)]
 
-use kpn_answers::refusal::Refusal;
-use kpn_answers::shelf::FileShelf;
 use kpn_cli::command::command;
+use kpn_refusals::Refusal;
+use kpn_shelf::FileShelf;
 use std::env;
 use std::io::ErrorKind;
 use std::process::ExitCode;

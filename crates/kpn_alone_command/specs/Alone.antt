@@ -6,9 +6,9 @@ use Rattle.kpn_step.specs.declared.stop.AloneStop.{AloneStop}
 use Rattle.kpn_step.specs.Walk.{AloneGives}
 use Rattle.kpn_items.specs.Input.{LosesItsFront}
 use Rattle.kpn_items.specs.ItemFile.{Spells, TellsFirstBadLine}
-use Rattle.kpn_answers.specs.declared.refusal.Refusal.{Refusal}
-use Rattle.kpn_answers.specs.declared.refusal.Refusal.TheVariants.{UnknownProcess, Input}
-use Rattle.kpn_answers.specs.Answer.{Answers}
+use Rattle.kpn_refusals.specs.declared.refusal.Refusal.{Refusal}
+use Rattle.kpn_refusals.specs.declared.refusal.Refusal.TheVariants.{UnknownProcess, Input}
+use Rattle.kpn_refusals.specs.Answer.{Answers}
 use Rattle.kpn_alone_command.specs.declared.built_in.BuiltIn.{BuiltIn}
 use Rattle.kpn_alone_command.specs.BuiltIn.{name_of, program_of}
 use Rattle.kpn_alone_command.specs.AloneText.{alone_text}

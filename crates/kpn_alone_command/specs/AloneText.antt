@@ -7,7 +7,7 @@ use Rattle.kpn_step.specs.declared.stop.AloneStop.{AloneStop}
 use Rattle.kpn_step.specs.declared.stop.AloneStop.TheVariants.{Faulted}
 use Rattle.kpn_history.specs.declared.event.How.TheVariants as how
 use Rattle.kpn_items.specs.ItemFile.{item_text}
-use Rattle.kpn_answers.specs.Faulted.{faulted_line}
+use Rattle.kpn_pieces.specs.Faulted.{faulted_line}
 
 -- the line `fault NAME CAUSE` if the process faulted, and nothing if it did not
 abbrev pub fault_text : (name : List ℕ) → AloneStop → List ℕ

@@ -10,11 +10,10 @@ ghost use Rattle.kpn_alone_command.specs.Alone.{IsAloneText, IsRefusalOfAlone, I
 
 use crate::alone_text::text_of;
 use crate::built_in::BuiltIn;
-use kpn_answers::answer::give;
-use kpn_answers::refusal::Refusal;
 use kpn_items::read_items;
 use kpn_lang::Sequence;
 use kpn_limits::MAX_INPUT_BYTES;
+use kpn_refusals::{Refusal, give};
 use kpn_step::{AloneRun, alone};
 use std::alloc::Global;
 use std::io::{Read, Write};

@@ -4,9 +4,9 @@ ghost use Rattle.kpn_items.specs.ItemFile.{item_line};
 ghost use Rattle.kpn_alone_command.specs.AloneText.{alone_text, fault_text};
 
 use itoa::Buffer;
-use kpn_answers::faulted::push_faulted;
 use kpn_history::How;
 use kpn_lang::{Fault, Said};
+use kpn_pieces::push_faulted;
 use kpn_step::AloneStop;
 use std::alloc::{AllocError, Global};
 

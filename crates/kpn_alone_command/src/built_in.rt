@@ -2,8 +2,8 @@
 ghost use Rattle.std.specs.Prelude.{◌≡◌, ◌≢◌, IfOk, IfErr, MatchOption, map};
 ghost use Rattle.kpn_lang.specs.Syntax.{term_of, Bin, statement_of};
 
-use kpn_answers::refusal::Refusal;
 use kpn_lang::{Expr, Op, Program, Stmt};
+use kpn_refusals::Refusal;
 use kpn_text::TextFault;
 use std::alloc::{AllocError, Global};
 

@@ -10,10 +10,10 @@ use Rattle.kpn_audit.specs.declared.findings.Audit.{Audit}
 use Rattle.kpn_audit.specs.declared.findings.AuditFault.TheVariants.{Illegal, Budget}
 use Rattle.kpn_audit.specs.Stored.{Differs, tables_for, history_in}
 use Rattle.kpn_audit.specs.Audit.{IsAudit, AreLeast, AreWithinSteps, IsRefusal}
-use Rattle.kpn_answers.specs.declared.refusal.Refusal.{Refusal}
-use Rattle.kpn_answers.specs.declared.refusal.Refusal.TheVariants as refusal
-use Rattle.kpn_answers.specs.Shelf.{Loads, IsRefusalOfLoad, IsLoadedAs}
-use Rattle.kpn_answers.specs.Description.{IsDescribed, IsRefused}
+use Rattle.kpn_refusals.specs.declared.refusal.Refusal.{Refusal}
+use Rattle.kpn_refusals.specs.declared.refusal.Refusal.TheVariants as refusal
+use Rattle.kpn_shelf.specs.Shelf.{Loads, IsRefusalOfLoad, IsLoadedAs}
+use Rattle.kpn_inputs.specs.Description.{IsDescribed, IsRefused}
 use Rattle.kpn_audit_command.specs.declared.auditing.Audited.{Audited}
 use Rattle.kpn_audit_command.specs.declared.auditing.Audited.TheVariants.{Legal, NotLegal}
 use Rattle.kpn_audit_command.specs.AuditText.{audit_text, finding_line}

@@ -2,7 +2,7 @@
 use Rattle.std.specs.Prelude.{ℕ, ℤ, Bool, true, false, List, [], ◌++◌, codes, Option, Some, None, slice_index_or}
 use Rattle.std.specs.Fmt.{decimal}
 use Rattle.kpn_names.specs.Names.{name_at}
-use Rattle.kpn_answers.specs.ListText.{items_text, lines_from}
+use Rattle.kpn_pieces.specs.ListText.{items_text, lines_from}
 use Rattle.kpn_audit.specs.declared.findings.Audit.{Audit}
 
 -- ` cap N`, and nothing for a source, which has no capacity

@@ -1,13 +1,12 @@
 //! The texts that `kpn audit` writes.
 ghost use Rattle.std.specs.Prelude.{◌≡◌, ◌≤◌, ◌++◌, length, IfOk, OnOk, codes};
 ghost use Rattle.std.specs.Fmt.{decimal};
-ghost use Rattle.kpn_answers.specs.ListText.{items_text};
+ghost use Rattle.kpn_pieces.specs.ListText.{items_text};
 ghost use Rattle.kpn_audit_command.specs.AuditText.{audit_text, exact_line, cap_text, journal_line, finding_line};
 
-use kpn_answers::list_text::push_spaced_items;
-use kpn_answers::pieces::push_number;
 use kpn_audit::Audit;
 use kpn_chan::Journal;
+use kpn_pieces::{push_number, push_spaced_items};
 use kpn_text::Document;
 use std::alloc::{AllocError, Global};
 

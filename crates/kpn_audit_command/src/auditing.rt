@@ -3,12 +3,11 @@ ghost use Rattle.std.specs.Prelude.{IfOk, IfErr};
 ghost use Rattle.kpn_audit_command.specs.Answers.{IsTraced, IsRefusalOfTrace, IsFinding, IsNoFinding};
 
 use crate::audit_text::finding_text;
-use kpn_answers::answer::Conclusion;
-use kpn_answers::refusal::Refusal;
-use kpn_answers::shelf::Shelf;
 use kpn_audit::{Audit, AuditFault, audit};
 use kpn_history::Trace;
 use kpn_net::Network;
+use kpn_refusals::{Conclusion, Refusal};
+use kpn_shelf::Shelf;
 use kpn_trace_text::read_trace;
 use std::alloc::Global;
 

@@ -1,15 +1,14 @@
 //! The command reads a network and a trace, and writes what an audit finds.
 ghost use Rattle.std.specs.Prelude.{IfOk, IfErr};
-ghost use Rattle.kpn_answers.specs.Answer.{Concludes};
+ghost use Rattle.kpn_refusals.specs.Answer.{Concludes};
 ghost use Rattle.kpn_audit_command.specs.Answers.{IsAudited, IsRefusalOfAudit, IsConclusion, IsNoFinding};
 
 use crate::audit_text::text_of;
 use crate::auditing::{Audited, audit_trace, load_trace};
-use kpn_answers::answer::{Conclusion, conclude};
-use kpn_answers::description::load_document;
-use kpn_answers::refusal::Refusal;
-use kpn_answers::shelf::Shelf;
 use kpn_history::Trace;
+use kpn_inputs::load_document;
+use kpn_refusals::{Conclusion, Refusal, conclude};
+use kpn_shelf::Shelf;
 use kpn_text::Document;
 use std::alloc::Global;
 use std::io::Write;

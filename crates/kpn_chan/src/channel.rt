@@ -87,6 +87,7 @@ impl<A: Allocator + Copy> Channel<A> {
             ≡ (if is_ok result then grown self.new.is_reserved self.old else self.old) }
         ensures reserved { IsTrue self.old.is_reserved → IsTrue self.new.is_reserved }
         ensures already { IsTrue self.old.is_reserved → IsOk result }
+        ensures gone { IsTrue self.old.is_retired → IsOk result }
     {
         match self.capacity {
             Some(capacity) => self.grow_to(capacity + 1),
@@ -97,14 +98,15 @@ impl<A: Allocator + Copy> Channel<A> {
     /// Makes the capacity larger: it becomes `cap`, which is above it and at most `MAX_CAPACITY`. The ring gets a free
     /// place if it has none.
     ///
-    /// The error is that memory ran out; the channel is then as before. If an item is reserved, the call takes no
-    /// memory. A reserved item stays reserved.
+    /// The error is that memory ran out; the channel is then as before. If an item is reserved or the channel is
+    /// retired, the call takes no memory. A reserved item stays reserved.
     pub fn grow_to(&mut self, cap: u32) -> Result<(), AllocError>
         requires { MayGrowTo cap self.old }
         ensures after { self.new
             ≡ (if is_ok result then grown_to cap self.new.is_reserved self.old else self.old) }
         ensures reserved { IsTrue self.old.is_reserved → IsTrue self.new.is_reserved }
         ensures already { IsTrue self.old.is_reserved → IsOk result }
+        ensures gone { IsTrue self.old.is_retired → IsOk result }
     {
         if let Some(ring) = &mut self.ring {
             reserve_place(ring)?;

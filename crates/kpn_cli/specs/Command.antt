@@ -2,12 +2,12 @@
 use Rattle.std.specs.Prelude.{◌≡◌, ℕ, List, Option, Some, None, map, option_map, ⊤}
 use Rattle.kpn_text.specs.Document.{canonical_text}
 use Rattle.kpn_run_here.specs.declared.outcome.Limits.{Limits}
-use Rattle.kpn_answers.specs.declared.refusal.Refusal.TheVariants.{NoMemory}
-use Rattle.kpn_answers.specs.Refusal.{status_of}
-use Rattle.kpn_answers.specs.Answer.{Answers, Concludes}
-use Rattle.kpn_answers.specs.Description.{IsRefusalOfCommand}
-use Rattle.kpn_answers.specs.Inputs.{IsRefusalOfInputs}
-use Rattle.kpn_answers.specs.Shelf.{Loads, Aliases}
+use Rattle.kpn_refusals.specs.declared.refusal.Refusal.TheVariants.{NoMemory}
+use Rattle.kpn_refusals.specs.Refusal.{status_of}
+use Rattle.kpn_refusals.specs.Answer.{Answers, Concludes}
+use Rattle.kpn_inputs.specs.Description.{IsRefusalOfCommand}
+use Rattle.kpn_inputs.specs.Inputs.{IsRefusalOfInputs}
+use Rattle.kpn_shelf.specs.Shelf.{Loads, Aliases}
 use Rattle.kpn_alone_command.specs.Alone.{RunsAlone}
 use Rattle.kpn_description_commands.specs.CheckText.{check_text}
 use Rattle.kpn_description_commands.specs.TextOf.{IsTextOf}

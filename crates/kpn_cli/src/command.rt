@@ -4,8 +4,8 @@ ghost use Rattle.std.specs.String.{string_bytes};
 ghost use Rattle.kpn_cli.specs.Command.{Runs};
 
 use crate::here::{Progress, command_here};
-use kpn_answers::shelf::Shelf;
 use kpn_run_command::run_command_by_workers;
+use kpn_shelf::Shelf;
 use std::alloc::Global;
 use std::io::{Read, Write};
 use std::sync::Wait;

@@ -6,4 +6,4 @@ pub mod command;
 pub mod here;
 mod told;
 
-pub use kpn_answers::shelf::{FileShelf, MemoryShelf, Shelf};
+pub use kpn_shelf::{FileShelf, MemoryShelf, Shelf};

@@ -1,11 +1,11 @@
 //! What `clap` says of the words.
 ghost use Rattle.std.specs.Prelude.{◌≡◌, IfErr};
-ghost use Rattle.kpn_answers.specs.Refusal.{status_of};
+ghost use Rattle.kpn_refusals.specs.Refusal.{status_of};
 ghost use Rattle.kpn_cli.specs.Command.{fault_status};
 
 use clap::Error;
-use kpn_answers::refusal::Refusal;
 use kpn_command_line::WordsFault;
+use kpn_refusals::Refusal;
 use std::alloc::Global;
 use std::io;
 use std::io::Write;

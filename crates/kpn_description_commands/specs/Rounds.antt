@@ -2,9 +2,9 @@
 use Rattle.std.specs.Prelude.{◌≡◌, ℕ, ℤ, List}
 use Rattle.kpn_net.specs.Iteration.{given_by, iterate, lists_of}
 use Rattle.kpn_text.specs.Document.{Document}
-use Rattle.kpn_answers.specs.Inputs.{AreInputs}
+use Rattle.kpn_inputs.specs.Inputs.{AreInputs}
 use Rattle.kpn_description_commands.specs.RoundsText.{rounds_text}
-use Rattle.kpn_answers.specs.Shelf.{Loads}
+use Rattle.kpn_shelf.specs.Shelf.{Loads}
 
 -- the n-th iterate of the network of a document that the file spells. Each source has the items of the file that one of
 -- these words names for it, and no items if no word does

@@ -1,7 +1,7 @@
 -- The text that `kpn rounds` writes: the list of each channel.
 use Rattle.std.specs.Prelude.{ℕ, ℤ, List}
 use Rattle.kpn_names.specs.Names.{name_at}
-use Rattle.kpn_answers.specs.ListText.{list_line, lines_from}
+use Rattle.kpn_pieces.specs.ListText.{list_line, lines_from}
 
 -- the line of the channel with the number c
 abbrev pub channel_line : (names : List (List ℕ)) → (c : ℕ) → List ℤ → List ℕ

@@ -1,14 +1,13 @@
 //! `kpn print FILE` reads a description and writes its canonical text.
 ghost use Rattle.std.specs.Prelude.{IfOk, IfErr};
-ghost use Rattle.kpn_answers.specs.Answer.{Answers};
-ghost use Rattle.kpn_answers.specs.Description.{IsRefusalOfCommand};
+ghost use Rattle.kpn_refusals.specs.Answer.{Answers};
+ghost use Rattle.kpn_inputs.specs.Description.{IsRefusalOfCommand};
 ghost use Rattle.kpn_text.specs.Document.{canonical_text};
 ghost use Rattle.kpn_description_commands.specs.TextOf.{IsTextOf};
 
-use kpn_answers::answer::give;
-use kpn_answers::description::load_document;
-use kpn_answers::refusal::Refusal;
-use kpn_answers::shelf::Shelf;
+use kpn_inputs::load_document;
+use kpn_refusals::{Refusal, give};
+use kpn_shelf::Shelf;
 use kpn_text::print_network;
 use std::alloc::Global;
 use std::io::Write;

@@ -1,15 +1,14 @@
 //! The command reads a network and the lists of its sources, and writes the n-th iterate.
 ghost use Rattle.std.specs.Prelude.{map, IfOk, IfErr};
-ghost use Rattle.kpn_answers.specs.Answer.{Answers};
-ghost use Rattle.kpn_answers.specs.Inputs.{IsRefusalOfInputs};
+ghost use Rattle.kpn_refusals.specs.Answer.{Answers};
+ghost use Rattle.kpn_inputs.specs.Inputs.{IsRefusalOfInputs};
 ghost use Rattle.kpn_description_commands.specs.Rounds.{IsRounds};
 
 use crate::rounds_text::text_of;
-use kpn_answers::answer::give;
-use kpn_answers::inputs::load_inputs;
-use kpn_answers::refusal::Refusal;
-use kpn_answers::shelf::Shelf;
+use kpn_inputs::load_inputs;
 use kpn_net::rounds;
+use kpn_refusals::{Refusal, give};
+use kpn_shelf::Shelf;
 use std::alloc::Global;
 use std::io::Write;
 

@@ -2,8 +2,8 @@
 ghost use Rattle.std.specs.Prelude.{◌≡◌, ◌≤◌, length, IfOk};
 ghost use Rattle.kpn_description_commands.specs.RoundsText.{rounds_text};
 
-use kpn_answers::list_text::push_list;
 use kpn_lang::Sequence;
+use kpn_pieces::push_list;
 use kpn_text::Document;
 use std::alloc::{AllocError, Global};
 

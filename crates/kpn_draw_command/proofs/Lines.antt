@@ -1,6 +1,6 @@
 -- The texts of one number more.
 use Rattle.std.proofs.Common.{◌≡◌, ℕ, ◌+◌, List, ◌++◌, add-one}
-use Rattle.kpn_answers.proofs.PieceLemmas.{two_pieces}
+use Rattle.kpn_pieces.proofs.PieceLemmas.{two_pieces}
 use Rattle.kpn_draw_command.specs.DrawText.{each_below}
 
 pub one_more : (text : ℕ → List ℕ) (n : ℕ) (start so_far more : List ℕ) → so_far ≡ start ++ each_below n text

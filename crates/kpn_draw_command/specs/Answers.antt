@@ -4,9 +4,9 @@ use Rattle.std.specs.declared.alloc.Global.{Global}
 use Rattle.kpn_history.specs.declared.stored.Trace.{Trace}
 use Rattle.kpn_text.specs.Document.{Document}
 use Rattle.kpn_audit.specs.declared.findings.Audit.{Audit}
-use Rattle.kpn_answers.specs.declared.refusal.Refusal.{Refusal}
-use Rattle.kpn_answers.specs.Shelf.{Loads}
-use Rattle.kpn_answers.specs.Description.{IsDescribed, IsRefusalOfCommand}
+use Rattle.kpn_refusals.specs.declared.refusal.Refusal.{Refusal}
+use Rattle.kpn_shelf.specs.Shelf.{Loads}
+use Rattle.kpn_inputs.specs.Description.{IsDescribed, IsRefusalOfCommand}
 use Rattle.kpn_audit_command.specs.Answers.{IsTraced, IsFoundLegal, IsNotLegal, IsRefusalOfAudit}
 use Rattle.kpn_draw_command.specs.DrawText.{drawing}
 

@@ -1,17 +1,16 @@
 //! The command reads a network, and a trace if there is one, and writes the drawing.
 ghost use Rattle.std.specs.Prelude.{IfOk, IfErr, option_map};
-ghost use Rattle.kpn_answers.specs.Answer.{Concludes};
-ghost use Rattle.kpn_answers.specs.Description.{IsRefusalOfCommand};
+ghost use Rattle.kpn_refusals.specs.Answer.{Concludes};
+ghost use Rattle.kpn_inputs.specs.Description.{IsRefusalOfCommand};
 ghost use Rattle.kpn_audit_command.specs.Answers.{IsNoFinding, IsRefusalOfAudit};
 ghost use Rattle.kpn_draw_command.specs.Answers.{IsConclusion, IsDrawnAlone, IsDrawnAfter, IsDrawn, IsRefusalOfDrawing};
 
 use crate::drawing::text_of;
-use kpn_answers::answer::{Conclusion, conclude};
-use kpn_answers::description::load_document;
-use kpn_answers::refusal::Refusal;
-use kpn_answers::shelf::Shelf;
 use kpn_audit_command::auditing::{Audited, audit_trace, load_trace};
 use kpn_history::Trace;
+use kpn_inputs::load_document;
+use kpn_refusals::{Conclusion, Refusal, conclude};
+use kpn_shelf::Shelf;
 use kpn_text::Document;
 use std::alloc::Global;
 use std::io::Write;

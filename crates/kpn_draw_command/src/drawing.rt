@@ -5,10 +5,10 @@ ghost use Rattle.kpn_draw_command.specs.DrawText.{drawing, head, each_below, pro
 ghost use Rattle.kpn_draw_command.specs.Found.{state_of, flow_of, IsStateWithin, IsWhole};
 
 use crate::found::{Flow, flow_of, state_of};
-use kpn_answers::pieces::{push_between, push_number};
 use kpn_audit::Audit;
 use kpn_history::{How, State};
 use kpn_net::{End, Network};
+use kpn_pieces::{push_between, push_number};
 use kpn_text::Document;
 use kpn_trace_text::how_word;
 use std::alloc::{AllocError, Global};

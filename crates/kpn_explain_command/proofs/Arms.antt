@@ -5,10 +5,10 @@ use Rattle.kpn_text.specs.declared.fault.TextFault.{TextFault}
 use Rattle.kpn_text.specs.Document.{Document}
 use Rattle.kpn_text.specs.Spells.{Spells}
 use Rattle.kpn_text.specs.Phases.{Refuses}
-use Rattle.kpn_answers.specs.declared.refusal.Refusal.{Refusal}
-use Rattle.kpn_answers.specs.declared.refusal.Refusal.TheVariants.{Description, NoMemory}
-use Rattle.kpn_answers.specs.Refusal.{status_of}
-use Rattle.kpn_answers.specs.Shelf.{Loads}
+use Rattle.kpn_refusals.specs.declared.refusal.Refusal.{Refusal}
+use Rattle.kpn_refusals.specs.declared.refusal.Refusal.TheVariants.{Description, NoMemory}
+use Rattle.kpn_refusals.specs.Refusal.{status_of}
+use Rattle.kpn_shelf.specs.Shelf.{Loads}
 use Rattle.kpn_description_commands.specs.CheckText.{check_text}
 use Rattle.kpn_explain_command.specs.Answers.{IsExplained, right, wrong, IsRefusalOfExplaining, AreItemsExplained, right_items, wrong_line, IsRefusalOfItems}
 use Rattle.kpn_explain_command.specs.ExplainText.{explained}

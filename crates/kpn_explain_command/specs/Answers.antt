@@ -5,11 +5,11 @@ use Rattle.kpn_items.specs.declared.fault.ItemFault.TheVariants as item
 use Rattle.kpn_text.specs.declared.fault.TextFault.{TextFault}
 use Rattle.kpn_text.specs.Document.{Document}
 use Rattle.kpn_text.specs.Phases.{Refuses}
-use Rattle.kpn_answers.specs.declared.refusal.Refusal.{Refusal}
-use Rattle.kpn_answers.specs.declared.refusal.Refusal.TheVariants.{Input, Description, NoMemory}
-use Rattle.kpn_answers.specs.Refusal.{status_of}
-use Rattle.kpn_answers.specs.Shelf.{Loads, IsRefusalOfLoad, IsLoadedAs}
-use Rattle.kpn_answers.specs.Description.{IsDescribed, IsRefused}
+use Rattle.kpn_refusals.specs.declared.refusal.Refusal.{Refusal}
+use Rattle.kpn_refusals.specs.declared.refusal.Refusal.TheVariants.{Input, Description, NoMemory}
+use Rattle.kpn_refusals.specs.Refusal.{status_of}
+use Rattle.kpn_shelf.specs.Shelf.{Loads, IsRefusalOfLoad, IsLoadedAs}
+use Rattle.kpn_inputs.specs.Description.{IsDescribed, IsRefused}
 use Rattle.kpn_description_commands.specs.CheckText.{check_text}
 use Rattle.kpn_explain_command.specs.ExplainText.{explained}
 use Rattle.kpn_explain_command.specs.ItemsText.{items_line, explained_item}

@@ -4,9 +4,9 @@ use Rattle.kpn_text.specs.declared.fault.TextFault.{TextFault}
 use Rattle.kpn_tokens.specs.declared.lexer.LexFault.{LexFault}
 use Rattle.kpn_tokens.specs.declared.tokens.Lexeme.{Lexeme}
 use Rattle.kpn_tokens.specs.Lexing.{lexemes_of}
-use Rattle.kpn_answers.specs.declared.refusal.Refusal.{Refusal}
-use Rattle.kpn_answers.specs.declared.refusal.Refusal.TheVariants.{Description}
-use Rattle.kpn_answers.specs.Refusal.{refusal_line}
+use Rattle.kpn_refusals.specs.declared.refusal.Refusal.{Refusal}
+use Rattle.kpn_refusals.specs.declared.refusal.Refusal.TheVariants.{Description}
+use Rattle.kpn_refusals.specs.Refusal.{refusal_line}
 use Rattle.kpn_places.specs.declared.concerned.Places.{Places}
 use Rattle.kpn_places.specs.Concerned.{places_of}
 use Rattle.kpn_places.specs.Excerpt.{where_text, excerpt}

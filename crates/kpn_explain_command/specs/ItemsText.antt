@@ -2,7 +2,7 @@
 use Rattle.std.specs.Prelude.{ℕ, List, ◌++◌, codes}
 use Rattle.std.specs.Fmt.{decimal}
 use Rattle.kpn_items.specs.declared.fault.ItemFault.TheVariants.{BadItem}
-use Rattle.kpn_answers.specs.declared.refusal.Refusal.TheVariants.{Input}
+use Rattle.kpn_refusals.specs.declared.refusal.Refusal.TheVariants.{Input}
 use Rattle.kpn_places.specs.Excerpt.{where_text, excerpt}
 use Rattle.kpn_places.specs.Lines.{line_start}
 use Rattle.kpn_explain_command.specs.ExplainText.{bracket}

@@ -1,18 +1,17 @@
 //! `kpn explain FILE` reads a description, and counts its parts or explains what is wrong with it.
 ghost use Rattle.std.specs.Prelude.{◌≡◌, ◌⊎◌, IfOk, IfErr};
-ghost use Rattle.kpn_answers.specs.declared.refusal.Refusal.TheVariants.{Description, NoMemory};
-ghost use Rattle.kpn_answers.specs.Answer.{Concludes};
-ghost use Rattle.kpn_answers.specs.Refusal.{status_of};
+ghost use Rattle.kpn_refusals.specs.declared.refusal.Refusal.TheVariants.{Description, NoMemory};
+ghost use Rattle.kpn_refusals.specs.Answer.{Concludes};
+ghost use Rattle.kpn_refusals.specs.Refusal.{status_of};
 ghost use Rattle.kpn_description_commands.specs.CheckText.{check_text};
 ghost use Rattle.kpn_explain_command.specs.Answers.{IsExplained, IsRefusalOfExplaining};
 ghost use Rattle.kpn_explain_command.specs.ExplainText.{explained};
 
 use crate::explained::text_of;
 use crate::loading::load;
-use kpn_answers::answer::{Conclusion, conclude};
-use kpn_answers::refusal::Refusal;
-use kpn_answers::shelf::Shelf;
 use kpn_description_commands::check_line;
+use kpn_refusals::{Conclusion, Refusal, conclude};
+use kpn_shelf::Shelf;
 use kpn_text::{Document, TextFault, read_network};
 use std::alloc::Global;
 use std::io::Write;

@@ -1,15 +1,15 @@
 //! The text that explains a fault of a description.
 ghost use Rattle.std.specs.Prelude.{◌≡◌, ◌++◌, take, IfOk, OnOk};
 ghost use Rattle.kpn_tokens.specs.Lexing.{lexemes_of};
-ghost use Rattle.kpn_answers.specs.Refusal.{refusal_line};
+ghost use Rattle.kpn_refusals.specs.Refusal.{refusal_line};
 ghost use Rattle.kpn_explain_command.specs.Choices as spoken;
 ghost use Rattle.kpn_explain_command.specs.ExplainText as spec;
 
 use crate::cases::case_of;
 use crate::choices::choices;
 use crate::sentences::{Case, advice, is_named, other, said};
-use kpn_answers::refusal::Refusal;
 use kpn_places::{Places, concerned_places, front, name_at, push_excerpt, push_where};
+use kpn_refusals::Refusal;
 use kpn_text::TextFault;
 use kpn_tokens::{LexFault, Lexeme, lexemes};
 use std::alloc::{AllocError, Global};

@@ -1,19 +1,18 @@
 //! `kpn explain FILE --items` reads an item file, and counts its items or explains its first bad line.
 ghost use Rattle.std.specs.Prelude.{◌≡◌, ◌++◌, length, IfOk, IfErr, OnOk};
-ghost use Rattle.kpn_answers.specs.declared.refusal.Refusal.TheVariants.{NoMemory};
-ghost use Rattle.kpn_answers.specs.Answer.{Concludes};
+ghost use Rattle.kpn_refusals.specs.declared.refusal.Refusal.TheVariants.{NoMemory};
+ghost use Rattle.kpn_refusals.specs.Answer.{Concludes};
 ghost use Rattle.kpn_explain_command.specs.Answers.{AreItemsExplained, IsRefusalOfItems};
 ghost use Rattle.kpn_explain_command.specs.ItemsText as spec;
 ghost use Rattle.kpn_places.specs.Lines as lines;
 
 use crate::explained::push_bracket;
 use crate::loading::load;
-use kpn_answers::answer::{Conclusion, conclude};
-use kpn_answers::pieces::push_number;
-use kpn_answers::refusal::Refusal;
-use kpn_answers::shelf::Shelf;
 use kpn_items::{ItemFault, items_of};
+use kpn_pieces::push_number;
 use kpn_places::{line_start, push_excerpt, push_where};
+use kpn_refusals::{Conclusion, Refusal, conclude};
+use kpn_shelf::Shelf;
 use std::alloc::{AllocError, Global};
 use std::io::Write;
 

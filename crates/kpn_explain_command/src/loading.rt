@@ -2,8 +2,8 @@
 ghost use Rattle.std.specs.Prelude.{Ok, IfOk, IfErr};
 ghost use Rattle.kpn_explain_command.specs.Answers.{IsRefusalOfExplaining, IsRefusalOfItems};
 
-use kpn_answers::refusal::Refusal;
-use kpn_answers::shelf::Shelf;
+use kpn_refusals::Refusal;
+use kpn_shelf::Shelf;
 use std::alloc::Global;
 
 /// The bytes that a shelf has under a name.

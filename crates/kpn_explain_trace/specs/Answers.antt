@@ -12,10 +12,10 @@ use Rattle.kpn_audit.specs.declared.scene.Scene.{Scene}
 use Rattle.kpn_audit.specs.Audit.{IsRefusal}
 use Rattle.kpn_audit.specs.Scene.{IsSceneBefore}
 use Rattle.kpn_audit.specs.Stored.{Differs}
-use Rattle.kpn_answers.specs.declared.refusal.Refusal.{Refusal}
-use Rattle.kpn_answers.specs.declared.refusal.Refusal.TheVariants as refusal
-use Rattle.kpn_answers.specs.Shelf.{Loads}
-use Rattle.kpn_answers.specs.Description.{IsDescribed}
+use Rattle.kpn_refusals.specs.declared.refusal.Refusal.{Refusal}
+use Rattle.kpn_refusals.specs.declared.refusal.Refusal.TheVariants as refusal
+use Rattle.kpn_shelf.specs.Shelf.{Loads}
+use Rattle.kpn_inputs.specs.Description.{IsDescribed}
 use Rattle.kpn_audit_command.specs.AuditText.{audit_text, finding_line}
 use Rattle.kpn_audit_command.specs.Answers.{IsFoundLegal}
 use Rattle.kpn_explain_trace.specs.ExplainText.{refused_text, illegal_text}

@@ -1,19 +1,18 @@
 //! The command reads a network and a trace, and explains what an audit of the trace finds.
 ghost use Rattle.std.specs.Prelude.{◌≡◌, ◌<◌, ℕ, length, IfOk, IfErr};
-ghost use Rattle.kpn_answers.specs.Answer.{Concludes};
+ghost use Rattle.kpn_refusals.specs.Answer.{Concludes};
 ghost use Rattle.kpn_audit.specs.declared.findings.AuditFault.TheVariants.{Illegal};
 ghost use Rattle.kpn_audit.specs.Audit.{IsRefusal};
 ghost use Rattle.kpn_audit_command.specs.Answers.{IsNoFinding, IsRefusalOfAudit};
 ghost use Rattle.kpn_explain_trace.specs.Answers.{IsConclusion, IsExplained, IsExplanation, IsNoExplanation};
 
 use crate::text::{illegal_text, refused_text};
-use kpn_answers::answer::{Conclusion, conclude};
-use kpn_answers::description::load_document;
-use kpn_answers::refusal::Refusal;
-use kpn_answers::shelf::Shelf;
 use kpn_audit::{AuditFault, audit, scene_before};
 use kpn_audit_command::audit_text::{finding_text, text_of};
 use kpn_history::Trace;
+use kpn_inputs::load_document;
+use kpn_refusals::{Conclusion, Refusal, conclude};
+use kpn_shelf::Shelf;
 use kpn_text::Document;
 use kpn_trace_text::{TraceFault, read_trace};
 use std::alloc::Global;

@@ -2,7 +2,7 @@
 ghost use Rattle.std.specs.Prelude.{◌≡◌, ◌++◌, OnOk};
 ghost use Rattle.kpn_explain_trace.specs.Words.{process_words, channel_words};
 
-use kpn_answers::pieces::{push_between, push_number};
+use kpn_pieces::{push_between, push_number};
 use kpn_text::Document;
 use std::alloc::AllocError;
 

@@ -4,9 +4,9 @@ ghost use Rattle.kpn_trace_text.specs.TraceText.{head_lines};
 ghost use Rattle.kpn_explain_trace.specs.ExplainText as spec;
 
 use crate::words::push_sentence;
-use kpn_answers::pieces::push_number;
 use kpn_audit::Scene;
 use kpn_history::{Trace, Version};
+use kpn_pieces::push_number;
 use kpn_places::{line_start, push_excerpt, push_where};
 use kpn_text::Document;
 use kpn_trace_text::TraceFault;

@@ -3,9 +3,9 @@ ghost use Rattle.std.specs.Prelude.{◌≡◌, ◌++◌, OnOk};
 ghost use Rattle.kpn_explain_trace.specs.Words as spec;
 
 use crate::names::{push_channel, push_process};
-use kpn_answers::pieces::{push_between, push_item, push_number};
 use kpn_audit::{Doing, GrowthOwed, Scene, Side};
 use kpn_history::{Event, How, Version};
+use kpn_pieces::{push_between, push_item, push_number};
 use kpn_text::Document;
 use kpn_trace_text::how_word;
 use std::alloc::AllocError;

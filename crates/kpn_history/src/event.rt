@@ -1,4 +1,8 @@
 //! The events of a run.
+ghost use Rattle.std.specs.Prelude.{◌≡◌, true, false, IfSome, IfNone};
+ghost use Rattle.kpn_history.specs.Talks.{is_of, is_of_process, process_of, channel_of, how_of};
+
+use kpn_lang::Fault;
 
 /// One event of a run: what a process did or met, or what the outside did. Processes and channels go by
 /// their numbers in the network, processes first.
@@ -36,4 +40,43 @@ pub enum How {
     Overflow,
     /// A divisor was 0.
     ZeroDivisor,
+}
+
+impl Event {
+    /// The process whose event this is; none if it is an event of the outside or a growth.
+    pub fn process(self) -> Option<usize>
+        ensures exact { result ≡ process_of self }
+        ensures own { IfSome result (λ p. is_of p self ≡ true) }
+        ensures none { IfNone result (is_of_process self ≡ false) }
+    {
+        match self {
+            Event::Get(p, _, _) | Event::Put(p, _, _) => Some(p.into()),
+            Event::WaitEmpty(p, _) | Event::WaitFull(p, _) | Event::Ended(p, _) => Some(p.into()),
+            _ => None,
+        }
+    }
+
+    /// The channel of the event; none if a process ends.
+    pub fn channel(self) -> Option<usize>
+        ensures { result ≡ channel_of self }
+    {
+        match self {
+            Event::Get(_, c, _) | Event::Put(_, c, _) | Event::Grow(_, c, _) => Some(c.into()),
+            Event::WaitEmpty(_, c) | Event::WaitFull(_, c) => Some(c.into()),
+            Event::Feed(c, _) | Event::Take(c, _) => Some(c.into()),
+            Event::Close(c) | Event::Leave(c) => Some(c.into()),
+            Event::Ended(_, _) => None,
+        }
+    }
+}
+
+impl From<Fault> for How {
+    ghost from_gives = { λ fault how. how ≡ how_of fault };
+
+    fn from(fault: Fault) -> How {
+        match fault {
+            Fault::Overflow => How::Overflow,
+            Fault::ZeroDivisor => How::ZeroDivisor,
+        }
+    }
 }

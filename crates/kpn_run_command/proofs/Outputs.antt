@@ -4,12 +4,12 @@ use Rattle.std.specs.List.{AllPairs}
 use Rattle.std.proofs.lemmas.List.{take-append-drop, map-append, length-map}
 use Rattle.std.proofs.lemmas.List.Elements.{All-push}
 use Rattle.std.proofs.lemmas.List.Quantifiers.{all_pairs_push}
-use Rattle.kpn_answers.specs.declared.refusal.Refusal.{Refusal}
-use Rattle.kpn_answers.specs.declared.refusal.Refusal.TheVariants.{TraceWord, SinkWord, Output, NoMemory}
-use Rattle.kpn_answers.specs.Sources.{name_in, file_in}
-use Rattle.kpn_answers.specs.SourceRefusals.{IsRefusalOfSinkWords}
-use Rattle.kpn_answers.specs.Inputs.{IsRefusalOfRunInputs}
-use Rattle.kpn_answers.specs.Shelf.{Loads, Aliases}
+use Rattle.kpn_refusals.specs.declared.refusal.Refusal.{Refusal}
+use Rattle.kpn_refusals.specs.declared.refusal.Refusal.TheVariants.{TraceWord, SinkWord, Output, NoMemory}
+use Rattle.kpn_inputs.specs.Sources.{name_in, file_in}
+use Rattle.kpn_inputs.specs.SourceRefusals.{IsRefusalOfSinkWords}
+use Rattle.kpn_inputs.specs.Inputs.{IsRefusalOfRunInputs}
+use Rattle.kpn_shelf.specs.Shelf.{Loads, Aliases}
 use Rattle.kpn_run_command.specs.Target.{IsApart, IsNoInput, AreApart, AreOutputsApart, trace_name, MayMeet, IsRefusalOfTrace, IsRefusalOfName, IsRefusalOfSink, IsRefusalOfSinks, IsRefusalOfOutputs, HasInputs, IsUnready, IsUnprepared}
 
 module _ (file : List ℕ) (words : List (List ℕ)) where

@@ -2,7 +2,7 @@
 use Rattle.std.proofs.Common.{◌≡◌, ◌<◌, ◌+◌, ℕ, suc, List, [], ◌∷◌, ◌++◌, map, length, get_or, take, drop, Result, Ok, Err, refl, sym, ap, subst, ◌∙◌, drop-cons}
 use Rattle.std.specs.Result.{OnErr}
 use Rattle.std.proofs.lemmas.List.{take-append-drop, map-append, map_more}
-use Rattle.kpn_answers.specs.Shelf.{Loads, KeepsOthers}
+use Rattle.kpn_shelf.specs.Shelf.{Loads, KeepsOthers}
 use Rattle.kpn_run_command.specs.Files.{StoredFile, IsStored, AreStored, IsCutShort}
 
 module _ {S : Type 0} (may_give : S → Loads) where

@@ -6,8 +6,8 @@ use Rattle.kpn_history.specs.declared.stored.Version.TheVariants.{Two}
 use Rattle.kpn_trace_text.specs.TraceText.{trace_text}
 use Rattle.kpn_items.specs.ItemFile.{item_text}
 use Rattle.kpn_run_here.specs.Reports.{events_of}
-use Rattle.kpn_answers.specs.declared.sources.NamedEnd.{NamedEnd}
-use Rattle.kpn_answers.specs.Shelf.{Loads, KeepsOthers}
+use Rattle.kpn_inputs.specs.declared.sources.NamedEnd.{NamedEnd}
+use Rattle.kpn_shelf.specs.Shelf.{Loads, KeepsOthers}
 use Rattle.kpn_run_command.specs.declared.files.OutputFile.{OutputFile}
 use Rattle.kpn_run_command.specs.declared.reporting.Reported.{Reported}
 use Rattle.kpn_run_command.specs.ReportText.{wanted_of}

@@ -12,8 +12,8 @@ use Rattle.kpn_history.specs.declared.state.State.TheVariants as state
 use Rattle.kpn_run_here.specs.declared.outcome.Outcome.{Outcome}
 use Rattle.kpn_run_here.specs.declared.outcome.Outcome.TheVariants.{Ended, Clogged, Jammed, Enough, Stopped}
 use Rattle.kpn_run_here.specs.declared.report.Report.{Report}
-use Rattle.kpn_answers.specs.ListText.{list_line, lines_from}
-use Rattle.kpn_answers.specs.Faulted.{faulted_line}
+use Rattle.kpn_pieces.specs.ListText.{list_line, lines_from}
+use Rattle.kpn_pieces.specs.Faulted.{faulted_line}
 
 -- ---- sinks
 

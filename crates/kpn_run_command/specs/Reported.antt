@@ -2,11 +2,11 @@
 use Rattle.std.specs.Prelude.{◌⊎◌, ℕ, List, Option, IsSome, ⊤}
 use Rattle.kpn_run_here.specs.declared.outcome.Limits.{Limits}
 use Rattle.kpn_run_here.specs.Reports.{IsReport}
-use Rattle.kpn_answers.specs.declared.refusal.Refusal.{Refusal}
-use Rattle.kpn_answers.specs.declared.refusal.Refusal.TheVariants.{Threads, Abandoned, Foreign, NoMemory}
-use Rattle.kpn_answers.specs.Inputs.{AreInputs}
+use Rattle.kpn_refusals.specs.declared.refusal.Refusal.{Refusal}
+use Rattle.kpn_refusals.specs.declared.refusal.Refusal.TheVariants.{Threads, Abandoned, Foreign, NoMemory}
+use Rattle.kpn_inputs.specs.Inputs.{AreInputs}
 use Rattle.kpn_run_command.specs.declared.reporting.Reported.{Reported}
-use Rattle.kpn_answers.specs.Shelf.{Loads, Aliases}
+use Rattle.kpn_shelf.specs.Shelf.{Loads, Aliases}
 use Rattle.kpn_run_command.specs.Target.{AreSinks, IsUnprepared}
 
 -- the inputs and the sinks that the words name, and a report of a run under these limits

@@ -2,11 +2,11 @@
 use Rattle.std.specs.Prelude.{◌≡◌, ℕ, List, Option}
 use Rattle.kpn_items.specs.declared.fault.WriteFault.{WriteFault}
 use Rattle.kpn_run_here.specs.declared.outcome.Limits.{Limits}
-use Rattle.kpn_answers.specs.declared.refusal.Refusal.{Refusal}
-use Rattle.kpn_answers.specs.declared.refusal.Refusal.TheVariants.{Output, NoMemory}
-use Rattle.kpn_answers.specs.Refusal.{status_of}
-use Rattle.kpn_answers.specs.Answer.{Concludes}
-use Rattle.kpn_answers.specs.Shelf.{Loads, Aliases}
+use Rattle.kpn_refusals.specs.declared.refusal.Refusal.{Refusal}
+use Rattle.kpn_refusals.specs.declared.refusal.Refusal.TheVariants.{Output, NoMemory}
+use Rattle.kpn_refusals.specs.Refusal.{status_of}
+use Rattle.kpn_refusals.specs.Answer.{Concludes}
+use Rattle.kpn_shelf.specs.Shelf.{Loads, Aliases}
 use Rattle.kpn_run_command.specs.declared.reporting.Reported.{Reported}
 use Rattle.kpn_run_command.specs.ReportText.{report_text, outcome_status}
 use Rattle.kpn_run_command.specs.Reported.{IsReported, IsUnreported}

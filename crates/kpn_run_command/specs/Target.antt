@@ -2,12 +2,12 @@
 use Rattle.std.specs.Prelude.{◌≡◌, ◌≢◌, ◌⊎◌, ◌<◌, ℕ, ℤ, List, [], ◌∷◌, ◌++◌, length, map, All, Option, Some, None, IsSome, codes, ⊤}
 use Rattle.std.specs.List.{Any, AllPairs}
 use Rattle.kpn_text.specs.Document.{Document}
-use Rattle.kpn_answers.specs.declared.sources.NamedEnd.{NamedEnd}
-use Rattle.kpn_answers.specs.declared.refusal.Refusal.{Refusal}
-use Rattle.kpn_answers.specs.declared.refusal.Refusal.TheVariants.{TraceWord, SinkWord, Output, NoMemory}
-use Rattle.kpn_answers.specs.Inputs.{AreInputs, AreNamedSinks, IsRefusalOfRunInputs}
-use Rattle.kpn_answers.specs.Shelf.{Loads, Aliases}
-use Rattle.kpn_answers.specs.Sources.{HasEquals, LacksEquals, name_in, file_in}
+use Rattle.kpn_inputs.specs.declared.sources.NamedEnd.{NamedEnd}
+use Rattle.kpn_refusals.specs.declared.refusal.Refusal.{Refusal}
+use Rattle.kpn_refusals.specs.declared.refusal.Refusal.TheVariants.{TraceWord, SinkWord, Output, NoMemory}
+use Rattle.kpn_inputs.specs.Inputs.{AreInputs, AreNamedSinks, IsRefusalOfRunInputs}
+use Rattle.kpn_shelf.specs.Shelf.{Loads, Aliases}
+use Rattle.kpn_inputs.specs.Sources.{HasEquals, LacksEquals, name_in, file_in}
 
 -- ---- outputs that are apart
 

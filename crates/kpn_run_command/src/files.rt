@@ -8,13 +8,13 @@ ghost use Rattle.kpn_run_command.specs.Files.{stored_as, trace_files, file_for, 
 use crate::report_text::wanted_of;
 use crate::reporting::Reported;
 use crate::request::RunRequest;
-use kpn_answers::refusal::Refusal;
-use kpn_answers::shelf::Shelf;
-use kpn_answers::sources::NamedEnd;
 use kpn_history::{History, Version};
+use kpn_inputs::NamedEnd;
 use kpn_items::{WriteFault, write_items};
 use kpn_lang::Sequence;
 use kpn_net::Network;
+use kpn_refusals::Refusal;
+use kpn_shelf::Shelf;
 use kpn_trace_text::write_trace;
 use std::alloc::Global;
 

@@ -3,10 +3,9 @@ ghost use Rattle.std.specs.Prelude.{◌≡◌, ◌≤◌, ◌++◌, [], All, len
 ghost use Rattle.kpn_run_command.specs.ReportText.{fault_text, outcome_status, outcome_word, processes_text, report_text, shows_processes, shows_sinks, sink_line, sink_lines, sinks_text, state_lines, wait_text, wanted_of};
 ghost use Rattle.kpn_run_command.specs.States.{WaitsWithin};
 
-use kpn_answers::faulted::push_faulted;
-use kpn_answers::list_text::push_list;
 use kpn_history::{How, State};
 use kpn_lang::Sequence;
+use kpn_pieces::{push_faulted, push_list};
 use kpn_run_here::{Outcome, Report};
 use kpn_text::Document;
 use std::alloc::{AllocError, Global};

@@ -7,15 +7,14 @@ ghost use Rattle.kpn_run_command.specs.Target.{AreOutputsApart};
 
 use crate::request::RunRequest;
 use crate::target::prepare;
-use kpn_answers::inputs::{Inputs, RunInputs};
-use kpn_answers::refusal::Refusal;
-use kpn_answers::shelf::Shelf;
-use kpn_answers::sources::NamedEnd;
 use kpn_desk::CommitsAll;
+use kpn_inputs::{Inputs, NamedEnd, RunInputs};
 use kpn_lang::Sequence;
 use kpn_limits::MAX_WORKERS;
 use kpn_net::Network;
+use kpn_refusals::Refusal;
 use kpn_run_here::{Limits, Report, run_here};
+use kpn_shelf::Shelf;
 use kpn_workers::{RunFault, run};
 use std::alloc::Global;
 use std::sync::Wait;

@@ -2,15 +2,14 @@
 ghost use Rattle.std.specs.Prelude.{◌≡◌, ◌≢◌, ◌++◌, ◌⊎◌, true, false, map, length, codes, option_map, All, IsSome, IfOk, IfErr, OnOk};
 ghost use Rattle.std.specs.List.{Any};
 ghost use Rattle.kpn_net.specs.Iteration.{sources};
-ghost use Rattle.kpn_answers.specs.Inputs.{AreInputs};
-ghost use Rattle.kpn_answers.specs.Sources.{HasEquals, name_in, file_in};
+ghost use Rattle.kpn_inputs.specs.Inputs.{AreInputs};
+ghost use Rattle.kpn_inputs.specs.Sources.{HasEquals, name_in, file_in};
 ghost use Rattle.kpn_run_command.specs.Target.{AreApart, AreOutputsApart, AreSinks, IsApart, IsNoInput, IsRefusalOfName, IsRefusalOfOutputs, IsRefusalOfSink, IsRefusalOfSinks, IsRefusalOfTrace, IsUnprepared, IsUnready, MayBeOne, MayBeOneOutput, MayBeOutput, MayGiveItems, MayOverwrite, trace_name};
 
 use crate::request::RunRequest;
-use kpn_answers::inputs::{RunInputs, load_run_inputs};
-use kpn_answers::refusal::Refusal;
-use kpn_answers::shelf::Shelf;
-use kpn_answers::sources::{FileOption, sink_options_of};
+use kpn_inputs::{FileOption, RunInputs, load_run_inputs, sink_options_of};
+use kpn_refusals::Refusal;
+use kpn_shelf::Shelf;
 use std::alloc::{AllocError, Global};
 
 /// The inputs of a run, and the sinks that options name. Before it reads them it checks that no output is one of them

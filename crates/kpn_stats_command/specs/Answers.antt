@@ -5,8 +5,8 @@ use Rattle.kpn_history.specs.declared.stored.Trace.{Trace}
 use Rattle.std.specs.declared.alloc.Global.{Global}
 use Rattle.kpn_audit.specs.declared.findings.Audit.{Audit}
 use Rattle.kpn_audit.specs.Stored.{history_in}
-use Rattle.kpn_answers.specs.Shelf.{Loads}
-use Rattle.kpn_answers.specs.Description.{IsDescribed}
+use Rattle.kpn_shelf.specs.Shelf.{Loads}
+use Rattle.kpn_inputs.specs.Description.{IsDescribed}
 use Rattle.kpn_audit_command.specs.Answers.{IsTraced, IsFoundLegal, IsNotLegal}
 use Rattle.kpn_stats_command.specs.declared.figures.Figures.{Figures}
 use Rattle.kpn_stats_command.specs.declared.stats_text.StatsTables.{StatsTables}

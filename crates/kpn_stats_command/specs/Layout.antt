@@ -1,7 +1,7 @@
 -- How a table is written: for other programs with tabs, for people in columns that line up.
 use Rattle.std.specs.Prelude.{ℕ, ◌-◌, max, List, [], ◌∷◌, ◌++◌, length, map, replicate, slice_index_or, codes}
 use Rattle.std.specs.List.{flat_map, range_with_len}
-use Rattle.kpn_answers.specs.ListText.{lines_from}
+use Rattle.kpn_pieces.specs.ListText.{lines_from}
 use Rattle.kpn_stats_command.specs.declared.table.Row.{Row}
 
 -- ---- with tabs

@@ -10,7 +10,7 @@ use Rattle.kpn_text.specs.Document.{Document}
 use Rattle.kpn_history.specs.declared.event.How.{How}
 use Rattle.kpn_trace_text.specs.EventLine.{how_word}
 use Rattle.kpn_audit.specs.declared.findings.Audit.{Audit}
-use Rattle.kpn_answers.specs.ListText.{lines_from}
+use Rattle.kpn_pieces.specs.ListText.{lines_from}
 use Rattle.kpn_stats_command.specs.declared.figures.ChannelFigures.{ChannelFigures}
 use Rattle.kpn_stats_command.specs.declared.figures.ProcessFigures.{ProcessFigures}
 use Rattle.kpn_stats_command.specs.declared.figures.Figures.{Figures}

@@ -5,11 +5,11 @@ ghost use Rattle.kpn_stats_command.specs.StatsText.{stats_text, people_text, num
 
 use crate::figures::{ChannelFigures, Figures, ProcessFigures};
 use crate::table::{Row, push_aligned, push_tabbed};
-use kpn_answers::pieces::push_number;
 use kpn_audit::Audit;
 use kpn_history::How;
 use kpn_lang::Sequence;
 use kpn_net::Wait;
+use kpn_pieces::push_number;
 use kpn_text::Document;
 use kpn_trace_text::how_word;
 use std::alloc::{AllocError, Global};

@@ -1,7 +1,7 @@
 //! Tables of texts: with tabs for other programs, and in columns for people.
 ghost use Rattle.std.specs.Prelude.{◌≡◌, [], ◌++◌, slice_index_or, length, replicate, IfOk, OnOk};
 ghost use Rattle.std.specs.List.{flat_map};
-ghost use Rattle.kpn_answers.specs.ListText.{lines_from};
+ghost use Rattle.kpn_pieces.specs.ListText.{lines_from};
 ghost use Rattle.kpn_stats_command.specs.Layout.{tabbed, tabbed_line, tabbed_table, longest, names, column, widths, right_cell, aligned_line, aligned_table};
 
 use kpn_lang::Sequence;

@@ -1,8 +1,8 @@
 -- What goes out is an answer; an unknown name is refused.
 use Rattle.std.proofs.Common.{◌≡◌, Err}
 use Rattle.std.specs.Io.KnownBytes.{IsAtEnd}
-use Rattle.kpn_answers.specs.declared.refusal.Refusal.TheVariants.{UnknownProcess}
-use Rattle.kpn_answers.proofs.Answers.{answers_given, under_success}
+use Rattle.kpn_refusals.specs.declared.refusal.Refusal.TheVariants.{UnknownProcess}
+use Rattle.kpn_refusals.proofs.Answers.{answers_given, under_success}
 use Rattle.kpn_alone_command.specs.Alone.{IsAloneText, IsRefusalOfAlone}
 use Rattle.kpn_alone_command.proofs.alone.alone_command.Goals as goal
 

@@ -1,7 +1,7 @@
 use Rattle.std.proofs.Common.{◌≡◌, ◌+◌, ℤ, ℕ, List, ◌++◌, length, take, drop, arith, sym, ap, ◌∙◌, length-drop}
 use Rattle.std.proofs.lemmas.List.{append_assoc, drop-drop, length-take, take-append-drop}
 use Rattle.std.proofs.lemmas.Grind.{flat_map-append}
-use Rattle.kpn_answers.specs.ListText.{spaced, spaced_item}
+use Rattle.kpn_pieces.specs.ListText.{spaced, spaced_item}
 use Rattle.kpn_audit_command.proofs.audit_text.push_journal.Goals as goal
 
 -- what is written of the items from a place on: of a piece, and of what comes past it

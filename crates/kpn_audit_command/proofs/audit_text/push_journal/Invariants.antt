@@ -1,6 +1,6 @@
 -- What is written so far and the items that are still to come are the whole.
 use Rattle.std.proofs.Common.{◌≡◌, ◌≤◌, ◌++◌, ◌-◌, length, drop}
-use Rattle.kpn_answers.specs.ListText.{spaced}
+use Rattle.kpn_pieces.specs.ListText.{spaced}
 use Rattle.kpn_audit_command.proofs.audit_text.push_journal.Given as goal
 
 abbrev pub invariant-pieces : goal.invariant-pieces

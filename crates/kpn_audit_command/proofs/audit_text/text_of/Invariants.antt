@@ -1,6 +1,6 @@
 -- What is written so far and the lines that are still to come are the whole text.
 use Rattle.std.proofs.Common.{◌≡◌, ◌++◌, drop}
-use Rattle.kpn_answers.specs.ListText.{lines_from}
+use Rattle.kpn_pieces.specs.ListText.{lines_from}
 use Rattle.kpn_audit_command.specs.AuditText.{channel_line, audit_text}
 use Rattle.kpn_audit_command.proofs.audit_text.text_of.Given as goal
 

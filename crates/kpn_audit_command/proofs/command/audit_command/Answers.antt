@@ -1,5 +1,5 @@
 -- What goes out is a conclusion.
-use Rattle.kpn_answers.proofs.Answers.{concludes_given}
+use Rattle.kpn_refusals.proofs.Answers.{concludes_given}
 use Rattle.kpn_audit_command.specs.Answers.{IsAudited, IsRefusalOfAudit}
 use Rattle.kpn_audit_command.proofs.command.audit_command.Goals as goal
 

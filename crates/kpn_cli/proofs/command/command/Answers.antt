@@ -4,7 +4,7 @@ use Rattle.kpn_run_here.specs.declared.outcome.Limits.{Limits}
 use Rattle.kpn_run_command.specs.Run.{AnswersRun}
 use Rattle.kpn_cli.specs.Command.{here, by_workers}
 use Rattle.kpn_cli.proofs.command.command.Goals as goal
-use Rattle.kpn_answers.specs.Shelf.{Loads, Aliases}
+use Rattle.kpn_shelf.specs.Shelf.{Loads, Aliases}
 
 module _ {S O E : Type 0} (may_give : S → Loads) (may_alias : S → Aliases) (contents : O → Option (List ℕ))
     (file : List ℕ) (words : List (List ℕ)) (limits : Limits) (trace : Option (List ℕ))

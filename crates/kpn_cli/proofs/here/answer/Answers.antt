@@ -6,11 +6,11 @@ use Rattle.std.specs.String.{string_bytes}
 use Rattle.kpn_command_line.specs.Asked.{IsAsked, AsksForRounds, AsksForRun}
 use Rattle.kpn_command_line.specs.declared.request.RunWords.{RunWords}
 use Rattle.kpn_run_command.specs.declared.request.RunRequest.{RunRequest}
-use Rattle.kpn_answers.specs.declared.refusal.Refusal.{Refusal}
-use Rattle.kpn_answers.specs.declared.refusal.Refusal.TheVariants.{NoMemory}
-use Rattle.kpn_answers.specs.Answer.{Concludes}
-use Rattle.kpn_answers.specs.Shelf.{Loads}
-use Rattle.kpn_answers.proofs.Answers.{answers_given}
+use Rattle.kpn_refusals.specs.declared.refusal.Refusal.{Refusal}
+use Rattle.kpn_refusals.specs.declared.refusal.Refusal.TheVariants.{NoMemory}
+use Rattle.kpn_refusals.specs.Answer.{Concludes}
+use Rattle.kpn_shelf.specs.Shelf.{Loads}
+use Rattle.kpn_refusals.proofs.Answers.{answers_given}
 use Rattle.kpn_audit_command.specs.Answers.{IsRefusalOfAudit}
 use Rattle.kpn_stats_command.specs.declared.stats_text.StatsTables.{StatsTables}
 use Rattle.kpn_stats_command.specs.Answers.{AreStats}

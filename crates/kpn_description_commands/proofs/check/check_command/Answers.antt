@@ -1,6 +1,6 @@
 -- What goes out is an answer.
-use Rattle.kpn_answers.specs.Description.{IsRefusalOfCommand}
-use Rattle.kpn_answers.proofs.Answers.{answers_given}
+use Rattle.kpn_inputs.specs.Description.{IsRefusalOfCommand}
+use Rattle.kpn_refusals.proofs.Answers.{answers_given}
 use Rattle.kpn_description_commands.specs.CheckText.{check_text}
 use Rattle.kpn_description_commands.specs.TextOf.{IsTextOf}
 use Rattle.kpn_description_commands.proofs.check.check_command.Goals as goal

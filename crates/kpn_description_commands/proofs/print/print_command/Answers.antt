@@ -1,7 +1,7 @@
 -- What goes out is an answer.
 use Rattle.kpn_text.specs.Document.{canonical_text}
-use Rattle.kpn_answers.specs.Description.{IsRefusalOfCommand}
-use Rattle.kpn_answers.proofs.Answers.{answers_given}
+use Rattle.kpn_inputs.specs.Description.{IsRefusalOfCommand}
+use Rattle.kpn_refusals.proofs.Answers.{answers_given}
 use Rattle.kpn_description_commands.specs.TextOf.{IsTextOf}
 use Rattle.kpn_description_commands.proofs.print.print_command.Goals as goal
 

@@ -1,7 +1,7 @@
 -- What goes out is an answer.
 use Rattle.std.proofs.Common.{map}
-use Rattle.kpn_answers.specs.Inputs.{IsRefusalOfInputs}
-use Rattle.kpn_answers.proofs.Answers.{answers_given}
+use Rattle.kpn_inputs.specs.Inputs.{IsRefusalOfInputs}
+use Rattle.kpn_refusals.proofs.Answers.{answers_given}
 use Rattle.kpn_description_commands.specs.Rounds.{IsRounds}
 use Rattle.kpn_description_commands.proofs.rounds.rounds_command.Goals as goal
 

@@ -1,6 +1,6 @@
 -- What goes out is a conclusion.
 use Rattle.std.proofs.Common.{option_map}
-use Rattle.kpn_answers.proofs.Answers.{concludes_given}
+use Rattle.kpn_refusals.proofs.Answers.{concludes_given}
 use Rattle.kpn_draw_command.specs.Answers.{IsDrawn, IsRefusalOfDrawing}
 use Rattle.kpn_draw_command.proofs.command.draw_command.Goals as goal
 

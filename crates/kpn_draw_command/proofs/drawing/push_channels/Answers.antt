@@ -1,7 +1,7 @@
 -- The lines of one channel more.
 use Rattle.std.proofs.Common.{◌++◌, option_map, ap, ◌∙◌}
 use Rattle.kpn_net.specs.Tables.{Tables, channel_at}
-use Rattle.kpn_answers.proofs.PieceLemmas.{two_pieces}
+use Rattle.kpn_pieces.proofs.PieceLemmas.{two_pieces}
 use Rattle.kpn_draw_command.specs.DrawText.{outside_line, edge_line, channel_lines}
 use Rattle.kpn_draw_command.specs.Found.{flow_of}
 use Rattle.kpn_draw_command.proofs.Lines.{one_more}

@@ -1,7 +1,7 @@
 -- The pieces of the line.
 use Rattle.std.proofs.Common.{◌++◌, codes, ap, ◌∙◌}
 use Rattle.kpn_net.specs.Tables.{Tables}
-use Rattle.kpn_answers.proofs.PieceLemmas.{four_pieces}
+use Rattle.kpn_pieces.proofs.PieceLemmas.{four_pieces}
 use Rattle.kpn_draw_command.specs.DrawText.{arrow, closing, edge_label, thickness}
 use Rattle.kpn_draw_command.proofs.drawing.push_edge.Goals as goal
 

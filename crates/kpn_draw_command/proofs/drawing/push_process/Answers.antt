@@ -1,7 +1,7 @@
 -- The pieces of the line.
 use Rattle.std.proofs.Common.{◌++◌, codes, ap, ◌∙◌}
 use Rattle.std.specs.Fmt.{decimal}
-use Rattle.kpn_answers.proofs.PieceLemmas.{four_pieces}
+use Rattle.kpn_pieces.proofs.PieceLemmas.{four_pieces}
 use Rattle.kpn_draw_command.specs.DrawText.{closing, filling, process_title, state_line}
 use Rattle.kpn_draw_command.proofs.drawing.push_process.Goals as goal
 

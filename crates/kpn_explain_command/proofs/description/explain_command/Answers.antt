@@ -1,5 +1,5 @@
 -- What goes out is a conclusion.
-use Rattle.kpn_answers.proofs.Answers.{concludes_given}
+use Rattle.kpn_refusals.proofs.Answers.{concludes_given}
 use Rattle.kpn_explain_command.specs.Answers.{IsExplained, IsRefusalOfExplaining}
 use Rattle.kpn_explain_command.proofs.description.explain_command.Goals as goal
 

@@ -1,6 +1,6 @@
 -- The pieces of the first part.
-use Rattle.kpn_answers.specs.declared.refusal.Refusal.TheVariants.{Description}
-use Rattle.kpn_answers.proofs.PieceLemmas.{four_pieces}
+use Rattle.kpn_refusals.specs.declared.refusal.Refusal.TheVariants.{Description}
+use Rattle.kpn_pieces.proofs.PieceLemmas.{four_pieces}
 use Rattle.kpn_places.specs.Excerpt.{where_text, excerpt}
 use Rattle.kpn_explain_command.specs.ExplainText.{bracket, sentence}
 use Rattle.kpn_explain_command.proofs.explained.push_first.Goals as goal

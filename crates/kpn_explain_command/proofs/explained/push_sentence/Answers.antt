@@ -1,6 +1,6 @@
 -- The pieces of the sentence.
 use Rattle.std.proofs.Common.{◌++◌, ap, ◌∙◌}
-use Rattle.kpn_answers.proofs.PieceLemmas.{three_pieces}
+use Rattle.kpn_pieces.proofs.PieceLemmas.{three_pieces}
 use Rattle.kpn_places.specs.Names.{name_at}
 use Rattle.kpn_explain_command.specs.ExplainText.{subject, alternatives}
 use Rattle.kpn_explain_command.specs.Sentences.{said}

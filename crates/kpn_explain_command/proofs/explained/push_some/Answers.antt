@@ -1,6 +1,6 @@
 -- The pieces of the text.
 use Rattle.std.proofs.Common.{codes}
-use Rattle.kpn_answers.proofs.PieceLemmas.{two_pieces}
+use Rattle.kpn_pieces.proofs.PieceLemmas.{two_pieces}
 use Rattle.kpn_explain_command.proofs.explained.push_some.Goals as goal
 
 pub returns : goal.returns

@@ -1,5 +1,5 @@
 -- What goes out is a conclusion.
-use Rattle.kpn_answers.proofs.Answers.{concludes_given}
+use Rattle.kpn_refusals.proofs.Answers.{concludes_given}
 use Rattle.kpn_explain_command.specs.Answers.{AreItemsExplained, IsRefusalOfItems}
 use Rattle.kpn_explain_command.proofs.items.explain_items_command.Goals as goal
 

@@ -1,8 +1,8 @@
 -- The pieces of the text.
 use Rattle.std.proofs.Common.{codes}
 use Rattle.kpn_items.specs.declared.fault.ItemFault.TheVariants.{BadItem}
-use Rattle.kpn_answers.specs.declared.refusal.Refusal.TheVariants.{Input}
-use Rattle.kpn_answers.proofs.PieceLemmas.{four_pieces}
+use Rattle.kpn_refusals.specs.declared.refusal.Refusal.TheVariants.{Input}
+use Rattle.kpn_pieces.proofs.PieceLemmas.{four_pieces}
 use Rattle.kpn_places.specs.Excerpt.{where_text, excerpt}
 use Rattle.kpn_explain_command.specs.ExplainText.{bracket}
 use Rattle.kpn_explain_command.proofs.items.push_line_at.Goals as goal

@@ -1,5 +1,5 @@
 -- What goes out is a conclusion.
-use Rattle.kpn_answers.proofs.Answers.{concludes_given}
+use Rattle.kpn_refusals.proofs.Answers.{concludes_given}
 use Rattle.kpn_audit_command.specs.Answers.{IsRefusalOfAudit}
 use Rattle.kpn_explain_trace.specs.Answers.{IsExplained}
 use Rattle.kpn_explain_trace.proofs.command.explain_trace_command.Goals as goal

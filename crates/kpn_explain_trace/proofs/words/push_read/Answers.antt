@@ -1,6 +1,6 @@
 -- The pieces of the words.
 use Rattle.std.proofs.Common.{codes}
-use Rattle.kpn_answers.proofs.PieceLemmas.{two_pieces}
+use Rattle.kpn_pieces.proofs.PieceLemmas.{two_pieces}
 use Rattle.kpn_explain_trace.specs.Words.{outside_words, next_words}
 use Rattle.kpn_explain_trace.proofs.words.push_read.Goals as goal
 

@@ -1,7 +1,7 @@
 -- The pieces of the words.
 use Rattle.std.proofs.Common.{◌≡◌, ◌++◌, codes, w64, subst}
 use Rattle.std.proofs.lemmas.Int.{to_z-of_z}
-use Rattle.kpn_answers.proofs.PieceLemmas.{two_pieces}
+use Rattle.kpn_pieces.proofs.PieceLemmas.{two_pieces}
 use Rattle.kpn_explain_trace.specs.Words.{moved_words, room_words}
 use Rattle.kpn_explain_trace.proofs.words.push_write.Goals as goal
 

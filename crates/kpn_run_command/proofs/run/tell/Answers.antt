@@ -1,7 +1,7 @@
 -- The files are stored and the text goes out; or a file is not stored; or there is no memory for the texts.
 use Rattle.std.proofs.Common.{◌≡◌, List, Ok, refl, map, ap, subst, ◌∙◌}
-use Rattle.kpn_answers.specs.Refusal.{status_of}
-use Rattle.kpn_answers.proofs.Answers.{concludes_given}
+use Rattle.kpn_refusals.specs.Refusal.{status_of}
+use Rattle.kpn_refusals.proofs.Answers.{concludes_given}
 use Rattle.kpn_run_command.specs.Files.{StoredFile, stored_as, AreStored, IsCutShort}
 use Rattle.kpn_run_command.specs.Run.{IsReportText, stored, cut_short, unmade}
 use Rattle.kpn_run_command.proofs.run.tell.Goals as goal

@@ -2,7 +2,7 @@
 use Rattle.std.proofs.Common.{◌≢◌, ℕ, ◌<◌, ◌+◌, List, Bor, All, length, get_or, take, subst, sym}
 use Rattle.std.proofs.lemmas.List.{take_more}
 use Rattle.std.proofs.lemmas.List.Elements.{All-push}
-use Rattle.kpn_answers.specs.Sources.{HasEquals, file_in}
+use Rattle.kpn_inputs.specs.Sources.{HasEquals, file_in}
 use Rattle.kpn_run_command.proofs.target.any_gives_items.Goals as goal
 
 one_more : (P : Bor (List ℕ) → Type 0) (words : List (Bor (List ℕ))) (i : ℕ) (word : Bor (List ℕ)) → i < length words

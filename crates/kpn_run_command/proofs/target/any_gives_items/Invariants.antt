@@ -1,6 +1,6 @@
 -- The words so far give no source the items of the file of this name.
 use Rattle.std.proofs.Common.{◌≢◌, All, take}
-use Rattle.kpn_answers.specs.Sources.{HasEquals, file_in}
+use Rattle.kpn_inputs.specs.Sources.{HasEquals, file_in}
 use Rattle.kpn_run_command.proofs.target.any_gives_items.Given as goal
 
 abbrev pub invariant-loop-word : goal.invariant-loop-word

@@ -2,7 +2,7 @@
 use Rattle.std.proofs.Common.{rules, ◌≡◌, ◌≢◌, ◌++◌, ◌∷◌, [], ℕ, List, All, Bor, IfErr, map, take, get_or, option_map, ap, sym, subst, ◌∙◌, append_assoc, arith}
 use Rattle.std.proofs.lemmas.List.{map-append, map_more}
 use Rattle.std.proofs.lemmas.Result.{IfErr-weaker}
-use Rattle.kpn_answers.specs.declared.sources.FileOption.{FileOption}
+use Rattle.kpn_inputs.specs.declared.sources.FileOption.{FileOption}
 use Rattle.kpn_run_command.specs.Target.{AreApart, IsRefusalOfSink, trace_name}
 use Rattle.kpn_run_command.proofs.Outputs.{apart_more, sink_refused}
 use Rattle.kpn_run_command.proofs.target.check_sinks.Goals as goal

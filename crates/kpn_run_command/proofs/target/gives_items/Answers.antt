@@ -1,7 +1,7 @@
 -- The file that the word names stands behind its first `=`.
 use Rattle.std.proofs.Common.{rules, ◌≡◌, ◌≢◌, subst}
 use Rattle.std.proofs.lemmas.Result.{IfOk-weaker}
-use Rattle.kpn_answers.specs.Sources.{file_in}
+use Rattle.kpn_inputs.specs.Sources.{file_in}
 use Rattle.kpn_run_command.proofs.target.gives_items.Goals as goal
 
 pub returns-in-Some-clause-apart : goal.returns-in-Some-clause-apart

@@ -2,7 +2,7 @@
 use Rattle.std.proofs.Common.{◌≢◌, ℕ, List, Bor, inl, inr}
 use Rattle.std.proofs.lemmas.Result.{IfOk-weaker}
 use Rattle.std.proofs.lemmas.List.Elements.{All-map}
-use Rattle.kpn_answers.specs.Sources.{HasEquals, file_in}
+use Rattle.kpn_inputs.specs.Sources.{HasEquals, file_in}
 use Rattle.kpn_run_command.proofs.target.may_overwrite.Goals as goal
 
 pub returns-then-is_description-clause-one : goal.returns-then-is_description-clause-one

@@ -1,9 +1,9 @@
 -- An output that can't be made ready refuses the run.
 use Rattle.std.proofs.Common.{◌≡◌, ℕ, List, Bor, map, length, ap, sym, subst, ◌∙◌}
 use Rattle.std.proofs.lemmas.List.{length-map}
-use Rattle.kpn_answers.specs.declared.sources.FileOption.{FileOption}
-use Rattle.kpn_answers.specs.Inputs.{AreInputs, AreNamedSinks}
-use Rattle.kpn_answers.specs.Sources.{name_in, file_in}
+use Rattle.kpn_inputs.specs.declared.sources.FileOption.{FileOption}
+use Rattle.kpn_inputs.specs.Inputs.{AreInputs, AreNamedSinks}
+use Rattle.kpn_inputs.specs.Sources.{name_in, file_in}
 use Rattle.kpn_run_command.proofs.Outputs.{unready}
 use Rattle.kpn_run_command.proofs.target.prepare.Goals as goal
 

@@ -1,5 +1,5 @@
 use Rattle.std.proofs.Common.{◌≡◌, ◌++◌, drop, slice_index_or, None}
-use Rattle.kpn_answers.specs.ListText.{lines_from}
+use Rattle.kpn_pieces.specs.ListText.{lines_from}
 use Rattle.kpn_names.specs.Names.{name_at}
 use Rattle.kpn_stats_command.specs.StatsText.{advice, advice_line}
 use Rattle.kpn_stats_command.proofs.stats_text.push_advice.Given as goal

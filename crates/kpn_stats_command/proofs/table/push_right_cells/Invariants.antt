@@ -1,6 +1,6 @@
 use Rattle.std.proofs.Common.{◌≡◌, ◌++◌, drop}
 use Rattle.kpn_stats_command.specs.Layout.{right_cell}
-use Rattle.kpn_answers.specs.ListText.{lines_from}
+use Rattle.kpn_pieces.specs.ListText.{lines_from}
 use Rattle.kpn_stats_command.proofs.table.push_right_cells.Given as goal
 
 abbrev pub invariant-loop-k : goal.invariant-loop-k

@@ -1,4 +1,0 @@
-pub mod Answers
-pub mod SourceLemmas
-pub mod InputLemmas
-pub mod PieceLemmas

@@ -1,0 +1,4 @@
+pub mod Description
+pub mod Sources
+pub mod SourceRefusals
+pub mod Inputs

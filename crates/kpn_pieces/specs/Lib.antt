@@ -1,0 +1,2 @@
+pub mod ListText
+pub mod Faulted
