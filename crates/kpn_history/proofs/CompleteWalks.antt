@@ -3,17 +3,16 @@
 -- other on empty channels. Walks on configurations and on views cite this.
 use Rattle.std.proofs.Common.{◌≡◌, ◌↔◌, ◌⊎◌, ℕ, ◌+◌, ◌<◌, ◌≤◌, true, false, eqb, List, [], ◌∷◌, length, refl, sym, ap, ◌∙◌, subst, inl, inr, arith}
 use Rattle.std.specs.Prelude.{Contains}
-use Rattle.std.specs.List.{list_any}
-use Rattle.std.proofs.lemmas.Bool.{cases_Bool, both_ways, eqb-true}
+use Rattle.std.specs.List.{list_any, AllByRecursion, IsDistinct}
+use Rattle.std.proofs.lemmas.Bool.{cases_Bool, both_ways, eqb-true, ne_eqb}
 use Rattle.std.proofs.lemmas.Map.Steps.{length-le_from_distinct_below}
 use Rattle.std.proofs.lemmas.Map.Views.{Contains-from_any, list_any-from_Contains}
 use Rattle.std.specs.Cmp.{nat_eq_equiv}
 use Rattle.kpn_net.specs.declared.tables.End.TheVariants.{Process, Source}
 use Rattle.kpn_net.specs.declared.wait.Wait.TheVariants.{Empty}
 use Rattle.kpn_net.specs.Tables.{Tables, writer_of}
-use Rattle.kpn_net.specs.Waits.{AreDistinct}
 use Rattle.kpn_net.proofs.Networks.{Writes-writer_of}
-use Rattle.kpn_net.proofs.Cycles.{Contains-first, Contains-later, Contains-cases, Contains-none, keys_distinct}
+use Rattle.kpn_net.proofs.Cycles.{Contains-first, Contains-later, Contains-cases, Contains-none}
 use Rattle.kpn_history.specs.declared.event.Event.{Event}
 use Rattle.kpn_history.specs.Talks.{has_ended}
 use Rattle.kpn_history.specs.Channels.{is_closed}
@@ -26,7 +25,7 @@ use Rattle.kpn_history.proofs.Finished.{StarvesAmong-later, finished_cases, fini
 pub record Passed (t : Tables) (H : List Event) (steps at : ℕ) : Type 0 where
   pub among : List ℕ
   pub count : length among ≡ steps
-  pub distinct : AreDistinct among
+  pub distinct : IsDistinct eqb among
   pub there : (p : ℕ) → Contains among p → p < length t.instances
   pub each : (p : ℕ) → Contains among p → (wait_of t H p ≡ Empty at) ⊎ StarvesAmong t H among p
 
@@ -43,6 +42,22 @@ among_or_not p among =
       | inr none ↦ inr (λ h. both_ways _ none (list_any-from_Contains nat_eq_equiv p among h))
     ]
 
+-- one number more
+others_differ : (p : ℕ) (among : List ℕ) → (Contains among p → ⊥) → AllByRecursion (λ q. eqb p q ≡ false) among
+others_differ p [] fresh = tt
+others_differ p (q ∷ among) fresh = (
+  ne_eqb p q (λ e. fresh (subst (λ r. Contains (q ∷ among) r) (sym e) (Contains-first q among))),
+  others_differ p among (λ h. fresh (Contains-later q among p h)),
+)
+
+none_distinct : IsDistinct eqb []
+unfolding IsDistinct
+none_distinct = tt
+
+distinct_more : (p : ℕ) (among : List ℕ) → (Contains among p → ⊥) → IsDistinct eqb among → IsDistinct eqb (p ∷ among)
+unfolding IsDistinct
+distinct_more p among fresh distinct = (others_differ p among fresh, distinct)
+
 module _ (t : Tables) (H : List Event) where
   pub walk_starts : (c : ℕ) → Walked t H c 0 c
   walk_starts c =
@@ -51,7 +66,7 @@ module _ (t : Tables) (H : List Event) where
         passed = inr (record {
           among = [];
           count = refl;
-          distinct = tt;
+          distinct = none_distinct;
           there = λ p m. absurd (Contains-none p m);
           each = λ p m. absurd (Contains-none p m);
         });
@@ -119,7 +134,7 @@ module _ (t : Tables) (H : List Event) where
         record {
           among = p ∷ h.among;
           count = let e = h.count in omega arith;
-          distinct = (fresh, h.distinct);
+          distinct = distinct_more p h.among fresh h.distinct;
           there = λ q m. elim (Contains-cases p h.among q m) [
             | inl same ↦
                 let writes = Writes-writer_of t p at writer in
@@ -174,6 +189,6 @@ module _ (t : Tables) (H : List Event) where
           ] in
           let short : length (p ∷ h.among) ≤ length t.instances =
           length-le_from_distinct_below (p ∷ h.among) (length t.instances)
-          (keys_distinct (p ∷ h.among) (fresh, h.distinct)) there in
+          (distinct_more p h.among fresh h.distinct) there in
           let count = h.count in
           omega arith
