@@ -61,17 +61,21 @@ Legal-before t B e legal = Legal-prefix t B (B ++ e ∷ []) (IsPrefix-append B (
 pub Legal-last : (t : Tables) (B : List Event) (e : Event) → Legal t (B ++ e ∷ []) → MayFollow t B e
 Legal-last t B e legal = legal.follows B e (IsPrefix-refl (B ++ e ∷ []))
 
--- what holds of the empty history, and of each legal history with one more event if of that before it, holds of each
--- legal history
-module _ (t : Tables) (P : List Event → Type 0) (start : P [])
+-- what holds of a history, and of each legal history with one more event if of that before it, holds of each legal
+-- history that goes on from there
+module _ (t : Tables) (P : List Event → Type 0)
     (step : (B : List Event) (e : Event) → Legal t (B ++ e ∷ []) → P B → P (B ++ e ∷ [])) where
-  along : (rest B : List Event) → Legal t (B ++ rest) → P B → P (B ++ rest)
-  along [] B legal h = subst P (sym (append-nil B)) h
-  along (e ∷ rest) B legal h =
+  pub onward : (rest B : List Event) → Legal t (B ++ rest) → P B → P (B ++ rest)
+  onward [] B legal h = subst P (sym (append-nil B)) h
+  onward (e ∷ rest) B legal h =
       let same : (B ++ e ∷ []) ++ rest ≡ B ++ (e ∷ rest) = append_assoc B (e ∷ []) rest in
       let legal' : Legal t ((B ++ e ∷ []) ++ rest) = subst (Legal t) (sym same) legal in
       let before = Legal-prefix t (B ++ e ∷ []) ((B ++ e ∷ []) ++ rest) (IsPrefix-append (B ++ e ∷ []) rest) legal' in
-      subst P same (along rest (B ++ e ∷ []) legal' (step B e before h))
+      subst P same (onward rest (B ++ e ∷ []) legal' (step B e before h))
 
-  pub by_events : (H : List Event) → Legal t H → P H
-  by_events H legal = along H [] legal start
+-- what holds of the empty history, and of each legal history with one more event if of that before it, holds of each
+-- legal history
+pub by_events : (t : Tables) (P : List Event → Type 0) → P []
+    → ((B : List Event) (e : Event) → Legal t (B ++ e ∷ []) → P B → P (B ++ e ∷ [])) → (H : List Event) → Legal t H
+    → P H
+by_events t P start step H legal = onward t P step H [] legal start

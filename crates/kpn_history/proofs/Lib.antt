@@ -9,6 +9,8 @@ pub mod WaitsAfter
 pub mod Below
 pub mod Above
 pub mod Kahn
+pub mod Finished
+pub mod Complete
 pub mod EarlierWaits
 pub mod Growth
 pub mod Stops
@@ -18,6 +20,9 @@ pub mod Waking
 pub mod OwedGrowth
 pub mod EndsOnce
 pub mod States
+pub mod CompleteStays
+pub mod CompleteQuiet
+pub mod CompleteWalks
 pub mod Searching
 pub mod Checking
 pub mod EndTests

@@ -10,3 +10,4 @@ pub mod AfterEvent
 pub mod Ends
 pub mod Views
 pub mod Stops
+pub mod Complete

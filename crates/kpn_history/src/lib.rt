@@ -2,6 +2,7 @@
 //! of them.
 #![tactic(auto)]
 
+pub mod complete_laws;
 mod event;
 pub mod event_laws;
 pub mod growth_laws;
