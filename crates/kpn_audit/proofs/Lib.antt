@@ -7,4 +7,4 @@ pub mod Summed
 pub mod Replaying
 pub mod Telling
 pub mod SceneAt
-pub mod Complete
+pub mod Completing

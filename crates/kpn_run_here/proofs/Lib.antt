@@ -8,4 +8,4 @@ pub mod Settling
 pub mod Stepped
 pub mod Told
 pub mod Turning
-pub mod Complete
+pub mod Completing

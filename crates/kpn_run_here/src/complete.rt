@@ -28,7 +28,8 @@ impl Report {
             let End::Process(writer) = network.writer_of(at) else {
                 return true;
             };
-            match self.view.states.as_slice()[writer] {
+            let state = self.view.states.as_slice()[writer];
+            match state {
                 State::WaitsEmpty(next) => at = next,
                 State::Ended(_) => return true,
                 _ => return false,

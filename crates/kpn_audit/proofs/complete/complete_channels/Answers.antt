@@ -1,5 +1,5 @@
 use Rattle.std.proofs.Common.{◌≡◌, length, arith}
-use Rattle.kpn_audit.proofs.Complete.{ToldSoFar, told_none, told_more, told_all}
+use Rattle.kpn_audit.proofs.Completing.{ToldSoFar, told_none, told_more, told_all}
 use Rattle.kpn_audit.proofs.complete.complete_channels.Goals as goal
 
 pub loop-c-init : goal.loop-c-init

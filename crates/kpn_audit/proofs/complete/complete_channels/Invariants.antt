@@ -1,4 +1,4 @@
-use Rattle.kpn_audit.proofs.Complete.{ToldSoFar}
+use Rattle.kpn_audit.proofs.Completing.{ToldSoFar}
 use Rattle.kpn_audit.proofs.complete.complete_channels.Given as goal
 
 abbrev pub invariant-loop-c : goal.invariant-loop-c

@@ -1,4 +1,4 @@
-use Rattle.kpn_audit.proofs.Complete.{complete_least}
+use Rattle.kpn_audit.proofs.Completing.{complete_least}
 use Rattle.kpn_audit.proofs.complete_laws.complete_is_least.Goals as goal
 
 pub returns : goal.returns

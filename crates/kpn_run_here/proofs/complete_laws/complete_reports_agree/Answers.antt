@@ -1,4 +1,4 @@
-use Rattle.kpn_run_here.proofs.Complete.{reports_same, report_begins}
+use Rattle.kpn_run_here.proofs.Completing.{reports_same, report_begins}
 use Rattle.kpn_run_here.proofs.complete_laws.complete_reports_agree.Goals as goal
 
 pub returns-clause-same : goal.returns-clause-same

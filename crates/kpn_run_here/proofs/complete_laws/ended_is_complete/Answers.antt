@@ -1,4 +1,4 @@
-use Rattle.kpn_run_here.proofs.Complete.{complete_if_ended_well}
+use Rattle.kpn_run_here.proofs.Completing.{complete_if_ended_well}
 use Rattle.kpn_run_here.proofs.complete_laws.ended_is_complete.Goals as goal
 
 pub returns : goal.returns

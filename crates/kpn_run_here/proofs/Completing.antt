@@ -2,7 +2,6 @@
 -- of the run.
 use Rattle.std.proofs.Common.{◌≡◌, ◌↔◌, ℕ, ◌+◌, ◌<◌, ◌≤◌, Bool, true, false, IsTrue, ℤ, List, length, get_or, slice_get, Some, refl, sym, ap, ◌∙◌, subst, arith}
 use Rattle.std.proofs.lemmas.Bool.{false≢true}
-use Rattle.std.proofs.lemmas.List.{get_or_default}
 use Rattle.std.proofs.lemmas.Option.{get_or_from_slice_get, slice_get_within}
 use Rattle.kpn_lang.specs.Prefix.{IsPrefix}
 use Rattle.kpn_lang.proofs.Prefixes.{same_from_prefix}
@@ -81,15 +80,12 @@ module _ {A : Type 0} (t : Tables) (network : IsNetwork t) (H : List Event) (leg
       by_writer closed Sink w = absurd (writer_is_no_sink t network at there w)
 
   module _ (p : ℕ) (writer : writer_of t at ≡ Process p) (state : State)
-      (shown : get_or view.states p state ≡ state) where
+      (shown : state ≡ get_or view.states p Ready) where
     writer_there : p < length t.instances
     writer_there = let writes = Writes-writer_of t p at writer in writes.process
 
     is_state : IsStateOf t H p state
-    is_state =
-        subst (IsStateOf t H p)
-        (get_or_default view.states p Ready state (subst (λ n. p < n) (sym agrees.processes) writer_there) ∙ shown)
-        (agrees.states p writer_there)
+    is_state = subst (IsStateOf t H p) (sym shown) (agrees.states p writer_there)
 
     -- the writer has ended
     pub tells_ended : (how : How) → state ≡ Ended how → TellsComplete t H from true
