@@ -7,4 +7,6 @@ pub mod Summed
 pub mod Replaying
 pub mod Telling
 pub mod SceneAt
+pub mod Asked
+pub mod VersionOne
 pub mod Completing

@@ -1,17 +1,22 @@
 -- An audit has one finding: events within their steps are none that is out of steps, and the first that is illegal is
 -- one event.
-use Rattle.std.proofs.Common.{◌≡◌, ◌≢◌, inl, inr, ℕ, zero, suc, ◌<◌, ◌≤◌, List, [], ◌∷◌, length, take, refl, ap, subst, arith}
+use Rattle.std.proofs.Common.{◌≡◌, ◌≢◌, inl, inr, ℕ, zero, suc, ◌<◌, ◌≤◌, List, [], ◌∷◌, length, take, Some, slice_get, refl, sym, ap, ◌∙◌, subst, arith}
 use Rattle.std.proofs.lemmas.Bool.{cases_order}
 use Rattle.std.proofs.lemmas.Option.{slice_get_within}
 use Rattle.kpn_lang.specs.Prefix.{IsPrefix}
 use Rattle.kpn_net.specs.Tables.{Tables, program_of}
 use Rattle.kpn_history.specs.declared.event.Event.{Event}
-use Rattle.kpn_history.specs.Legal.{Legal}
+use Rattle.kpn_history.specs.Legal.{CanGo, Legal}
+use Rattle.kpn_history.specs.Stops.{OwesNothing}
 use Rattle.kpn_history.proofs.Legality.{Legal-prefix}
 use Rattle.kpn_audit.specs.declared.findings.AuditFault.{AuditFault}
 use Rattle.kpn_audit.specs.declared.findings.AuditFault.TheVariants.{Illegal, NoMemory, Budget, PolicyDiffers}
 use Rattle.kpn_audit.specs.Place.{StopsWithin}
-use Rattle.kpn_audit.specs.Audit.{AreWithinSteps, IsIllegalAt, IsBudgetAt, IsFault}
+use Rattle.kpn_audit.specs.declared.scene.Scene.{Scene}
+use Rattle.kpn_audit.specs.declared.scene.Scene.TheVariants.{Process}
+use Rattle.kpn_audit.specs.declared.scene.Doing.TheVariants.{Elsewhere}
+use Rattle.kpn_audit.specs.Audit.{IsWithinSteps, AreWithinSteps, IsOutOfSteps, IsIllegalAt, IsBudgetAt, ComesInTime, IsFault}
+use Rattle.kpn_audit.specs.Scene.{IsScene, IsSceneAt}
 use Rattle.kpn_audit.proofs.InTime.{one_place, not_out_of_steps}
 
 begins : (H : List Event) (n m : ℕ) → n ≤ m → IsPrefix (take n H) (take m H)
@@ -65,6 +70,23 @@ module _ (t : Tables) (H : List Event) (quota : ℕ) where
   one_fault (Budget k) (Budget j) x y first second =
       ap Budget (at_one k j (λ less. enough j k y.1 less x.0) (λ less. enough k j x.1 less y.0))
 
+  -- the process of an event within its steps is not out of them
+  not_out : (k : ℕ) (event : Event) → IsWithinSteps t H quota k → slice_get H k ≡ Some event
+      → OwesNothing t (take k H) → IsOutOfSteps t (take k H) event quota → ⊥
+  not_out k event within there owes out =
+      let p = out.process in
+      let comes = within event p there out.own out.numbers owes out.can_go in
+      let same = one_place t p (take k H) comes.place out.place comes.is_place out.is_place in
+      not_out_of_steps (program_of t p).blocks quota out.place out.reached
+      (subst (λ x. StopsWithin (program_of t p).blocks quota x) same comes.stops) out.steps out.between
+
+  -- its process is not elsewhere
+  pub not_elsewhere : (k : ℕ) → IsFault t H quota (Illegal k) → (scene : Scene) → IsSceneAt t H k quota scene → (p : ℕ)
+      → scene ≢ Process p Elsewhere
+  not_elsewhere k at scene stands p is =
+      let seen = subst (IsScene t (take k H) stands.event quota) is stands.is_scene in
+      not_out k stands.event (at.1 k (omega arith)) stands.there seen.by_itself.nothing_owed seen.is_doing
+
   -- if the whole list is legal and within its steps, no event is at fault
   pub no_fault : (fault : AuditFault) → Legal t H → AreWithinSteps t H quota (length H) → IsFault t H quota fault
       → fault ≡ NoMemory
@@ -79,3 +101,44 @@ module _ (t : Tables) (H : List Event) (quota : ℕ) where
   no_fault PolicyDiffers legal within x = absurd x
   no_fault (Budget k) legal within x =
       absurd (enough (length H) k within (slice_get_within H k x.0.event x.0.there) x.0)
+
+-- ---- the events before an illegal one
+
+-- the first of the first
+take-take : (H : List Event) (j k : ℕ) → j ≤ k → take j (take k H) ≡ take j H
+take-take H zero k few = refl
+take-take [] (suc j) zero few = absurd (omega arith)
+take-take [] (suc j) (suc k) few = refl
+take-take (x ∷ H) (suc j) zero few = absurd (omega arith)
+take-take (x ∷ H) (suc j) (suc k) few = ap (λ xs. x ∷ xs) (take-take H j k (omega arith))
+
+-- an event of the first
+slice_get-take : (H : List Event) (j k : ℕ) → j < k → slice_get (take k H) j ≡ slice_get H j
+slice_get-take H j zero less = absurd (omega arith)
+slice_get-take [] j (suc k) less = refl
+slice_get-take (x ∷ H) zero (suc k) less = refl
+slice_get-take (x ∷ H) (suc j) (suc k) less = slice_get-take H j k (omega arith)
+
+length-take-le : (H : List Event) (k : ℕ) → length (take k H) ≤ k
+length-take-le H zero = omega arith
+length-take-le [] (suc k) = omega arith
+length-take-le (x ∷ H) (suc k) = let rest = length-take-le H k in omega (arith, rest)
+
+module _ (t : Tables) (H : List Event) (quota k : ℕ) where
+  -- an event before this one that is within its steps is so in the shorter list
+  within_before : (j : ℕ) → j < k → IsWithinSteps t H quota j → IsWithinSteps t (take k H) quota j
+  within_before j less within event p there own numbers owes go =
+      let same = take-take H j k (omega arith) in
+      let comes =
+      within event p (sym (slice_get-take H j k less) ∙ there) own numbers
+      (subst (λ B. OwesNothing t B) same owes) (subst (λ B. CanGo t B p) same go) in
+      subst (λ B. ComesInTime t B quota p) (sym same) comes
+
+  -- they have no fault but want of memory
+  pub no_fault_before : IsFault t H quota (Illegal k) → (fault : AuditFault) → IsFault t (take k H) quota fault
+      → fault ≡ NoMemory
+  no_fault_before at fault before =
+      no_fault t (take k H) quota fault at.0.before
+      (λ j less.
+      let few = length-take-le H k in
+      within_before j (omega (arith, less, few)) (at.1 j (omega (arith, less, few)))) before

@@ -5,6 +5,8 @@ use Rattle.kpn_lang.specs.Prefix.{IsPrefix}
 use Rattle.kpn_net.specs.Tables.{Tables, instance_at, program_of}
 use Rattle.kpn_net.specs.Faults.{IsNetwork}
 use Rattle.kpn_step.specs.Frame.{Frame, start_frame}
+use Rattle.kpn_step.specs.Step.{step_of, Steps}
+use Rattle.kpn_step.specs.Stops.{IsBetween}
 use Rattle.kpn_history.specs.declared.event.Event.{Event}
 use Rattle.kpn_history.specs.declared.event.Event.TheVariants.{Get, Put, WaitEmpty, WaitFull, Ended}
 use Rattle.kpn_history.specs.declared.event.How.{How}
@@ -19,9 +21,9 @@ use Rattle.kpn_configuration.proofs.Due.{may_go}
 use Rattle.kpn_configuration.specs.declared.configuration.growth.OwedGrowth.{OwedGrowth}
 use Rattle.kpn_audit.specs.declared.judged.Judged.{Judged}
 use Rattle.kpn_audit.specs.declared.judged.Judged.TheVariants.{Follows, Illegal, Budget}
-use Rattle.kpn_audit.specs.Place.{GoesBy, ComesBy, IsPlaceAfter}
-use Rattle.kpn_audit.specs.Judged.{Owes, IsInTime, IsFollowed, IsUnreached}
-use Rattle.kpn_audit.specs.Audit.{IsWithinSteps, AreWithinSteps, IsIllegalAt, IsBudgetAt}
+use Rattle.kpn_audit.specs.Place.{GoesBy, ComesBy}
+use Rattle.kpn_audit.specs.Judged.{ArePlaces, Owes, IsInTime, IsFollowed, IsUnreached}
+use Rattle.kpn_audit.specs.Audit.{IsWithinSteps, AreWithinSteps, IsIllegalAt, IsOutOfSteps, IsBudgetAt}
 
 -- the events before one, and it
 pub one_event_more : (H : List Event) (k : ℕ) (e d : Event) → k < length H → e ≡ get_or H k d
@@ -36,10 +38,6 @@ pub event_at : (H : List Event) (k : ℕ) (e d : Event) → k < length H → e �
 event_at (x ∷ H) zero e d below is = ap Some (sym is)
 event_at (x ∷ H) (suc k) e d below is = event_at H k e d (omega arith) is
 event_at [] k e d below is = absurd (omega arith)
-
--- each process stands at its place
-abbrev pub ArePlaces : Tables → List Event → Configuration → Type 0
-ArePlaces t H s = (p : ℕ) → p < length t.instances → IsPlaceAfter t H p (frame_in s p)
 
 -- what the loop over the events keeps
 pub record IsReplayed (t : Tables) (H : List Event) (s : Configuration) (owed : Option OwedGrowth) : Type 0 where
@@ -76,6 +74,26 @@ illegal_at t H k e d s run below is ends =
           ends;
     }
 
+-- a free process that is between two steps once they are used up
+pub out_of_steps : (t : Tables) → IsNetwork t → (H : List Event) (s : Configuration) → IsRun t H s → OwesNothing t H
+    → ArePlaces t H s → (event : Event) (quota p : ℕ) → p < length t.instances → is_of p event ≡ true
+    → HasNumbers t event → IsFree s p → (reached : Frame)
+    → Steps (program_of t p).blocks quota (frame_in s p) reached
+    → IsBetween (step_of (program_of t p).blocks reached) → IsOutOfSteps t H event quota
+out_of_steps t network H s run owes places event quota p there own numbers free reached steps between =
+    record {
+      process = p;
+      own = own;
+      numbers = numbers;
+      can_go = may_go t network H s run owes p there free;
+      place = frame_in s p;
+      is_place = places p there;
+      stands = run.leads.frames p there;
+      reached = reached;
+      steps = steps;
+      between = between;
+    }
+
 pub budget_at : (t : Tables) → IsNetwork t → (H : List Event) (quota k : ℕ) (e d : Event) (s : Configuration) →
     IsRun t (take k H) s
     → ArePlaces t (take k H) s → k < length H → e ≡ get_or H k d
@@ -87,18 +105,9 @@ budget_at t network H quota k e d s run places below is found =
       there = event_at H k e d below is;
       before = run.legal;
       nothing_owed = found.0;
-      out_of_steps = record {
-        process = found.1.process;
-        own = found.1.own;
-        numbers = found.1.numbers;
-        can_go = may_go t network (take k H) s run found.0 found.1.process found.1.there found.1.free;
-        place = frame_in s found.1.process;
-        is_place = places found.1.process found.1.there;
-        stands = run.leads.frames found.1.process found.1.there;
-        reached = found.1.reached;
-        steps = found.1.steps;
-        between = found.1.between;
-      };
+      out_of_steps =
+          out_of_steps t network (take k H) s run found.0 places e quota found.1.process found.1.there found.1.own
+          found.1.numbers found.1.free found.1.reached found.1.steps found.1.between;
     }
 
 -- ---- within the steps

@@ -4,7 +4,9 @@ use Rattle.kpn_net.specs.Tables.{Tables}
 use Rattle.kpn_history.specs.declared.event.Event.{Event}
 use Rattle.kpn_history.specs.declared.stored.Version.{Version}
 use Rattle.kpn_history.specs.declared.stored.Version.TheVariants.{One, Two}
+use Rattle.kpn_audit.specs.declared.findings.AuditFault.{AuditFault}
 use Rattle.kpn_audit.specs.declared.scene.Scene.{Scene}
+use Rattle.kpn_audit.specs.Audit.{IsFault}
 use Rattle.kpn_audit.specs.Stored.{told, told_behind, history_of, told_in}
 use Rattle.kpn_audit.specs.Scene.{IsScene, IsSceneAt}
 use Rattle.kpn_audit.proofs.Replaying.{event_at}
@@ -23,16 +25,22 @@ take-history_of : (v : Version) (t : Tables) (events : List Event) (k : ℕ)
 take-history_of One t events k = take-told_behind t [] events k
 take-history_of Two t events k = refl
 
-pub scene_at : (v : Version) (t : Tables) (events : List Event) (k : ℕ) (d : Event) → k < length events
+pub scene_at : (v : Version) (t : Tables) (events : List Event) (k quota : ℕ) (d : Event) → k < length events
     → (scene : Scene)
-    → IsScene t (history_of v t (take k events)) (told_in v t (history_of v t (take k events)) (get_or events k d)) scene
-    → IsSceneAt t (history_of v t events) k scene
-scene_at v t events k d below scene is =
+    → IsScene t (history_of v t (take k events)) (told_in v t (history_of v t (take k events)) (get_or events k d))
+    quota scene
+    → IsSceneAt t (history_of v t events) k quota scene
+scene_at v t events k quota d below scene is =
     let H = history_of v t events in
     let e = told_in v t (take k H) (get_or events k d) in
     record {
       event = e;
       there = event_at H k e d (is_there v t events k below) (told_there v t events k d e below refl);
       is_scene =
-          subst (λ B. IsScene t B (told_in v t B (get_or events k d)) scene) (take-history_of v t events k) is;
+          subst (λ B. IsScene t B (told_in v t B (get_or events k d)) quota scene) (take-history_of v t events k) is;
     }
+
+-- a fault of the first events is one of the first events of the history
+pub fault_at : (v : Version) (t : Tables) (events : List Event) (k quota : ℕ) (fault : AuditFault)
+    → IsFault t (history_of v t (take k events)) quota fault → IsFault t (take k (history_of v t events)) quota fault
+fault_at v t events k quota fault is = subst (λ H. IsFault t H quota fault) (take-history_of v t events k) is

@@ -18,7 +18,7 @@ use Rattle.kpn_configuration.specs.Run.{IsRun}
 use Rattle.kpn_configuration.specs.declared.configuration.growth.OwedGrowth.{OwedGrowth}
 use Rattle.kpn_audit.specs.declared.judged.Judged.{Judged}
 use Rattle.kpn_audit.specs.declared.judged.Judged.TheVariants.{Follows, Illegal, Budget}
-use Rattle.kpn_audit.specs.Place.{StopsWithin, GoesBy}
+use Rattle.kpn_audit.specs.Place.{StopsWithin, GoesBy, IsPlaceAfter}
 
 -- the stop is a read at a port that has this channel
 abbrev pub IsReadFrom : (ports : List ℕ) → (c : ℕ) → Stop → Type 0
@@ -27,6 +27,10 @@ IsReadFrom ports c stop = (port : ℕ) × IsChannelAt ports port c × (stop ≡ 
 -- the stop is a write of this item at a port that has this channel
 abbrev pub IsWriteOf : (ports : List ℕ) → (c : ℕ) → (v : ℤ) → Stop → Type 0
 IsWriteOf ports c v stop = (port : ℕ) × IsChannelAt ports port c × (stop ≡ WantWrite port v)
+
+-- each process stands at its place after a history
+abbrev pub ArePlaces : Tables → List Event → Configuration → Type 0
+ArePlaces t H s = (p : ℕ) → p < length t.instances → IsPlaceAfter t H p (frame_in s p)
 
 -- a free process stands at this stop, which is no pause, and can make no step there
 pub record StandsFree (t : Tables) (s : Configuration) (p : ℕ) (stop : Stop) : Type 0 where

@@ -3,7 +3,7 @@ ghost use Rattle.std.specs.Prelude.{◌≡◌, ◌⊎◌, ◌↔◌, ℕ, true, 
 ghost use Rattle.kpn_history.specs.Legal.{Legal};
 ghost use Rattle.kpn_configuration.specs.Run.{IsRun};
 ghost use Rattle.kpn_audit.specs.Audit.{IsAudit, AreLeast, AreWithinSteps, IsFault, IsRefusal};
-ghost use Rattle.kpn_audit.specs.Judged.{Owes};
+ghost use Rattle.kpn_audit.specs.Judged.{ArePlaces, Owes};
 ghost use Rattle.kpn_audit.specs.Stored.{Differs, history_of, tables_for, history_in};
 
 use crate::findings::{Audit, AuditFault};
@@ -117,6 +117,8 @@ pub(crate) fn replay<A: Allocator + Copy>(
         IsRun network.now (history_of version network.now events.now) made.configuration) }
     ensures owes { let H = history_of version network.now events.now in
         IfOk result (λ made. Owes network.now H made.configuration made.owed) }
+    ensures places { let H = history_of version network.now events.now in
+        IfOk result (λ made. ArePlaces network.now H made.configuration) }
     ensures within { let H = history_of version network.now events.now in
         IfOk result (λ made. AreWithinSteps network.now H quota (length H)) }
     ensures refused { let H = history_of version network.now events.now in

@@ -40,7 +40,7 @@ pub enum Doing {
     Writes(usize, i64, bool),
     /// It comes to end in this way.
     Ends(How),
-    /// It is elsewhere.
+    /// It is elsewhere: it used up its steps before it came to a stop.
     Elsewhere,
 }
 

@@ -1,11 +1,12 @@
 //! What stands before an event of a trace: the events before it are replayed.
-ghost use Rattle.std.specs.Prelude.{◌≡◌, ◌<◌, ℕ, List, length, IfOk};
+ghost use Rattle.std.specs.Prelude.{◌≡◌, ◌<◌, ℕ, List, length, IfOk, IfErr};
 ghost use Rattle.kpn_history.specs.declared.event.Event.{Event};
 ghost use Rattle.kpn_configuration.specs.Configuration.{IsConfiguration};
 ghost use Rattle.kpn_configuration.specs.Owed.{IsAwaitedBelowLimit};
 ghost use Rattle.kpn_configuration.specs.Run.{IsRun};
+ghost use Rattle.kpn_audit.specs.Audit.{IsFault};
 ghost use Rattle.kpn_audit.specs.Judged.{IsOwing};
-ghost use Rattle.kpn_audit.specs.Scene.{IsOwedAfter, IsScene, IsSceneBefore};
+ghost use Rattle.kpn_audit.specs.Scene.{IsOwedAfter, IsScene, IsSceneBefore, IsFaultBefore};
 ghost use Rattle.kpn_audit.specs.Stored.{history_of, told_in};
 
 use crate::auditor::{Replayed, replay};
@@ -30,7 +31,8 @@ pub fn scene_before<A: Allocator + Copy, B: Allocator>(
     quota: u64,
 ) -> Result<Scene, AuditFault>
     requires { k < length trace.now.events }
-    ensures { IfOk result (IsSceneBefore network.now trace.now k) }
+    ensures scene { IfOk result (IsSceneBefore network.now trace.now k quota) }
+    ensures refused { IfErr result (IsFaultBefore network.now trace.now k quota) }
 {
     let events = trace.events.as_slice();
     let (before, event) = (&events[..k], events[k]);
@@ -52,8 +54,10 @@ fn scene_after<A: Allocator + Copy>(
     event: Event,
     quota: u64,
 ) -> Result<Scene, AuditFault>
-    ensures { let H = history_of version network.now before.now in
-        IfOk result (IsScene network.now H (told_in version network.now H event)) }
+    ensures scene { let H = history_of version network.now before.now in
+        IfOk result (IsScene network.now H (told_in version network.now H event) quota) }
+    ensures refused { let H = history_of version network.now before.now in
+        IfErr result (IsFault network.now H quota) }
 {
     let replayed = replay(alloc, network, version, before, quota)?;
     let Replayed {

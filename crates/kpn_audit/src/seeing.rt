@@ -1,15 +1,17 @@
 //! What a configuration shows of the process or the channel of an event.
-ghost use Rattle.std.specs.Prelude.{◌≡◌, ◌<◌, ℤ, ℕ, false, List, length, IfSome};
+ghost use Rattle.std.specs.Prelude.{◌≡◌, ◌<◌, ℕ, true, false, List, length};
 ghost use Rattle.kpn_net.specs.Tables.{instance_at};
-ghost use Rattle.kpn_step.specs.declared.stop.Stop.TheVariants as stop;
+ghost use Rattle.kpn_step.specs.declared.stop.Stop.TheVariants.{WantRead, WantWrite, Paused};
 ghost use Rattle.kpn_history.specs.declared.event.Event.{Event};
-ghost use Rattle.kpn_history.specs.Talks.{is_of_process};
+ghost use Rattle.kpn_history.specs.Talks.{is_of, is_of_process};
 ghost use Rattle.kpn_history.specs.Legal.{HasNumbers};
 ghost use Rattle.kpn_history.specs.Stops.{OwesNothing};
 ghost use Rattle.kpn_configuration.specs.Changes.{IsChannelAt};
-ghost use Rattle.kpn_configuration.specs.Configuration.{IsConfiguration};
+ghost use Rattle.kpn_configuration.specs.Configuration.{IsConfiguration, IsFree};
 ghost use Rattle.kpn_configuration.specs.Due.{Stands};
 ghost use Rattle.kpn_configuration.specs.Run.{IsRun};
+ghost use Rattle.kpn_audit.specs.Audit.{IsOutOfSteps};
+ghost use Rattle.kpn_audit.specs.Judged.{ArePlaces};
 ghost use Rattle.kpn_audit.specs.Scene.{IsDoing, IsScene, source_side, sink_side};
 
 use crate::judging::{has_numbers, process_of};
@@ -22,16 +24,22 @@ use kpn_net::{Network, Wait};
 use kpn_step::Stop;
 use std::alloc::Allocator;
 
-/// The channel of the network at a port among these.
-fn channel_at(network: &Network, ports: &[usize], port: usize) -> Option<usize>
-    ensures { IfSome result (λ c. IsChannelAt ports.now port c
-        × (c < length network.now.channels)) }
+/// The channel at an in port of process `p`.
+fn in_channel(network: &Network, p: usize, port: usize) -> usize
+    requires process { p < length network.now.instances }
+    requires port { port < length (instance_at network.now p).ins }
+    ensures { IsChannelAt (instance_at network.now p).ins port result }
 {
-    if port < ports.len() && ports[port] < network.channels() {
-        Some(ports[port])
-    } else {
-        None
-    }
+    network.ins(p)[port]
+}
+
+/// The channel at an out port of process `p`.
+fn out_channel(network: &Network, p: usize, port: usize) -> usize
+    requires process { p < length network.now.instances }
+    requires port { port < length (instance_at network.now p).outs }
+    ensures { IsChannelAt (instance_at network.now p).outs port result }
+{
+    network.outs(p)[port]
 }
 
 /// Process `p` is at a read.
@@ -43,13 +51,14 @@ fn reads<A: Allocator>(
 ) -> Doing
     requires shape { IsConfiguration network.now configuration.now }
     requires process { p < length network.now.instances }
-    requires stands { Stands network.now configuration.now p (stop.WantRead port) }
-    ensures { IsDoing network.now configuration.now p result }
+    requires free { IsFree configuration.now p }
+    requires stands { Stands network.now configuration.now p (WantRead port) }
+    ensures { (H : List Event) (event : Event) (quota : ℕ)
+        → IsDoing network.now H event quota configuration.now p result }
 {
-    match channel_at(network, network.ins(p), port) {
-        Some(c) => Doing::Reads(c, configuration.channel(c).peek()),
-        None => Doing::Elsewhere,
-    }
+    network.known();
+    let c = in_channel(network, p, port);
+    Doing::Reads(c, configuration.channel(c).peek())
 }
 
 /// Process `p` is at a write.
@@ -62,16 +71,17 @@ fn writes<A: Allocator>(
 ) -> Doing
     requires shape { IsConfiguration network.now configuration.now }
     requires process { p < length network.now.instances }
-    requires stands { Stands network.now configuration.now p (stop.WantWrite port item) }
-    ensures { IsDoing network.now configuration.now p result }
+    requires free { IsFree configuration.now p }
+    requires stands { Stands network.now configuration.now p (WantWrite port item) }
+    ensures { (H : List Event) (event : Event) (quota : ℕ)
+        → IsDoing network.now H event quota configuration.now p result }
 {
-    match channel_at(network, network.outs(p), port) {
-        Some(c) => Doing::Writes(c, item, configuration.channel(c).is_full()),
-        None => Doing::Elsewhere,
-    }
+    network.known();
+    let c = out_channel(network, p, port);
+    Doing::Writes(c, item, configuration.channel(c).is_full())
 }
 
-/// Process `p` is at this stop.
+/// Process `p` is at this stop. It is paused there only if it has used up its steps.
 fn at_stop<A: Allocator>(
     configuration: &Configuration<A>,
     network: &Network,
@@ -80,8 +90,11 @@ fn at_stop<A: Allocator>(
 ) -> Doing
     requires shape { IsConfiguration network.now configuration.now }
     requires process { p < length network.now.instances }
+    requires free { IsFree configuration.now p }
     requires stands { Stands network.now configuration.now p stop }
-    ensures { IsDoing network.now configuration.now p result }
+    ensures { (H : List Event) (event : Event) (quota : ℕ)
+        → (stop ≡ Paused → IsOutOfSteps network.now H event quota)
+        → IsDoing network.now H event quota configuration.now p result }
 {
     match stop {
         Stop::WantRead(port) => reads(configuration, network, p, port),
@@ -104,8 +117,12 @@ fn doing<A: Allocator>(
     requires process { p < length network.now.instances }
     ensures run { (H : List Event) → IsRun network.now H configuration.old
         → IsRun network.now H configuration.new }
-    ensures doing { IsDoing network.now configuration.new p result }
+    ensures doing { (H : List Event) (event : Event) → IsRun network.now H configuration.old
+        → OwesNothing network.now H → ArePlaces network.now H configuration.old
+        → is_of p event ≡ true → HasNumbers network.now event
+        → IsDoing network.now H event quota configuration.new p result }
 {
+    network.known();
     if let Some(how) = configuration.end_of(p) {
         return Doing::Ended(how);
     }
@@ -158,8 +175,8 @@ fn seen_outside<A: Allocator>(
     requires shape { IsConfiguration network.now configuration.now }
     requires numbers { HasNumbers network.now event }
     requires outside { is_of_process event ≡ false }
-    ensures { (H : List Event) → IsRun network.now H configuration.now
-        → OwesNothing network.now H → IsScene network.now H event result }
+    ensures { (H : List Event) (quota : ℕ) → IsRun network.now H configuration.now
+        → OwesNothing network.now H → IsScene network.now H event quota result }
 {
     match event {
         Event::Feed(c, _) => {
@@ -181,7 +198,8 @@ pub(crate) fn seen<A: Allocator>(
 ) -> Scene
     requires shape { IsConfiguration network.now configuration.old }
     ensures { (H : List Event) → IsRun network.now H configuration.old
-        → OwesNothing network.now H → IsScene network.now H event result }
+        → OwesNothing network.now H → ArePlaces network.now H configuration.old
+        → IsScene network.now H event quota result }
 {
     if !has_numbers(network, event) {
         return Scene::NotThere;

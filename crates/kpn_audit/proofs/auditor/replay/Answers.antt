@@ -4,7 +4,7 @@ use Rattle.std.proofs.lemmas.List.{take_all}
 use Rattle.kpn_history.specs.declared.event.Event.TheVariants.{Get}
 use Rattle.kpn_history.proofs.Growth.{none_owed_at_first}
 use Rattle.kpn_configuration.specs.Run.{IsRun}
-use Rattle.kpn_audit.specs.Judged.{IsJudged, Owes}
+use Rattle.kpn_audit.specs.Judged.{ArePlaces, IsJudged, Owes}
 use Rattle.kpn_audit.specs.Audit.{AreWithinSteps}
 use Rattle.kpn_audit.proofs.Replaying.{followed_by, illegal_at, budget_at, none_within, within_more, follows_in_time, illegal_in_time}
 use Rattle.kpn_audit.specs.Stored.{history_of}
@@ -103,6 +103,13 @@ returns-clause-run g c =
     let same = history_of-length c.args.version c.args.network.now c.args.events.now in
     subst (λ B. IsRun c.args.network.now B c.events.configuration)
     (take_all c.events.k H (omega (arith, same))) c.events.invariant.run
+
+pub returns-clause-places : goal.returns-clause-places
+returns-clause-places g c =
+    let H = history_of c.args.version c.args.network.now c.args.events.now in
+    let same = history_of-length c.args.version c.args.network.now c.args.events.now in
+    subst (λ B. ArePlaces c.args.network.now B c.events.configuration)
+    (take_all c.events.k H (omega (arith, same))) c.events.invariant.places
 
 pub returns-clause-owes : goal.returns-clause-owes
 returns-clause-owes g c =

@@ -2,10 +2,9 @@
 -- process stands at its place, and none of them was out of steps.
 use Rattle.std.proofs.Common.{take}
 use Rattle.kpn_configuration.specs.Run.{IsRun}
-use Rattle.kpn_audit.specs.Judged.{Owes}
+use Rattle.kpn_audit.specs.Judged.{ArePlaces, Owes}
 use Rattle.kpn_audit.specs.Audit.{AreWithinSteps}
 use Rattle.kpn_audit.specs.Stored.{history_of}
-use Rattle.kpn_audit.proofs.Replaying.{ArePlaces}
 use Rattle.kpn_audit.proofs.auditor.replay.Given as goal
 
 abbrev pub invariant-events : goal.invariant-events

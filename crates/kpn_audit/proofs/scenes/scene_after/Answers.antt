@@ -4,8 +4,8 @@ use Rattle.kpn_audit.specs.Judged.{Owes}
 use Rattle.kpn_audit.specs.Stored.{history_of}
 use Rattle.kpn_audit.proofs.scenes.scene_after.Goals as goal
 
-pub returns-in-Some : goal.returns-in-Some
-returns-in-Some g c =
+pub returns-in-Some-clause-scene : goal.returns-in-Some-clause-scene
+returns-in-Some-clause-scene g c =
     let t = c.args.network.now in
     let H = history_of c.args.version t c.args.before.now in
     c.growth_owed.ensures H c.in_ok-replayed.ensures.run

@@ -1,0 +1,55 @@
+-- A read or a write at which a process stands is at a port of it. An event of no process that is not one of the outside
+-- is a growth.
+use Rattle.std.proofs.Common.{◌≡◌, ◌≢◌, ℕ, ◌<◌, Bool, true, false, ℤ, List, length, Option, refl, sym, subst, eq-eqb, arith}
+use Rattle.kpn_net.specs.Tables.{Tables, instance_at, program_of}
+use Rattle.kpn_net.specs.Faults.{IsNetwork}
+use Rattle.kpn_net.proofs.Networks.{IsProgram-of, IsInstance-of}
+use Rattle.kpn_history.specs.declared.event.Event.{Event}
+use Rattle.kpn_history.specs.declared.event.Event.TheVariants.{Feed, Close, Take, Leave, Grow}
+use Rattle.kpn_history.specs.Talks.{is_of_process}
+use Rattle.kpn_history.specs.Channels.{is_growth_of}
+use Rattle.kpn_step.specs.declared.stop.Stop.TheVariants.{WantRead, WantWrite}
+use Rattle.kpn_step.proofs.MayStep.{at_port}
+use Rattle.kpn_chan.specs.Channel.{is_full, next_item}
+use Rattle.kpn_configuration.specs.Configuration.{Configuration, channel_in, frame_in, IsFree}
+use Rattle.kpn_configuration.specs.Changes.{IsChannelAt}
+use Rattle.kpn_configuration.specs.Due.{Stands}
+use Rattle.kpn_audit.specs.declared.scene.Doing.TheVariants.{Reads, Writes}
+use Rattle.kpn_audit.specs.Scene.{IsDoing}
+
+module _ (t : Tables) (network : IsNetwork t) (s : Configuration) (p : ℕ) (there : p < length t.instances) (port : ℕ)
+  where
+    pub in_port : Stands t s p (WantRead port) → port < length (instance_at t p).ins
+    in_port stands =
+        let below = (at_port (program_of t p) (IsProgram-of t network p there) (frame_in s p) (WantRead port) stands).0
+        in
+        let long = (IsInstance-of t network p there).ins in
+        omega (arith, below, long)
+
+    pub out_port : (v : ℤ) → Stands t s p (WantWrite port v) → port < length (instance_at t p).outs
+    out_port v stands =
+        let below =
+        (at_port (program_of t p) (IsProgram-of t network p there) (frame_in s p) (WantWrite port v) stands).0 in
+        let long = (IsInstance-of t network p there).outs in
+        omega (arith, below, long)
+
+-- what a free process at a read or a write is doing
+module _ (t : Tables) (H : List Event) (event : Event) (quota : ℕ) (s : Configuration) (p c : ℕ) (free : IsFree s p)
+    (port : ℕ) where
+  pub reads_there : IsChannelAt (instance_at t p).ins port c → Stands t s p (WantRead port) → (next : Option ℤ)
+      → next ≡ next_item (channel_in s c) → IsDoing t H event quota s p (Reads c next)
+  reads_there at stands next is = (free, record { port = port; channel = at; stands = stands }, is)
+
+  pub writes_there : IsChannelAt (instance_at t p).outs port c → (v w : ℤ) → v ≡ w → Stands t s p (WantWrite port w)
+      → (full : Bool) → full ≡ is_full (channel_in s c) → IsDoing t H event quota s p (Writes c v full)
+  writes_there at v w same stands full is =
+      (free, record { port = port; channel = at; stands = subst (λ x. Stands t s p (WantWrite port x)) (sym same) stands }, is)
+
+pub growth_left : (e : Event) → is_of_process e ≡ false → ((c : ℕ) (v : ℤ) → e ≢ Feed c v) → ((c : ℕ) → e ≢ Close c)
+    → ((c : ℕ) (v : ℤ) → e ≢ Take c v) → ((c : ℕ) → e ≢ Leave c) → (c : ℕ) × (is_growth_of c e ≡ true)
+growth_left (Feed c v) own feed close take leave = absurd (feed c v refl)
+growth_left (Close c) own feed close take leave = absurd (close c refl)
+growth_left (Take c v) own feed close take leave = absurd (take c v refl)
+growth_left (Leave c) own feed close take leave = absurd (leave c refl)
+growth_left (Grow p d n) own feed close take leave = (d, eq-eqb d d refl)
+growth_left e own feed close take leave = absurd cc
