@@ -34,9 +34,9 @@ fn are_named(two: &Document) -> bool {
     network.programs() == 2
         && network.instances() == 2
         && network.channels() == 3
-        && two.process_name(1) == b"q".as_slice()
-        && two.instance_name(0) == b"p".as_slice()
-        && two.channel_name(2) == b"z".as_slice()
+        && two.process_name(1) == "q"
+        && two.instance_name(0) == "p"
+        && two.channel_name(2) == "z"
         && two.find_channel("z") == Some(2)
         && two.find_channel("q").is_none()
 }

@@ -1,7 +1,7 @@
 //! The command reads a network and a trace, and tells what an audit finds.
 ghost use Rattle.std.specs.Prelude.{IfOk, IfErr};
 ghost use Rattle.kpn_conclusion.specs.Conclusion.{Tells};
-ghost use Rattle.kpn_audited.specs.Audited.{IsFound, IsRefusalOfAudit, IsTextFor};
+ghost use Rattle.kpn_audited.specs.Audited.{IsRefusalOfAudit, IsTextFor};
 ghost use Rattle.kpn_audit_command.specs.Answers.{AnswersAudit, IsAuditText};
 
 use kpn_audited::{Audited, Finding, load_audited, text_of};
@@ -30,7 +30,6 @@ pub fn audit_command<S: Shelf>(
 
 // The text for a finding, and its status.
 fn conclusion_of(alloc: Global, audited: &Audited) -> Result<Conclusion, AllocError>
-    requires { IsFound audited.now }
     ensures { IfOk result (Tells (IsTextFor (IsAuditText audited.now.document audited.now.trace)
         audited.now.finding)) }
 {

@@ -50,10 +50,6 @@ pub record IsAudited (may_give : Loads) (file trace : List ℕ) (steps : ℕ) (a
   pub traced : IsTraced may_give trace audited.trace
   pub found : IsFinding audited.document.tables audited.trace steps audited.finding
 
--- the same, for some number of steps
-abbrev pub IsFound : Audited → Type 0
-IsFound audited = (steps : ℕ) × IsFinding audited.document.tables audited.trace steps audited.finding
-
 -- ---- what is told of it
 
 -- such a text of a legal history under status 0, or what is wrong with the history

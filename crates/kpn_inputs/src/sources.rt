@@ -140,7 +140,7 @@ fn number_of(document: &Document, ends: Ends, name: &str) -> Option<usize>
     let mut number = 0;
     for channel in 0..network.channels() {
         if is_end(network, ends, channel) {
-            if name.as_bytes() == document.channel_name(channel) {
+            if name == document.channel_name(channel) {
                 return Some(number);
             }
             number += 1;

@@ -1,2 +1,3 @@
 pub mod ListText
 pub mod Faulted
+pub mod Added

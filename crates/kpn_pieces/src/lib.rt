@@ -6,5 +6,5 @@ mod list_text;
 mod pieces;
 
 pub use faulted::push_faulted;
-pub use list_text::{push_items, push_list, push_spaced_items};
-pub use pieces::{push_between, push_item, push_number};
+pub use list_text::{push_list, push_spaced_items};
+pub use pieces::{Pushed, push_between, push_item, push_number};

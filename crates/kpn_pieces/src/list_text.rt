@@ -1,44 +1,24 @@
 //! Lists of items in a text: one space before each item.
-ghost use Rattle.std.specs.Prelude.{◌≡◌, ◌++◌, OnOk};
-ghost use Rattle.kpn_pieces.specs.ListText.{items_text, list_line, spaced, spaced_item};
+ghost use Rattle.kpn_pieces.specs.Added.{Adds};
+ghost use Rattle.kpn_pieces.specs.ListText.{list_line, spaced};
 
-use itoa::Buffer;
-use std::alloc::AllocError;
+use crate::pieces::Pushed;
 
 /// `NAME:`, the items with a space before each, and a line feed.
-pub fn push_list(text: &mut Vec<u8>, name: &[u8], items: &[i64]) -> Result<(), AllocError>
-    ensures { OnOk result (text.new.items ≡ text.old.items ++ list_line name.now items.now) }
+pub fn push_list(text: &mut String, name: &str, items: &[i64]) -> Pushed
+    ensures { Adds result text.old text.new (list_line name.now items.now) }
 {
-    text.extend_from_slice(name)?;
-    push_items(text, items)
-}
-
-/// `:`, the items with a space before each, and a line feed.
-pub fn push_items(text: &mut Vec<u8>, items: &[i64]) -> Result<(), AllocError>
-    ensures { OnOk result (text.new.items ≡ text.old.items ++ items_text items.now) }
-{
-    text.push(b':')?;
+    write!(text, "{name}:")?;
     push_spaced_items(text, items)?;
-    text.push(b'\n')?;
-    Ok(())
+    text.push_str("\n")
 }
 
 /// The items with a space before each.
-pub fn push_spaced_items(text: &mut Vec<u8>, items: &[i64]) -> Result<(), AllocError>
-    ensures { OnOk result (text.new.items ≡ text.old.items ++ spaced items.now) }
+pub fn push_spaced_items(text: &mut String, items: &[i64]) -> Pushed
+    ensures { Adds result text.old text.new (spaced items.now) }
 {
     for item in items {
-        push_spaced(text, *item)?;
+        write!(text, " {item}")?;
     }
-    Ok(())
-}
-
-// An item behind a space.
-fn push_spaced(text: &mut Vec<u8>, item: i64) -> Result<(), AllocError>
-    ensures { OnOk result (text.new.items ≡ text.old.items ++ spaced_item item) }
-{
-    let mut buffer = Buffer::new();
-    text.push(b' ')?;
-    text.extend_from_slice(buffer.format(item).as_bytes())?;
     Ok(())
 }

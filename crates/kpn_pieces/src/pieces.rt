@@ -5,13 +5,11 @@ ghost use Rattle.std.specs.Fmt.{decimal, signed_decimal};
 use itoa::Buffer;
 use std::alloc::AllocError;
 
+/// What a call gives that writes behind a text.
+pub type Pushed = Result<(), AllocError>;
+
 /// A text between two others.
-pub fn push_between(
-    text: &mut Vec<u8>,
-    before: &[u8],
-    piece: &[u8],
-    after: &[u8],
-) -> Result<(), AllocError>
+pub fn push_between(text: &mut Vec<u8>, before: &[u8], piece: &[u8], after: &[u8]) -> Pushed
     ensures { OnOk result
         (text.new.items ≡ text.old.items ++ (before.now ++ piece.now ++ after.now)) }
 {
@@ -21,12 +19,7 @@ pub fn push_between(
 }
 
 /// A number between two texts.
-pub fn push_number(
-    text: &mut Vec<u8>,
-    before: &[u8],
-    number: usize,
-    after: &[u8],
-) -> Result<(), AllocError>
+pub fn push_number(text: &mut Vec<u8>, before: &[u8], number: usize, after: &[u8]) -> Pushed
     ensures { OnOk result
         (text.new.items ≡ text.old.items ++ (before.now ++ decimal number ++ after.now)) }
 {
@@ -35,12 +28,7 @@ pub fn push_number(
 }
 
 /// An item between two texts.
-pub fn push_item(
-    text: &mut Vec<u8>,
-    before: &[u8],
-    item: i64,
-    after: &[u8],
-) -> Result<(), AllocError>
+pub fn push_item(text: &mut Vec<u8>, before: &[u8], item: i64, after: &[u8]) -> Pushed
     ensures { OnOk result
         (text.new.items ≡ text.old.items ++ (before.now ++ signed_decimal item ++ after.now)) }
 {

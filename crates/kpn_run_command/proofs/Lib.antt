@@ -1,4 +1,3 @@
 -- Lemmas: states of reports, outputs that are apart, what a run is handed.
-pub mod Reported
 pub mod Apart
 pub mod Running

@@ -3,7 +3,6 @@
 pub mod Outputs
 pub mod Limits
 pub mod ReportText
-pub mod States
 pub mod Reported
 pub mod Files
 pub mod Run

@@ -1,8 +1,6 @@
 //! The command: it reads a network and the lists of its sources, runs the network, and concludes with the files to store
 //! and a report.
 ghost use Rattle.std.specs.Prelude.{◌≡◌, IfOk, IfErr};
-ghost use Rattle.kpn_run_here.specs.Reports.{IsReport};
-ghost use Rattle.kpn_run_command.specs.Limits.{limits_of};
 ghost use Rattle.kpn_run_command.specs.Run.{IsConcluded, IsRun, IsNoRun};
 
 use crate::files::files_of;
@@ -89,16 +87,12 @@ fn conclusion_of(
     request: &RunRequest<'_>,
     reported: &Reported<'_>,
 ) -> Result<Conclusion, Refusal>
-    requires { IsReport reported.now.inputs.document.tables reported.now.inputs.given.items
-        (limits_of request.now) reported.now.report }
     ensures ok { IfOk result (IsConcluded request.now reported.now) }
     ensures refused { IfErr result (λ refusal. refusal ≡ Refusal.NoMemory) }
 {
     let files = files_of(alloc, request.trace, request.take, reported)?;
     let document = &reported.inputs.document;
     let report = &reported.report;
-    let network = document.network();
-    network.known();
     let text = text_of(alloc, document, request.take, report)?;
     let status = status_of(report.outcome);
     Ok(Conclusion {

@@ -7,3 +7,4 @@ pub mod NamedBodies
 pub mod NamedProcesses
 pub mod NamedItems
 pub mod RoundTrip
+pub mod NamesAreText

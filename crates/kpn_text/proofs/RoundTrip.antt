@@ -33,7 +33,7 @@ use Rattle.kpn_text.proofs.NamedItems.{items_back}
 -- ---- the settings
 
 -- the limit of a network is in range
-abbrev LimitsAreInRange : Type 0
+abbrev pub LimitsAreInRange : Type 0
 LimitsAreInRange = (t : Tables) → IsNetwork t → (1 ≤ t.limit) × (t.limit ≤ MAX_CAPACITY)
 
 limit_by : (b : Bool) (n : ℕ) → nat_lt n MAX_CAPACITY ≡ b → n ≤ MAX_CAPACITY → limit_of (cond b (Some n) None) ≡ n
@@ -124,7 +124,7 @@ kept_by flat d s p w small hp hw =
       again = resolves (printed n) p w read b.again ∙ ap (λ q. Ok (named_with q p w)) (settings_again s small);
     }
 
-pub kept : BlocksAreTheTree → LimitsAreInRange → (d : Description) (n : Named) → resolve d ≡ Ok n → IsNetwork n.tables
+kept : BlocksAreTheTree → LimitsAreInRange → (d : Description) (n : Named) → resolve d ≡ Ok n → IsNetwork n.tables
     → Kept d n
 kept flat limits d n h net =
     let r = resolved d n h in
@@ -136,7 +136,7 @@ kept flat limits d n h net =
 -- ---- the law
 
 -- the printed description is proper
-proper : (text : List ℕ) (d : Document) (s : Spells text d) → ReadDescriptionsAreProper → Kept s.tree s.named
+pub proper : (text : List ℕ) (d : Document) (s : Spells text d) → ReadDescriptionsAreProper → Kept s.tree s.named
     → IsProper (printed s.named)
 proper text d s read k =
     let was : IsProper s.tree = read text s.tree (s.read ∙ ap (λ ts. Some ts) s.spelled.spelled) in
@@ -151,7 +151,7 @@ printed_fits : (text : List ℕ) (d : Document) (s : Spells text d) → Kept s.t
 printed_fits text d s k =
     record { spelled = refl; within = subst (λ ps. AllByRecursion ProcessIsWithin ps) k.processes s.spelled.within }
 
-spelled_kept : BlocksAreTheTree → LimitsAreInRange → (text : List ℕ) (d : Document) (s : Spells text d)
+pub spelled_kept : BlocksAreTheTree → LimitsAreInRange → (text : List ℕ) (d : Document) (s : Spells text d)
     → Kept s.tree s.named
 spelled_kept flat limits text d s =
     kept flat limits s.tree s.named s.resolved (subst (λ (e : Document). IsNetwork e.tables) (sym s.is) s.keeps)

@@ -28,19 +28,6 @@ use Rattle.kpn_names.specs.NetworkNames.{names_in, process_names_in, paired}
 use Rattle.kpn_text.specs.Fault.{net_fault}
 use Rattle.kpn_text.specs.Making.{TellsCause, program_told}
 
--- ---- an item at a number
-
-some_is : {A : Type 0} (x y : A) → ◌≡◌ {A = Option A} (Some x) (Some y) → x ≡ y
-some_is x y e = cc
-
--- within a list it does not matter what stands for an item that is not there
-same_item : {A : Type 0} (xs : List A) (k : ℕ) (x d : A) → k < length xs → get_or xs k x ≡ get_or xs k d
-same_item xs k x d h = some_is _ _ (sym (slice_get-get_or xs k x h) ∙ slice_get-get_or xs k d h)
-
-pub item_read : {A : Type 0} (slice xs : List A) (k : ℕ) (x d : A) → slice ≡ xs → x ≡ get_or slice k x → k < length xs
-    → x ≡ get_or xs k d
-item_read slice xs k x d e is h = is ∙ ap (λ l. get_or l k x) e ∙ same_item xs k x d h
-
 -- past its end nothing of a list remains
 drop_from_none : {A : Type 0} (xs : List A) (place : ℕ) → slice_get xs place ≡ None → drop place xs ≡ []
 drop_from_none [] zero e = refl

@@ -1,5 +1,9 @@
 -- The laws of reading.
 use Rattle.std.specs.Prelude.{◌≡◌, ◌↔◌, ℕ, List, Ok}
+use Rattle.std.specs.Str.{IsUtf8}
+use Rattle.kpn_names.specs.declared.network_names.NetworkNames.{NetworkNames}
+use Rattle.kpn_names.specs.Names.{name_at}
+use Rattle.kpn_names.specs.NetworkNames.{process_names}
 use Rattle.kpn_names.specs.Once.{EachStandsOnce}
 use Rattle.kpn_text.specs.Document.{Document}
 use Rattle.kpn_text.specs.Spells.{Spells, IsSpelled}
@@ -16,3 +20,13 @@ SpelledOnce = (text : List ℕ) (d e : Document) → Spells text d → Spells te
 -- No name is twice in a table of names of a document.
 abbrev pub NamesStandOnce : Type 0
 NamesStandOnce = (d : Document) → IsSpelled d → EachStandsOnce d.names
+
+-- the names of each kind are text
+pub record AreText (names : NetworkNames) : Type 0 where
+  pub processes : (k : ℕ) → IsUtf8 (name_at (process_names names) k)
+  pub instances : (k : ℕ) → IsUtf8 (name_at names.instances k)
+  pub channels : (k : ℕ) → IsUtf8 (name_at names.channels k)
+
+-- the names of a document are text
+abbrev pub NamesAreText : Type 0
+NamesAreText = (d : Document) → IsSpelled d → AreText d.names

@@ -1,17 +1,21 @@
 //! Documents: networks with the names of their parts.
 
-ghost use Rattle.std.specs.Prelude.{◌≡◌, ◌<◌, length};
+ghost use Rattle.std.specs.Prelude.{◌≡◌, map};
+ghost use Rattle.std.specs.Str.{IsUtf8};
 ghost use Rattle.kpn_names.specs.NetworkNames.{AreNamed, process_names};
 ghost use Rattle.kpn_names.specs.Names.{number_of, name_at};
 ghost use Rattle.kpn_text.specs.Document as spec;
 ghost use Rattle.kpn_text.specs.Spells.{IsSpelled};
 
-use kpn_names::NetworkNames;
+use crate::laws::names_are_text;
+use kpn_lang::Sequence;
+use kpn_names::{NetworkNames, ProcessNames};
 use kpn_net::Network;
 use std::marker::Model;
+use std::str;
 
 /// A network with the names of its processes, instances and channels. Some text spells it: only
-/// [`read_network`](crate::read_network) makes one. Names are ASCII; the calls return their bytes.
+/// [`read_network`](crate::read_network) makes one.
 #[derive(Debug, Drop)]
 pub struct Document {
     network: Network,
@@ -64,28 +68,28 @@ impl Document {
         &self.names
     }
 
-    /// The name of the process with this number.
-    pub fn process_name(&self, i: usize) -> &[u8]
-        requires { i < length self.now.tables.programs }
+    /// The name of the process with this number; empty if there is none.
+    pub fn process_name(&self, i: usize) -> &str
         ensures { result.now ≡ name_at (process_names self.now.names) i }
     {
-        self.names.processes.as_slice()[i].name.as_slice()
+        names_are_text();
+        process_name_in(self.names.processes.as_slice(), i)
     }
 
-    /// The name of the instance with this number.
-    pub fn instance_name(&self, p: usize) -> &[u8]
-        requires { p < length self.now.tables.instances }
+    /// The name of the instance with this number; empty if there is none.
+    pub fn instance_name(&self, p: usize) -> &str
         ensures { result.now ≡ name_at self.now.names.instances p }
     {
-        self.names.instances.as_slice()[p].as_slice()
+        names_are_text();
+        name_in(self.names.instances.as_slice(), p)
     }
 
-    /// The name of the channel with this number.
-    pub fn channel_name(&self, c: usize) -> &[u8]
-        requires { c < length self.now.tables.channels }
+    /// The name of the channel with this number; empty if there is none.
+    pub fn channel_name(&self, c: usize) -> &str
         ensures { result.now ≡ name_at self.now.names.channels c }
     {
-        self.names.channels.as_slice()[c].as_slice()
+        names_are_text();
+        name_in(self.names.channels.as_slice(), c)
     }
 
     /// The number of the channel with this name, or `None` if there is none.
@@ -98,5 +102,36 @@ impl Document {
             .as_slice()
             .iter()
             .position(|channel| name == channel.as_slice())
+    }
+}
+
+fn process_name_in(processes: &[ProcessNames], number: usize) -> &str
+    requires { IsUtf8 (name_at (map (λ p. p.name) processes.now) number) }
+    ensures { result.now ≡ name_at (map (λ p. p.name) processes.now) number }
+{
+    match processes.get(number) {
+        Some(names) => text_of(names.name.as_slice()),
+        None => "",
+    }
+}
+
+fn name_in(names: &[Sequence<u8>], number: usize) -> &str
+    requires { IsUtf8 (name_at names.now number) }
+    ensures { result.now ≡ name_at names.now number }
+{
+    match names.get(number) {
+        Some(name) => text_of(name.as_slice()),
+        None => "",
+    }
+}
+
+// The bytes of a name as text.
+fn text_of(name: &[u8]) -> &str
+    requires { IsUtf8 name.now }
+    ensures { result.now ≡ name.now }
+{
+    match str::from_utf8(name) {
+        Ok(text) => text,
+        Err(_) => "",
     }
 }

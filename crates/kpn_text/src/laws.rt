@@ -2,7 +2,7 @@
 //! the proof of the law.
 
 ghost use Rattle.kpn_text.specs.Again.{PrintedTextSpells};
-ghost use Rattle.kpn_text.specs.Laws.{NamesStandOnce, PhasesGiveWhatIsSpelled, SpelledOnce};
+ghost use Rattle.kpn_text.specs.Laws.{NamesAreText, NamesStandOnce, PhasesGiveWhatIsSpelled, SpelledOnce};
 
 use kpn_canonical::{description_is_read, read_descriptions_are_proper};
 use kpn_names::blocks_are_the_tree;
@@ -33,4 +33,13 @@ pub fn names_stand_once()
     ensures { NamesStandOnce }
 {
     kpn_names::names_stand_once();
+}
+
+/// The names of a document are text: their bytes are UTF-8.
+pub(crate) fn names_are_text()
+    ensures { NamesAreText }
+{
+    blocks_are_the_tree();
+    capacities_are_in_range();
+    read_descriptions_are_proper();
 }

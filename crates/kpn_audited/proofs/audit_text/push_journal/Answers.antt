@@ -1,6 +1,7 @@
 use Rattle.std.proofs.Common.{◌≡◌, ◌+◌, ℤ, ℕ, List, ◌++◌, length, take, drop, arith, sym, ap, ◌∙◌, length-drop}
 use Rattle.std.proofs.lemmas.List.{append_assoc, drop-drop, length-take, take-append-drop}
 use Rattle.std.proofs.lemmas.Grind.{flat_map-append}
+use Rattle.std.specs.String.{string_bytes}
 use Rattle.kpn_pieces.specs.ListText.{spaced, spaced_item}
 use Rattle.kpn_audited.proofs.audit_text.push_journal.Goals as goal
 
@@ -22,7 +23,7 @@ pieces-preserved c =
     let long = ap (λ (l : List ℤ). length l) c.piece_at-piece.ensures.items
     ∙ length-take (length piece) (drop c.pieces.place journal) in (
       ap (λ text. text ++ spaced (drop (c.pieces.place + length piece) journal)) c.in_ok-push_spaced_items.ensures
-          ∙ append_assoc c.pieces.text.items (spaced piece) (spaced (drop (c.pieces.place + length piece) journal))
-          ∙ ap (λ t. c.pieces.text.items ++ t) more ∙ c.pieces.invariant.0,
+          ∙ append_assoc (string_bytes c.pieces.text) (spaced piece) (spaced (drop (c.pieces.place + length piece) journal))
+          ∙ ap (λ t. string_bytes c.pieces.text ++ t) more ∙ c.pieces.invariant.0,
       omega (arith, long, length-drop c.pieces.place journal, c.pieces.invariant.1),
     )

@@ -1,5 +1,6 @@
 -- What is written so far and the lines that are still to come are the whole text.
 use Rattle.std.proofs.Common.{◌≡◌, ◌++◌, drop}
+use Rattle.std.specs.String.{string_bytes}
 use Rattle.kpn_pieces.specs.ListText.{lines_from}
 use Rattle.kpn_audited.specs.AuditText.{channel_line, audit_text}
 use Rattle.kpn_audited.proofs.audit_text.text_of.Given as goal
@@ -7,5 +8,5 @@ use Rattle.kpn_audited.proofs.audit_text.text_of.Given as goal
 abbrev pub invariant-loop-channel : goal.invariant-loop-channel
 invariant-loop-channel l =
     let names = l.document.names.channels in
-    l.text.items ++ lines_from (channel_line names l.audit.caps) l.channel (drop l.channel l.audit.journals)
+    string_bytes l.text ++ lines_from (channel_line names l.audit.caps) l.channel (drop l.channel l.audit.journals)
     ≡ audit_text names l.audit

@@ -1,21 +1,8 @@
 -- The lists are those of the channels, and the text is that of the lists.
-use Rattle.std.proofs.Common.{◌≡◌, length, ap, ◌∙◌, refl, arith}
-use Rattle.std.proofs.lemmas.List.FromFn.{length-map-range_with_len}
-use Rattle.kpn_net.specs.Tables.{Tables}
+use Rattle.std.proofs.Common.{◌≡◌, ap, ◌∙◌, refl}
 use Rattle.kpn_net.specs.Iteration.{given_by, iterate, lists_of}
 use Rattle.kpn_description_commands.specs.RoundsText.{rounds_text}
 use Rattle.kpn_description_commands.proofs.rounds.rounds_command.Goals as goal
-
-pub text_of-requires : goal.text_of-requires
-text_of-requires g c =
-    let net = c.network.result.now in
-    let slice : c.as_slice.result.now ≡ c.in_ok-lists.lists = c.as_slice.ensures in
-    let long =
-    length-map-range_with_len (iterate net (given_by net c.deref.result.now) c.args.n) 0 (length net.channels) in
-    let all =
-    ap length slice ∙ ap length c.in_ok-lists.ensures ∙ long
-    ∙ ap (λ (n : Tables). length n.channels) c.network.ensures in
-    omega (arith, all)
 
 pub returns-clause-ok : goal.returns-clause-ok
 returns-clause-ok g c =

@@ -1,5 +1,6 @@
 -- What is written so far and the lines that are still to come are the whole; there are no more sinks than channels.
 use Rattle.std.proofs.Common.{◌≡◌, ◌≤◌, ◌++◌, drop}
+use Rattle.std.specs.String.{string_bytes}
 use Rattle.kpn_run_command.specs.ReportText.{sink_lines}
 use Rattle.kpn_run_command.proofs.report_text.push_taken.Given as goal
 
@@ -9,6 +10,6 @@ invariant-loop-channel l =
     let channels = l.document.tables.channels in
     record {
       few : l.sink ≤ l.channel;
-      lines : l.text.items ++ sink_lines names l.wanted l.taken l.sink l.channel (drop l.channel channels)
-          ≡ l.initial.text.items ++ sink_lines names l.wanted l.taken 0 0 channels;
+      lines : string_bytes l.text ++ sink_lines names l.wanted l.taken l.sink l.channel (drop l.channel channels)
+          ≡ string_bytes l.initial.text ++ sink_lines names l.wanted l.taken 0 0 channels;
     }
