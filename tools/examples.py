@@ -13,7 +13,7 @@ A run on one thread computes what a run by workers writes, since that is the sam
 audit of its trace it compares only the lines that are the same.
 
 It knows the commands `check`, `print`, `draw`, `rounds`, `run`, `audit` and `stats`, `explain` of descriptions that are
-right, and of the refusals those that the lines meet.
+right and of traces that are legal, and of the refusals those that the lines meet.
 """
 import argparse
 import contextlib
@@ -142,7 +142,7 @@ def histories_answer(words):
 
 
 def read_words_of_figures(words):
-    parser = argparse.ArgumentParser(description='kpn draw and kpn stats, computed by another program.')
+    parser = argparse.ArgumentParser(description='kpn draw, kpn stats and kpn explain, computed by another program.')
     parser.add_argument('command')
     parser.add_argument('file')
     parser.add_argument('history', nargs='?')
@@ -152,7 +152,8 @@ def read_words_of_figures(words):
 
 
 def figures_answer(words):
-    """What `draw` and `stats` write, and the status: those of an audit, if the trace is not legal."""
+    """What `draw`, `stats` and `explain` write, and the status: those of an audit, if the trace is not legal. Explained
+    traces of examples are legal."""
     found = read_words_of_figures(words)
     description(found.file)
     network = histories.Network(load(found.file))
@@ -162,6 +163,8 @@ def figures_answer(words):
     audit = histories.audit_text(network, trace, found.steps)
     if not audit.startswith('legal'):
         return audit, histories.status_of(audit)
+    if found.command == 'explain':
+        return figures.explained(network, trace), 0
     if found.command == 'draw':
         return figures.drawing(network, trace), 0
     return figures.stats_text(network, trace, found.tsv), 0
@@ -173,7 +176,7 @@ def answer(words):
     try:
         if command in ('run', 'audit'):
             return histories_answer(words)
-        if command in ('draw', 'stats'):
+        if command in ('draw', 'stats') or command == 'explain' and len(rest) > 1:
             return figures_answer(words)
         # Explained files of examples are right.
         return {'check': check, 'explain': check, 'print': print_text, 'rounds': rounds_text}[command](*rest), 0

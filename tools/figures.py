@@ -1,15 +1,17 @@
-"""What `kpn draw` and `kpn stats` write of a network and of a trace. Another program than the proved one computes it
-from what an audit keeps of channels and processes (histories.py), and from the events of the trace.
+"""What `kpn draw` and `kpn stats` write of a network and of a trace, and `kpn explain` of a legal one. Another program
+than the proved one computes it from what an audit keeps of channels and processes (histories.py), and from the events
+of the trace.
 """
 import histories
 
-CHANNEL_HEADING = 'channel put read left most cap_first cap_last growths waits_empty waits_full'.split()
+CHANNEL_HEADING = 'channel put read left most cap_first cap_last growths waits_empty waits_full complete'.split()
 PROCESS_HEADING = 'process gets puts waits_empty waits_full end'.split()
 HEAD = '''digraph network {
   rankdir=LR;
   node [fontname="sans-serif", shape=box];
   edge [fontname="sans-serif", fontsize=11];
 '''
+LEGEND = '  label="green: complete, nothing more is ever put there";\n'
 
 
 def replay(network, trace):
@@ -44,7 +46,8 @@ def channel_row(audit, history, most, c):
     put, read = len(audit.written[c]), audit.read_count[c]
     capacities = ['-' if cap is None else cap for cap in (network.capacities[c], audit.capacities[c])]
     events = [count(history, word, 2, c) for word in ('grow', 'wait-empty', 'wait-full')]
-    return [network.channels[c], put, read, put - read, most[c], *capacities, *events]
+    complete = 'yes' if audit.complete()[c] else 'no'
+    return [network.channels[c], put, read, put - read, most[c], *capacities, *events, complete]
 
 
 def process_row(audit, history, p):
@@ -109,6 +112,8 @@ def edge(network, audit, c):
         label += fr'\n{len(audit.written[c])} put, {len(audit.unread(c))} unread'
         if audit.capacities[c] != first:
             label, style = f'{label}, grown to {audit.capacities[c]}', ', style=bold'
+        if audit.complete()[c]:
+            style += ', color=darkgreen'
     return f'  {writer} -> {reader} [label="{label}"{style}];\n'
 
 
@@ -116,4 +121,41 @@ def drawing(network, trace=None):
     audit = replay(network, trace)[0] if trace else None
     boxes = ''.join(box(network, audit, p) for p in range(len(network.instances)))
     edges = ''.join(outside(network, c) + edge(network, audit, c) for c in range(len(network.channels)))
-    return HEAD + boxes + edges + '}\n'
+    return HEAD + boxes + edges + LEGEND * bool(trace) + '}\n'
+
+
+# ---- what is said of a legal history that is not exact
+
+def sink_line(audit, c, is_complete):
+    said = ('is complete: nothing more is ever put there' if is_complete else
+            'is not complete: a longer run or more room (`cap`, `limit`, `policy all`) may put more there')
+    return f'`{audit.network.channels[c]}` {said}\n'
+
+
+def unread_line(audit, c, complete):
+    """Why nobody reads a full channel."""
+    network = audit.network
+    name, reader = f'`{network.channels[c]}`', network.readers[c]
+    if reader is None:
+        return f'{name} is full: the outside would have to take\n'
+    wait = audit.blocked(reader)
+    if wait is None:
+        return f'{name} is full: its reader `{network.instances[reader]}` can go on\n'
+    why, d = wait
+    held, after = 'is full', why
+    if why == 'empty' and complete[d]:
+        held = 'holds an item that nobody will read'
+        after = f'{"closed" if network.kinds[d] == "source" else "complete"} and used up'
+    waits = f'`{network.instances[reader]}` waits on `{network.channels[d]}`, which is {after}'
+    return f'{name} {held}: its reader {waits}\n'
+
+
+def explained(network, trace):
+    """What is said of a legal trace."""
+    audit = replay(network, trace)[0]
+    if audit.is_quiet():
+        return audit.text()
+    complete = audit.complete()
+    sinks = [sink_line(audit, c, complete[c]) for c in network.of_kind('sink')]
+    full = [unread_line(audit, wait[1], complete) for wait in audit.waits() if wait and wait[0] == 'full']
+    return audit.text() + ''.join(sinks + full)

@@ -437,6 +437,26 @@ class Audit:
         d = smallest_waited(self.waits(), self.capacities)
         return d if self.network.may_grow(d, self.capacities) else None
 
+    def gets_no_more(self, c, among):
+        """Whether nothing more is put on a channel if these processes are finished."""
+        writer = self.network.writers[c]
+        return c in self.closed if writer is None else writer in among
+
+    def finished(self):
+        """The processes that are finished. Of all, those go that have not ended and do not wait for an item of a
+        channel that gets no more; and so on, with those that are left."""
+        among, waits, left = None, self.waits(), set(range(len(self.processes)))
+        while among != left:
+            among = left
+            left = {p for p in among if self.has_ended(p)
+                    or waits[p] and waits[p][0] == 'empty' and self.gets_no_more(waits[p][1], among)}
+        return among
+
+    def complete(self):
+        """Of each channel whether it is complete."""
+        finished = self.finished()
+        return [self.gets_no_more(c, finished) for c in range(len(self.network.channels))]
+
     def is_quiet(self):
         states = [(self.has_ended(p), self.blocked(p)) for p in range(len(self.processes))]
         return all(ended or (wait is not None and wait[0] == 'empty') for ended, wait in states)

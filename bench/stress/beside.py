@@ -2,12 +2,16 @@
 """Random networks under each policy and each growth. The program runs and audits them beside tools/histories.py.
 
 Report, trace and audit of the run on one thread have to be the same. So have the audits of its history with one change,
-and of a run by workers, which has to be legal. It is no part of the gate. Words: for how many seconds, by default 60;
-where the random numbers begin, else by chance; and the program, if another one than that of `kpn`.
+and of a run by workers, which has to be legal. Of each legal history the tables and the explanation have to be the
+same, which say which channels are complete. Then the network runs once more by workers, with other capacities, and
+perhaps under the other policy and the other growth: what a sink gets there begins what it has where it is complete. It
+is no part of the gate. Words: for how many seconds, by default 60; where the random numbers begin, else by chance; and
+the program, if another one than that of `kpn`.
 """
 import collections
 import pathlib
 import random
+import re
 import subprocess
 import sys
 import tempfile
@@ -16,6 +20,7 @@ import time
 HERE = pathlib.Path(__file__).resolve().parent
 sys.path += [str(HERE.parent), str(HERE.parent.parent / 'tools')]
 
+import figures  # noqa: E402
 import histories  # noqa: E402
 import measure  # noqa: E402
 import random_networks  # noqa: E402
@@ -33,6 +38,19 @@ def changed(chance, network, history):
     event = history[place]
     grow = 'grow', *(chance.randrange(len(of)) for of in (network.instances, network.channels)), chance.randint(1, 9)
     return history[:place] + chance.choice([[], [event, event], [grow, event], [grow]]) + history[place + 1:]
+
+
+def resized(chance, text):
+    """The network with other capacities, and perhaps under the other policy and the other growth."""
+    most = int(re.search(r'limit (\d+)', text + 'limit 9').group(1))
+    text = re.sub(r' cap \d+;', lambda _: f' cap {chance.randint(1, most)};', text)
+    head = re.search(r'network \{\n(  limit \d+;\n)?', text).group()
+    for line in ('  grow double;\n', '  policy all;\n'):
+        has = line in text
+        text = text.replace(line, '')
+        if has != (chance.random() < 0.5):
+            text = text.replace(head, head + line)
+    return text
 
 
 class Beside:
@@ -58,7 +76,30 @@ class Beside:
         wanted = histories.audit_text(network, trace, STEPS)
         self.same(what, wanted, self.call('audit', 'net', 'audited', '--steps', str(STEPS)))
         self.counts[what, wanted.split()[0]] += 1
+        if wanted.startswith('legal'):
+            self.same(f'{what}: tables', figures.stats_text(network, trace), self.call('stats', 'net', 'audited'))
+            self.same(f'{what}: explanation', figures.explained(network, trace), self.call('explain', 'net', 'audited'))
         return wanted
+
+    def sinks(self, history):
+        """What is written on each sink, and whether it is complete, behind a history of the network in the folder."""
+        network = histories.Network((self.folder / 'net').read_text())
+        growing = network.growing
+        audit = figures.replay(network, histories.Trace(2, growing.policy, growing.growth, history))[0]
+        complete = audit.complete()
+        return {network.channels[c]: (audit.written[c], complete[c]) for c in network.of_kind('sink')}
+
+    def with_other_capacities(self, text, words, history):
+        """A sink that is complete in one run begins with what the other run puts there."""
+        found = self.sinks(history)
+        (self.folder / 'net').write_text(resized(self.chance, text))
+        self.call(*words, '--workers', str(self.chance.choice(WORKERS)))
+        others = self.sinks(histories.read_trace((self.folder / 'trace').read_bytes()).history)
+        for name in found:
+            for (whole, is_complete), (begun, are_both) in ((found[name], others[name]), (others[name], found[name])):
+                if is_complete:
+                    self.same(f'sink {name}', whole[:None if are_both else len(begun)], begun)
+                    self.counts['sink', 'complete in both' if are_both else 'complete in one'] += 1
 
     def network(self):
         text, items = random_networks.network(self.chance)
@@ -70,13 +111,15 @@ class Beside:
         network = histories.Network(text)
         run = histories.Run(network, items).go(None, COMMITS)
         self.same('run', histories.report_text(run), self.call(*words))
-        self.same('trace', histories.trace_text(run.history, network.growing).decode(), (self.folder / 'trace').read_text())
+        trace = histories.trace_text(run.history, network.growing).decode()
+        self.same('trace', trace, (self.folder / 'trace').read_text())
         self.audited('audit', network, run.history)
         self.audited('audit of a changed history', network, changed(self.chance, network, run.history))
         report = self.call(*words, '--workers', str(self.chance.choice(WORKERS)))
         history = histories.read_trace((self.folder / 'trace').read_bytes()).history
         self.same('by workers', 'legal', self.audited('audit by workers', network, history).split()[0])
         self.counts[f'policy {network.growing.policy}, grow {network.growing.growth}', report.split()[-1]] += 1
+        self.with_other_capacities(text, words, run.history)
 
 
 def main():

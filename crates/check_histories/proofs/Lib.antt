@@ -3,3 +3,4 @@ pub mod NetworkTests
 pub mod GrowthTests
 pub mod Passing
 pub mod Claiming
+pub mod CompleteTests

@@ -243,6 +243,37 @@ cycle_below_limit = stuck_with 3
 unfoldable pub cycle_at_limit : Tables
 cycle_at_limit = stuck_with 2
 
+-- ---- processes of which one writes more than anybody reads
+
+-- `while 1 { read a x; read b y; write o (x + y); write f x; }` of the source 0 and of channel 2, and
+-- `write o 0; write o 0; while 1 { read i x; write o x; }`, which puts on that what it reads from channel 1
+unfoldable pub delayed_network : Tables
+delayed_network = tables (
+    program 2 2 2 (
+    (While (Num (pos 1)) 1 ∷ []) ∷
+    (Read 0 0 ∷ Read 1 1 ∷ Write 0 (Bin Add (Var 0) (Var 1)) ∷ Write 1 (Var 0) ∷ []) ∷ [])
+    ∷ program 1 1 1 (
+    (Write 0 (Num (pos 0)) ∷ Write 0 (Num (pos 0)) ∷ While (Num (pos 1)) 1 ∷ []) ∷
+    (Read 0 0 ∷ Write 0 (Var 0) ∷ []) ∷ []) ∷ []) (
+    instance 0 (0 ∷ 2 ∷ []) (3 ∷ 1 ∷ []) ∷ instance 1 (1 ∷ []) (2 ∷ []) ∷ []) (
+    Source ∷ Inner 1 ∷ Inner 1 ∷ Sink 1 ∷ [])
+
+-- `while 1 { write o 3; }` on channel 1, and `while 1 { read i x; read by k; write o (x * k); }` of the source 0 and of
+-- that
+abbrev scaled_under : (limit : ℕ) → Policy → Tables
+scaled_under limit policy = tables_with (
+    program 0 1 0 ((While (Num (pos 1)) 1 ∷ []) ∷ (Write 0 (Num (pos 3)) ∷ []) ∷ [])
+    ∷ program 2 1 2 (
+    (While (Num (pos 1)) 1 ∷ []) ∷ (Read 0 0 ∷ Read 1 1 ∷ Write 0 (Bin Mul (Var 0) (Var 1)) ∷ []) ∷ []) ∷ []) (
+    instance 0 [] (1 ∷ []) ∷ instance 1 (0 ∷ 1 ∷ []) (2 ∷ []) ∷ []) (
+    Source ∷ Inner 1 ∷ Sink 1 ∷ []) limit policy One
+
+unfoldable pub scaled_network : Tables
+scaled_network = scaled_under MAX_CAPACITY Cycles
+
+unfoldable pub scaled_to_limit_network : Tables
+scaled_to_limit_network = scaled_under 2 All
+
 -- ---- processes that fault
 
 -- `write z 1; write z E;`

@@ -197,3 +197,33 @@ other_grows_run =
     Put 1 1 (pos 1) ∷ WaitFull 1 1 ∷ Put 0 0 (pos 1) ∷
     Put 0 0 (pos 2) ∷ WaitFull 0 0 ∷ Grow 1 1 2 ∷
     Put 1 1 (pos 2) ∷ Ended 1 how.Done ∷ []
+
+-- ---- runs that stop with more written than anybody reads
+
+unfoldable pub delayed_run : List Event
+delayed_run =
+    Feed 0 (pos 7) ∷ Close 0 ∷ Put 1 2 (pos 0) ∷
+    WaitFull 1 2 ∷ Get 0 0 (pos 7) ∷ Get 0 2 (pos 0) ∷
+    Put 0 3 (pos 7) ∷ Take 3 (pos 7) ∷ Put 0 1 (pos 7) ∷
+    Put 1 2 (pos 0) ∷ Get 1 1 (pos 7) ∷ WaitFull 1 2 ∷
+    WaitEmpty 0 0 ∷ []
+
+unfoldable pub scaled_run : List Event
+scaled_run =
+    Feed 0 (pos 5) ∷ Close 0 ∷ Put 0 1 (pos 3) ∷
+    WaitFull 0 1 ∷ Get 1 0 (pos 5) ∷ Get 1 1 (pos 3) ∷
+    Put 1 2 (pos 15) ∷ Take 2 (pos 15) ∷ Put 0 1 (pos 3) ∷
+    WaitFull 0 1 ∷ WaitEmpty 1 0 ∷ []
+
+-- the same, and then the generator's channel grows to the limit, which is 2
+unfoldable pub scaled_to_limit_run : List Event
+scaled_to_limit_run =
+    Feed 0 (pos 5) ∷ Close 0 ∷ Put 0 1 (pos 3) ∷
+    WaitFull 0 1 ∷ Get 1 0 (pos 5) ∷ Get 1 1 (pos 3) ∷
+    Put 1 2 (pos 15) ∷ Take 2 (pos 15) ∷ Put 0 1 (pos 3) ∷
+    WaitFull 0 1 ∷ WaitEmpty 1 0 ∷ Grow 0 1 2 ∷
+    Put 0 1 (pos 3) ∷ WaitFull 0 1 ∷ []
+
+-- a copy of what was fed so far; the source stays open
+unfoldable pub open_run : List Event
+open_run = Feed 0 (pos 1) ∷ Get 0 0 (pos 1) ∷ Put 0 1 (pos 1) ∷ Take 1 (pos 1) ∷ WaitEmpty 0 0 ∷ []

@@ -2,6 +2,7 @@
 //! definition is compared with what is known from elsewhere, so a wrong definition shows.
 #![tactic(auto)]
 
+pub mod completed;
 pub mod seen;
 pub mod worked;
 pub mod wrong;

@@ -9,3 +9,4 @@ pub mod Telling
 pub mod SceneAt
 pub mod Asked
 pub mod VersionOne
+pub mod Completing

@@ -15,6 +15,7 @@ use Rattle.kpn_history.proofs.Kahn.{least_if_quiet}
 use Rattle.kpn_configuration.specs.Configuration.{Configuration, channel_in, wait_in, end_in}
 use Rattle.kpn_configuration.specs.Run.{IsEndOf, IsRun}
 use Rattle.kpn_configuration.proofs.Numbered.{by_number}
+use Rattle.kpn_audit.specs.Complete.{TellsComplete}
 use Rattle.kpn_audit.specs.declared.findings.Audit.{Audit}
 use Rattle.kpn_audit.specs.Audit.{IsAudit, AreLeast}
 
@@ -31,10 +32,11 @@ pub shown : {A : Type 0} (t : Tables) (H : List Event) (s : Configuration) → I
     → audit.journals ≡ map (λ (channel : ChannelState). channel.journal) s.channels
     → audit.reads ≡ map (λ c. (channel_in s c).read) (channel_numbers t)
     → audit.caps ≡ map (λ c. (channel_in s c).capacity) (channel_numbers t)
+    → TellsComplete t H audit.complete
     → audit.waits ≡ map (wait_in s) (range_with_len 0 (length t.instances))
     → audit.ends ≡ map (end_in s) (range_with_len 0 (length t.instances))
     → ((audit.exact ≡ true) ↔ IsQuiet t H) → IsAudit t H audit
-shown t H s run audit journals reads caps waits ends exact =
+shown t H s run audit journals reads caps complete waits ends exact =
     record {
       legal = run.legal;
       journals =
@@ -48,6 +50,7 @@ shown t H s run audit journals reads caps waits ends exact =
       caps =
           caps ∙ same_entries (λ c. (channel_in s c).capacity) (capacity_after t H) 0 (length t.channels)
           (length t.channels) (omega arith) (λ c below. (run.leads.channels c below).capacity);
+      complete = complete;
       waits =
           waits ∙ same_entries (wait_in s) (wait_of t H) 0 (length t.instances) (length t.instances) (omega arith)
           run.leads.waits;

@@ -15,6 +15,7 @@ use Rattle.kpn_history.specs.Ends.{IsQuiet}
 use Rattle.kpn_history.specs.Legal.{HasNumbers, CanGo, Legal}
 use Rattle.kpn_history.specs.Stops.{OwesNothing}
 use Rattle.kpn_configuration.specs.Run.{IsEndOf, StandsAfter}
+use Rattle.kpn_audit.specs.Complete.{TellsComplete}
 use Rattle.kpn_audit.specs.Place.{IsPlaceAfter, StopsWithin}
 use Rattle.kpn_audit.specs.declared.findings.Audit.{Audit}
 use Rattle.kpn_audit.specs.declared.findings.AuditFault.{AuditFault}
@@ -23,12 +24,13 @@ use Rattle.kpn_history.specs.declared.stored.Trace.{Trace}
 use Rattle.kpn_audit.specs.Stored.{Differs, tables_for, history_in}
 
 -- the events are a legal history, after which these are the journals, the numbers of items read, the capacities, the
--- waits and the ends, and which is quiet or not
+-- complete channels, the waits and the ends, and which is quiet or not
 pub record IsAudit {A : Type 0} (t : Tables) (H : List Event) (audit : Audit A) : Type 0 where
   pub legal : Legal t H
   pub journals : audit.journals ≡ lists_of t (written_on H)
   pub reads : audit.reads ≡ map (λ c. length (read_on H c)) (channel_numbers t)
   pub caps : audit.caps ≡ map (capacity_after t H) (channel_numbers t)
+  pub complete : TellsComplete t H audit.complete
   pub waits : audit.waits ≡ waits_of t H
   pub process_count : length audit.ends ≡ length t.instances
   pub ends : (p : ℕ) → p < length t.instances → IsEndOf H p (slice_index_or audit.ends p None)

@@ -3,3 +3,4 @@ pub mod Stored
 pub mod Audit
 pub mod Judged
 pub mod Scene
+pub mod Complete

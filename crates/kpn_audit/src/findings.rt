@@ -18,6 +18,8 @@ pub struct Audit<A: Allocator = Global> {
     pub reads: Sequence<usize, A>,
     /// How many may lie unread; None for a source.
     pub caps: Sequence<Option<u32>, A>,
+    /// Whether the channel is complete: its writer is finished, or it is a closed source, so nothing more is put there.
+    pub complete: Sequence<bool, A>,
     /// What the process waits for.
     pub waits: Sequence<Wait, A>,
     /// How the process has ended; None if it has not.

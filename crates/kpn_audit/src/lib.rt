@@ -3,6 +3,8 @@
 #![tactic(auto)]
 
 mod auditor;
+mod complete;
+pub mod complete_laws;
 mod findings;
 mod growth;
 mod judged;

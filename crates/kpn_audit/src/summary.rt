@@ -7,6 +7,7 @@ ghost use Rattle.kpn_configuration.specs.Configuration.{channel_in, wait_in, end
 ghost use Rattle.kpn_configuration.specs.Run.{IsRun};
 ghost use Rattle.kpn_audit.specs.Audit.{IsAudit};
 
+use crate::complete::complete_channels;
 use crate::findings::Audit;
 use kpn_configuration::Configuration;
 use kpn_history::How;
@@ -27,6 +28,7 @@ pub(crate) fn summary<A: Allocator + Copy>(
     network.known();
     let reads = read_counts(alloc, network, &configuration)?;
     let caps = capacities(alloc, network, &configuration)?;
+    let complete = complete_channels(alloc, network, &configuration)?;
     let waits = waits(alloc, network, &configuration)?;
     let ends = ends(alloc, network, &configuration)?;
     let exact = configuration.is_quiet(network);
@@ -35,6 +37,7 @@ pub(crate) fn summary<A: Allocator + Copy>(
         journals,
         reads,
         caps,
+        complete,
         waits,
         ends,
         exact,

@@ -2,6 +2,7 @@
 #![tactic(auto)]
 
 mod batch;
+mod complete;
 mod crew;
 mod desk;
 mod gate;

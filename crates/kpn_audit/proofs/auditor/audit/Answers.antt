@@ -11,6 +11,10 @@ of_any : {T E : Type 0} (r : Result T E) (P : Type 0) → P → IfOk r (λ _. P)
 of_any (Ok x) P holds = holds
 of_any (Err e) P holds = tt
 
+pub returns-then-has_rules-clause-agrees : goal.returns-then-has_rules-clause-agrees
+returns-then-has_rules-clause-agrees g c =
+    of_any c.audit_events-then-has_rules.result _ (one_agrees c.args.network.now c.args.trace.now c.in-One.is)
+
 pub returns-then-has_rules-clause-within : goal.returns-then-has_rules-clause-within
 returns-then-has_rules-clause-within g c =
     let t = c.args.network.now in
