@@ -64,17 +64,24 @@ fn command_request<'a>(
     command: &str,
     given: &ArgMatches<'a>,
 ) -> Result<Request<'a>, WordsFault>
-    ensures { AnswersTo command.now given.now result }
+    ensures { AnswersTo command.now (rows_in given.now) result }
 {
     match command {
         "alone" => Ok(Request::Alone(required(program, given, NAME)?)),
         "check" => Ok(Request::Check(required(program, given, FILE)?)),
         "explain" => explain_request(program, given),
         "print" => Ok(Request::Print(required(program, given, FILE)?)),
-        "draw" => draw_request(program, given),
+        "draw" => Ok(Request::Draw {
+            file: required(program, given, FILE)?,
+            trace: text_of(given, TRACE),
+        }),
         "rounds" => rounds_request(alloc, program, given),
         "run" => run_request(alloc, program, given),
-        "audit" => audit_request(program, given),
+        "audit" => Ok(Request::Audit {
+            file: required(program, given, FILE)?,
+            trace: required(program, given, TRACE)?,
+            steps: count_or_usual(given, STEPS),
+        }),
         "stats" => stats_request(program, given),
         _ => Err(without_command(program)),
     }
@@ -98,7 +105,7 @@ fn explain_request<'a>(
     program: &mut Command<'a>,
     explain: &ArgMatches<'a>,
 ) -> Result<Request<'a>, WordsFault>
-    ensures { AnswersTo (codes "explain") explain.now result }
+    ensures { AnswersTo (codes "explain") (rows_in explain.now) result }
 {
     let file = required(program, explain, FILE)?;
     let trace = text_of(explain, TRACE);
@@ -116,25 +123,13 @@ fn explain_request<'a>(
     }
 }
 
-// What the words ask of `kpn draw`.
-fn draw_request<'a>(
-    program: &mut Command<'a>,
-    draw: &ArgMatches<'a>,
-) -> Result<Request<'a>, WordsFault>
-    ensures { AnswersTo (codes "draw") draw.now result }
-{
-    let file = required(program, draw, FILE)?;
-    let trace = text_of(draw, TRACE);
-    Ok(Request::Draw { file, trace })
-}
-
 // What the words ask of `kpn rounds`.
 fn rounds_request<'a>(
     alloc: Global,
     program: &mut Command<'a>,
     rounds: &ArgMatches<'a>,
 ) -> Result<Request<'a>, WordsFault>
-    ensures { AnswersTo (codes "rounds") rounds.now result }
+    ensures { AnswersTo (codes "rounds") (rows_in rounds.now) result }
 {
     let Some(n) = number_of(rounds, ROUNDS) else {
         return Err(unclear(program, ErrorKind::MissingRequiredArgument, ROUNDS));
@@ -152,7 +147,7 @@ fn run_request<'a>(
     program: &mut Command<'a>,
     run: &ArgMatches<'a>,
 ) -> Result<Request<'a>, WordsFault>
-    ensures { AnswersTo (codes "run") run.now result }
+    ensures { AnswersTo (codes "run") (rows_in run.now) result }
 {
     Ok(Request::Run(RunRequest {
         file: required(program, run, FILE)?,
@@ -165,26 +160,12 @@ fn run_request<'a>(
     }))
 }
 
-// What the words ask of `kpn audit`.
-fn audit_request<'a>(
-    program: &mut Command<'a>,
-    audit: &ArgMatches<'a>,
-) -> Result<Request<'a>, WordsFault>
-    ensures { AnswersTo (codes "audit") audit.now result }
-{
-    Ok(Request::Audit {
-        file: required(program, audit, FILE)?,
-        trace: required(program, audit, TRACE)?,
-        steps: count_or_usual(audit, STEPS),
-    })
-}
-
 // What the words ask of `kpn stats`.
 fn stats_request<'a>(
     program: &mut Command<'a>,
     stats: &ArgMatches<'a>,
 ) -> Result<Request<'a>, WordsFault>
-    ensures { AnswersTo (codes "stats") stats.now result }
+    ensures { AnswersTo (codes "stats") (rows_in stats.now) result }
 {
     Ok(Request::Stats {
         file: required(program, stats, FILE)?,
