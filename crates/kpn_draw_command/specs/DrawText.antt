@@ -1,7 +1,7 @@
 -- The drawing of a network that `kpn draw` writes: a directed graph in the language of Graphviz. A box is a process, an
 -- ellipse the outside at a source or a sink, and an edge is a channel, from its writer to its reader. After a history,
 -- boxes and edges show what it leads to.
-use Rattle.std.specs.Prelude.{ℕ, zero, suc, if◌then◌else◌, List, [], ◌++◌, length, codes, Option, Some, None}
+use Rattle.std.specs.Prelude.{ℕ, zero, suc, Bool, true, false, if◌then◌else◌, List, [], ◌++◌, length, codes, Option, Some, None}
 use Rattle.std.specs.Fmt.{decimal}
 use Rattle.kpn_net.specs.declared.tables.ChannelSpec.{ChannelSpec}
 use Rattle.kpn_net.specs.declared.tables.End.{End}
@@ -24,10 +24,11 @@ closing style = codes "\"" ++ style ++ codes "];\n"
 
 -- ---- processes
 
--- `INSTANCE: PROCESS`
-abbrev pub process_title : Document → (p : ℕ) → List ℕ
-process_title d p =
-    name_at d.names.instances p ++ codes ": " ++ name_at (process_names d.names) (instance_at d.tables p).program
+-- the line of process p as far as its label names it: `INSTANCE: PROCESS`
+abbrev pub process_front : Document → (p : ℕ) → List ℕ
+process_front d p =
+    codes "  p" ++ decimal p ++ codes " [label=\"" ++ name_at d.names.instances p ++ codes ": "
+    ++ name_at (process_names d.names) (instance_at d.tables p).program
 
 -- a second line of a box: what the process waits for, or how it has ended
 abbrev pub state_line : (channels : List (List ℕ)) → State → List ℕ
@@ -46,9 +47,7 @@ filling other = []
 
 -- the line of process p in this state
 abbrev pub process_line : Document → (p : ℕ) → State → List ℕ
-process_line d p state =
-    codes "  p" ++ decimal p ++ codes " [label=\"" ++ process_title d p ++ state_line d.names.channels state
-    ++ closing (filling state)
+process_line d p state = process_front d p ++ state_line d.names.channels state ++ closing (filling state)
 
 -- ---- channels
 
@@ -80,14 +79,16 @@ flow_line (Some flow) =
     codes "\\n" ++ decimal flow.put ++ codes " put, " ++ decimal flow.unread ++ codes " unread"
     ++ growth_label flow.grown
 
--- an edge is bold if its channel has grown
-abbrev pub boldness : Option ℕ → List ℕ
-boldness None = []
-boldness (Some cap) = codes ", style=bold"
+-- an edge is bold if its channel has grown, and green if its channel is complete
+abbrev pub look : (grown : Option ℕ) (is_complete : Bool) → List ℕ
+look None false = []
+look None true = codes ", color=darkgreen"
+look (Some cap) false = codes ", style=bold"
+look (Some cap) true = codes ", style=bold, color=darkgreen"
 
-abbrev pub thickness : Option Flow → List ℕ
-thickness None = []
-thickness (Some flow) = boldness flow.grown
+abbrev pub edge_style : Option Flow → List ℕ
+edge_style None = []
+edge_style (Some flow) = look flow.grown flow.is_complete
 
 -- an arrow from the writer of channel c to its reader
 abbrev pub arrow : Tables → (c : ℕ) → List ℕ
@@ -101,7 +102,7 @@ edge_label d c flow =
 -- the line of channel c
 abbrev pub edge_line : Document → (c : ℕ) → Option Flow → List ℕ
 edge_line d c flow =
-    arrow d.tables c ++ codes " [label=\"" ++ edge_label d c flow ++ closing (thickness flow)
+    arrow d.tables c ++ codes " [label=\"" ++ edge_label d c flow ++ closing (edge_style flow)
 
 abbrev pub channel_lines : Document → (c : ℕ) → Option Flow → List ℕ
 channel_lines d c flow = outside_line (channel_at d.tables c) c ++ edge_line d c flow
@@ -118,10 +119,15 @@ head =
     codes "digraph network {\n  rankdir=LR;\n  node [fontname=\"sans-serif\", shape=box];\n"
     ++ codes "  edge [fontname=\"sans-serif\", fontsize=11];\n"
 
+-- what the colour of an edge means, if there is a history
+abbrev pub legend : {A : Type 0} → Option (Audit A) → List ℕ
+legend None = []
+legend (Some audit) = codes "  label=\"green: complete, nothing more is ever put there\";\n"
+
 -- the network and, if there is an audit, what its history leads to
 abbrev pub drawing : {A : Type 0} → Document → Option (Audit A) → List ℕ
 drawing d audit =
     head
     ++ each_below (length d.tables.instances) (λ p. process_line d p (state_of audit p))
     ++ each_below (length d.tables.channels) (λ c. channel_lines d c (flow_of d.tables audit c))
-    ++ codes "}\n"
+    ++ legend audit ++ codes "}\n"

@@ -1,5 +1,5 @@
 -- What an audit shows of each process and each channel of a network.
-use Rattle.std.specs.Prelude.{◌≡◌, ℕ, ◌<◌, ◌-◌, nat_lt, if◌then◌else◌, [], length, slice_index_or, Option, Some, None, ⊤}
+use Rattle.std.specs.Prelude.{ℕ, ◌-◌, nat_lt, if◌then◌else◌, false, [], length, slice_index_or, Option, Some, None}
 use Rattle.kpn_net.specs.Tables.{Tables, capacity, channel_at}
 use Rattle.kpn_net.specs.Waits.{wait_at}
 use Rattle.kpn_net.specs.declared.wait.Wait.{Wait}
@@ -19,10 +19,13 @@ standing None (Empty c) = WaitsEmpty c
 standing None (Full c) = WaitsFull c
 standing None Nobody = Ready
 
+abbrev pub state_in : {A : Type 0} → Audit A → (p : ℕ) → State
+state_in audit p = standing (slice_index_or audit.ends p None) (wait_at audit.waits p)
+
 -- the state of process p after the history; before any event it is ready
 abbrev pub state_of : {A : Type 0} → Option (Audit A) → (p : ℕ) → State
 state_of None p = Ready
-state_of (Some audit) p = standing (slice_index_or audit.ends p None) (wait_at audit.waits p)
+state_of (Some audit) p = state_in audit p
 
 -- ---- channels
 
@@ -31,38 +34,16 @@ abbrev pub grown_to : (first now : Option ℕ) → Option ℕ
 grown_to (Some first) (Some now) = if nat_lt first now then Some now else None
 grown_to first now = None
 
--- the items that were put on channel c, those of them that are unread, and what it has grown to
+-- the items that were put on channel c, those of them that are unread, what it has grown to, and whether it is complete
 abbrev pub flow_in : {A : Type 0} → Tables → Audit A → (c : ℕ) → Flow
 flow_in t audit c = record {
   put = length (slice_index_or audit.journals c []);
   unread = length (slice_index_or audit.journals c []) - slice_index_or audit.reads c 0;
   grown = grown_to (capacity (channel_at t c)) (slice_index_or audit.caps c None);
+  is_complete = slice_index_or audit.complete c false;
 }
 
 -- the same, if there is a history
 abbrev pub flow_of : {A : Type 0} → Tables → Option (Audit A) → (c : ℕ) → Option Flow
 flow_of t None c = None
 flow_of t (Some audit) c = Some (flow_in t audit c)
-
--- ---- audits of a network
-
--- a wait is on a channel of the network
-abbrev pub IsWithin : Tables → Wait → Type 0
-IsWithin t (Empty c) = c < length t.channels
-IsWithin t (Full c) = c < length t.channels
-IsWithin t Nobody = ⊤
-
--- and so is the wait of a process in this state
-abbrev pub IsStateWithin : Tables → State → Type 0
-IsStateWithin t (WaitsEmpty c) = c < length t.channels
-IsStateWithin t (WaitsFull c) = c < length t.channels
-IsStateWithin t other = ⊤
-
--- an audit has an entry for each process and each channel of the network, and its waits are within it
-pub record IsWhole {A : Type 0} (t : Tables) (audit : Audit A) : Type 0 where
-  pub ends : length audit.ends ≡ length t.instances
-  pub waits : length audit.waits ≡ length t.instances
-  pub within : (p : ℕ) → p < length t.instances → IsWithin t (wait_at audit.waits p)
-  pub journals : length audit.journals ≡ length t.channels
-  pub reads : length audit.reads ≡ length t.channels
-  pub caps : length audit.caps ≡ length t.channels

@@ -2,7 +2,7 @@
 ghost use Rattle.std.specs.Prelude.{IfOk, IfErr, option_map};
 ghost use Rattle.kpn_conclusion.specs.Conclusion.{Tells};
 ghost use Rattle.kpn_inputs.specs.Description.{IsRefusalOfCommand};
-ghost use Rattle.kpn_audited.specs.Audited.{IsFound, IsRefusalOfAudit, IsTextFor};
+ghost use Rattle.kpn_audited.specs.Audited.{IsRefusalOfAudit, IsTextFor};
 ghost use Rattle.kpn_draw_command.specs.Answers.{IsDrawing, IsDrawnAlone, IsDrawnAfter, IsDrawn, IsRefusalOfDrawing};
 
 use crate::drawing::text_of;
@@ -67,12 +67,9 @@ fn drawn_after<S: Shelf>(
 
 // The text for what an audit finds, and its status.
 fn conclusion_of(alloc: Global, audited: &Audited) -> Result<Conclusion, AllocError>
-    requires { IsFound audited.now }
     ensures { IfOk result (Tells (IsTextFor (IsDrawing audited.now.document audited.now.trace)
         audited.now.finding)) }
 {
-    // The text wants the waits of the audit within the network.
-    audited.document.network().known();
     match &audited.finding {
         Finding::Legal(audit) => Ok(Conclusion {
             text: text_of(alloc, &audited.document, Some(audit))?,

@@ -1,14 +1,15 @@
 //! The drawing of a network: a line for each process, source, sink and channel.
-ghost use Rattle.std.specs.Prelude.{◌≡◌, ◌<◌, ◌++◌, length, codes, option_map, OnOk, IfOk, IfSome};
+ghost use Rattle.std.specs.Prelude.{◌≡◌, ◌<◌, length, codes, option_map, IfOk};
 ghost use Rattle.kpn_net.specs.Tables.{channel_at, capacity};
-ghost use Rattle.kpn_draw_command.specs.DrawText.{drawing, head, each_below, process_line, process_title, state_line, filling, outside_line, end_node, capacity_label, growth_label, flow_line, boldness, thickness, arrow, closing, edge_label, edge_line, channel_lines};
-ghost use Rattle.kpn_draw_command.specs.Found.{state_of, flow_of, IsStateWithin, IsWhole};
+ghost use Rattle.kpn_pieces.specs.Added.{Adds};
+ghost use Rattle.kpn_draw_command.specs.DrawText.{drawing, head, each_below, process_line, state_line, filling, outside_line, end_node, capacity_label, growth_label, flow_line, look, edge_style, legend, arrow, edge_label, edge_line, channel_lines};
+ghost use Rattle.kpn_draw_command.specs.Found.{state_of, flow_of};
 
 use crate::found::{Flow, flow_of, state_of};
 use kpn_audit::Audit;
 use kpn_history::{How, State};
 use kpn_net::{End, Network};
-use kpn_pieces::{push_between, push_number};
+use kpn_pieces::Pushed;
 use kpn_text::Document;
 use kpn_trace_text::how_word;
 use std::alloc::{AllocError, Global};
@@ -19,117 +20,88 @@ pub(crate) fn text_of(
     document: &Document,
     audit: Option<&Audit>,
 ) -> Result<Vec<u8>, AllocError>
-    requires { IfSome (option_map (λ a. a.now) audit) (IsWhole document.now.tables) }
     ensures { IfOk result (λ text.
         text.items ≡ drawing document.now (option_map (λ a. a.now) audit.entry)) }
 {
-    let mut text = Vec::new(alloc);
-    push_head(&mut text)?;
+    let mut text = String::new(alloc);
+    text.push_str(head())?;
     push_processes(&mut text, document, audit)?;
     push_channels(&mut text, document, audit)?;
-    text.extend_from_slice(b"}\n")?;
-    Ok(text)
+    text.push_str(legend(audit))?;
+    text.push_str("}\n")?;
+    Ok(text.into_bytes())
+}
+
+// What the colour of an edge means, if there is a history.
+fn legend(audit: Option<&Audit>) -> &'static str
+    ensures { result.now ≡ legend (option_map (λ a. a.now) audit.entry) }
+{
+    match audit {
+        Some(_) => "  label=\"green: complete, nothing more is ever put there\";\n",
+        None => "",
+    }
 }
 
 // The lines that hold for all boxes and edges.
-fn push_head(text: &mut Vec<u8>) -> Result<(), AllocError>
-    ensures { OnOk result (text.new.items ≡ text.old.items ++ head) }
+fn head() -> &'static str
+    ensures { result.now ≡ head }
 {
-    text.extend_from_slice(
-        b"digraph network {\n  rankdir=LR;\n  node [fontname=\"sans-serif\", shape=box];\n",
-    )?;
-    text.extend_from_slice(b"  edge [fontname=\"sans-serif\", fontsize=11];\n")
+    "digraph network {\n  rankdir=LR;\n  node [fontname=\"sans-serif\", shape=box];\n  \
+     edge [fontname=\"sans-serif\", fontsize=11];\n"
 }
 
-fn push_processes(
-    text: &mut Vec<u8>,
-    document: &Document,
-    audit: Option<&Audit>,
-) -> Result<(), AllocError>
-    requires { IfSome (option_map (λ a. a.now) audit) (IsWhole document.now.tables) }
+fn push_processes(text: &mut String, document: &Document, audit: Option<&Audit>) -> Pushed
     ensures { let d = document.now in
-        OnOk result (text.new.items ≡ text.old.items ++ each_below (length d.tables.instances)
+        Adds result text.old text.new (each_below (length d.tables.instances)
         (λ p. process_line d p (state_of (option_map (λ a. a.now) audit.entry) p))) }
 {
     let network = document.network();
     for p in 0..network.instances() {
-        let state = state_of(network, audit, p);
+        let state = state_of(audit, p);
         push_process(text, document, p, state)?;
     }
     Ok(())
 }
 
 // The line of a process in this state.
-fn push_process(
-    text: &mut Vec<u8>,
-    document: &Document,
-    p: usize,
-    state: State,
-) -> Result<(), AllocError>
-    requires there { p < length document.now.tables.instances }
-    requires within { IsStateWithin document.now.tables state }
-    ensures { OnOk result
-        (text.new.items ≡ text.old.items ++ process_line document.now p state) }
-{
-    push_number(text, b"  p", p, b" [label=\"")?;
-    push_title(text, document, p)?;
-    push_state(text, document, state)?;
-    push_closing(text, filling(state))?;
-    Ok(())
-}
-
-// The end of a label, and the style of its box or edge.
-fn push_closing(text: &mut Vec<u8>, style: &[u8]) -> Result<(), AllocError>
-    ensures { OnOk result (text.new.items ≡ text.old.items ++ closing style.now) }
-{
-    push_between(text, b"\"", style, b"];\n")
-}
-
-// The instance and its process.
-fn push_title(text: &mut Vec<u8>, document: &Document, p: usize) -> Result<(), AllocError>
+fn push_process(text: &mut String, document: &Document, p: usize, state: State) -> Pushed
     requires { p < length document.now.tables.instances }
-    ensures { OnOk result (text.new.items ≡ text.old.items ++ process_title document.now p) }
+    ensures { Adds result text.old text.new (process_line document.now p state) }
 {
-    let network = document.network();
-    network.known();
-    let process = document.process_name(network.program_number(p));
-    push_between(text, document.instance_name(p), b": ", process)
+    let name = document.instance_name(p);
+    let process = document.process_name(document.network().program_number(p));
+    write!(text, "  p{p} [label=\"{name}: {process}")?;
+    push_state(text, document, state)?;
+    writeln!(text, "\"{}];", filling(state))
 }
 
 // What a process waits for, or how it has ended.
-fn push_state(text: &mut Vec<u8>, document: &Document, state: State) -> Result<(), AllocError>
-    requires { IsStateWithin document.now.tables state }
-    ensures { OnOk result
-        (text.new.items ≡ text.old.items ++ state_line document.now.names.channels state) }
+fn push_state(text: &mut String, document: &Document, state: State) -> Pushed
+    ensures { Adds result text.old text.new (state_line document.now.names.channels state) }
 {
     match state {
-        State::WaitsEmpty(c) => push_between(text, b"\\nwaits ", document.channel_name(c), b""),
-        State::WaitsFull(c) => push_between(text, b"\\nwaits ", document.channel_name(c), b" full"),
-        State::Ended(how) => push_between(text, b"\\n", how_word(how).as_bytes(), b""),
+        State::WaitsEmpty(c) => write!(text, "\\nwaits {}", document.channel_name(c)),
+        State::WaitsFull(c) => write!(text, "\\nwaits {} full", document.channel_name(c)),
+        State::Ended(how) => write!(text, "\\n{}", how_word(how)),
         State::Ready | State::Held => Ok(()),
     }
 }
 
 // How the box of a process in this state is filled.
-fn filling(state: State) -> &'static [u8]
+fn filling(state: State) -> &'static str
     ensures { result.now ≡ filling state }
 {
     match state {
-        State::WaitsEmpty(_) | State::WaitsFull(_) => b", style=filled, fillcolor=lightyellow",
-        State::Ended(How::Done) => b", style=filled, fillcolor=lightgrey",
-        State::Ended(_) => b", style=filled, fillcolor=lightpink",
-        State::Ready | State::Held => b"",
+        State::WaitsEmpty(_) | State::WaitsFull(_) => ", style=filled, fillcolor=lightyellow",
+        State::Ended(How::Done) => ", style=filled, fillcolor=lightgrey",
+        State::Ended(_) => ", style=filled, fillcolor=lightpink",
+        State::Ready | State::Held => "",
     }
 }
 
-fn push_channels(
-    text: &mut Vec<u8>,
-    document: &Document,
-    audit: Option<&Audit>,
-) -> Result<(), AllocError>
-    requires { IfSome (option_map (λ a. a.now) audit) (IsWhole document.now.tables) }
+fn push_channels(text: &mut String, document: &Document, audit: Option<&Audit>) -> Pushed
     ensures { let d = document.now in
-        OnOk result (text.new.items ≡ text.old.items ++ each_below (length d.tables.channels)
+        Adds result text.old text.new (each_below (length d.tables.channels)
         (λ c. channel_lines d c (flow_of d.tables (option_map (λ a. a.now) audit.entry) c))) }
 {
     let network = document.network();
@@ -142,18 +114,15 @@ fn push_channels(
 }
 
 // The line of the outside at a channel, if it is a source or a sink.
-fn push_outside(text: &mut Vec<u8>, network: &Network, c: usize) -> Result<(), AllocError>
-    ensures { OnOk result
-        (text.new.items ≡ text.old.items ++ outside_line (channel_at network.now c) c) }
+fn push_outside(text: &mut String, network: &Network, c: usize) -> Pushed
+    ensures { Adds result text.old text.new (outside_line (channel_at network.now c) c) }
 {
     if network.is_source(c) {
-        push_number(text, b"  c", c, b" [label=\"source\", shape=ellipse];\n")
+        writeln!(text, "  c{c} [label=\"source\", shape=ellipse];")
     } else if network.is_sink(c) {
-        push_number(
+        writeln!(
             text,
-            b"  c",
-            c,
-            b" [label=\"sink\", shape=ellipse, peripheries=2];\n",
+            "  c{c} [label=\"sink\", shape=ellipse, peripheries=2];"
         )
     } else {
         Ok(())
@@ -161,95 +130,88 @@ fn push_outside(text: &mut Vec<u8>, network: &Network, c: usize) -> Result<(), A
 }
 
 // The line of a channel, with what went over it.
-fn push_edge(
-    text: &mut Vec<u8>,
-    document: &Document,
-    c: usize,
-    flow: Option<Flow>,
-) -> Result<(), AllocError>
+fn push_edge(text: &mut String, document: &Document, c: usize, flow: Option<Flow>) -> Pushed
     requires { c < length document.now.tables.channels }
-    ensures { OnOk result (text.new.items ≡ text.old.items ++ edge_line document.now c flow) }
+    ensures { Adds result text.old text.new (edge_line document.now c flow) }
 {
     push_arrow(text, document.network(), c)?;
-    text.extend_from_slice(b" [label=\"")?;
+    text.push_str(" [label=\"")?;
     push_label(text, document, c, flow)?;
-    push_closing(text, thickness(flow))?;
-    Ok(())
+    writeln!(text, "\"{}];", edge_style(flow))
 }
 
 // The name of a channel, its capacity, and what went over it.
-fn push_label(
-    text: &mut Vec<u8>,
-    document: &Document,
-    c: usize,
-    flow: Option<Flow>,
-) -> Result<(), AllocError>
+fn push_label(text: &mut String, document: &Document, c: usize, flow: Option<Flow>) -> Pushed
     requires { c < length document.now.tables.channels }
-    ensures { OnOk result (text.new.items ≡ text.old.items ++ edge_label document.now c flow) }
+    ensures { Adds result text.old text.new (edge_label document.now c flow) }
 {
-    text.extend_from_slice(document.channel_name(c))?;
+    text.push_str(document.channel_name(c))?;
     push_capacity(text, document.network().cap_of(c))?;
     push_flow(text, flow)
 }
 
 // From the writer of a channel to its reader.
-fn push_arrow(text: &mut Vec<u8>, network: &Network, c: usize) -> Result<(), AllocError>
+fn push_arrow(text: &mut String, network: &Network, c: usize) -> Pushed
     requires { c < length network.now.channels }
-    ensures { OnOk result (text.new.items ≡ text.old.items ++ arrow network.now c) }
+    ensures { Adds result text.old text.new (arrow network.now c) }
 {
-    text.extend_from_slice(b"  ")?;
+    text.push_str("  ")?;
     push_end(text, c, network.writer_of(c))?;
-    text.extend_from_slice(b" -> ")?;
+    text.push_str(" -> ")?;
     push_end(text, c, network.reader_of(c))
 }
 
 // The box or the ellipse at an end of a channel.
-fn push_end(text: &mut Vec<u8>, c: usize, end: End) -> Result<(), AllocError>
-    ensures { OnOk result (text.new.items ≡ text.old.items ++ end_node c end) }
+fn push_end(text: &mut String, c: usize, end: End) -> Pushed
+    ensures { Adds result text.old text.new (end_node c end) }
 {
     match end {
-        End::Process(p) => push_number(text, b"p", p, b""),
-        End::Source | End::Sink => push_number(text, b"c", c, b""),
+        End::Process(p) => write!(text, "p{p}"),
+        End::Source | End::Sink => write!(text, "c{c}"),
     }
 }
 
 // The capacity of a channel at first.
-fn push_capacity(text: &mut Vec<u8>, cap: Option<u32>) -> Result<(), AllocError>
-    ensures { OnOk result (text.new.items ≡ text.old.items ++ capacity_label cap) }
+fn push_capacity(text: &mut String, cap: Option<u32>) -> Pushed
+    ensures { Adds result text.old text.new (capacity_label cap) }
 {
     match cap {
-        Some(cap) => push_number(text, b" (", cap as usize, b")"),
+        Some(cap) => write!(text, " ({cap})"),
         None => Ok(()),
     }
 }
 
-fn push_flow(text: &mut Vec<u8>, flow: Option<Flow>) -> Result<(), AllocError>
-    ensures { OnOk result (text.new.items ≡ text.old.items ++ flow_line flow) }
+fn push_flow(text: &mut String, flow: Option<Flow>) -> Pushed
+    ensures { Adds result text.old text.new (flow_line flow) }
 {
     let Some(flow) = flow else {
         return Ok(());
     };
-    push_number(text, b"\\n", flow.put, b" put, ")?;
-    push_number(text, b"", flow.unread, b" unread")?;
+    write!(text, "\\n{} put, {} unread", flow.put, flow.unread)?;
     push_growth(text, flow.grown)
 }
 
 // The capacity that a channel has grown to.
-fn push_growth(text: &mut Vec<u8>, grown: Option<u32>) -> Result<(), AllocError>
-    ensures { OnOk result (text.new.items ≡ text.old.items ++ growth_label grown) }
+fn push_growth(text: &mut String, grown: Option<u32>) -> Pushed
+    ensures { Adds result text.old text.new (growth_label grown) }
 {
     match grown {
-        Some(cap) => push_number(text, b", grown to ", cap as usize, b""),
+        Some(cap) => write!(text, ", grown to {cap}"),
         None => Ok(()),
     }
 }
 
-// An edge is bold if its channel has grown.
-fn thickness(flow: Option<Flow>) -> &'static [u8]
-    ensures { result.now ≡ thickness flow }
+// An edge is bold if its channel has grown, and green if its channel is complete.
+fn edge_style(flow: Option<Flow>) -> &'static str
+    ensures { result.now ≡ edge_style flow }
 {
-    match flow {
-        Some(flow) if flow.grown.is_some() => b", style=bold",
-        _ => b"",
+    let Some(flow) = flow else {
+        return "";
+    };
+    match (flow.grown, flow.is_complete) {
+        (None, false) => "",
+        (None, true) => ", color=darkgreen",
+        (Some(_), false) => ", style=bold",
+        (Some(_), true) => ", style=bold, color=darkgreen",
     }
 }

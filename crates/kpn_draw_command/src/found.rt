@@ -1,7 +1,7 @@
 //! What an audit shows of a process and of a channel.
-ghost use Rattle.std.specs.Prelude.{◌≡◌, ◌<◌, length, option_map, IfSome};
+ghost use Rattle.std.specs.Prelude.{◌≡◌, ◌<◌, [], length, slice_index_or, option_map};
 ghost use Rattle.kpn_net.specs.Tables.{capacity, channel_at};
-ghost use Rattle.kpn_draw_command.specs.Found.{standing, state_of, grown_to, flow_in, flow_of, IsWhole};
+ghost use Rattle.kpn_draw_command.specs.Found.{standing, state_in, state_of, grown_to, flow_in, flow_of};
 
 use kpn_audit::Audit;
 use kpn_history::{How, State};
@@ -16,18 +16,31 @@ pub(crate) struct Flow {
     pub unread: usize,
     /// The capacity that it has grown to, if it has grown.
     pub grown: Option<u32>,
+    /// Whether the channel is complete.
+    pub is_complete: bool,
 }
 
 /// The state of process `p` after the history that was audited; ready if there is none.
-pub(crate) fn state_of(network: &Network, audit: Option<&Audit>, p: usize) -> State
-    requires there { p < length network.now.instances }
-    requires whole { IfSome (option_map (λ a. a.now) audit) (IsWhole network.now) }
+pub(crate) fn state_of(audit: Option<&Audit>, p: usize) -> State
     ensures { result ≡ state_of (option_map (λ a. a.now) audit.entry) p }
 {
     match audit {
-        Some(audit) => standing(audit.ends.as_slice()[p], audit.waits.as_slice()[p]),
+        Some(audit) => state_in(audit, p),
         None => State::Ready,
     }
+}
+
+fn state_in(audit: &Audit, p: usize) -> State
+    ensures { result ≡ state_in audit.now p }
+{
+    let end = audit.ends.as_slice().get(p).copied().unwrap_or(None);
+    let wait = audit
+        .waits
+        .as_slice()
+        .get(p)
+        .copied()
+        .unwrap_or(Wait::Nobody);
+    standing(end, wait)
 }
 
 // The state of a process that has ended in this way or not, and waits for this.
@@ -44,8 +57,7 @@ fn standing(end: Option<How>, wait: Wait) -> State
 
 /// What went over channel `c` in the history that was audited; none if there is none.
 pub(crate) fn flow_of(network: &Network, audit: Option<&Audit>, c: usize) -> Option<Flow>
-    requires there { c < length network.now.channels }
-    requires whole { IfSome (option_map (λ a. a.now) audit) (IsWhole network.now) }
+    requires { c < length network.now.channels }
     ensures { result ≡ flow_of network.now (option_map (λ a. a.now) audit.entry) c }
 {
     match audit {
@@ -55,15 +67,27 @@ pub(crate) fn flow_of(network: &Network, audit: Option<&Audit>, c: usize) -> Opt
 }
 
 fn flow_in(network: &Network, audit: &Audit, c: usize) -> Flow
-    requires there { c < length network.now.channels }
-    requires whole { IsWhole network.now audit.now }
+    requires { c < length network.now.channels }
     ensures { result ≡ flow_in network.now audit.now c }
 {
-    let put = audit.journals.as_slice()[c].len();
+    let put = put_in(audit, c);
+    let read = audit.reads.as_slice().get(c).copied().unwrap_or(0);
+    let cap = audit.caps.as_slice().get(c).copied().unwrap_or(None);
     Flow {
         put,
-        unread: put.saturating_sub(audit.reads.as_slice()[c]),
-        grown: grown_to(network.cap_of(c), audit.caps.as_slice()[c]),
+        unread: put.saturating_sub(read),
+        grown: grown_to(network.cap_of(c), cap),
+        is_complete: audit.complete.as_slice().get(c).copied().unwrap_or(false),
+    }
+}
+
+// How many items were put on channel `c`.
+fn put_in(audit: &Audit, c: usize) -> usize
+    ensures { result ≡ length (slice_index_or audit.now.journals c []) }
+{
+    match audit.journals.as_slice().get(c) {
+        Some(journal) => journal.len(),
+        None => 0,
     }
 }
 

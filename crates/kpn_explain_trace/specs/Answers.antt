@@ -14,19 +14,21 @@ use Rattle.kpn_audit.specs.Scene.{IsSceneBefore}
 use Rattle.kpn_audit.specs.Stored.{Differs}
 use Rattle.kpn_refusals.specs.declared.refusal.Refusal.{Refusal}
 use Rattle.kpn_refusals.specs.declared.refusal.Refusal.TheVariants as refusal
+use Rattle.kpn_refusals.specs.Refusal.{status_of}
 use Rattle.kpn_shelf.specs.Shelf.{Loads}
 use Rattle.kpn_inputs.specs.Description.{IsDescribed}
-use Rattle.kpn_audited.specs.AuditText.{audit_text}
 use Rattle.kpn_audited.specs.Flaw.{event_line}
-use Rattle.kpn_audited.specs.Audited.{IsFoundLegal}
+use Rattle.kpn_audited.specs.Audited.{IsFoundLegal, IsRefusalOfAudit}
+use Rattle.kpn_explain_trace.specs.NotExact.{legal_text}
 use Rattle.kpn_explain_trace.specs.ExplainText.{refused_text, illegal_text}
 
--- the text and the status for a trace: the lines of the audit if its history is legal, 0; what stands before the first
--- event that is not legal, 1; or the event that its process did not come to in so many steps, 5
+-- the text and the status for a trace: the lines of the audit if its history is legal, and what a stop means for the
+-- items, 0; what stands before the first event that is not legal, 1; or the event that its process did not come to in
+-- so many steps, 5
 pub data IsConclusion (d : Document) (name bytes : List ℕ) (trace : Trace Global) (steps : ℕ) (text : List ℕ)
     (status : ℕ) : Type 0 where
   legal : (audit : Audit Global) → IsFoundLegal d.tables trace steps audit
-      → text ≡ audit_text d.names.channels audit → status ≡ 0
+      → text ≡ legal_text d audit → status ≡ 0
       → IsConclusion d name bytes trace steps text status
   illegal : (k : ℕ) → IsRefusal d.tables trace steps (Illegal k) → (scene : Scene)
       → IsSceneBefore d.tables trace k steps scene
@@ -55,8 +57,14 @@ pub record IsExplained (may_give : Loads) (file trace : List ℕ) (steps : ℕ) 
 
 -- the bytes spell a trace of other rules of growth, or memory ran out
 abbrev pub IsNoExplanation : Tables → (bytes : List ℕ) → Refusal → Type 0
-IsNoExplanation t bytes (refusal.Trace fault) = Refuses bytes fault
+IsNoExplanation t bytes (refusal.Trace fault) = Refuses bytes fault × (status_of (refusal.Trace fault) ≡ 6)
 IsNoExplanation t bytes refusal.PolicyDiffers = (trace : Trace Global) × Spells bytes trace × Differs t trace
 IsNoExplanation t bytes refusal.NoMemoryToAudit = ⊤
 IsNoExplanation t bytes refusal.NoMemory = ⊤
 IsNoExplanation t bytes other = ⊥
+
+-- why nothing is explained: as nothing is audited, but bytes that spell no trace are explained
+abbrev pub IsRefusalOfExplaining : (may_give : Loads) (file trace : List ℕ) → Refusal → Type 0
+IsRefusalOfExplaining may_give file trace (refusal.Trace fault) =
+    IsRefusalOfAudit may_give file trace (refusal.Trace fault) × (status_of (refusal.Trace fault) ≡ 6)
+IsRefusalOfExplaining may_give file trace other = IsRefusalOfAudit may_give file trace other

@@ -1,3 +1,4 @@
 pub mod Words
+pub mod NotExact
 pub mod ExplainText
 pub mod Answers

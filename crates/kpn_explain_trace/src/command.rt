@@ -3,12 +3,14 @@ ghost use Rattle.std.specs.Prelude.{◌≡◌, ◌<◌, ℕ, length, IfOk, IfErr
 ghost use Rattle.kpn_conclusion.specs.Conclusion.{Tells};
 ghost use Rattle.kpn_audit.specs.declared.findings.AuditFault.TheVariants.{Illegal};
 ghost use Rattle.kpn_audit.specs.Audit.{IsRefusal};
-ghost use Rattle.kpn_audited.specs.Audited.{IsNoFinding, IsRefusalOfAudit};
-ghost use Rattle.kpn_explain_trace.specs.Answers.{IsConclusion, IsExplained, IsExplanation, IsNoExplanation};
+ghost use Rattle.kpn_audited.specs.Audited.{IsNoFinding};
+ghost use Rattle.kpn_explain_trace.specs.Answers.{IsConclusion, IsExplained, IsExplanation};
+ghost use Rattle.kpn_explain_trace.specs.Answers.{IsNoExplanation, IsRefusalOfExplaining};
 
+use crate::not_exact::legal_text;
 use crate::text::{illegal_text, refused_text};
 use kpn_audit::scene_before;
-use kpn_audited::{Finding, Flaw, audit_trace, text_of};
+use kpn_audited::{Finding, Flaw, audit_trace};
 use kpn_conclusion::Conclusion;
 use kpn_history::Trace;
 use kpn_inputs::load_document;
@@ -20,7 +22,7 @@ use std::alloc::Global;
 
 /// What `kpn explain FILE TRACE` comes to. Each process may make `steps` steps before each of its events. It reads the
 /// description first, then the trace. For a trace that is legal, and for one out of steps, it tells what `kpn audit`
-/// tells.
+/// tells. If a legal one is not exact, it tells which sinks are complete and why nobody reads where a writer waits.
 pub fn explain_trace_command<S: Shelf>(
     alloc: Global,
     file: &str,
@@ -30,7 +32,8 @@ pub fn explain_trace_command<S: Shelf>(
 ) -> Result<Conclusion, Refusal>
     ensures ok { IfOk result
         (Tells (IsExplained (S.may_give shelf.now) file.now trace.now steps)) }
-    ensures refused { IfErr result (IsRefusalOfAudit (S.may_give shelf.now) file.now trace.now) }
+    ensures refused { IfErr result
+        (IsRefusalOfExplaining (S.may_give shelf.now) file.now trace.now) }
 {
     let document = load_document(alloc, shelf, file)?;
     match shelf.load(alloc, trace) {
@@ -78,7 +81,7 @@ fn conclusion(
     let finding = audit_trace(alloc, document.network(), trace, steps)?;
     match finding {
         Finding::Legal(audit) => Ok(Conclusion {
-            text: text_of(alloc, document, &audit)?,
+            text: legal_text(alloc, document, &audit)?,
             status: 0,
             files: Vec::new(alloc),
         }),

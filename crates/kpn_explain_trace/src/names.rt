@@ -15,7 +15,7 @@ pub(crate) fn push_process(
     ensures { OnOk result (text.new.items ≡ text.old.items ++ process_words document.now p) }
 {
     if p < document.network().instances() {
-        push_between(text, b"`", document.instance_name(p), b"`")
+        push_between(text, b"`", document.instance_name(p).as_bytes(), b"`")
     } else {
         push_number(text, b"process ", p, b"")
     }
@@ -30,7 +30,7 @@ pub(crate) fn push_channel(
     ensures { OnOk result (text.new.items ≡ text.old.items ++ channel_words document.now c) }
 {
     if c < document.network().channels() {
-        push_between(text, b"`", document.channel_name(c), b"`")
+        push_between(text, b"`", document.channel_name(c).as_bytes(), b"`")
     } else {
         push_number(text, b"channel ", c, b"")
     }

@@ -95,8 +95,8 @@ fn push_moved(
     push_channel(text, document, c)
 }
 
-// A process waits on a channel.
-fn push_wait(
+/// A process waits on a channel.
+pub(crate) fn push_wait(
     text: &mut Vec<u8>,
     document: &Document,
     p: usize,

@@ -4,19 +4,15 @@ use Rattle.std.proofs.Common.{◌≡◌, ℕ, ℤ, ◌≤◌, Bool, cond, List, 
 use Rattle.std.specs.List.{flat_map}
 use Rattle.std.proofs.lemmas.List.Sums.{sum-map}
 use Rattle.std.proofs.lemmas.List.{take-map, length-map}
-use Rattle.std.proofs.lemmas.List.FromFn.{length-map-range_with_len}
 use Rattle.std.specs.declared.alloc.Global.{Global}
-use Rattle.kpn_net.specs.declared.tables.ChannelSpec.{ChannelSpec}
 use Rattle.kpn_net.specs.Tables.{Tables}
 use Rattle.kpn_history.specs.declared.event.Event.{Event}
 use Rattle.kpn_history.specs.declared.event.Event.TheVariants.{Grow}
 use Rattle.kpn_history.specs.declared.stored.Version.{Version}
 use Rattle.kpn_history.specs.declared.stored.Version.TheVariants.{One, Two}
 use Rattle.kpn_history.specs.declared.stored.Trace.{Trace}
-use Rattle.kpn_history.specs.Channels.{written_in, read_in, written_on, read_on, is_growth_of, capacity_after}
-use Rattle.kpn_audit.specs.declared.findings.Audit.{Audit}
-use Rattle.kpn_audit.specs.Stored.{audited_under, told, told_behind, history_of, tables_for, history_in}
-use Rattle.kpn_audited.specs.Audited.{IsFoundLegal}
+use Rattle.kpn_history.specs.Channels.{written_in, read_in, written_on, read_on, is_growth_of}
+use Rattle.kpn_audit.specs.Stored.{told, told_behind, history_of, tables_for, history_in}
 use Rattle.kpn_stats_command.specs.declared.figures.ChannelFigures.{ChannelFigures}
 use Rattle.kpn_stats_command.specs.declared.figures.ProcessFigures.{ProcessFigures}
 use Rattle.kpn_stats_command.specs.declared.figures.Figures.{Figures}
@@ -144,18 +140,3 @@ of_history t trace figures are =
       process_count = are.process_count;
       processes = λ p below. process_alike trace.events (history_in t trace) p _ alike (are.processes p below);
     }
-
--- ---- what the text says of a document
-
-same_channels : (v : Version) (t : Tables) → (audited_under v t).channels ≡ t.channels
-same_channels One t = refl
-same_channels Two t = refl
-
--- the audit has a capacity for each channel
-pub caps_there : (t : Tables) (trace : Trace Global) (steps : ℕ) (audit : Audit Global)
-    → IsFoundLegal t trace steps audit → length audit.caps ≡ length t.channels
-caps_there t trace steps audit found =
-    ap length found.audited.caps
-    ∙ length-map-range_with_len (capacity_after (tables_for t trace) (history_in t trace)) 0
-    (length (tables_for t trace).channels)
-    ∙ ap (λ (channels : List ChannelSpec). length channels) (same_channels trace.version t)

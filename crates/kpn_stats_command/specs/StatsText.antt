@@ -1,5 +1,5 @@
 -- The text that `kpn stats` writes of a legal history: what each cell shows, and the advice on capacities.
-use Rattle.std.specs.Prelude.{ℕ, ◌-◌, max, nat_eq, if◌then◌else◌, List, [], ◌∷◌, ◌++◌, length, map, codes, Option, Some, None, slice_index_or}
+use Rattle.std.specs.Prelude.{ℕ, Bool, true, false, ◌-◌, max, nat_eq, if◌then◌else◌, List, [], ◌∷◌, ◌++◌, length, map, codes, Option, Some, None, slice_index_or}
 use Rattle.std.specs.List.{range_with_len}
 use Rattle.std.specs.Fmt.{decimal}
 use Rattle.kpn_net.specs.declared.wait.Wait.{Wait}
@@ -36,7 +36,7 @@ abbrev pub channel_heading : Row
 channel_heading =
     row_of (codes "channel")
     (codes "put" ∷ codes "read" ∷ codes "left" ∷ codes "most" ∷ codes "cap_first" ∷ codes "cap_last"
-    ∷ codes "growths" ∷ codes "waits_empty" ∷ codes "waits_full" ∷ [])
+    ∷ codes "growths" ∷ codes "waits_empty" ∷ codes "waits_full" ∷ codes "complete" ∷ [])
 
 -- the numbers of a channel with this first and this last capacity
 abbrev pub channel_numbers : (first last : Option ℕ) → ChannelFigures → List (Option ℕ)
@@ -44,12 +44,19 @@ channel_numbers first last f =
     Some f.put ∷ Some f.read ∷ Some (f.put - f.read) ∷ Some f.most ∷ first ∷ last ∷ Some f.growths
     ∷ Some f.waits_empty ∷ Some f.waits_full ∷ []
 
+-- whether a channel is complete
+abbrev pub complete_cell : Bool → List ℕ
+complete_cell true = codes "yes"
+complete_cell false = codes "no"
+
 -- the row of the channel with the number c
 abbrev pub channel_row : {A : Type 0} → Document → Audit A → List ChannelFigures → (c : ℕ) → Row
 channel_row d audit figures c =
-    row_of (name_at d.names.channels c) (map number_cell
+    row_of (name_at d.names.channels c)
+    (map number_cell
     (channel_numbers (capacity (channel_at d.tables c)) (slice_index_or audit.caps c None)
-    (slice_index_or figures c no_channel)))
+    (slice_index_or figures c no_channel))
+    ++ complete_cell (slice_index_or audit.complete c false) ∷ [])
 
 abbrev pub channel_rows : {A : Type 0} → Document → Audit A → List ChannelFigures → List Row
 channel_rows d audit figures =
@@ -108,7 +115,7 @@ advice d audit figures =
 -- both tables and the advice, with an empty line between two of them
 abbrev pub people_text : {A : Type 0} → Document → Audit A → List ChannelFigures → List ProcessFigures → List ℕ
 people_text d audit channels processes =
-    aligned_table 9 (channel_rows d audit channels) ++ codes "\n" ++ aligned_table 5 (process_rows d audit processes)
+    aligned_table 10 (channel_rows d audit channels) ++ codes "\n" ++ aligned_table 5 (process_rows d audit processes)
     ++ codes "\n" ++ advice d audit channels
 
 -- what is written for people, or one of the tables for other programs

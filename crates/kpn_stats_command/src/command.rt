@@ -1,7 +1,7 @@
 //! The command reads a network and a trace, audits the trace, and writes the figures of its history.
 ghost use Rattle.std.specs.Prelude.{IfOk, IfErr};
 ghost use Rattle.kpn_conclusion.specs.Conclusion.{Tells};
-ghost use Rattle.kpn_audited.specs.Audited.{IsFound, IsRefusalOfAudit, IsTextFor};
+ghost use Rattle.kpn_audited.specs.Audited.{IsRefusalOfAudit, IsTextFor};
 ghost use Rattle.kpn_stats_command.specs.Answers.{AreStats, AreTables};
 
 use crate::figures::count;
@@ -38,7 +38,6 @@ fn conclusion_of(
     tables: StatsTables,
     audited: &Audited,
 ) -> Result<Conclusion, AllocError>
-    requires { IsFound audited.now }
     ensures { IfOk result (Tells (IsTextFor
         (AreTables tables audited.now.document audited.now.trace) audited.now.finding)) }
 {

@@ -1,7 +1,7 @@
 //! The text that `kpn stats` writes of a legal history.
-ghost use Rattle.std.specs.Prelude.{◌≡◌, ◌++◌, ◌<◌, length, map, IfOk, OnOk};
-ghost use Rattle.kpn_names.specs.Names.{name_at};
-ghost use Rattle.kpn_stats_command.specs.StatsText.{stats_text, people_text, number_cell, channel_heading, channel_row, channel_rows, process_heading, process_row, process_rows, end_cell, advice, advice_line, advice_for, row_of};
+ghost use Rattle.std.specs.Prelude.{◌≡◌, ◌++◌, ◌<◌, length, map, slice_index_or, None, IfOk, OnOk, string_bytes};
+ghost use Rattle.kpn_pieces.specs.Added.{Adds};
+ghost use Rattle.kpn_stats_command.specs.StatsText.{stats_text, people_text, number_cell, channel_heading, channel_row, channel_rows, complete_cell, process_heading, process_row, process_rows, end_cell, advice, advice_line, row_of};
 
 use crate::figures::{ChannelFigures, Figures, ProcessFigures};
 use crate::table::{Row, push_aligned, push_tabbed};
@@ -9,7 +9,7 @@ use kpn_audit::Audit;
 use kpn_history::How;
 use kpn_lang::Sequence;
 use kpn_net::Wait;
-use kpn_pieces::push_number;
+use kpn_pieces::Pushed;
 use kpn_request::StatsTables;
 use kpn_text::Document;
 use kpn_trace_text::how_word;
@@ -23,7 +23,6 @@ pub(crate) fn text_of(
     audit: &Audit,
     figures: &Figures,
 ) -> Result<Vec<u8>, AllocError>
-    requires caps { length audit.now.caps ≡ length document.now.tables.channels }
     requires channels { length figures.now.channels ≡ length document.now.tables.channels }
     requires processes { length figures.now.processes ≡ length document.now.tables.instances }
     ensures { IfOk result (λ text.
@@ -56,20 +55,20 @@ fn push_people(
     audit: &Audit,
     channels: &[ChannelFigures],
     processes: &[ProcessFigures],
-) -> Result<(), AllocError>
-    requires caps { length audit.now.caps ≡ length document.now.tables.channels }
+) -> Pushed
     requires channels { length channels.now ≡ length document.now.tables.channels }
     requires processes { length processes.now ≡ length document.now.tables.instances }
     ensures { OnOk result (text.new.items
         ≡ text.old.items ++ people_text document.now audit.now channels.now processes.now) }
 {
     let rows = channel_rows(alloc, document, audit, channels)?;
-    push_aligned(alloc, text, 9, &rows)?;
+    push_aligned(alloc, text, 10, &rows)?;
     text.push(b'\n')?;
     let rows = process_rows(alloc, document, audit, processes)?;
     push_aligned(alloc, text, 5, &rows)?;
     text.push(b'\n')?;
-    push_advice(text, document, audit, channels)?;
+    let advice = advice_of(alloc, document, audit, channels)?;
+    text.extend_from_slice(advice.as_bytes())?;
     Ok(())
 }
 
@@ -80,8 +79,7 @@ fn channel_rows(
     audit: &Audit,
     figures: &[ChannelFigures],
 ) -> Result<Vec<Row>, AllocError>
-    requires caps { length audit.now.caps ≡ length document.now.tables.channels }
-    requires channels { length figures.now ≡ length document.now.tables.channels }
+    requires { length figures.now ≡ length document.now.tables.channels }
     ensures { IfOk result (λ rows. rows.items ≡ channel_rows document.now audit.now figures.now) }
 {
     let mut rows = Vec::new(alloc);
@@ -107,8 +105,9 @@ fn channel_heading(alloc: Global) -> Result<Row, AllocError>
         "growths",
         "waits_empty",
         "waits_full",
+        "complete",
     ];
-    row_of(alloc, b"channel", word_cells(alloc, &words)?)
+    row_of(alloc, "channel", word_cells(alloc, &words)?)
 }
 
 fn channel_row(
@@ -119,13 +118,12 @@ fn channel_row(
     c: usize,
 ) -> Result<Row, AllocError>
     requires channel { c < length document.now.tables.channels }
-    requires caps { length audit.now.caps ≡ length document.now.tables.channels }
     requires channels { length figures.now ≡ length document.now.tables.channels }
     ensures { IfOk result (λ row. row ≡ channel_row document.now audit.now figures.now c) }
 {
     let f = figures[c];
     let first = as_number(document.network().cap_of(c));
-    let last = as_number(audit.caps.as_slice()[c]);
+    let last = as_number(last_cap(audit, c));
     let left = f.put.saturating_sub(f.read);
     let numbers = [
         Some(f.put),
@@ -138,11 +136,25 @@ fn channel_row(
         Some(f.waits_empty),
         Some(f.waits_full),
     ];
-    row_of(
-        alloc,
-        document.channel_name(c),
-        number_cells(alloc, &numbers)?,
-    )
+    let complete = audit.complete.as_slice().get(c).copied().unwrap_or(false);
+    let mut cells = number_cells(alloc, &numbers)?;
+    let cell = text_cell(alloc, complete_cell(complete))?;
+    cells.push(cell)?;
+    row_of(alloc, document.channel_name(c), cells)
+}
+
+// Whether a channel is complete.
+fn complete_cell(complete: bool) -> &'static str
+    ensures { result.now ≡ complete_cell complete }
+{
+    if complete { "yes" } else { "no" }
+}
+
+// The capacity of a channel after the history; none for a source.
+fn last_cap(audit: &Audit, c: usize) -> Option<u32>
+    ensures { result ≡ slice_index_or audit.now.caps c None }
+{
+    audit.caps.as_slice().get(c).copied().unwrap_or(None)
 }
 
 // A capacity as a number.
@@ -162,7 +174,7 @@ fn process_rows(
     audit: &Audit,
     figures: &[ProcessFigures],
 ) -> Result<Vec<Row>, AllocError>
-    requires processes { length figures.now ≡ length document.now.tables.instances }
+    requires { length figures.now ≡ length document.now.tables.instances }
     ensures { IfOk result (λ rows. rows.items ≡ process_rows document.now audit.now figures.now) }
 {
     let mut rows = Vec::new(alloc);
@@ -179,7 +191,7 @@ fn process_heading(alloc: Global) -> Result<Row, AllocError>
     ensures { IfOk result (λ row. row ≡ process_heading) }
 {
     let words = ["gets", "puts", "waits_empty", "waits_full", "end"];
-    row_of(alloc, b"process", word_cells(alloc, &words)?)
+    row_of(alloc, "process", word_cells(alloc, &words)?)
 }
 
 fn process_row(
@@ -189,8 +201,7 @@ fn process_row(
     figures: &[ProcessFigures],
     p: usize,
 ) -> Result<Row, AllocError>
-    requires process { p < length document.now.tables.instances }
-    requires processes { length figures.now ≡ length document.now.tables.instances }
+    requires { p < length figures.now }
     ensures { IfOk result (λ row. row ≡ process_row document.now audit.now figures.now p) }
 {
     let f = figures[p];
@@ -222,36 +233,17 @@ fn end_cell(
 ) -> Result<Sequence<u8>, AllocError>
     ensures { IfOk result (λ cell. cell ≡ end_cell document.now.names.channels end wait) }
 {
-    let mut text = Vec::new(alloc);
+    let mut text = String::new(alloc);
     match (end, wait) {
-        (Some(how), _) => text.extend_from_slice(how_word(how).as_bytes())?,
-        (None, Wait::Nobody) => text.push(b'-')?,
-        (None, Wait::Empty(c)) => {
-            text.extend_from_slice(b"waits ")?;
-            text.extend_from_slice(name_of(document, c))?;
-        }
-        (None, Wait::Full(c)) => {
-            text.extend_from_slice(b"waits ")?;
-            text.extend_from_slice(name_of(document, c))?;
-            text.extend_from_slice(b" full")?;
-        }
+        (Some(how), _) => text.push_str(how_word(how))?,
+        (None, Wait::Nobody) => text.push_str("-")?,
+        (None, Wait::Empty(c)) => write!(text, "waits {}", document.channel_name(c))?,
+        (None, Wait::Full(c)) => write!(text, "waits {} full", document.channel_name(c))?,
     }
-    Ok(Sequence::from_vec(text))
+    Ok(Sequence::from_vec(text.into_bytes()))
 }
 
-// The name of a channel; no bytes if there is none.
-fn name_of(document: &Document, c: usize) -> &[u8]
-    ensures { result.now ≡ name_at document.now.names.channels c }
-{
-    document.known();
-    if c < document.network().channels() {
-        document.channel_name(c)
-    } else {
-        b""
-    }
-}
-
-fn row_of(alloc: Global, name: &[u8], cells: Vec<Sequence<u8>>) -> Result<Row, AllocError>
+fn row_of(alloc: Global, name: &str, cells: Vec<Sequence<u8>>) -> Result<Row, AllocError>
     ensures { IfOk result (λ row. row ≡ row_of name.now cells.items) }
 {
     let name = text_cell(alloc, name)?;
@@ -266,7 +258,7 @@ fn word_cells(alloc: Global, words: &[&str]) -> Result<Vec<Sequence<u8>>, AllocE
 {
     let mut cells = Vec::new(alloc);
     for word in words {
-        let cell = text_cell(alloc, word.as_bytes())?;
+        let cell = text_cell(alloc, word)?;
         cells.push(cell)?;
     }
     Ok(cells)
@@ -288,78 +280,54 @@ fn number_cell(alloc: Global, number: Option<usize>) -> Result<Sequence<u8>, All
     ensures { IfOk result (λ cell. cell ≡ number_cell number) }
 {
     let Some(number) = number else {
-        return text_cell(alloc, b"-");
+        return text_cell(alloc, "-");
     };
-    let mut buffer = itoa::Buffer::new();
-    text_cell(alloc, buffer.format(number).as_bytes())
+    let cell = format!(in alloc; "{number}")?;
+    Ok(Sequence::from_vec(cell.into_bytes()))
 }
 
-fn text_cell(alloc: Global, text: &[u8]) -> Result<Sequence<u8>, AllocError>
+fn text_cell(alloc: Global, text: &str) -> Result<Sequence<u8>, AllocError>
     ensures { IfOk result (λ cell. cell ≡ text.now) }
 {
-    let mut cell = Vec::new(alloc);
-    cell.extend_from_slice(text)?;
+    let cell = text.as_bytes().to_vec(alloc)?;
     Ok(Sequence::from_vec(cell))
 }
 
 // The advice on each channel.
-fn push_advice(
-    text: &mut Vec<u8>,
+fn advice_of(
+    alloc: Global,
     document: &Document,
     audit: &Audit,
     figures: &[ChannelFigures],
-) -> Result<(), AllocError>
-    requires caps { length audit.now.caps ≡ length document.now.tables.channels }
-    requires channels { length figures.now ≡ length document.now.tables.channels }
-    ensures { OnOk result
-        (text.new.items ≡ text.old.items ++ advice document.now audit.now figures.now) }
+) -> Result<String, AllocError>
+    ensures { IfOk result (λ text.
+        string_bytes text ≡ advice document.now audit.now figures.now) }
 {
-    let caps = audit.caps.as_slice();
+    let mut text = String::new(alloc);
     for (c, f) in figures.iter().enumerate() {
-        push_advice_line(text, document.channel_name(c), caps[c], *f)?;
+        push_advice(&mut text, document.channel_name(c), last_cap(audit, c), *f)?;
     }
-    Ok(())
+    Ok(text)
 }
 
 // The advice on a channel of this last capacity.
-fn push_advice_line(
-    text: &mut Vec<u8>,
-    name: &[u8],
-    last: Option<u32>,
-    figures: ChannelFigures,
-) -> Result<(), AllocError>
-    ensures { OnOk result
-        (text.new.items ≡ text.old.items ++ advice_line name.now last figures) }
+fn push_advice(text: &mut String, name: &str, last: Option<u32>, figures: ChannelFigures) -> Pushed
+    ensures { Adds result text.old text.new (advice_line name.now last figures) }
 {
     let Some(last) = last else {
         return Ok(());
     };
-    text.extend_from_slice(name)?;
-    push_advice_for(text, figures.waits_full, last as usize, figures.most)
-}
-
-// What the advice says of a capacity.
-fn push_advice_for(
-    text: &mut Vec<u8>,
-    waits: usize,
-    last: usize,
-    most: usize,
-) -> Result<(), AllocError>
-    ensures { OnOk result (text.new.items ≡ text.old.items ++ advice_for waits last most) }
-{
+    let waits = figures.waits_full;
     if waits == 0 {
-        push_number(
+        let enough = figures.most.max(1);
+        write!(
             text,
-            b": ",
-            most.max(1),
-            b" would have been enough for these events\n",
+            "{name}: {enough} would have been enough for these events\n"
         )
     } else {
-        push_number(
+        write!(
             text,
-            b": more than ",
-            last,
-            b", since its writer waited for room\n",
+            "{name}: more than {last}, since its writer waited for room\n"
         )
     }
 }

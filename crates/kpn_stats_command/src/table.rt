@@ -5,6 +5,7 @@ ghost use Rattle.kpn_pieces.specs.ListText.{lines_from};
 ghost use Rattle.kpn_stats_command.specs.Layout.{tabbed, tabbed_line, tabbed_table, longest, names, column, widths, right_cell, aligned_line, aligned_table};
 
 use kpn_lang::Sequence;
+use kpn_pieces::Pushed;
 use std::alloc::{AllocError, Global};
 
 /// A row of a table: its name and its further cells.
@@ -15,7 +16,7 @@ pub(crate) struct Row {
 }
 
 /// Writes the table with a tab between two cells.
-pub(crate) fn push_tabbed(text: &mut Vec<u8>, rows: &[Row]) -> Result<(), AllocError>
+pub(crate) fn push_tabbed(text: &mut Vec<u8>, rows: &[Row]) -> Pushed
     ensures { OnOk result (text.new.items ≡ text.old.items ++ tabbed_table rows.now) }
 {
     for row in rows {
@@ -25,7 +26,7 @@ pub(crate) fn push_tabbed(text: &mut Vec<u8>, rows: &[Row]) -> Result<(), AllocE
 }
 
 // A line with tabs.
-fn push_tabbed_line(text: &mut Vec<u8>, row: &Row) -> Result<(), AllocError>
+fn push_tabbed_line(text: &mut Vec<u8>, row: &Row) -> Pushed
     ensures { OnOk result (text.new.items ≡ text.old.items ++ tabbed_line row.now) }
 {
     text.extend_from_slice(row.name.as_slice())?;
@@ -35,7 +36,7 @@ fn push_tabbed_line(text: &mut Vec<u8>, row: &Row) -> Result<(), AllocError>
 }
 
 // Each of the cells behind a tab.
-fn push_tabbed_cells(text: &mut Vec<u8>, cells: &[Sequence<u8>]) -> Result<(), AllocError>
+fn push_tabbed_cells(text: &mut Vec<u8>, cells: &[Sequence<u8>]) -> Pushed
     ensures { OnOk result (text.new.items ≡ text.old.items ++ tabbed cells.now) }
 {
     for cell in cells {
@@ -52,7 +53,7 @@ pub(crate) fn push_aligned(
     text: &mut Vec<u8>,
     columns: usize,
     rows: &[Row],
-) -> Result<(), AllocError>
+) -> Pushed
     ensures { OnOk result (text.new.items ≡ text.old.items ++ aligned_table columns rows.now) }
 {
     let name_width = longest_name(rows);
@@ -66,7 +67,7 @@ fn push_aligned_lines(
     name_width: usize,
     widths: &[usize],
     rows: &[Row],
-) -> Result<(), AllocError>
+) -> Pushed
     ensures { OnOk result (text.new.items
         ≡ text.old.items ++ flat_map (aligned_line name_width widths.now) rows.now) }
 {
@@ -118,12 +119,7 @@ fn widths_of(alloc: Global, columns: usize, rows: &[Row]) -> Result<Vec<usize>, 
 }
 
 // A line in columns.
-fn push_aligned_line(
-    text: &mut Vec<u8>,
-    name_width: usize,
-    widths: &[usize],
-    row: &Row,
-) -> Result<(), AllocError>
+fn push_aligned_line(text: &mut Vec<u8>, name_width: usize, widths: &[usize], row: &Row) -> Pushed
     ensures { OnOk result
         (text.new.items ≡ text.old.items ++ aligned_line name_width widths.now row.now) }
 {
@@ -136,11 +132,7 @@ fn push_aligned_line(
 }
 
 // The cells, each at the right of its column.
-fn push_right_cells(
-    text: &mut Vec<u8>,
-    widths: &[usize],
-    cells: &[Sequence<u8>],
-) -> Result<(), AllocError>
+fn push_right_cells(text: &mut Vec<u8>, widths: &[usize], cells: &[Sequence<u8>]) -> Pushed
     ensures { OnOk result
         (text.new.items ≡ text.old.items ++ lines_from (right_cell widths.now) 0 cells.now) }
 {
@@ -151,7 +143,7 @@ fn push_right_cells(
 }
 
 // A cell at the right of its column, behind two spaces.
-fn push_right(text: &mut Vec<u8>, widths: &[usize], k: usize, cell: &[u8]) -> Result<(), AllocError>
+fn push_right(text: &mut Vec<u8>, widths: &[usize], k: usize, cell: &[u8]) -> Pushed
     ensures { OnOk result (text.new.items ≡ text.old.items ++ right_cell widths.now k cell.now) }
 {
     let width = widths.get(k).copied().unwrap_or(0);
@@ -160,7 +152,7 @@ fn push_right(text: &mut Vec<u8>, widths: &[usize], k: usize, cell: &[u8]) -> Re
     text.extend_from_slice(cell)
 }
 
-fn push_spaces(text: &mut Vec<u8>, count: usize) -> Result<(), AllocError>
+fn push_spaces(text: &mut Vec<u8>, count: usize) -> Pushed
     ensures { OnOk result (text.new.items ≡ text.old.items ++ replicate count 32) }
 {
     for _turn in 0..count {

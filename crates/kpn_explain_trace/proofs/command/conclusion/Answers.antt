@@ -4,28 +4,18 @@ use Rattle.kpn_net.specs.Tables.{Tables}
 use Rattle.kpn_audited.specs.declared.flaw.Flaw.{Flaw}
 use Rattle.kpn_audited.specs.Flaw.{IsTold}
 use Rattle.kpn_audited.specs.Audited.{IsFinding, IsFlaw}
-use Rattle.kpn_audited.proofs.Found.{journals_within}
 use Rattle.kpn_explain_trace.specs.Answers.{legal, budget}
 use Rattle.kpn_explain_trace.proofs.command.conclusion.Goals as goal
 
-pub text_of-requires-clause-channels : goal.text_of-requires-clause-channels
-text_of-requires-clause-channels c =
-    let t = c.args.document.now.tables in
-    let trace = c.args.trace.now in
-    let found =
-    subst (λ (n : Tables). IsFinding n trace c.args.steps c.in_ok-finding.finding) c.network.ensures
-    c.in_ok-finding.ensures.found in
-    journals_within t trace c.in-Legal.audit (subst (IsFinding t trace c.args.steps) c.in-Legal.is found).audited
-
-pub returns-in_ok-text_of-in-Legal-clause-ok : goal.returns-in_ok-text_of-in-Legal-clause-ok
-returns-in_ok-text_of-in-Legal-clause-ok c =
+pub returns-in_ok-legal_text-in-Legal-clause-ok : goal.returns-in_ok-legal_text-in-Legal-clause-ok
+returns-in_ok-legal_text-in-Legal-clause-ok c =
     let t = c.args.document.now.tables in
     let trace = c.args.trace.now in
     let found =
     subst (λ (n : Tables). IsFinding n trace c.args.steps c.in_ok-finding.finding) c.network.ensures
     c.in_ok-finding.ensures.found in (
       legal c.in-Legal.audit (subst (IsFinding t trace c.args.steps) c.in-Legal.is found)
-          c.in_ok-text_of-in-Legal.ensures refl,
+          c.in_ok-legal_text-in-Legal.ensures refl,
       c.new.ensures.items,
     )
 

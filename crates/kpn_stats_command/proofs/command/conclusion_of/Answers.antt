@@ -1,16 +1,9 @@
--- The figures are those of the history, and there is one of each part for each part of the network.
+-- The figures are those of the history, and there is one for each channel of the network.
 use Rattle.std.proofs.Common.{◌∙◌, ap, length, refl, subst}
 use Rattle.kpn_net.specs.Tables.{Tables}
-use Rattle.kpn_audited.specs.Audited.{IsFinding}
 use Rattle.kpn_stats_command.specs.Figures.{AreFigures}
-use Rattle.kpn_stats_command.proofs.Told.{caps_there, of_history}
+use Rattle.kpn_stats_command.proofs.Told.{of_history}
 use Rattle.kpn_stats_command.proofs.command.conclusion_of.Goals as goal
-
-pub text_of-requires-clause-caps : goal.text_of-requires-clause-caps
-text_of-requires-clause-caps c =
-    let a = c.args.audited.now in
-    let found = subst (IsFinding a.document.tables a.trace c.requires.0) c.in-Legal.is c.requires.1 in
-    caps_there a.document.tables a.trace c.requires.0 _ found
 
 pub text_of-requires-clause-channels : goal.text_of-requires-clause-channels
 text_of-requires-clause-channels c =

@@ -1,9 +1,6 @@
 -- What is told is told of what an audit finds.
 use Rattle.kpn_stats_command.proofs.command.stats_command.Goals as goal
 
-pub conclusion_of-requires : goal.conclusion_of-requires
-conclusion_of-requires g c = (c.args.steps, c.in_ok-audited.ensures.ok.found)
-
 pub returns-clause-ok : goal.returns-clause-ok
 returns-clause-ok g c = (
   record {
