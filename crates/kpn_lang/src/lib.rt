@@ -3,6 +3,8 @@
 #![tactic(auto)]
 
 mod chain;
+mod code;
+mod codes;
 mod instruction;
 pub mod laws;
 mod link;
@@ -16,7 +18,8 @@ mod syntax;
 mod talk;
 mod value;
 
-pub use chain::Chain;
+pub use chain::{Chain, value_once, value_twice};
+pub use code::{Code, Round};
 pub use instruction::Instruction;
 pub use link::Link;
 pub use plain::{Run, run_alone};
