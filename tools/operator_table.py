@@ -1,10 +1,18 @@
 #!/usr/bin/env python3
 """Writes the stored table of crates/check_operators: each operator on pairs at the ends of the range, with the right
-answer. It computes with whole numbers that have no bound."""
+answer. It computes with whole numbers that have no bound.
+
+It also writes the lines of crates/check_examples below the heading `# Operators in processes`: the same operators in
+assignments, with a variable or a number on each side, and the comparisons as tests. Each pair without a value has a
+process of its own."""
 import pathlib
 
 LEAST, MOST = -2**63, 2**63 - 1
 OPERANDS = [LEAST, LEAST + 1, -3037000500, -7, -2, -1, 0, 1, 2, 7, 3037000499, MOST - 1, MOST]
+FEWER = [LEAST, -1, 0, 3, MOST]
+FAULTS = ['overflow', 'zero-divisor']
+CRATES = pathlib.Path(__file__).resolve().parent.parent / 'crates'
+HEADING, NEXT = '# Operators in processes\n', '# The examples\n'
 
 
 def quotient(a, b):
@@ -38,6 +46,7 @@ OPERATORS = {
     '&&': lambda a, b: str(int(a != 0 and b != 0)),
     '||': lambda a, b: str(int(a != 0 or b != 0)),
 }
+NAMES = dict(zip(OPERATORS, 'sum difference product quotient rest lt le gt ge eq ne and or'.split()))
 
 
 def rows():
@@ -49,11 +58,61 @@ def rows():
                 yield f'{a} {spelling} {b}', give(a, b)
 
 
+# ---- operators in processes
+
+def number(value):
+    return f'(-{MOST} - 1)' if value == LEAST else str(value)
+
+
+def statements(names, spelling, a, b, is_test):
+    """What writes `a OP b`. The operands that have names are variables."""
+    sets = ''.join(f'{name} = {number(value)}; ' for name, value in zip('ab', (a, b)) if name in names)
+    left, right = (name if name in names else number(value) for name, value in zip('ab', (a, b)))
+    if is_test:
+        return f'{sets}if ({left} {spelling} {right}) {{ write o 1; }} else {{ write o 0; }}'
+    return f'{sets}c = ({left} {spelling} {right}); write o c;'
+
+
+def bodies(names):
+    """The name and the body of each process, and the items that it writes, or its fault."""
+    for spelling, give in OPERATORS.items():
+        answers = [(a, b, give(a, b)) for a in FEWER for b in FEWER]
+        for is_test in [False] + [True] * (len(spelling) == 2 or spelling in '<>'):
+            yield (f'if_{NAMES[spelling]}' if is_test else NAMES[spelling],
+                   ' '.join(statements(names, spelling, a, b, is_test) for a, b, answer in answers
+                            if answer not in FAULTS),
+                   [answer for _, _, answer in answers if answer not in FAULTS])
+        for k, (a, b, answer) in enumerate(row for row in answers if row[2] in FAULTS):
+            yield f'{NAMES[spelling]}{k}', statements(names, spelling, a, b, False), answer
+
+
+def network_of(names):
+    """The lines of a network whose operands of these names are variables, and what is written for them."""
+    parts = list(bodies(names))
+    processes = ' '.join(f'process {name}(out o) {{ {body} }}' for name, body, _ in parts)
+    channels = ' '.join(f'sink {name} cap 1;' for name, _, _ in parts)
+    instances = ' '.join(f'{name} = {name}(; {name});' for name, _, _ in parts)
+    lines = [f'file n {processes} network {{ {channels} {instances} }}', 'kpn run n']
+    report = [f'sink {name}:' + ''.join(f' {item}' for item in answer if answer not in FAULTS)
+              for name, _, answer in parts]
+    report += [f'fault {name} {answer}' for name, _, answer in parts if answer in FAULTS]
+    return lines, [f'$ {lines[0]}', f'$ {lines[1]}'] + report + ['ended']
+
+
+def write_between(file, lines):
+    """Writes the lines below the heading, up to the next."""
+    before, _, rest = file.read_text().partition(NEXT)
+    before = before.partition(HEADING)[0]
+    file.write_text(before + HEADING + ''.join(f'{line}\n' for line in lines) + NEXT + rest)
+
+
 def main():
-    folder = pathlib.Path(__file__).resolve().parent.parent / 'crates/check_operators'
     table = list(rows())
-    (folder / 'stdin').write_text(''.join(f'{line}\n' for line, _ in table))
-    (folder / 'stdout').write_text(''.join(f'{wanted}\n' for _, wanted in table))
+    (CRATES / 'check_operators/stdin').write_text(''.join(f'{line}\n' for line, _ in table))
+    (CRATES / 'check_operators/stdout').write_text(''.join(f'{wanted}\n' for _, wanted in table))
+    networks = [network_of(names) for names in ('ab', 'a', 'b')]
+    write_between(CRATES / 'check_examples/stdin', sum((given for given, _ in networks), []))
+    write_between(CRATES / 'check_examples/stdout', sum((wanted for _, wanted in networks), []))
 
 
 if __name__ == '__main__':
