@@ -20,6 +20,7 @@ mod value;
 
 pub use chain::{Chain, value_once, value_twice};
 pub use code::{Code, Round};
+pub use codes::Coded;
 pub use instruction::Instruction;
 pub use link::Link;
 pub use plain::{Run, run_alone};

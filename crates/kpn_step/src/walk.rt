@@ -15,10 +15,11 @@ pub(crate) fn walk(program: &Program, frame: &mut Frame, quota: u64) -> (u64, St
     ensures { Walked program.now.blocks quota frame.old result.0 result.1 frame.new }
 {
     program.known();
+    let codes = program.codes();
     let mut at = frame.position(program);
     let mut left = quota;
     'steps: loop {
-        if frame.follow(program, &mut at, &mut left) {
+        if frame.follow(program, codes, &mut at, &mut left) {
             continue 'steps;
         }
         frame.stand(program, at);

@@ -9,8 +9,8 @@ pub steps-init : goal.steps-init
 steps-init c =
     Walking-start c.args.program.now c.args.quota c.args.frame.now c.position-at.result c.position-at.ensures c.requires
 
-pub follow-requires : goal.follow-requires
-follow-requires c = c.steps.invariant.fits
+pub follow-requires-clause-fits : goal.follow-requires-clause-fits
+follow-requires-clause-fits c = c.steps.invariant.fits
 
 pub steps-preserved-then-follow : goal.steps-preserved-then-follow
 steps-preserved-then-follow c =
