@@ -122,18 +122,23 @@ fn write_ends<A: Allocator>(text: &mut String, view: &View<A>) -> Result<()> {
     Ok(())
 }
 
-/// A snapshot: its journals, which are short, and then the other lists.
-fn view<A: Allocator>(alloc: Global, heap: &LocalHeap, book: &Book<'_, A>) -> Result<String> {
-    let Ok(view) = book.snapshot(heap) else {
-        return Ok(format!(in alloc; "Err(NoMemory)")?);
-    };
+/// A view: its journals, which are short, and then the other lists.
+fn view_text<A: Allocator>(alloc: Global, view: &View<A>) -> Result<String> {
     let mut text = format!(in alloc; "Ok")?;
     for journal in view.journals.as_slice() {
         let items = journal.piece_at(0);
         write!(text, "\n  journal {items:?}")?;
     }
-    write_ends(&mut text, &view)?;
+    write_ends(&mut text, view)?;
     Ok(text)
+}
+
+/// A snapshot.
+fn view<A: Allocator>(alloc: Global, heap: &LocalHeap, book: &Book<'_, A>) -> Result<String> {
+    match book.snapshot(heap) {
+        Ok(view) => view_text(alloc, &view),
+        Err(_) => Ok(format!(in alloc; "Err(NoMemory)")?),
+    }
 }
 
 /// Makes a call.
