@@ -17,7 +17,7 @@ use Rattle.kpn_description_commands.specs.Rounds.{IsRounds}
 use Rattle.kpn_run_command.specs.Run.{IsRun, IsNoRun}
 use Rattle.kpn_audit_command.specs.Answers.{AnswersAudit}
 use Rattle.kpn_explain_command.specs.Answers.{IsExplained, IsRefusalOfExplaining, AreItemsExplained, IsRefusalOfItems}
-use Rattle.kpn_explain_trace.specs.Answers.{IsExplained as IsTraceExplained}
+use Rattle.kpn_explain_trace.specs.Answers as traces
 use Rattle.kpn_draw_command.specs.Answers.{IsDrawn, IsRefusalOfDrawing}
 use Rattle.kpn_stats_command.specs.Answers.{AreStats}
 use Rattle.kpn_command_line.specs.Asked.{AreUnclear, IsAsked}
@@ -43,7 +43,8 @@ abbrev pub Explains : (may_give : Loads) (file : List ℕ) (trace : Option (List
 Explains may_give file None steps answer =
     Answers (Tells (IsExplained may_give file)) (IsRefusalOfExplaining may_give file) answer
 Explains may_give file (Some trace) steps answer =
-    Answers (Tells (IsTraceExplained may_give file trace steps)) (IsRefusalOfAudit may_give file trace) answer
+    Answers (Tells (traces.IsExplained may_give file trace steps)) (traces.IsRefusalOfExplaining may_give file trace)
+    answer
 
 -- What is answered to a request. Given is the input as it was and as it is afterwards: only `alone` reads it.
 abbrev pub IsAnswer : {I : Type 0} → (may_give : Loads) (may_alias : Aliases) (remaining : I → Option (List ℕ))

@@ -15,9 +15,9 @@ use Rattle.kpn_refusals.specs.declared.refusal.Refusal.{Refusal}
 use Rattle.kpn_refusals.specs.declared.refusal.Refusal.TheVariants as refusal
 use Rattle.kpn_shelf.specs.Shelf.{Loads}
 use Rattle.kpn_inputs.specs.Description.{IsDescribed}
-use Rattle.kpn_audited.specs.Audited.{IsNoFinding, IsRefusalOfAudit}
+use Rattle.kpn_audited.specs.Audited.{IsNoFinding}
 use Rattle.kpn_explain_trace.specs.ExplainText.{illegal_text}
-use Rattle.kpn_explain_trace.specs.Answers.{IsConclusion, IsNoExplanation, illegal}
+use Rattle.kpn_explain_trace.specs.Answers.{IsConclusion, IsNoExplanation, IsRefusalOfExplaining, illegal}
 
 -- ---- conclusions
 
@@ -45,12 +45,12 @@ no_explanation t bytes trace spelled refusal.NoMemoryToAudit cause = tt
 no_explanation t bytes trace spelled refusal.NoMemory cause = tt
 no_explanation t bytes trace spelled other cause = absurd cause
 
-pub refused_as_audit : (may_give : Loads) (file trace : List ℕ) (d : Document) → IsDescribed may_give file d
+pub is_refusal : (may_give : Loads) (file trace : List ℕ) (d : Document) → IsDescribed may_give file d
     → (bytes : List ℕ) → may_give trace (Ok bytes) → (r : Refusal) → IsNoExplanation d.tables bytes r
-    → IsRefusalOfAudit may_give file trace r
-refused_as_audit may_give file trace d described bytes loaded (refusal.Trace fault) cause =
-    ((d, described), record { bytes = bytes; loaded = loaded; read = cause })
-refused_as_audit may_give file trace d described bytes loaded refusal.PolicyDiffers cause =
+    → IsRefusalOfExplaining may_give file trace r
+is_refusal may_give file trace d described bytes loaded (refusal.Trace fault) cause =
+    (((d, described), record { bytes = bytes; loaded = loaded; read = cause.0 }), cause.1)
+is_refusal may_give file trace d described bytes loaded refusal.PolicyDiffers cause =
     record {
       document = d;
       described = described;
@@ -58,6 +58,6 @@ refused_as_audit may_give file trace d described bytes loaded refusal.PolicyDiff
       traced = record { bytes = bytes; loaded = loaded; read = cause.1 };
       differs = cause.2;
     }
-refused_as_audit may_give file trace d described bytes loaded refusal.NoMemoryToAudit cause = tt
-refused_as_audit may_give file trace d described bytes loaded refusal.NoMemory cause = tt
-refused_as_audit may_give file trace d described bytes loaded other cause = absurd cause
+is_refusal may_give file trace d described bytes loaded refusal.NoMemoryToAudit cause = tt
+is_refusal may_give file trace d described bytes loaded refusal.NoMemory cause = tt
+is_refusal may_give file trace d described bytes loaded other cause = absurd cause

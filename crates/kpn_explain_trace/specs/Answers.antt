@@ -14,11 +14,12 @@ use Rattle.kpn_audit.specs.Scene.{IsSceneBefore}
 use Rattle.kpn_audit.specs.Stored.{Differs}
 use Rattle.kpn_refusals.specs.declared.refusal.Refusal.{Refusal}
 use Rattle.kpn_refusals.specs.declared.refusal.Refusal.TheVariants as refusal
+use Rattle.kpn_refusals.specs.Refusal.{status_of}
 use Rattle.kpn_shelf.specs.Shelf.{Loads}
 use Rattle.kpn_inputs.specs.Description.{IsDescribed}
 use Rattle.kpn_audited.specs.AuditText.{audit_text}
 use Rattle.kpn_audited.specs.Flaw.{event_line}
-use Rattle.kpn_audited.specs.Audited.{IsFoundLegal}
+use Rattle.kpn_audited.specs.Audited.{IsFoundLegal, IsRefusalOfAudit}
 use Rattle.kpn_explain_trace.specs.ExplainText.{refused_text, illegal_text}
 
 -- the text and the status for a trace: the lines of the audit if its history is legal, 0; what stands before the first
@@ -55,8 +56,14 @@ pub record IsExplained (may_give : Loads) (file trace : List ℕ) (steps : ℕ) 
 
 -- the bytes spell a trace of other rules of growth, or memory ran out
 abbrev pub IsNoExplanation : Tables → (bytes : List ℕ) → Refusal → Type 0
-IsNoExplanation t bytes (refusal.Trace fault) = Refuses bytes fault
+IsNoExplanation t bytes (refusal.Trace fault) = Refuses bytes fault × (status_of (refusal.Trace fault) ≡ 6)
 IsNoExplanation t bytes refusal.PolicyDiffers = (trace : Trace Global) × Spells bytes trace × Differs t trace
 IsNoExplanation t bytes refusal.NoMemoryToAudit = ⊤
 IsNoExplanation t bytes refusal.NoMemory = ⊤
 IsNoExplanation t bytes other = ⊥
+
+-- why nothing is explained: as nothing is audited, but bytes that spell no trace are explained
+abbrev pub IsRefusalOfExplaining : (may_give : Loads) (file trace : List ℕ) → Refusal → Type 0
+IsRefusalOfExplaining may_give file trace (refusal.Trace fault) =
+    IsRefusalOfAudit may_give file trace (refusal.Trace fault) × (status_of (refusal.Trace fault) ≡ 6)
+IsRefusalOfExplaining may_give file trace other = IsRefusalOfAudit may_give file trace other

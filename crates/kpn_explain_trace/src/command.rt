@@ -3,8 +3,9 @@ ghost use Rattle.std.specs.Prelude.{◌≡◌, ◌<◌, ℕ, length, IfOk, IfErr
 ghost use Rattle.kpn_conclusion.specs.Conclusion.{Tells};
 ghost use Rattle.kpn_audit.specs.declared.findings.AuditFault.TheVariants.{Illegal};
 ghost use Rattle.kpn_audit.specs.Audit.{IsRefusal};
-ghost use Rattle.kpn_audited.specs.Audited.{IsNoFinding, IsRefusalOfAudit};
-ghost use Rattle.kpn_explain_trace.specs.Answers.{IsConclusion, IsExplained, IsExplanation, IsNoExplanation};
+ghost use Rattle.kpn_audited.specs.Audited.{IsNoFinding};
+ghost use Rattle.kpn_explain_trace.specs.Answers.{IsConclusion, IsExplained, IsExplanation};
+ghost use Rattle.kpn_explain_trace.specs.Answers.{IsNoExplanation, IsRefusalOfExplaining};
 
 use crate::text::{illegal_text, refused_text};
 use kpn_audit::scene_before;
@@ -30,7 +31,8 @@ pub fn explain_trace_command<S: Shelf>(
 ) -> Result<Conclusion, Refusal>
     ensures ok { IfOk result
         (Tells (IsExplained (S.may_give shelf.now) file.now trace.now steps)) }
-    ensures refused { IfErr result (IsRefusalOfAudit (S.may_give shelf.now) file.now trace.now) }
+    ensures refused { IfErr result
+        (IsRefusalOfExplaining (S.may_give shelf.now) file.now trace.now) }
 {
     let document = load_document(alloc, shelf, file)?;
     match shelf.load(alloc, trace) {

@@ -1,7 +1,7 @@
 -- The one file spells the document, and the other gives the bytes.
 use Rattle.std.proofs.Common.{List, ℕ, Ok, inr, sym, subst}
 use Rattle.std.proofs.lemmas.Result.{IfOk-weaker, IfErr-weaker}
-use Rattle.kpn_explain_trace.proofs.Conclusions.{refused_as_audit}
+use Rattle.kpn_explain_trace.proofs.Conclusions.{is_refusal}
 use Rattle.kpn_explain_trace.proofs.command.explain_trace_command.Goals as goal
 
 pub returns-in-Ok-clause-ok : goal.returns-in-Ok-clause-ok
@@ -23,7 +23,7 @@ returns-in-Ok-clause-ok g c =
 pub returns-in-Ok-clause-refused : goal.returns-in-Ok-clause-refused
 returns-in-Ok-clause-refused g c =
     IfErr-weaker c.explanation.result _ _
-    (refused_as_audit (g.S.Shelf.may_give c.args.shelf.now) c.args.file.now c.args.trace.now c.in_ok-document.document
+    (is_refusal (g.S.Shelf.may_give c.args.shelf.now) c.args.file.now c.args.trace.now c.in_ok-document.document
     c.in_ok-document.ensures.ok c.deref.result.now
     (subst (λ (bytes : List ℕ). g.S.Shelf.may_give c.args.shelf.now c.args.trace.now (Ok bytes))
     (sym c.deref.ensures.value) c.in-Ok.ensures.given))
