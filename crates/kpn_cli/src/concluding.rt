@@ -2,7 +2,7 @@
 ghost use Rattle.std.specs.Prelude.{map, OnOk, OnErr};
 ghost use Rattle.std.specs.Io.KnownBytes.{Appends};
 ghost use Rattle.kpn_conclusion.specs.Conclusion.{stored_as};
-ghost use Rattle.kpn_cli.specs.Concludes.{AreStored, Concludes, IsCarriedOut, IsCutShort};
+ghost use Rattle.kpn_cli.specs.Concludes.{AreStored, Concludes, IsCutShort};
 
 use kpn_conclusion::{Conclusion, OutputFile};
 use kpn_items::WriteFault;
@@ -10,7 +10,8 @@ use kpn_refusals::Refusal;
 use kpn_shelf::Shelf;
 use std::io::Write;
 
-/// Carries out a conclusion, or reports why there is none. It returns the status that the program ends with.
+/// Carries out a conclusion: it stores the files, and then writes the text. Or it reports why there is none. It returns
+/// the status that the program ends with.
 pub(crate) fn conclude<S: Shelf, O: Write, E: Write>(
     answer: Result<Conclusion, Refusal>,
     shelf: &mut S,
@@ -20,22 +21,10 @@ pub(crate) fn conclude<S: Shelf, O: Write, E: Write>(
     ensures { Concludes S.may_give O.contents answer shelf.old shelf.new out.old out.new
         err.old err.new result }
 {
-    match answer {
-        Ok(conclusion) => carry_out(&conclusion, shelf, out, err),
-        Err(refusal) => refusal.report(err),
-    }
-}
-
-// Stores the files, and then writes the text.
-fn carry_out<S: Shelf, O: Write, E: Write>(
-    conclusion: &Conclusion,
-    shelf: &mut S,
-    out: &mut O,
-    err: &mut E,
-) -> u8
-    ensures { IsCarriedOut S.may_give O.contents conclusion.now shelf.old shelf.new out.old out.new
-        err.old err.new result }
-{
+    let conclusion = match answer {
+        Ok(conclusion) => conclusion,
+        Err(refusal) => return refusal.report(err),
+    };
     match store_files(shelf, &conclusion.files) {
         Ok(()) => match write_whole(out, &conclusion.text) {
             Ok(()) => conclusion.status,

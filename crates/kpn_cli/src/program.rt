@@ -1,14 +1,12 @@
 //! The whole program: what the words of a command line ask for is answered, and the answer is carried out.
 ghost use Rattle.std.specs.Prelude.{map};
 ghost use Rattle.std.specs.String.{string_bytes};
-ghost use Rattle.kpn_cli.specs.Command.{IsAnswer, Runs};
+ghost use Rattle.kpn_cli.specs.Command.{Runs};
 
 use crate::concluding::conclude;
 use crate::here::{Progress, answer_here};
 use crate::usage::refuse;
-use kpn_command_line::{Request, read_words};
-use kpn_conclusion::Conclusion;
-use kpn_refusals::Refusal;
+use kpn_command_line::read_words;
 use kpn_run_command::run_command_by_workers;
 use kpn_shelf::Shelf;
 use std::alloc::Global;
@@ -35,27 +33,13 @@ pub fn command<R: Threads + Wait + Clock + Sync, S: Shelf, I: Read, O: Write, E:
         shelf.old shelf.new input.old input.new out.old out.new err.old err.new result }
 {
     match read_words(alloc, words) {
-        Ok(request) => {
-            let answer = answer(rt, alloc, request, shelf, input);
-            conclude(answer, shelf, out, err)
-        }
+        Ok(request) => match answer_here(alloc, request, shelf, input) {
+            Progress::Answered(answer) => conclude(answer, shelf, out, err),
+            Progress::NeedsWorkers(run) => {
+                let answer = run_command_by_workers(rt, alloc, &run, shelf);
+                conclude(answer, shelf, out, err)
+            }
+        },
         Err(fault) => refuse(&fault, err),
-    }
-}
-
-// The answer to a request, by workers if it asks for a run by them.
-fn answer<R: Threads + Wait + Clock + Sync, S: Shelf, I: Read>(
-    rt: &R,
-    alloc: Global,
-    request: Request<'_>,
-    shelf: &S,
-    input: &mut I,
-) -> Result<Conclusion, Refusal>
-    ensures { IsAnswer (S.may_give shelf.now) (S.may_alias shelf.now) I.remaining request.entry
-        input.old input.new result }
-{
-    match answer_here(alloc, request, shelf, input) {
-        Progress::Answered(answer) => answer,
-        Progress::NeedsWorkers(run) => run_command_by_workers(rt, alloc, &run, shelf),
     }
 }

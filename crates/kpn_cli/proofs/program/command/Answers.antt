@@ -17,9 +17,16 @@ refused may_give may_alias remaining contents asked shelf input out err told sta
 refused may_give may_alias remaining contents asked shelf input out err told status NoMemory is cause =
     unread refl refl refl is
 
-pub returns-in-Ok : goal.returns-in-Ok
-returns-in-Ok g c =
-    answers c.in-Ok.request c.in-Ok.ensures c.answer-answer.result c.answer-answer.ensures c.conclude.ensures
+pub returns-in-Answered : goal.returns-in-Answered
+returns-in-Answered g c =
+    answers c.in-Ok.request c.in-Ok.ensures c.in-Answered.answer c.in-Answered.ensures c.conclude.ensures
+
+pub returns-in-NeedsWorkers : goal.returns-in-NeedsWorkers
+returns-in-NeedsWorkers g c =
+    let made = c.run_command_by_workers-answer in
+    answers c.in-Ok.request c.in-Ok.ensures made.result
+    (rw c.in-NeedsWorkers.ensures.0 (c.in-NeedsWorkers.ensures.2, (made.ensures.ok, made.ensures.refused)))
+    c.conclude-in-NeedsWorkers.ensures
 
 pub returns-in-Err : goal.returns-in-Err
 returns-in-Err g c =
