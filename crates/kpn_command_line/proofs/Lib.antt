@@ -1,4 +1,3 @@
-pub mod Adding
 pub mod Given
 pub mod Helping
 pub mod Nothing

@@ -1,25 +1,25 @@
 -- Words that name a command and do not give it what it needs ask for nothing.
-use Rattle.std.proofs.Common.{◌≡◌, ◌∙◌, ℕ, true, false, true≢false, List, [], refl, sym, ap, subst, inl, inr}
-use Rattle.std.proofs.Common.{Option, Some, None, codes}
-use Rattle.std.specs.Prelude.{◌≢◌, unwrap_or}
+use Rattle.std.proofs.Common.{◌≡◌, ◌∙◌, ◌||◌, ℕ, Bool, true, false, true≢false, List, [], ◌∷◌, map, refl, sym, ap, subst}
+use Rattle.std.proofs.Common.{inl, inr, Option, Some, None, codes, Result, Ok, Err}
+use Rattle.std.specs.Prelude.{unwrap_or, MatchResult}
+use Rattle.std.specs.List.{list_any}
 use Rattle.std.specs.Option.{is_some}
 use Rattle.std.specs.Str.{bytes_eq}
+use Rattle.std.proofs.lemmas.Slice.Eq.{bytes_eq-Decides}
 use Rattle.clap.specs.Kinds.{IsAmong}
 use Rattle.clap.specs.Faults.{fault_of}
 use Rattle.clap.specs.Walk.{Row}
 use Rattle.clap.specs.declared.error.kind.ErrorKind.TheVariants.{DisplayHelp, DisplayVersion}
 use Rattle.kpn_command_line.specs.declared.request.Request.{Request}
-use Rattle.kpn_command_line.specs.declared.request.Request.TheVariants.{Alone, Check, Explain, ExplainItems}
-use Rattle.kpn_command_line.specs.declared.request.Request.TheVariants.{Print, Draw, Rounds, Run}
-use Rattle.kpn_command_line.specs.declared.request.Request.TheVariants.{Audit, Stats, Help}
+use Rattle.kpn_command_line.specs.declared.request.Request.TheVariants.{Explain, ExplainItems, Rounds, Stats, Help}
 use Rattle.kpn_command_line.specs.declared.request.WordsFault.{WordsFault}
 use Rattle.kpn_command_line.specs.declared.request.WordsFault.TheVariants.{Usage, NoMemory}
-use Rattle.kpn_command_line.specs.CommandLine.{command_line}
-use Rattle.kpn_command_line.specs.Asked.{AsksForHelp, AskForNothing, IsAsked, IsNoTable, IsRefused, IsUsageIf, Names}
-use Rattle.kpn_command_line.specs.Asked.{Gives, command_of, text_for, number_for, is_set}
+use Rattle.kpn_command_line.specs.CommandLine.{all_words, command_line}
+use Rattle.kpn_command_line.specs.Asked.{AnswersTo, AsksForHelp, IsAsked, IsNoneOf, IsNoTable, IsOf, IsRefused, IsUsageIf}
+use Rattle.kpn_command_line.specs.Asked.{Names, Gives, command_of, text_for, number_for, is_set}
 
-differ : (a b : List ℕ) → bytes_eq a a ≡ true → bytes_eq a b ≡ false → a ≡ b → ⊥
-differ a b same other e = true≢false (sym same ∙ (ap (bytes_eq a) e ∙ other))
+differ : (a b : List ℕ) → bytes_eq a a ≡ true → bytes_eq a b ≡ false → b ≡ a → ⊥
+differ a b same other e = true≢false (sym same ∙ (ap (bytes_eq a) (sym e) ∙ other))
 
 some_not_none : {X : Type 0} (o : Option X) (x : X) → o ≡ None → o ≡ Some x → ⊥
 some_not_none o x none some = true≢false (ap is_some (sym some ∙ none))
@@ -37,60 +37,67 @@ no_help words none (inl help) = subst (IsAmong DisplayHelp) none help
 no_help words none (inr version) = subst (IsAmong DisplayVersion) none version
 
 module _ (words : List (List ℕ)) (command : List ℕ) (given : List Row) (names : Names words command given) where
-  same : (other : List ℕ) (more : List Row) → Names words other more → (command ≡ other) × (given ≡ more)
-  same other more also = same_names words command other given more names also
+  is_asked : (request : Request) → IsOf command given request → IsAsked words request
+  is_asked (Help text) is = absurd is.1
+  is_asked other is = (given, subst (λ (name : List ℕ). Names words name given) (sym is.0) names, is.1)
 
-  taken : (request : Request) → IsAsked words request → (command ≡ command_of request) × Gives given request
-  taken (Help text) asked = absurd (no_help words names.0 asked)
-  taken other asked =
-      let is = same _ _ asked.1 in (is.0, subst (λ (rows : List Row). Gives rows other) (sym is.1) asked.2)
+  is_of : (request : Request) → IsAsked words request → IsOf command given request
+  is_of (Help text) asked = absurd (no_help words names.0 asked)
+  is_of other asked =
+      let is = same_names words command _ given _ names asked.1 in
+      (sym is.0, subst (λ (rows : List Row). Gives rows other) (sym is.1) asked.2)
 
-  -- the command is none of the program
-  abbrev IsOther : Type 0
-  IsOther = (command ≢ codes "alone") × (command ≢ codes "check") × (command ≢ codes "explain")
-      × (command ≢ codes "print") × (command ≢ codes "draw") × (command ≢ codes "rounds") × (command ≢ codes "run")
-      × (command ≢ codes "audit") × (command ≢ codes "stats")
+  -- the answer to the command is the one to the words
+  pub answer_to_words : (result : Result Request WordsFault) → AnswersTo command given result
+      → MatchResult result (IsAsked words) (IsRefused words)
+  answer_to_words (Ok request) is = is_asked request is
+  answer_to_words (Err (Usage text)) none = inr (λ request asked. none request (is_of request asked))
+  answer_to_words (Err NoMemory) none = tt
 
-  pub no_command : IsOther → AskForNothing words
-  no_command other (Alone name) asked = other.0 (taken (Alone name) asked).0
-  no_command other (Check file) asked = other.1 (taken (Check file) asked).0
-  no_command other (Explain file trace steps) asked = other.2 (taken (Explain file trace steps) asked).0
-  no_command other (ExplainItems file) asked = other.2 (taken (ExplainItems file) asked).0
-  no_command other (Print file) asked = other.3 (taken (Print file) asked).0
-  no_command other (Draw file trace) asked = other.4 (taken (Draw file trace) asked).0
-  no_command other (Rounds file n sources) asked = other.5 (taken (Rounds file n sources) asked).0
-  no_command other (Run run) asked = other.6 (taken (Run run) asked).0
-  no_command other (Audit file trace steps) asked = other.7 (taken (Audit file trace steps) asked).0
-  no_command other (Stats file trace steps tables) asked = other.8 (taken (Stats file trace steps tables) asked).0
-  no_command other (Help text) asked = no_help words names.0 asked
-
-module _ (words : List (List ℕ)) (given : List Row) where
-  pub no_number : Names words (codes "rounds") given → number_for 32 (codes "N") given ≡ None → AskForNothing words
-  no_number names none (Rounds file n sources) asked =
-      some_not_none _ _ none (taken words _ given names (Rounds file n sources) asked).1.1
-  no_number names none other asked =
-      differ (codes "rounds") (command_of other) refl refl (taken words _ given names other asked).0
-
-  pub no_table : Names words (codes "stats") given → IsNoTable (text_for (codes "TABLE") given) → AskForNothing words
-  no_table names none (Stats file trace steps tables) asked =
-      none tables (taken words _ given names (Stats file trace steps tables) asked).1.3
-  no_table names none other asked =
-      differ (codes "stats") (command_of other) refl refl (taken words _ given names other asked).0
-
-  pub no_items_with_trace : Names words (codes "explain") given → (it : List ℕ)
-      → is_set (codes "ITEMS") given ≡ true → text_for (codes "TRACE") given ≡ Some it → AskForNothing words
-  no_items_with_trace names it set some (Explain file trace steps) asked =
-      true≢false (sym set ∙ (taken words _ given names (Explain file trace steps) asked).1.3)
-  no_items_with_trace names it set some (ExplainItems file) asked =
-      some_not_none _ _ (taken words _ given names (ExplainItems file) asked).1.1 some
-  no_items_with_trace names it set some other asked =
-      differ (codes "explain") (command_of other) refl refl (taken words _ given names other asked).0
-
--- words that ask for nothing are refused
-pub refused : (words : List (List ℕ)) (fault : WordsFault) → AskForNothing words → IsRefused words fault
-refused words (Usage text) nothing = inr nothing
-refused words NoMemory nothing = tt
+-- a fault about the use of words has the cause that follows from its own
+pub usage_for : (cause more : Type 0) (fault : WordsFault) → (cause → more) → IsUsageIf cause fault
+    → IsUsageIf more fault
+usage_for cause more (Usage text) follows holds = follows holds
+usage_for cause more NoMemory follows holds = tt
 
 pub usage_if : (cause : Type 0) (fault : WordsFault) → cause → IsUsageIf cause fault
 usage_if cause (Usage text) holds = holds
 usage_if cause NoMemory holds = tt
+
+-- ---- no command has this name
+
+differs : (names : List (List ℕ)) (name other : List ℕ) → IsNoneOf names name
+    → list_any (bytes_eq other) names ≡ true → other ≡ name → ⊥
+differs [] name other none known e = true≢false (sym known)
+differs (first ∷ names) name other none known e =
+    go (bytes_eq other first) refl (λ more. differs names name other none.1 more e)
+  where
+    go : (b : Bool) → bytes_eq other first ≡ b → (list_any (bytes_eq other) names ≡ true → ⊥) → ⊥
+    go true t rest = none.0 (sym e ∙ (bytes_eq-Decides other first).0 t)
+    go false t rest = rest (ap (λ b. b || list_any (bytes_eq other) names) (sym t) ∙ known)
+
+abbrev pub names_known : List (List ℕ)
+names_known = map (λ words. words.top.name) all_words
+
+pub no_command : (name : List ℕ) (given : List Row) → IsNoneOf names_known name → (request : Request)
+    → IsOf name given request → ⊥
+no_command name given none (Help text) is = is.1
+no_command name given none other is = differs names_known name (command_of other) none refl is.0
+
+-- ---- a command without what it needs
+
+module _ (given : List Row) where
+  pub no_number : number_for 32 (codes "N") given ≡ None → (request : Request) → IsOf (codes "rounds") given request → ⊥
+  no_number none (Rounds file n sources) is = some_not_none _ _ none is.1.1
+  no_number none other is = differ (codes "rounds") (command_of other) refl refl is.0
+
+  pub no_table : IsNoTable (text_for (codes "TABLE") given) → (request : Request)
+      → IsOf (codes "stats") given request → ⊥
+  no_table none (Stats file trace steps tables) is = none tables is.1.3
+  no_table none other is = differ (codes "stats") (command_of other) refl refl is.0
+
+  pub no_items_with_trace : (it : List ℕ) → is_set (codes "ITEMS") given ≡ true
+      → text_for (codes "TRACE") given ≡ Some it → (request : Request) → IsOf (codes "explain") given request → ⊥
+  no_items_with_trace it set some (Explain file trace steps) is = true≢false (sym set ∙ is.1.3)
+  no_items_with_trace it set some (ExplainItems file) is = some_not_none _ _ is.1.1 some
+  no_items_with_trace it set some other is = differ (codes "explain") (command_of other) refl refl is.0

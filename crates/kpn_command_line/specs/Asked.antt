@@ -1,5 +1,5 @@
 -- What the words of a command line ask for.
-use Rattle.std.specs.Prelude.{◌≡◌, ◌≢◌, ◌⊎◌, ◌&&◌, ◌^◌, ℕ, nat_lt, List, []}
+use Rattle.std.specs.Prelude.{◌≡◌, ◌≢◌, ◌⊎◌, ◌&&◌, ◌^◌, ℕ, nat_lt, List, [], ◌∷◌}
 use Rattle.std.specs.Prelude.{Option, Some, None, option_map, option_and_then, unwrap_or, map, codes, ⊤}
 use Rattle.std.specs.Prelude.{if◌then◌else◌, Result, MatchResult}
 use Rattle.std.specs.Prelude.{Bool, true, false}
@@ -152,11 +152,25 @@ IsRefused words NoMemory = ⊤
 abbrev pub rows_in : ArgMatches → List Row
 rows_in matches = rows_of (found_of matches)
 
--- of all words that name this command and give it this, the answer is what they ask for, or why they are refused
-abbrev pub AnswersTo : (command : List ℕ) → ArgMatches → Result Request WordsFault → Type 0
-AnswersTo command matches result =
-    (words : List (List ℕ)) → Names words command (rows_in matches)
-    → MatchResult result (IsAsked words) (IsRefused words)
+-- the request is for this command, which is given what the request has
+abbrev pub IsOf : (command : List ℕ) (given : List Row) → Request → Type 0
+IsOf command given request = (command_of request ≡ command) × Gives given request
+
+-- a fault about the use of words comes only if this holds
+abbrev pub IsUsageIf : (cause : Type 0) → WordsFault → Type 0
+IsUsageIf cause (Usage text) = cause
+IsUsageIf cause NoMemory = ⊤
+
+-- The answer to a command that is given this is a request of it. A fault about the use of words comes only if there is
+-- none.
+abbrev pub AnswersTo : (command : List ℕ) (given : List Row) → Result Request WordsFault → Type 0
+AnswersTo command given result =
+    MatchResult result (IsOf command given) (IsUsageIf ((request : Request) → IsOf command given request → ⊥))
+
+-- the name is none of these
+abbrev pub IsNoneOf : (names : List (List ℕ)) (name : List ℕ) → Type 0
+IsNoneOf [] name = ⊤
+IsNoneOf (first ∷ names) name = (name ≢ first) × IsNoneOf names name
 
 -- help, if `clap` stops for it
 abbrev pub IsHelpOfKind : ErrorKind → Request → Type 0
@@ -168,11 +182,6 @@ abbrev pub IsRefusalOfKind : ErrorKind → WordsFault → Type 0
 IsRefusalOfKind kind (Usage text) =
     (kind ≢ DisplayHelp) × (kind ≢ DisplayVersion) × (kind ≢ OutOfMemory)
 IsRefusalOfKind kind NoMemory = ⊤
-
--- a fault about the use of words comes only if this holds
-abbrev pub IsUsageIf : (cause : Type 0) → WordsFault → Type 0
-IsUsageIf cause (Usage text) = cause
-IsUsageIf cause NoMemory = ⊤
 
 -- this text names no table
 abbrev pub IsNoTable : Option (List ℕ) → Type 0

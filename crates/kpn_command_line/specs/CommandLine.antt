@@ -1,6 +1,6 @@
 -- The command line of the program, as a description that `clap` reads: the commands, the words of each in their order,
 -- and its options. No word and no option has a rule about another.
-use Rattle.std.specs.Prelude.{◌≡◌, ℕ, pos, true, false, List, [], ◌∷◌, Some, codes}
+use Rattle.std.specs.Prelude.{◌≡◌, ℕ, pos, true, false, List, [], ◌∷◌, map, take, Some, codes}
 use Rattle.clap.specs.Walk.{Rule, rule_of}
 use Rattle.clap.specs.Simple.{App, app_of, new_app, new_rule, new_shape, on_top}
 use Rattle.clap.specs.declared.builder.command.Command.TheViews.{out-Command as fields_of}
@@ -104,6 +104,12 @@ audit_words = command (codes "audit") (file_word ∷ trace_word ∷ steps_option
 abbrev pub stats_words : App
 stats_words = command (codes "stats") (file_word ∷ trace_word ∷ steps_option ∷ table_option ∷ [])
 
+-- the words of all commands, in the order in which help lists these
+abbrev pub all_words : List App
+all_words =
+    alone_words ∷ check_words ∷ explain_words ∷ print_words ∷ draw_words ∷ rounds_words ∷ run_words ∷ audit_words
+    ∷ stats_words ∷ []
+
 -- the program, which has a version and one command on each line
 abbrev pub command_line : App
 command_line = record {
@@ -113,8 +119,7 @@ command_line = record {
     subcommand_required = true;
     arg_required_else_help = true;
   };
-  subs = alone_words.top ∷ check_words.top ∷ explain_words.top ∷ print_words.top ∷ draw_words.top ∷ rounds_words.top
-      ∷ run_words.top ∷ audit_words.top ∷ stats_words.top ∷ [];
+  subs = map (λ words. words.top) all_words;
 }
 
 -- ---- scaffolding: what the code describes to `clap`
@@ -126,6 +131,10 @@ IsArg rule arg = (rule_of arg ≡ rule) × (arg.global ≡ false)
 -- this command, all words of which belong to it only
 abbrev pub IsCommand : App → Command → Type 0
 IsCommand app command = (app_of command ≡ app) × ((fields_of command).has_globals ≡ false)
+
+-- the program with so many of its commands
+abbrev pub first_commands : ℕ → App
+first_commands n = record command_line { subs = take n command_line.subs }
 
 -- the program without its commands
 abbrev pub bare_command_line : App

@@ -2,7 +2,6 @@
 #![tactic(auto)]
 
 mod command_line;
-mod help;
 mod request;
 mod words;
 

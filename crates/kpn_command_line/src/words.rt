@@ -64,7 +64,7 @@ fn command_request<'a>(
     command: &str,
     given: &ArgMatches<'a>,
 ) -> Result<Request<'a>, WordsFault>
-    ensures { AnswersTo command.now given.now result }
+    ensures { AnswersTo command.now (rows_in given.now) result }
 {
     match command {
         "alone" => Ok(Request::Alone(required(program, given, NAME)?)),
@@ -98,7 +98,7 @@ fn explain_request<'a>(
     program: &mut Command<'a>,
     explain: &ArgMatches<'a>,
 ) -> Result<Request<'a>, WordsFault>
-    ensures { AnswersTo (codes "explain") explain.now result }
+    ensures { AnswersTo (codes "explain") (rows_in explain.now) result }
 {
     let file = required(program, explain, FILE)?;
     let trace = text_of(explain, TRACE);
@@ -121,7 +121,7 @@ fn draw_request<'a>(
     program: &mut Command<'a>,
     draw: &ArgMatches<'a>,
 ) -> Result<Request<'a>, WordsFault>
-    ensures { AnswersTo (codes "draw") draw.now result }
+    ensures { AnswersTo (codes "draw") (rows_in draw.now) result }
 {
     let file = required(program, draw, FILE)?;
     let trace = text_of(draw, TRACE);
@@ -134,7 +134,7 @@ fn rounds_request<'a>(
     program: &mut Command<'a>,
     rounds: &ArgMatches<'a>,
 ) -> Result<Request<'a>, WordsFault>
-    ensures { AnswersTo (codes "rounds") rounds.now result }
+    ensures { AnswersTo (codes "rounds") (rows_in rounds.now) result }
 {
     let Some(n) = number_of(rounds, ROUNDS) else {
         return Err(unclear(program, ErrorKind::MissingRequiredArgument, ROUNDS));
@@ -152,7 +152,7 @@ fn run_request<'a>(
     program: &mut Command<'a>,
     run: &ArgMatches<'a>,
 ) -> Result<Request<'a>, WordsFault>
-    ensures { AnswersTo (codes "run") run.now result }
+    ensures { AnswersTo (codes "run") (rows_in run.now) result }
 {
     Ok(Request::Run(RunRequest {
         file: required(program, run, FILE)?,
@@ -170,7 +170,7 @@ fn audit_request<'a>(
     program: &mut Command<'a>,
     audit: &ArgMatches<'a>,
 ) -> Result<Request<'a>, WordsFault>
-    ensures { AnswersTo (codes "audit") audit.now result }
+    ensures { AnswersTo (codes "audit") (rows_in audit.now) result }
 {
     Ok(Request::Audit {
         file: required(program, audit, FILE)?,
@@ -184,7 +184,7 @@ fn stats_request<'a>(
     program: &mut Command<'a>,
     stats: &ArgMatches<'a>,
 ) -> Result<Request<'a>, WordsFault>
-    ensures { AnswersTo (codes "stats") stats.now result }
+    ensures { AnswersTo (codes "stats") (rows_in stats.now) result }
 {
     Ok(Request::Stats {
         file: required(program, stats, FILE)?,

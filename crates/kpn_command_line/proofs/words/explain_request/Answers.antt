@@ -1,13 +1,12 @@
--- Each word is the text that the words give, and the number is theirs. Items with a trace ask for nothing.
-use Rattle.std.proofs.Common.{◌∙◌, ap, sym, option_map}
+-- Without the flag the words ask for a description or a trace. Items with a trace ask for nothing.
+use Rattle.std.proofs.Common.{◌∙◌, ap, refl, sym, option_map}
 use Rattle.kpn_command_line.specs.Asked.{rows_in}
-use Rattle.kpn_command_line.proofs.Nothing.{no_items_with_trace, refused}
+use Rattle.kpn_command_line.proofs.Nothing.{no_items_with_trace, usage_if}
 use Rattle.kpn_command_line.proofs.words.explain_request.Goals as goal
 
 pub returns-then-not-is_set : goal.returns-then-not-is_set
-returns-then-not-is_set c = λ words names. (
-  _,
-  names,
+returns-then-not-is_set c = (
+  refl,
   (
     c.in_ok-file.ensures,
     c.text_of-trace.ensures,
@@ -17,9 +16,8 @@ returns-then-not-is_set c = λ words names. (
 )
 
 pub returns-in-None : goal.returns-in-None
-returns-in-None c = λ words names. (
-  _,
-  names,
+returns-in-None c = (
+  refl,
   (
     c.in_ok-file.ensures,
     c.text_of-trace.ensures ∙ ap (option_map (λ trace. trace.now)) c.in-None.is,
@@ -28,8 +26,8 @@ returns-in-None c = λ words names. (
 )
 
 pub returns-in-Some : goal.returns-in-Some
-returns-in-Some c = λ words names.
-    refused words c.unclear.result
-    (no_items_with_trace words (rows_in c.args.explain.now) names c.in-Some.field-0.now
+returns-in-Some c =
+    usage_if _ c.unclear.result
+    (no_items_with_trace (rows_in c.args.explain.now) c.in-Some.field-0.now
     (sym c.is_set.ensures ∙ c.if-not-is_set.false)
     (c.text_of-trace.ensures ∙ ap (option_map (λ trace. trace.now)) c.in-Some.is))
