@@ -71,10 +71,17 @@ fn command_request<'a>(
         "check" => Ok(Request::Check(required(program, given, FILE)?)),
         "explain" => explain_request(program, given),
         "print" => Ok(Request::Print(required(program, given, FILE)?)),
-        "draw" => draw_request(program, given),
+        "draw" => Ok(Request::Draw {
+            file: required(program, given, FILE)?,
+            trace: text_of(given, TRACE),
+        }),
         "rounds" => rounds_request(alloc, program, given),
         "run" => run_request(alloc, program, given),
-        "audit" => audit_request(program, given),
+        "audit" => Ok(Request::Audit {
+            file: required(program, given, FILE)?,
+            trace: required(program, given, TRACE)?,
+            steps: count_or_usual(given, STEPS),
+        }),
         "stats" => stats_request(program, given),
         _ => Err(without_command(program)),
     }
@@ -116,18 +123,6 @@ fn explain_request<'a>(
     }
 }
 
-// What the words ask of `kpn draw`.
-fn draw_request<'a>(
-    program: &mut Command<'a>,
-    draw: &ArgMatches<'a>,
-) -> Result<Request<'a>, WordsFault>
-    ensures { AnswersTo (codes "draw") (rows_in draw.now) result }
-{
-    let file = required(program, draw, FILE)?;
-    let trace = text_of(draw, TRACE);
-    Ok(Request::Draw { file, trace })
-}
-
 // What the words ask of `kpn rounds`.
 fn rounds_request<'a>(
     alloc: Global,
@@ -163,20 +158,6 @@ fn run_request<'a>(
         trace: text_of(run, TRACE),
         workers: number_of(run, WORKERS),
     }))
-}
-
-// What the words ask of `kpn audit`.
-fn audit_request<'a>(
-    program: &mut Command<'a>,
-    audit: &ArgMatches<'a>,
-) -> Result<Request<'a>, WordsFault>
-    ensures { AnswersTo (codes "audit") (rows_in audit.now) result }
-{
-    Ok(Request::Audit {
-        file: required(program, audit, FILE)?,
-        trace: required(program, audit, TRACE)?,
-        steps: count_or_usual(audit, STEPS),
-    })
 }
 
 // What the words ask of `kpn stats`.
