@@ -5,8 +5,10 @@ use Rattle.std.proofs.lemmas.List.Elements.{All-push}
 use Rattle.std.proofs.lemmas.List.Quantifiers.{all_pairs_push}
 use Rattle.kpn_request.specs.RunRequest.{RunRequest}
 use Rattle.kpn_refusals.specs.declared.refusal.Refusal.{Refusal}
-use Rattle.kpn_refusals.specs.declared.refusal.Refusal.TheVariants.{Output}
+use Rattle.kpn_refusals.specs.declared.refusal.Refusal.TheVariants.{TraceWord, SinkWord, Output, NoMemory}
 use Rattle.kpn_shelf.specs.Shelf.{Loads, Aliases}
+use Rattle.kpn_inputs.specs.Inputs.{IsRefusalOfRunInputs}
+use Rattle.kpn_inputs.specs.Sources.{name_in}
 use Rattle.kpn_run_command.specs.Outputs.{IsApart, AreApart, AreOutputsApart, trace_name, outputs_of, MayMeet, IsRefusalOfOutput, IsRefusalOfSome, HasInputs, IsUnready, IsUnprepared}
 
 abbrev pub now : Bor (List ℕ) → List ℕ
@@ -67,6 +69,16 @@ module _ (may_alias : Aliases) (request : RunRequest) where
           meets = subst (λ os. MayMeet may_alias request os name) none h.1;
         },
       ))
+
+  -- the inputs can't be loaded
+  pub unloaded : (may_give : Loads) → AreOutputsApart request → (refusal : Refusal)
+      → IsRefusalOfRunInputs may_give request.file request.sources (map name_in request.sinks) refusal
+      → IsUnprepared may_give may_alias request refusal
+  unloaded may_give apart TraceWord cause = absurd cause
+  unloaded may_give apart SinkWord cause = absurd cause
+  unloaded may_give apart (Output fault) cause = absurd cause
+  unloaded may_give apart NoMemory cause = tt
+  unloaded may_give apart other cause = (apart, cause)
 
   -- an output can't be stored
   pub unready : (may_give : Loads) → AreOutputsApart request → (outputs : ℕ) → outputs ≡ length (outputs_of request)

@@ -2,7 +2,7 @@
 ghost use Rattle.std.specs.Prelude.{◌≡◌, ◌≢◌, ◌++◌, ◌∷◌, [], true, false, map, length, All, IfOk, IfErr, OnOk};
 ghost use Rattle.std.specs.List.{Any};
 ghost use Rattle.kpn_net.specs.Iteration.{sources};
-ghost use Rattle.kpn_inputs.specs.Inputs.{AreInputs, AreNamedSinks, IsRefusalOfRunInputs};
+ghost use Rattle.kpn_inputs.specs.Inputs.{AreInputs};
 ghost use Rattle.kpn_inputs.specs.Sources.{HasEquals, name_in, file_in};
 ghost use Rattle.kpn_inputs.specs.SourceRefusals.{IsRefusalOfWords};
 ghost use Rattle.kpn_run_command.specs.Outputs.{AreApart, AreOutputsApart, AreSinks, IsApart, IsRefusalOfOutput, IsRefusalOfOutputs, IsRefusalOfSome, IsUnprepared, IsUnready, MayBeOne, MayBeStandard, MayGiveItems, MayOverwrite, outputs_of, trace_name};
@@ -31,7 +31,8 @@ pub(crate) fn prepare<'a, S: Shelf>(
         (IsUnprepared (S.may_give shelf.now) (S.may_alias shelf.now) request.now) }
 {
     let outputs = check_outputs(alloc, request, shelf)?;
-    let loaded = match load(alloc, request, shelf, &outputs.sinks) {
+    let words = &request.sources;
+    let loaded = match load_run_inputs(alloc, shelf, request.file, words, &outputs.sinks) {
         Ok(loaded) => loaded,
         Err(refusal) => return Err(refusal),
     };
@@ -251,25 +252,6 @@ fn is_any_output<S: Shelf>(shelf: &S, name: &str, earlier: &[&str]) -> Result<bo
         }
     }
     Ok(false)
-}
-
-// The inputs of a run, and the sinks that these options name.
-fn load<'a, S: Shelf>(
-    alloc: Global,
-    request: &RunRequest<'a>,
-    shelf: &S,
-    sinks: &[FileOption<'a>],
-) -> Result<RunInputs<'a>, Refusal>
-    ensures ok { IfOk result (λ loaded. AreInputs (S.may_give shelf.now) request.now.file
-        request.now.sources loaded.inputs.document loaded.inputs.given.items) }
-    ensures length { IfOk result (λ loaded.
-        length loaded.inputs.given.items ≡ sources loaded.inputs.document.tables) }
-    ensures sinks { IfOk result (λ loaded. AreNamedSinks loaded.inputs.document
-        (map (λ o. o.name.now) sinks.now) (map (λ o. o.file.now) sinks.now) loaded.sinks.items) }
-    ensures refused { IfErr result (IsRefusalOfRunInputs (S.may_give shelf.now) request.now.file
-        request.now.sources (map (λ o. o.name.now) sinks.now)) }
-{
-    load_run_inputs(alloc, shelf, request.file, &request.sources, sinks)
 }
 
 // Checks that the outputs can be stored, and makes ready for them.
