@@ -45,24 +45,24 @@ pub(crate) const ITEMS: &str = "ITEMS";
 pub(crate) fn program<'a>(alloc: Global) -> Result<Command<'a>, AllocError>
     ensures { IfOk result (IsCommand command_line) }
 {
-    first_six(alloc)?
+    with_next(alloc)?
         .subcommand(run_words(alloc)?)?
         .subcommand(audit_words(alloc)?)?
         .subcommand(stats_words(alloc)?)
 }
 
-// The program with six commands.
-fn first_six<'a>(alloc: Global) -> Result<Command<'a>, AllocError>
+// The program with these and the next.
+fn with_next<'a>(alloc: Global) -> Result<Command<'a>, AllocError>
     ensures { IfOk result (IsCommand (first_commands 6)) }
 {
-    first_three(alloc)?
+    with_first(alloc)?
         .subcommand(print_words(alloc)?)?
         .subcommand(draw_words(alloc)?)?
         .subcommand(rounds_words(alloc)?)
 }
 
-// The program with three commands.
-fn first_three<'a>(alloc: Global) -> Result<Command<'a>, AllocError>
+// The program with its first commands.
+fn with_first<'a>(alloc: Global) -> Result<Command<'a>, AllocError>
     ensures { IfOk result (IsCommand (first_commands 3)) }
 {
     bare_program(alloc)
