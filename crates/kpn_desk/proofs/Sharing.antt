@@ -15,11 +15,14 @@ use Rattle.circular_buffer.proofs.cells.Deed.TheSendSync as deed
 use Rattle.kpn_lang.proofs.syntax.Op.TheSendSync as op
 use Rattle.kpn_lang.proofs.start.Start.TheSendSync as start
 use Rattle.kpn_lang.proofs.link.Link.TheSendSync as link
+use Rattle.kpn_lang.proofs.code.Round.TheSendSync as round
 use Rattle.kpn_lang.proofs.spine.Links.TheLaws.TheKnot.{crosses as links_cross}
 use Rattle.kpn_lang.proofs.syntax.Expr.TheLaws.TheKnot.{crosses as trees_cross}
 use Rattle.kpn_lang.specs.contracts.syntax.Expr as Expr
 use Rattle.kpn_lang.specs.contracts.syntax.Stmt as Stmt
 use Rattle.kpn_lang.specs.contracts.chain.Chain as Chain
+use Rattle.kpn_lang.specs.contracts.code.Code as Code
+use Rattle.kpn_lang.specs.contracts.codes.Coded as Coded
 use Rattle.kpn_lang.specs.contracts.spine.Links as Links
 use Rattle.kpn_lang.specs.contracts.spine.Spine as Spine
 use Rattle.kpn_lang.specs.contracts.instruction.Instruction as Instruction
@@ -58,9 +61,19 @@ chain_sync =
 instruction_sync : IsSync Instruction.the_field.row
 instruction_sync = let chains = chain_sync in search (crosses, sendable) depth 40
 
+-- a large enum, for which the search counts further
+code_sync : IsSync Code.the_field.row
+code_sync = let chains = chain_sync in search (round.the_field_sync, crosses, sendable) depth 40 fits 20000
+
+coded_sync : IsSync Coded.the_field.row
+coded_sync = let codes = code_sync in search (crosses, sendable) depth 40
+
 program_sync : IsSync Program.the_field.row
 program_sync =
-    let instructions = instruction_sync in let statements = statement_sync in search (crosses, sendable) depth 40
+    let instructions = instruction_sync in
+    let statements = statement_sync in
+    let codes = coded_sync in
+    search (crosses, sendable) depth 40
 
 pub network_sync : IsSync Network.the_field.row
 network_sync = let programs = program_sync in search (crosses, sendable) depth 40

@@ -4,6 +4,7 @@ pub mod Families
 pub mod Following
 pub mod Further
 pub mod Interpreting
+pub mod Laying
 pub mod Pairs
 pub mod Prefixes
 pub mod Processes
@@ -12,4 +13,5 @@ pub mod Remainders
 pub mod Remaining
 pub mod Rules
 pub mod Sequential
+pub mod Spotted
 pub mod Talks

@@ -12,3 +12,7 @@ pub mod Codes
 pub mod Plain
 pub mod Counting
 pub mod Flat
+pub mod Spots
+pub mod Meaning
+pub mod Coding
+pub mod Holding

@@ -3,6 +3,9 @@
 #![tactic(auto)]
 
 mod chain;
+mod code;
+mod codes;
+mod formula;
 mod instruction;
 pub mod laws;
 mod link;
@@ -16,7 +19,10 @@ mod syntax;
 mod talk;
 mod value;
 
-pub use chain::Chain;
+pub use chain::{Chain, value_once, value_twice};
+pub use code::{Code, Round};
+pub use codes::Coded;
+pub use formula::{Below, Difference, Equal, Formula, IsRest, Product, ProductRest, Rest, Sum};
 pub use instruction::Instruction;
 pub use link::Link;
 pub use plain::{Run, run_alone};

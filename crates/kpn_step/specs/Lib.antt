@@ -8,3 +8,4 @@ pub mod Ended
 pub mod Walk
 pub mod Stepped
 pub mod Codes
+pub mod Standing

@@ -1,12 +1,9 @@
--- The steps so far, within the quota, lead to the frame, which fits.
-use Rattle.std.proofs.Common.{◌≤◌, ◌-◌, IsTrue}
-use Rattle.kpn_step.specs.Frame.{fits}
-use Rattle.kpn_step.specs.Step.{Steps}
+-- The steps so far lead to the frame at the place of the next code.
+use Rattle.kpn_step.proofs.Walking.{Walking}
 use Rattle.kpn_step.proofs.walk.walk.Given as goal
 
 abbrev pub invariant-steps : goal.invariant-steps
-invariant-steps l =
-    Steps l.program.blocks l.steps l.initial.frame l.frame × (l.steps ≤ l.quota) × IsTrue (fits l.program l.frame)
+invariant-steps l = Walking l.program l.quota l.initial.frame l.at l.left l.frame
 
 abbrev pub decreases-steps : goal.decreases-steps
-decreases-steps l = l.quota - l.steps
+decreases-steps l = l.left
