@@ -25,7 +25,6 @@ use Rattle.kpn_lang.specs.contracts.code.Code as Code
 use Rattle.kpn_lang.specs.contracts.codes.Coded as Coded
 use Rattle.kpn_lang.specs.contracts.spine.Links as Links
 use Rattle.kpn_lang.specs.contracts.spine.Spine as Spine
-use Rattle.kpn_lang.specs.contracts.instruction.Instruction as Instruction
 use Rattle.kpn_lang.specs.contracts.program.Program as Program
 use Rattle.kpn_net.specs.contracts.network.Network as Network
 use Rattle.kpn_step.specs.contracts.frame.Frame as Frame
@@ -58,9 +57,6 @@ chain_sync : IsSync Chain.the_field.row
 chain_sync =
     let spines = spine_sync in search (start.the_field_sync, link.the_field_sync, crosses, sendable) depth 40
 
-instruction_sync : IsSync Instruction.the_field.row
-instruction_sync = let chains = chain_sync in search (crosses, sendable) depth 40
-
 -- a large enum, for which the search counts further
 code_sync : IsSync Code.the_field.row
 code_sync = let chains = chain_sync in search (round.the_field_sync, crosses, sendable) depth 40 fits 20000
@@ -70,10 +66,7 @@ coded_sync = let codes = code_sync in search (crosses, sendable) depth 40
 
 program_sync : IsSync Program.the_field.row
 program_sync =
-    let instructions = instruction_sync in
-    let statements = statement_sync in
-    let codes = coded_sync in
-    search (crosses, sendable) depth 40
+    let statements = statement_sync in let codes = coded_sync in search (crosses, sendable) depth 40
 
 pub network_sync : IsSync Network.the_field.row
 network_sync = let programs = program_sync in search (crosses, sendable) depth 40

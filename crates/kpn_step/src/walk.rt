@@ -8,8 +8,8 @@ use crate::stop::Stop;
 use kpn_lang::Program;
 
 /// Makes at most `quota` steps, until the process stops. It returns how many, and the stop.
-// It goes along the codes of the program and keeps its position there. Where a code does not lead on, it puts its place
-// into the frame, which then makes the step, or stops.
+// It goes along the codes of the program and keeps its position there. A code may take two steps and more. So the last
+// step goes by the statement, and so does a pause.
 pub(crate) fn walk(program: &Program, frame: &mut Frame, quota: u64) -> (u64, Stop)
     requires { IsTrue (fits program.now frame.old) }
     ensures { Walked program.now.blocks quota frame.old result.0 result.1 frame.new }
@@ -19,16 +19,19 @@ pub(crate) fn walk(program: &Program, frame: &mut Frame, quota: u64) -> (u64, St
     let mut at = frame.position(program);
     let mut left = quota;
     'steps: loop {
-        if frame.follow(program, codes, &mut at, &mut left) {
-            continue 'steps;
-        }
-        frame.stand(program, at);
-        match frame.step(program, left == 0) {
-            Some(stop) => return (quota - left, stop),
-            None => {
-                at = frame.position(program);
-                left -= 1;
+        if left < 2 {
+            match frame.step_by_tree(program, at, left == 0) {
+                Ok(next) => {
+                    at = next;
+                    left -= 1;
+                    continue 'steps;
+                }
+                Err(stop) => return (quota - left, stop),
             }
+        }
+        if let Some(stop) = frame.follow(program, codes, &mut at, &mut left) {
+            frame.stand(program, at);
+            return (quota - left, stop);
         }
     }
 }

@@ -1,33 +1,40 @@
 -- The walk goes on by a code, or by a step of the frame, or stops there.
-use Rattle.std.proofs.Common.{IsTrue, sym, subst}
-use Rattle.kpn_step.specs.Frame.{fits}
-use Rattle.kpn_step.proofs.Places.{fits-goes}
-use Rattle.kpn_step.proofs.Walking.{Walking-start, Walking-on, Walking-same, Walking-step}
+use Rattle.std.proofs.Common.{arith}
+use Rattle.kpn_step.proofs.Walking.{Walking-start, Walking-on, Walking-step, Walked-there, Walked-here, fits_here}
 use Rattle.kpn_step.proofs.walk.walk.Goals as goal
 
 pub steps-init : goal.steps-init
 steps-init c =
     Walking-start c.args.program.now c.args.quota c.args.frame.now c.position-at.result c.position-at.ensures c.requires
 
+pub step_by_tree-requires : goal.step_by_tree-requires
+step_by_tree-requires c = c.steps.invariant.fits
+
 pub follow-requires-clause-fits : goal.follow-requires-clause-fits
 follow-requires-clause-fits c = c.steps.invariant.fits
 
-pub steps-preserved-then-follow : goal.steps-preserved-then-follow
-steps-preserved-then-follow c =
-    (Walking-on c.args.program.now c.known.ensures c.args.quota c.args.frame.now c.steps.at c.steps.left _ _ _ _
-    c.follow.result c.steps.invariant c.if-follow.true c.follow.ensures).0
+pub steps-preserved-in-Ok : goal.steps-preserved-in-Ok
+steps-preserved-in-Ok c =
+    (Walking-step c.args.program.now c.known.ensures c.args.quota c.args.frame.now c.steps.at c.steps.left
+    c.steps.frame c.step_by_tree.new.frame c.in-Ok.next c.steps.invariant c.in-Ok.ensures).0
 
-pub position-at-requires-in-None : goal.position-at-requires-in-None
-position-at-requires-in-None c =
-    let k = Walking-same c.args.program.now c.args.quota c.args.frame.now c.steps.at c.steps.left _ _ _ _
-    c.follow.result c.steps.invariant c.if-follow.false c.follow.ensures in
-    fits-goes c.args.program.now c.known.ensures c.stand.new.self c.step.new.self
-    (subst (λ f. IsTrue (fits c.args.program.now f)) (sym c.stand.ensures) k.fits) c.in-None.ensures.0
+pub returns-in-Err : goal.returns-in-Err
+returns-in-Err c =
+    Walked-there c.args.program.now c.args.quota c.args.frame.now c.steps.at c.steps.left c.steps.frame
+    c.step_by_tree.new.frame c.in-Err.stop c.steps.invariant c.in-Err.ensures
 
 pub steps-preserved : goal.steps-preserved
 steps-preserved c =
-    let k = Walking-same c.args.program.now c.args.quota c.args.frame.now c.steps.at c.steps.left _ _ _ _
-    c.follow.result c.steps.invariant c.if-follow.false c.follow.ensures in
-    Walking-step c.args.program.now c.known.ensures c.args.quota c.args.frame.now c.follow.new.at c.follow.new.left
-    c.follow.new.self c.stand.new.self c.step.new.self _ k c.stand.ensures c.in-None.ensures
-    c.position-at-in-None.ensures
+    (Walking-on c.args.program.now c.known.ensures c.args.quota c.args.frame.now c.steps.at c.steps.left c.steps.frame
+    c.follow.new.at c.follow.new.left c.follow.new.frame c.steps.invariant c.in-None.ensures).0
+
+pub stand-requires : goal.stand-requires
+stand-requires c =
+    fits_here c.args.program.now c.steps.at c.steps.left c.steps.frame c.follow.new.at c.follow.new.left
+    c.follow.new.frame c.in-Some.stop c.steps.invariant.fits c.in-Some.ensures
+
+pub returns-in-Some : goal.returns-in-Some
+returns-in-Some c =
+    Walked-here c.args.program.now c.args.quota c.args.frame.now c.steps.at c.steps.left c.steps.frame
+    c.follow.new.at c.follow.new.left c.follow.new.frame c.stand.new.frame c.in-Some.stop (omega (arith, c.if-left.false))
+    c.steps.invariant c.in-Some.ensures c.stand.ensures
