@@ -161,9 +161,9 @@ impl<A: Allocator> Chunks<A> {
     {
         let chunk = place / CHUNK;
         if chunk < self.full.len() {
-            return items_from(&self.full[chunk], place % CHUNK);
+            return self.full[chunk].split_at(place % CHUNK).1;
         }
-        items_from(&self.last, place - self.full.len() * CHUNK)
+        self.last.split_at(place - self.full.len() * CHUNK).1
     }
 
     /// The first so many items. The error is that memory ran out.
@@ -191,11 +191,4 @@ fn item_at(chunk: &[i64], place: usize) -> Option<i64>
     ensures { result ≡ slice_get chunk.now place }
 {
     chunk.get(place).copied()
-}
-
-fn items_from(chunk: &[i64], place: usize) -> &[i64]
-    requires { place ≤ length chunk.now }
-    ensures { result.now ≡ drop place chunk.now }
-{
-    chunk.split_at(place).1
 }

@@ -32,7 +32,7 @@ use Rattle.kpn_run_here.proofs.Ends.{AddNothing, nothing_more, sink_there, close
 use Rattle.kpn_run_here.specs.RunHere.{takes_of, takes_from_sinks}
 use Rattle.kpn_run_here.proofs.Held.{held_after_step, held_after_take}
 use Rattle.kpn_run_here.proofs.Happening.{happens_tables, happens_prefix, happens_commits, happens_written, happens_read, one}
-use Rattle.kpn_run_here.proofs.Turning.{nothing_lies, takes_nothing, takes_there, the_one}
+use Rattle.kpn_run_here.proofs.Turning.{nothing_lies, takes_nothing, takes_there, the_one, front_stepped}
 
 -- ---- what was read
 
@@ -231,6 +231,18 @@ module _ (limits : Limits) (before after : Book) (to_itself : IsLeftToItself bef
       );
     }
 
+-- a turn of a run that goes on: who was stepped, what was committed, and what it has done to the sinks
+pub turned : (limits : Limits) (quota : ℕ) (answer : Option Done) (before after : Book) → quota ≡ max limits.quota 1
+    → IsBook before → IsBook after → held_count before ≡ 0 → (ClaimsNobody before → ⊥) → IsStep quota answer before after
+    → IsFrontStepped (max limits.quota 1) before after × IsCommitted before after
+    × sinks_after (has_put answer) before after
+turned limits quota answer before after most was is held some step =
+    let committed = stepped quota answer before after was is held some step in (
+      subst (λ n. IsFrontStepped n before after) most (front_stepped quota answer before after some step),
+      committed.0,
+      committed.1,
+    )
+
 -- ---- an item was put
 
 module _ (before now : Book) (p c : ℕ) (v : ℤ) (put : now.history ≡ before.history ++ event.Put p c v ∷ []) where
@@ -426,21 +438,19 @@ no_sink_is t p c v = by (is_sink (channel_at t c)) refl
 
 module _ (limits : Limits) (before now : Book) (to_itself : IsLeftToItself before)
     (front : IsFrontStepped (max limits.quota 1) before now) (committed : IsCommitted before now)
-    (put : HasPut before now) (few : IsEnough before.tables before.history limits.take → ⊥) (last : Event)
-    (is_last : (B : List Event) (e : Event) → now.history ≡ B ++ e ∷ [] → Some last ≡ Some e) where
-  last_is : last ≡ event.Put put.process put.channel put.item
-  last_is =
-      let same : Some last ≡ Some (event.Put put.process put.channel put.item) =
-      is_last before.history (event.Put put.process put.channel put.item) put.history in cc
+    (put : HasPut before now) (few : IsEnough before.tables before.history limits.take → ⊥) (found : Option ℕ)
+    (is_found : (B : List Event) (e : Event) → now.history ≡ B ++ e ∷ [] → found ≡ sink_of now.tables e) where
+  found_is : found ≡ sink_of now.tables (event.Put put.process put.channel put.item)
+  found_is = is_found before.history (event.Put put.process put.channel put.item) put.history
 
-  pub put_taken_stepped : (sink : ℕ) → Some sink ≡ sink_of now.tables last → IsBook now → (item : Option ℤ)
+  pub put_taken_stepped : (sink : ℕ) → Some sink ≡ found → IsBook now → (item : Option ℤ)
       (after : Book) → Takes sink item now after → (enough : Bool)
       → ((B : List Event) → ReadsOneMore after.tables sink B after.history
       → (IsEnough after.tables B limits.take → ⊥) → IsTrue enough ↔ IsEnough after.tables after.history limits.take)
       → IsStepped limits enough before after
   put_taken_stepped sink at book item after takes enough decides =
       let same =
-      sink_is now.tables put.process put.channel put.item sink (at ∙ ap (sink_of now.tables) last_is) in
+      sink_is now.tables put.process put.channel put.item sink (at ∙ found_is) in
       let here : now.history ≡ before.history ++ event.Put put.process sink put.item ∷ [] =
       put.history ∙ ap (λ x. before.history ++ event.Put put.process x put.item ∷ []) (sym same) in
       put_taken limits before now after to_itself committed put.process sink put.item here book item takes front enough
@@ -452,9 +462,9 @@ module _ (limits : Limits) (before now : Book) (to_itself : IsLeftToItself befor
       has)))
 
   -- it was put on a channel between processes
-  pub put_inside_stepped : None ≡ sink_of now.tables last → IsStepped limits false before now
+  pub put_inside_stepped : None ≡ found → IsStepped limits false before now
   put_inside_stepped none =
-      let inside = no_sink_is now.tables put.process put.channel put.item (none ∙ ap (sink_of now.tables) last_is) in
+      let inside = no_sink_is now.tables put.process put.channel put.item (none ∙ found_is) in
       not_put limits before now to_itself committed front
       (record {
         written = λ d sink.

@@ -1,13 +1,10 @@
 //! One turn of a network that is left to itself: a process makes steps, and what it has put on a sink is taken.
-ghost use Rattle.std.specs.Prelude.{◌≡◌, ℕ, ◌+◌, ◌<◌, ◌^◌, max, ℤ, IfOk, IfSome, List, [], ◌∷◌, ◌++◌, Option, Some, None};
+ghost use Rattle.std.specs.Prelude.{◌≡◌, ◌+◌, ◌<◌, ◌^◌, max, IfOk, List, [], ◌∷◌, ◌++◌, None};
 ghost use Rattle.kpn_history.specs.declared.event.Event.{Event};
 ghost use Rattle.kpn_history.specs.Legal.{HasNumbers};
-ghost use Rattle.kpn_history.specs.Ends.{IsSettled};
 ghost use Rattle.kpn_run_state.specs.Book.{Book as Seen};
-ghost use Rattle.kpn_run_state.specs.Kept.{IsBook};
-ghost use Rattle.kpn_run_state.specs.Refusals.{Takes};
 ghost use Rattle.kpn_run_here.specs.Outcomes.{IsEnough, IsOutcome};
-ghost use Rattle.kpn_run_here.specs.Running.{IsLeftToItself, IsFrontStepped, IsStepped, IsCommitted, sinks_after, has_put, HasPut, sink_of};
+ghost use Rattle.kpn_run_here.specs.Running.{IsLeftToItself, IsFrontStepped, IsStepped, IsCommitted, has_put, HasPut, sink_of};
 
 use crate::outcome::Limits;
 use crate::stopping::has_enough_by;
@@ -25,25 +22,13 @@ pub(crate) fn step(book: &mut Book<'_>, limits: &Limits, quota: u32) -> Result<b
     requires goes_on { IsOutcome book.old.tables book.old.history book.old.commits limits.now None }
     ensures { IfOk result (λ enough. IsStepped limits.now enough book.old book.new) }
 {
-    if !step_first(book, quota)? {
-        return Ok(false);
-    }
-    take_what_was_put(book, limits)
-}
-
-/// Steps the first process that is ready. Returns whether it has put an item.
-fn step_first(book: &mut Book<'_>, quota: u32) -> Result<bool, AllocError>
-    requires countable { book.old.commits + 1 < 2 ^ 64 }
-    requires to_itself { IsLeftToItself book.old }
-    requires goes_on { ¬ IsSettled book.old.tables book.old.history }
-    ensures front { IfOk result (λ _. IsFrontStepped quota book.old book.new) }
-    ensures committed { IfOk result (λ _. IsCommitted book.old book.new) }
-    ensures sinks { IfOk result (λ put. sinks_after put book.old book.new) }
-{
     book.known();
     let answer = book.step_next(quota)?;
     book.known();
-    Ok(has_put(answer))
+    if !has_put(answer) {
+        return Ok(false);
+    }
+    take_what_was_put(book, limits)
 }
 
 /// Whether a step that answers so has put an item.
@@ -60,24 +45,29 @@ fn take_what_was_put(book: &mut Book<'_>, limits: &Limits) -> Result<bool, Alloc
         → HasPut before book.old → (¬ IsEnough before.tables before.history limits.now.take)
         → IfOk result (λ enough. IsStepped limits.now enough before book.new) }
 {
-    let Some(event) = last_event(book) else {
+    let Some(sink) = sink_of_last_put(book) else {
         return Ok(false);
     };
-    let Some(sink) = sink_of(book.network(), event) else {
-        return Ok(false);
-    };
-    take(book, sink)?;
-    Ok(has_enough_by(book, sink, limits.take))
+    book.known();
+    match book.take(sink) {
+        Ok(_) => {
+            book.known();
+            Ok(has_enough_by(book, sink, limits.take))
+        }
+        Err(_) => Err(AllocError),
+    }
 }
 
-/// The last event, if anything has happened.
-fn last_event(book: &Book<'_>) -> Option<Event>
-    ensures last { (B : List Event) (event : Event) → book.now.history ≡ B ++ event ∷ []
-        → result ≡ Some event }
-    ensures numbers { IfSome result (λ event. HasNumbers book.now.tables event) }
+/// The sink on which the last event has put an item, if it has.
+fn sink_of_last_put(book: &Book<'_>) -> Option<usize>
+    ensures { (B : List Event) (event : Event) → book.now.history ≡ B ++ event ∷ []
+        → result ≡ sink_of book.now.tables event }
 {
     book.known();
-    book.history().last()
+    match book.history().last() {
+        Some(event) => sink_of(book.network(), event),
+        None => None,
+    }
 }
 
 /// The sink on which the event has put an item, if it has.
@@ -88,24 +78,5 @@ fn sink_of(network: &Network, event: Event) -> Option<usize>
     match event {
         Event::Put(_, c, _) if network.is_sink(usize::from(c)) => Some(usize::from(c)),
         _ => None,
-    }
-}
-
-/// Takes an item from a sink, if one is there.
-fn take(book: &mut Book<'_>, sink: usize) -> Result<(), AllocError>
-    ensures taken { IfOk result (λ _.
-        (item : Option ℤ) × Takes sink item book.old book.new) }
-    ensures books { IsBook book.old × IsBook book.new }
-{
-    book.known();
-    match book.take(sink) {
-        Ok(_) => {
-            book.known();
-            Ok(())
-        }
-        Err(_) => {
-            book.known();
-            Err(AllocError)
-        }
     }
 }

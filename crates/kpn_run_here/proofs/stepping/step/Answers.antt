@@ -1,24 +1,29 @@
-use Rattle.std.proofs.Common.{subst}
-use Rattle.kpn_run_here.specs.Running.{IsFrontStepped, sinks_after}
-use Rattle.kpn_run_here.proofs.Stepped.{not_put}
+use Rattle.std.proofs.Common.{◌∙◌, sym, subst}
+use Rattle.kpn_run_here.specs.Running.{sinks_after}
+use Rattle.kpn_run_here.proofs.Settling.{somebody}
+use Rattle.kpn_run_here.proofs.Stepped.{turned, not_put}
 use Rattle.kpn_run_here.proofs.stepping.step.Goals as goal
 
-pub returns-then-not-branch : goal.returns-then-not-branch
-returns-then-not-branch c =
-    not_put c.args.limits.now c.args.book.now c.step_first.new.book c.requires.to_itself
-    c.in_ok-step_first.ensures.committed
-    (subst (λ n. IsFrontStepped n c.args.book.now c.step_first.new.book) c.requires.quota
-    c.in_ok-step_first.ensures.front)
-    (subst (λ b. sinks_after b c.args.book.now c.step_first.new.book) c.if-not-branch.true
-    c.in_ok-step_first.ensures.sinks)
+pub returns-then-not-has_put : goal.returns-then-not-has_put
+returns-then-not-has_put c =
+    let made =
+    turned c.args.limits.now c.args.quota c.in_ok-answer.answer c.args.book.now c.step_next.new.self c.requires.quota
+    c.known.ensures c.known-2.ensures c.requires.to_itself.nobody_held
+    (somebody c.args.book.now c.known.ensures c.requires.countable c.requires.to_itself c.requires.goes_on.1)
+    c.in_ok-answer.ensures.step in
+    not_put c.args.limits.now c.args.book.now c.step_next.new.self c.requires.to_itself made.1 made.0
+    (subst (λ b. sinks_after b c.args.book.now c.step_next.new.self)
+    (sym c.has_put.ensures ∙ c.if-not-has_put.true) made.2)
     c.requires.goes_on.0
 
 pub returns : goal.returns
 returns c =
-    c.take_what_was_put.ensures c.args.book.now c.requires.to_itself
-    (subst (λ n. IsFrontStepped n c.args.book.now c.step_first.new.book) c.requires.quota
-    c.in_ok-step_first.ensures.front)
-    c.in_ok-step_first.ensures.committed
-    (subst (λ b. sinks_after b c.args.book.now c.step_first.new.book) c.if-not-branch.false
-    c.in_ok-step_first.ensures.sinks)
+    let made =
+    turned c.args.limits.now c.args.quota c.in_ok-answer.answer c.args.book.now c.step_next.new.self c.requires.quota
+    c.known.ensures c.known-2.ensures c.requires.to_itself.nobody_held
+    (somebody c.args.book.now c.known.ensures c.requires.countable c.requires.to_itself c.requires.goes_on.1)
+    c.in_ok-answer.ensures.step in
+    c.take_what_was_put.ensures c.args.book.now c.requires.to_itself made.0 made.1
+    (subst (λ b. sinks_after b c.args.book.now c.step_next.new.self)
+    (sym c.has_put.ensures ∙ c.if-not-has_put.false) made.2)
     c.requires.goes_on.0

@@ -9,13 +9,13 @@ pub returns-then-chunk-len-clause-items : goal.returns-then-chunk-len-clause-ite
 returns-then-chunk-len-clause-items g c =
     let chunks = c.args.self.now in
     let below : c.args.place / CHUNK < length chunks.full.items = omega (arith, c.if-chunk-len.true, c.len.ensures) in
-    let is = c.items_from.ensures
+    let is = c.split_at.ensures.back
     ∙ ap (λ l. drop (c.args.place % CHUNK) l) (c.deref.ensures.value ∙ ap (λ v. v.items) c.index.ensures) in
     subst (λ (piece : List ℤ). piece ≡ take (length piece) (drop c.args.place (items_of chunks))) (sym is)
     (chunk_piece chunks.full.items chunks.last.items c.requires.chunks.full c.args.place c.index.result.now below)
 
-pub items_from-requires-2 : goal.items_from-requires-2
-items_from-requires-2 g c =
+pub split_at-requires-2 : goal.split_at-requires-2
+split_at-requires-2 g c =
     let chunks = c.args.self.now in
     let many = count_of chunks.full.items chunks.last.items c.requires.chunks.full in
     omega (arith, many, c.requires.place, c.len-2.ensures, ap (λ (l : List ℤ). length l) c.deref-2.ensures.value)
@@ -25,7 +25,7 @@ returns-clause-items g c =
     let chunks = c.args.self.now in
     let past : length chunks.full.items * CHUNK ≤ c.args.place = omega (arith, c.if-chunk-len.false, c.len.ensures) in
     let full : c.len-2.result ≡ length chunks.full.items = omega (arith, c.len-2.ensures) in
-    let is = c.items_from-2.ensures
+    let is = c.split_at-2.ensures.back
     ∙ ap (λ l. drop (c.args.place - c.len-2.result * CHUNK) l) c.deref-2.ensures.value
     ∙ ap (λ n. drop (c.args.place - n * CHUNK) chunks.last.items) full in
     subst (λ (piece : List ℤ). piece ≡ take (length piece) (drop c.args.place (items_of chunks))) (sym is)
@@ -35,7 +35,7 @@ pub returns-clause-more : goal.returns-clause-more
 returns-clause-more g c inside =
     let chunks = c.args.self.now in
     let many = count_of chunks.full.items chunks.last.items c.requires.chunks.full in
-    let piece = ap (λ (l : List ℤ). length l) c.items_from-2.ensures in
+    let piece = ap (λ (l : List ℤ). length l) c.split_at-2.ensures.back in
     let last = ap (λ (l : List ℤ). length l) c.deref-2.ensures.value in
     omega (
       arith,
