@@ -252,4 +252,6 @@ def read_process(text: str) -> Process:
         reader.need('')
         return process
     except KpnError as error:
+        if not error.place:
+            raise
         raise explain(text + '\nnetwork {\n}\n', lambda offset: Spot(reader.what, text, offset)) or error from None

@@ -83,10 +83,12 @@ class Network:
         """Reads a description, such as a file that somebody has written."""
         try:
             found = Reader(text, 'the network').description()
-        except KpnError as error:
+            settings = found.settings
+            net = cls(int(settings.get('limit', LARGEST_CAPACITY)), settings.get('policy', 'cycles'),
+                      settings.get('grow', 'one'))
+            return net._filled(found)
+        except (KpnError, TypeError) as error:
             raise explain(text, lambda offset: Spot('the network', text, offset)) or error from None
-        return cls(int(found.settings.get('limit', LARGEST_CAPACITY)), found.settings.get('policy', 'cycles'),
-                   found.settings.get('grow', 'one'))._filled(found)
 
     def _filled(self, found: Description) -> Network:
         """This network with what a text says."""
@@ -111,6 +113,7 @@ class Network:
 
     def sink(self, name: str, stream: Optional[Stream] = None, cap: Optional[int] = None) -> Stream:
         """Lets the outside take `stream` by this name. Without a stream, `connect` the sink to one later."""
+        self._check_unread([] if stream is None else [stream])
         sink = self._declare('sink', name, cap)
         if stream is not None:
             sink.connect(stream)
@@ -124,13 +127,15 @@ class Network:
             **named: Any) -> Outputs:
         """Adds an instance of a process, as the call of the process does."""
         streams, values = process.bind(args, named)
-        self._check_unread(process, streams)
+        caps = capacities_of(process, cap)
+        for given in caps.values():
+            self._check_capacity(given)
+        self._check_unread(streams, process.name)
         instance = Instance(process, self._own(name, self._instances), self._scope, values)
         for stream in streams:
             instance.ins.append(self._unread(stream.channel))
             instance.ins[-1].reader = instance
         self._instances.append(instance)
-        caps = capacities_of(process, cap)
         for port in process.outs:
             self._write(instance, caps.get(port))
         outs = tuple(instance.outs)
@@ -149,7 +154,7 @@ class Network:
         """Lets a stream flow into a channel that nobody writes yet, as `channel.connect(stream)` does."""
         if channel.writer or channel.kind == 'source':
             raise KpnError(f'`{channel.name}` has a writer already')
-        self._check_unread(channel, [stream])
+        self._check_unread([stream])
         stream = self._unread(stream)
         if stream.kind == 'source':
             stream = COPY(stream)
@@ -174,11 +179,14 @@ class Network:
         return name
 
     def _declare(self, kind: str, name: Optional[str], cap: Optional[int]) -> Stream:
-        if cap is not None and not 1 <= cap <= self.limit:
-            raise KpnError(f'a capacity of {cap} is given: it has to be from 1 to the limit, {self.limit}')
+        self._check_capacity(cap)
         stream = Stream(self, kind, self._own(name, self._channels), cap)
         self._channels.append(stream)
         return stream
+
+    def _check_capacity(self, cap: Optional[int]) -> None:
+        if cap is not None and not 1 <= cap <= self.limit:
+            raise KpnError(f'a capacity of {cap} is given: it has to be from 1 to the limit, {self.limit}')
 
     def _write(self, instance: Instance, cap: Optional[int] = None) -> Stream:
         """A new stream behind the last out port of an instance."""
@@ -187,7 +195,7 @@ class Network:
         instance.outs.append(stream)
         return stream
 
-    def _check_unread(self, reader: Union[Process, Stream], streams: Sequence[Stream]) -> None:
+    def _check_unread(self, streams: Sequence[Stream], reader: str = '') -> None:
         """Refuses a stream of another network, and one that has a reader already unless it is forked then."""
         for number, stream in enumerate(it.channel for it in streams):
             if stream.net is not self:
@@ -195,7 +203,7 @@ class Network:
             is_again = stream in [it.channel for it in streams[:number]]
             if (is_again or stream.is_read) and not self.auto_fork:
                 by = f'the outside, as the sink `{stream.name}`,' if stream.kind == 'sink' else \
-                    f'`{(stream.reader and self.layout().names[stream.reader]) or reader.name}`'
+                    f'`{self.layout().names[stream.reader] if stream.reader else reader}`'
                 raise KpnError(f'the stream `{stream.name}` is used twice: {by} reads it already, and a stream has '
                                'one reader. Make several of it by `kpn.parts.fork`, or set `net.auto_fork = True`')
 

@@ -118,7 +118,7 @@ class Result(collections.abc.Mapping):  # type: ignore[type-arg]
 
     def trace(self) -> Trace:
         """The events of the run, with names."""
-        return Trace(self._traced(), self._layout.instances, self._layout.channels)
+        return Trace(self._traced(), self._layout.instances, self._layout.channels, keeper=self)
 
     @property
     def stats(self) -> Stats:

@@ -32,10 +32,14 @@ class Event(NamedTuple):
 
 
 class Trace:
-    """The events of a stored trace, of version 1 or 2. Each loop over it reads the file anew, line by line."""
+    """The events of a stored trace, of version 1 or 2. Each loop over it reads the file anew, line by line.
 
-    def __init__(self, path: Union[str, os.PathLike[str]], instances: Sequence[str] = (), channels: Sequence[str] = ()):
-        self.path, self.instances, self.channels = path, instances, channels
+    `keeper` is what the file goes with.
+    """
+
+    def __init__(self, path: Union[str, os.PathLike[str]], instances: Sequence[str] = (),
+                 channels: Sequence[str] = (), keeper: object = None):
+        self.path, self.instances, self.channels, self.keeper = path, instances, channels, keeper
         self.version, self.policy, self.grow = self._head()
 
     def _head(self) -> Tuple[int, str, str]:

@@ -54,11 +54,12 @@ network {
         self.refused('`gain` lacks k', GAIN, x)
         self.refused('no in port or parameter `j`', GAIN, x, j=1)
         self.refused('`i` of `gain` is given twice', GAIN, x, i=x, k=1)
-        self.refused('takes a stream, and not 3', GAIN, 3, 3)
+        self.refused('takes a stream, and not 3', GAIN, 3, 3, net=self.net)
         self.refused('takes a whole number, not 1.5', GAIN, x, 1.5)
         self.refused('from -9223372036854775807', GAIN, x, 2**63)
         self.refused('name its network by `net=`', kpn.Process.from_text('process p(out o) { write o 1; }'))
         self.refused('more than its out ports', GAIN, x, 1, cap=[1, 2])
+        self.refused('from 1 to the limit', GAIN, x, 1, cap=0)
         self.refused('of another network', PAIR, x, kpn.Network().source('y'))
         self.assertEqual(self.net.layout().instances, [])
 
@@ -77,9 +78,12 @@ network {
         self.refused('fork', self.net.sink, 'y', x)
         y = self.net.source('y')
         self.refused('`y` is used twice: `pair` reads it', PAIR, y, y)
+        y = GAIN(y, 1)
         z = self.net.sink('z', y)
         self.refused('the outside, as the sink `z`, reads it', GAIN, y, 1)
         self.refused('is used twice', GAIN, z, 1)
+        self.net.sink('last', self.net._instances[0].outs[0])
+        self.net.check()
 
     def test_automatic_forks(self):
         net = kpn.Network(auto_fork=True)
@@ -90,7 +94,7 @@ network {
         net.check()
         result = net.run([1, 2])
         self.assertEqual(dict(result), {**{f'y{it}': [it, 2 * it] for it in range(40)}, 'x_itself': [1, 2]})
-        self.assertEqual(len(net.layout().instances), 40 + 3 + 1)
+        self.assertEqual(len(net.layout().instances), 40 + 3)
 
     def test_loops(self):
         loop = self.net.channel()
@@ -124,7 +128,9 @@ network {
         self.assertEqual(self.net.layout().instances, ['left_gain', 'gain_2', 'gain', 'gain_3'])
         self.assertEqual(self.net.layout().channels, ['x', 'left_gain', 'gain_2', 'gain_3', 'gain'])
         self.refused('there is another `x`', self.net.source, 'x')
-        self.refused('there is another `gain`', self.net.add, GAIN, self.net.source('z'), 1, name='gain')
+        z = self.net.source('z')
+        self.refused('there is another `gain`', self.net.add, GAIN, z, 1, name='gain')
+        self.net.sink('z_itself', z)
         for name in ('while', '1x', '', 'a-b', 'x' * 33):
             self.refused('is no name', self.net.source, name)
         self.net.check()

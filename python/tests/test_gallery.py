@@ -26,7 +26,7 @@ class Gallery(unittest.TestCase):
                 given = module.inputs(SAMPLES)
                 result = module.build().run(given).check()
                 self.assertEqual(dict(result), module.expected(given))
-                self.assertEqual(max(map(len, given.values())) // 16, SAMPLES // 16)
+                self.assertGreater(min(map(len, given.values())), SAMPLES - 16)
 
     def test_cordic_is_near_cosine_and_sine(self):
         given = cordic.inputs(500)

@@ -136,7 +136,7 @@ class Parts(unittest.TestCase):
         large = [2**62]
         for build, lists in ((lambda x: parts.gain(x, 2), [large]), (parts.add, [large, large]),
                              (lambda x: parts.scale(x, 3, 2), [large]), (lambda x: parts.offset(x, 2**62), [large]),
-                             (lambda x: parts.fir(x, [1, 2]), [large])):
+                             (lambda x: parts.fir(x, [2, 1]), [large])):
             found, result = run_one(build, *lists)
             self.assertEqual((found, list(result.faults.values())), ([], ['overflow']))
         for build in (lambda x: parts.saturate(x, 0, 5), lambda x: parts.wrap(x, 4), parts.drop, parts.delay):

@@ -55,7 +55,7 @@ class Inputs(unittest.TestCase):
         with tempfile.TemporaryDirectory() as folder:
             path = pathlib.Path(folder, 'items')
             path.write_text('1\n2x\n')
-            self.refused('items:2:2', net, {'x': path})
+            self.refused('items:2:1', net, {'x': path})
             self.refused('26 Read', net, {'x': pathlib.Path(folder, 'none')})
 
     def refused(self, words, net, *args, error=kpn.KpnError, **named):
@@ -93,7 +93,7 @@ class Outcomes(unittest.TestCase):
         self.assertEqual(example('fibonacci').run(take=10, trace=True).complete, {'numbers': False})
 
     def test_clogged(self):
-        result = example('clogged').run()
+        result = example('worked/sink_behind_a_full_channel').run()
         self.assertEqual(result.outcome, 'clogged')
         self.assertFalse(all(result.complete.values()))
         with self.assertRaisesRegex(kpn.KpnError, 'has clogged; the sink `.*` is not complete; .* waits on the full'):

@@ -23,13 +23,14 @@ class Traces(unittest.TestCase):
         self.assertEqual(events[3], ('grow', 'p', 'a', 2))
         self.assertEqual(events[-2:], [('take', None, 'z', 312), ('end', 'q', None, 'done')])
         self.assertEqual(events[1], kpn.Event('wait-empty', 'q', 'b', None))
-        self.assertEqual(list(kpn.read_trace(TWO, net)), events)
+        self.assertEqual(list(kpn.read_trace(TWO, net)), [it._replace(value=None) if it.kind == 'grow' else it
+                                                          for it in events])
 
     def test_with_numbers(self):
         trace = kpn.read_trace(TWO)
-        self.assertEqual((trace.version, trace.policy, trace.grow), (2, 'cycles', 'one'))
+        self.assertEqual((trace.version, trace.policy, trace.grow), (1, 'cycles', 'one'))
         self.assertEqual(next(iter(trace)), ('put', 0, 0, 1))
-        self.assertEqual(len(list(trace)), len(TWO.read_text().splitlines()) - 2)
+        self.assertEqual(len(list(trace)), len(TWO.read_text().splitlines()) - 1)
 
     def test_each_stored_history_is_read(self):
         for file in (TOP / 'examples/histories').glob('*.trace'):
@@ -38,6 +39,12 @@ class Traces(unittest.TestCase):
             for event, line in zip(trace, lines):
                 shown = ' '.join(str(it) for it in event if it is not None)
                 self.assertEqual(shown, line)
+
+    def test_version_2(self):
+        with tempfile.TemporaryDirectory() as folder:
+            trace = kpn.read_trace(stored(folder, 'kpn-trace 2\npolicy all grow double\ngrow 0 2 8\nclose 0\n'))
+            self.assertEqual((trace.version, trace.policy, trace.grow), (2, 'all', 'double'))
+            self.assertEqual(list(trace), [('grow', 0, 2, 8), ('close', None, 0, None)])
 
     def test_version_1(self):
         with tempfile.TemporaryDirectory() as folder:
