@@ -14,4 +14,3 @@ from .trace import Event, Trace, read_trace
 
 __all__ = ['Event', 'KpnError', 'Network', 'Place', 'Process', 'Result', 'Stats', 'Stream', 'Trace', 'Wait',
            'find_program', 'parts', 'read_trace', 'run']
-__version__ = '1.0'

@@ -5,7 +5,6 @@ import array
 import collections.abc
 import contextlib
 import functools
-import operator
 import os
 import pathlib
 import shutil
@@ -15,7 +14,6 @@ import weakref
 from typing import TYPE_CHECKING, Any, Callable, Dict, Iterable, Iterator, List, Mapping, NamedTuple, Optional, Union
 
 from .errors import KpnError
-from .language import LARGEST, SMALLEST
 from .program import Program, call, draw_svg, explain, failure
 from .trace import Trace
 
@@ -58,7 +56,7 @@ class Result(collections.abc.Mapping):  # type: ignore[type-arg]
 
     def __init__(self, layout: Layout, report: str, sinks: Dict[str, Any], program: Program = None):
         self._layout, self._sinks, self._program = layout, sinks, program
-        lines = [line.split(' ') for line in report.splitlines()]
+        lines = [line.split(' ') for line in report.splitlines() if not line.startswith('sink ')]
         self.outcome: str = lines[-1][0]
         self.faults: Dict[str, str] = {line[1]: line[2] for line in lines if line[0] == 'fault'}
         self.waits: List[Wait] = [Wait(line[1], line[2], len(line) > 3) for line in lines if line[0] == 'waits']
@@ -216,12 +214,14 @@ def file_of(folder: str, name: str, items: Items) -> str:
     if isinstance(items, os.PathLike):
         return os.path.abspath(items)
     try:
-        values = list(map(operator.index, items.tolist() if hasattr(items, 'tolist') else items))
+        values = array.array('q', iter(items.tolist() if hasattr(items, 'tolist') else items))
     except TypeError:
         raise TypeError(f'the items of the source `{name}` have to be whole numbers') from None
-    if values and not SMALLEST <= min(values) <= max(values) <= LARGEST:
-        raise KpnError(f'an item of the source `{name}` is out of range: it has to be from -2^63 to 2^63 - 1')
-    pathlib.Path(folder, f'{name}.source').write_text('%d\n' * len(values) % tuple(values), encoding='ascii')
+    except OverflowError:
+        raise KpnError(f'an item of the source `{name}` is out of range: '
+                       'it has to be from -2^63 to 2^63 - 1') from None
+    with open(os.path.join(folder, f'{name}.source'), 'w', encoding='ascii') as out:
+        out.write('\n'.join(map(str, values)) + '\n' * bool(values))
     return f'{name}.source'
 
 
