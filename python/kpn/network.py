@@ -113,7 +113,8 @@ class Network:
 
     def sink(self, name: str, stream: Optional[Stream] = None, cap: Optional[int] = None) -> Stream:
         """Lets the outside take `stream` by this name. Without a stream, `connect` the sink to one later."""
-        self._check_unread([] if stream is None else [stream])
+        if stream is not None:
+            self._check_written(stream)
         sink = self._declare('sink', name, cap)
         if stream is not None:
             sink.connect(stream)
@@ -144,7 +145,7 @@ class Network:
     @contextlib.contextmanager
     def scope(self, name: str) -> Iterator[None]:
         """Within `with net.scope("left"):` the names of new instances begin with `left_`."""
-        before, self._scope = self._scope, f'{self._scope}{name}_'
+        before, self._scope = self._scope, f'{self._scope}{self._own(name, [])}_'
         try:
             yield
         finally:
@@ -154,14 +155,11 @@ class Network:
         """Lets a stream flow into a channel that nobody writes yet, as `channel.connect(stream)` does."""
         if channel.writer or channel.kind == 'source':
             raise KpnError(f'`{channel.name}` has a writer already')
-        self._check_unread([stream])
+        self._check_written(stream)
         stream = self._unread(stream)
         if stream.kind == 'source':
             stream = COPY(stream)
-        if stream.writer is None or stream is channel:
-            raise KpnError(f'`{stream.name}` has no writer yet: connect it first')
-        channel.writer, writer = stream.writer, stream.writer
-        writer.outs[writer.outs.index(stream)] = channel
+        self._move_writer(stream, channel)
         channel.given_name = channel.given_name or stream.given_name
         channel.given_cap = channel.given_cap or stream.given_cap
         stream.joined = channel
@@ -195,11 +193,26 @@ class Network:
         instance.outs.append(stream)
         return stream
 
+    def _move_writer(self, stream: Stream, channel: Stream) -> None:
+        """Lets what writes a stream write the channel instead."""
+        writer = stream.writer
+        if writer:
+            writer.outs[writer.outs.index(stream)] = channel
+        stream.writer, channel.writer = None, writer
+
+    def _check_written(self, stream: Stream) -> None:
+        """Refuses a stream that may not flow into a channel: one that has a reader, or no writer."""
+        self._check_unread([stream])
+        if stream.channel.writer is None and stream.channel.kind != 'source':
+            raise KpnError(f'`{stream.name}` has no writer yet: connect it first')
+
     def _check_unread(self, streams: Sequence[Stream], reader: str = '') -> None:
         """Refuses a stream of another network, and one that has a reader already unless it is forked then."""
         for number, stream in enumerate(it.channel for it in streams):
             if stream.net is not self:
                 raise KpnError(f'the stream `{stream.name}` is of another network')
+            if stream.kind == 'sink' and stream.writer is None:
+                raise KpnError(f'the sink `{stream.name}` has no writer yet: connect it first')
             is_again = stream in [it.channel for it in streams[:number]]
             if (is_again or stream.is_read) and not self.auto_fork:
                 by = f'the outside, as the sink `{stream.name}`,' if stream.kind == 'sink' else \
@@ -224,15 +237,15 @@ class Network:
         fork = Instance(forking(1), None, self._scope, [])
         fork.is_automatic = True
         self._instances.append(fork)
-        if stream.kind == 'sink' and stream.writer:
-            before, writer = self._declare('channel', None, None), stream.writer
-            writer.outs[writer.outs.index(stream)], before.writer = before, writer
-            stream.writer, before.reader = fork, fork
-            fork.ins, fork.outs = [before], [stream]
-        elif stream.reader:
+        if stream.reader:
             after, reader = self._write(fork), stream.reader
             reader.ins[reader.ins.index(stream)], after.reader = after, reader
             fork.ins, stream.reader = [stream], fork
+        else:
+            before = self._declare('channel', None, None)
+            self._move_writer(stream, before)
+            stream.writer, before.reader = fork, fork
+            fork.ins, fork.outs = [before], [stream]
         return fork
 
     # ---- the text

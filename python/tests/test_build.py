@@ -108,7 +108,13 @@ network {
     def test_a_channel_that_nobody_connects(self):
         GAIN(self.net.channel('lost'), 1, name='g')
         self.refused('`lost` has no writer', self.net.check)
-        self.refused('connect it first', self.net.sink('y').connect, self.net.channel('early'))
+        early = self.net.channel('early')
+        self.refused('connect it first', self.net.sink('y').connect, early)
+        self.refused('connect it first', self.net.sink, 'z', early)
+        self.refused('connect it first', early.connect, early)
+        net = kpn.Network(auto_fork=True)
+        self.refused('connect it first', GAIN, net.sink('y'), 1)
+        self.assertEqual(self.net.layout().sinks, ['y'])
 
     def test_a_source_may_flow_to_a_sink(self):
         self.net.sink('y', self.net.source('x'))
@@ -133,6 +139,7 @@ network {
         self.net.sink('z_itself', z)
         for name in ('while', '1x', '', 'a-b', 'x' * 33):
             self.refused('is no name', self.net.source, name)
+            self.refused('is no name', self.net.scope(name).__enter__)
         self.net.check()
 
     def test_long_names_are_cut(self):
