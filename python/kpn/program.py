@@ -7,7 +7,7 @@ import re
 import shutil
 import subprocess
 import tempfile
-from typing import Callable, Optional, Sequence, Union
+from typing import Callable, Dict, Optional, Sequence, Union
 
 from .errors import KpnError, Spot
 
@@ -37,14 +37,17 @@ def find_program(given: Program = None) -> str:
     return found
 
 
+def environment() -> Dict[str, str]:
+    """The environment of the program. As the launcher does, it asks for huge pages: long runs take some tenth less."""
+    return {'GLIBC_TUNABLES': 'glibc.malloc.hugetlb=1', **os.environ}
+
+
 def call(words: Sequence[str], program: Program = None, folder: Optional[str] = None,
          timeout: Optional[float] = None) -> subprocess.CompletedProcess[str]:
     """Calls `kpn` with these words in a folder, and gives what it wrote and its status."""
     path = find_program(program)
-    # As the launcher does: with huge pages a long run takes some tenth less time.
-    environment = {'GLIBC_TUNABLES': 'glibc.malloc.hugetlb=1', **os.environ}
     try:
-        return subprocess.run([path, *words], cwd=folder, env=environment, timeout=timeout, stdin=subprocess.DEVNULL,
+        return subprocess.run([path, *words], cwd=folder, env=environment(), timeout=timeout, stdin=subprocess.DEVNULL,
                               capture_output=True, encoding='utf-8', errors='replace')
     except subprocess.TimeoutExpired:
         raise KpnError(f'`kpn {words[0]}` had not ended after {timeout} seconds') from None

@@ -178,8 +178,7 @@ def run(net: Network, inputs: Inputs = None, *, take: Optional[int] = None, work
             words += ['--source', f'{name}={file_of(folder, name, items)}']
         for name in layout.sinks:
             words += ['--sink', f'{name}={name}.sink']
-        for option, value in (('take', take), ('workers', workers), ('max-commits', max_commits), ('trace', kept)):
-            words += [f'--{option}', str(value)] if value is not None else []
+        words += words_of(take=take, workers=workers, max_commits=max_commits, trace=kept)
         done = call(words, program, folder, timeout)
         if done.returncode not in STATUSES:
             raise refusal(done, layout, given, program)
@@ -191,6 +190,12 @@ def run(net: Network, inputs: Inputs = None, *, take: Optional[int] = None, work
             made.pop_all()
             result.keep(folder, kept)
     return result
+
+
+def words_of(**options: Union[None, int, str]) -> List[str]:
+    """The words of a command line for the options that are given."""
+    given = ((name.replace('_', '-'), value) for name, value in options.items() if value is not None)
+    return [word for name, value in given for word in (f'--{name}', str(value))]
 
 
 def by_name(layout: Layout, inputs: Inputs) -> Dict[str, Items]:
@@ -213,6 +218,12 @@ def file_of(folder: str, name: str, items: Items) -> str:
     """The file with the items of a source: the given one, or one in the folder."""
     if isinstance(items, os.PathLike):
         return os.path.abspath(items)
+    pathlib.Path(folder, f'{name}.source').write_bytes(lines_of(name, items))
+    return f'{name}.source'
+
+
+def lines_of(name: str, items: Iterable[int]) -> bytes:
+    """The lines that an item file has for these items of a source."""
     try:
         values = array.array('q', iter(items.tolist() if hasattr(items, 'tolist') else items))
     except TypeError:
@@ -220,9 +231,7 @@ def file_of(folder: str, name: str, items: Items) -> str:
     except OverflowError:
         raise KpnError(f'an item of the source `{name}` is out of range: '
                        'it has to be from -2^63 to 2^63 - 1') from None
-    with open(os.path.join(folder, f'{name}.source'), 'w', encoding='ascii') as out:
-        out.write('\n'.join(map(str, values)) + '\n' * bool(values))
-    return f'{name}.source'
+    return ('\n'.join(map(str, values)) + '\n' * bool(values)).encode()
 
 
 def maker_of(given: Mapping[str, Items]) -> Callable[[List[int]], Any]:
