@@ -14,11 +14,13 @@ from .errors import KpnError, Spot
 from .process import Process
 from .program import explain
 
-SMALLEST, LARGEST = -2**63, 2**63 - 1
+LARGEST = 2**63 - 1
 LARGEST_CAPACITY = 1_048_576
 LONGEST_NAME = 32
 RESERVED = frozenset('process in out par read write if else while network limit channel cap source sink policy grow'
                      .split())
+MOST_LEVELS = 32
+NUMBER = re.compile(r'[0-9]{1,19}')
 NAME = re.compile(r'[A-Za-z_][A-Za-z0-9_]*')
 OPERATORS = frozenset('+ - * / % < <= > >= == != && ||'.split())
 SPACE = re.compile(r'(?:[ \t\r\n]|#[^\n]*)*')
@@ -74,6 +76,11 @@ def is_name(word: str) -> bool:
     return NAME.fullmatch(word) is not None and word not in RESERVED and len(word) <= LONGEST_NAME
 
 
+def is_number(word: str) -> bool:
+    """Whether the language takes a word as a number."""
+    return NUMBER.fullmatch(word) is not None and int(word) <= LARGEST
+
+
 class Reader:
     """Reads a text, and gives its processes as canonical lines."""
 
@@ -106,7 +113,7 @@ class Reader:
 
     def number(self) -> int:
         """Goes past a number."""
-        if not self.peek().isdigit() or int(self.peek()) > LARGEST:
+        if not is_number(self.peek()):
             self.fail()
         self.place += 1
         return int(self.tokens[self.place - 1].text)
@@ -126,16 +133,16 @@ class Reader:
         name = self.name()
         self.need('(')
         parts: Dict[str, Tuple[str, ...]] = {'in': (), 'out': (), 'par': ()}
-        order = list(parts)
-        while self.peek() in order:
-            word = self.peek()
-            del order[:order.index(word) + 1]
+        left, word = list(parts), self.peek()
+        while word in left:
             self.place += 1
             parts[word] = self.names()
-            if self.peek() != ';' or not order:
+            left = left[left.index(word) + 1:]
+            if self.peek() != ';':
                 break
             self.place += 1
-            if self.peek() not in order:
+            word = self.peek()
+            if word not in left:
                 self.fail()
         self.need(')')
         body = tuple(self.block('  '))
@@ -144,6 +151,8 @@ class Reader:
 
     def block(self, indent: str) -> List[str]:
         """Reads a block, and gives its canonical lines without the braces."""
+        if len(indent) > 2 * MOST_LEVELS:
+            self.fail()
         self.need('{')
         lines: List[str] = []
         while self.peek() != '}':
@@ -174,22 +183,24 @@ class Reader:
         self.need(';')
         return [indent + line]
 
-    def expression(self) -> str:
+    def expression(self, level: int = 1) -> str:
         """Reads an expression, and gives its canonical form."""
         token = self.peek()
+        if level > MOST_LEVELS:
+            self.fail()
         if token in ('-', '!'):
             self.place += 1
-            return token + self.expression()
-        if token.isdigit():
+            return token + self.expression(level + 1)
+        if is_number(token):
             return str(self.number())
         if token != '(':
             return self.name()
         self.place += 1
-        left, operator = self.expression(), self.peek()
+        left, operator = self.expression(level + 1), self.peek()
         if operator not in OPERATORS:
             self.fail()
         self.place += 1
-        right = self.expression()
+        right = self.expression(level + 1)
         self.need(')')
         return f'({left} {operator} {right})'
 

@@ -11,6 +11,7 @@ if TYPE_CHECKING:
     from .network import Network
 
 MOST_PORTS = 16
+# A parameter is at most this, with or without a sign.
 LARGEST_VALUE = 2**63 - 1
 # The capacities of the channels at the out ports: of all, by place, or by the name of the port.
 Capacities = Union[None, int, Sequence[int], Mapping[str, int]]
