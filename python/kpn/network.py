@@ -300,6 +300,9 @@ class Network:
     def __str__(self) -> str:
         return self.layout().text
 
+    def __repr__(self) -> str:
+        return f'<Network of {len(self._instances)} instances and {len(self._channels)} channels>'
+
     # ---- what `kpn` does with it
 
     def check_limits(self) -> None:
@@ -325,8 +328,11 @@ class Network:
         return answer('draw', str(self), program=program)
 
     def _repr_svg_(self) -> Optional[str]:
-        """The picture that a notebook shows, if Graphviz is there."""
-        return draw_svg(self.dot())
+        """The picture that a notebook shows, if the network is right and Graphviz is there."""
+        try:
+            return draw_svg(self.dot())
+        except KpnError:
+            return None
 
     def run(self, inputs: running.Inputs = None, **options: Any) -> running.Result:
         """Runs the network on these items of its sources, as `kpn.run(net, inputs, ..)` does."""

@@ -14,7 +14,7 @@ import weakref
 from typing import TYPE_CHECKING, Any, Callable, Dict, Iterable, Iterator, List, Mapping, NamedTuple, Optional, Union
 
 from .errors import KpnError
-from .program import Program, call, draw_svg, explain, failure
+from .program import Program, call, draw_svg, explain, failure, find_program
 from .trace import Trace
 
 if TYPE_CHECKING:
@@ -57,6 +57,8 @@ class Result(collections.abc.Mapping):  # type: ignore[type-arg]
     def __init__(self, layout: Layout, report: str, sinks: Dict[str, Any], program: Program = None):
         self._layout, self._sinks, self._program = layout, sinks, program
         lines = [line.split(' ') for line in report.splitlines() if not line.startswith('sink ')]
+        if not lines:
+            raise KpnError(f'{find_program(program)} has told no outcome: it is not the program `kpn`')
         self.outcome: str = lines[-1][0]
         self.faults: Dict[str, str] = {line[1]: line[2] for line in lines if line[0] == 'fault'}
         self.waits: List[Wait] = [Wait(line[1], line[2], len(line) > 3) for line in lines if line[0] == 'waits']
@@ -166,12 +168,10 @@ def run(net: Network, inputs: Inputs = None, *, take: Optional[int] = None, work
     net.check_limits()
     layout = net.layout()
     given = by_name(layout, inputs)
-    kept = os.path.abspath(TRACE if trace is True else os.fspath(trace)) if trace else None
     with contextlib.ExitStack() as made:
         folder = tempfile.mkdtemp(prefix='kpn-')
         made.callback(shutil.rmtree, folder, ignore_errors=True)
-        if trace is True:
-            kept = os.path.join(folder, TRACE)
+        kept = os.path.join(folder, TRACE) if trace is True else os.path.abspath(trace) if trace else None
         pathlib.Path(folder, TEXT).write_bytes(layout.text.encode())
         words = ['run', TEXT]
         for name, items in given.items():

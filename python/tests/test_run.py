@@ -87,7 +87,7 @@ class Outcomes(unittest.TestCase):
 
     def test_enough(self):
         result = example('fibonacci').run(take=10)
-        self.assertEqual((result.outcome, result['numbers'][:10]), ('enough', [0, 1, 1, 2, 3, 5, 8, 13, 21, 34]))
+        self.assertEqual((result.outcome, result['numbers']), ('enough', [0, 1, 1, 2, 3, 5, 8, 13, 21, 34]))
         self.assertEqual(result.complete, {'numbers': None})
         self.assertIs(result.check(), result)
         self.assertEqual(example('fibonacci').run(take=10, trace=True).complete, {'numbers': False})
@@ -198,6 +198,11 @@ class Programs(unittest.TestCase):
             with self.assertRaises(kpn.KpnError) as caught:
                 doubling().run([1], program=path)
             self.assertEqual(caught.exception.error, '42 NoMemory')
+
+    def test_a_program_that_tells_nothing(self):
+        with tempfile.TemporaryDirectory() as folder:
+            path = self.program(folder, 'for word; do case $word in *.sink) : > "${word#*=}";; esac; done')
+            self.assertRaisesRegex(kpn.KpnError, 'has told no outcome', doubling().run, [1], program=path)
 
     def test_a_program_that_does_not_end(self):
         with tempfile.TemporaryDirectory() as folder:
