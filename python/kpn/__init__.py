@@ -1,0 +1,16 @@
+"""Kahn process networks, built and run from Python.
+
+A `Network` is built by calls of processes and of the ready parts in `kpn.parts`, and runs by the program `kpn` of
+Combrieks. The package itself proves nothing. What `kpn` runs is proved there: the items that a sink gives are a prefix
+of what the text of the network means.
+"""
+from . import parts
+from .errors import KpnError, Place
+from .network import Network
+from .process import Process, Stream
+from .program import find_program
+from .running import Result, Stats, Wait, run
+from .trace import Event, Trace, read_trace
+
+__all__ = ['Event', 'KpnError', 'Network', 'Place', 'Process', 'Result', 'Stats', 'Stream', 'Trace', 'Wait',
+           'find_program', 'parts', 'read_trace', 'run']

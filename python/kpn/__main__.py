@@ -1,0 +1,78 @@
+"""`python -m kpn`: lists the parts, runs the gallery, and writes its texts."""
+from __future__ import annotations
+
+import argparse
+import pathlib
+import sys
+import time
+from typing import List, Optional
+
+from . import KpnError, parts
+from .gallery import GALLERY, stored_text
+
+
+def first_line(thing: object) -> str:
+    """The first line of a text that documents something."""
+    return (thing.__doc__ or '').strip().splitlines()[0]
+
+
+def list_all() -> int:
+    """Writes what parts and what networks there are."""
+    print('Parts, in kpn.parts (help(kpn.parts.fir) tells more):')
+    for name in parts.__all__:
+        print(f'  {name:18} {first_line(getattr(parts, name))}')
+    print('\nNetworks of the gallery (python -m kpn gallery [NAME ..] runs them):')
+    for name, module in GALLERY.items():
+        print(f'  {name:18} {first_line(module)}')
+    return 0
+
+
+def run_gallery(names: List[str], count: int) -> int:
+    """Runs networks of the gallery, and compares what comes out with plain Python."""
+    wrong = 0
+    for name in names or GALLERY:
+        module = GALLERY[name]
+        given = module.inputs(count)
+        start = time.perf_counter()
+        result = module.build().run(given).check()
+        took = time.perf_counter() - start
+        is_right = dict(result) == module.expected(given)
+        wrong += not is_right
+        sinks = ', '.join(f'{len(items)} items of {sink}' for sink, items in result.items())
+        print(f'{name:12} {"right" if is_right else "WRONG"}: {sinks} in {1000 * took:.0f} ms')
+    return 1 if wrong else 0
+
+
+def store(folder: str) -> int:
+    """Writes the texts of the gallery into a folder."""
+    for name in GALLERY:
+        pathlib.Path(folder, f'{name}.kpn').write_text(stored_text(name), encoding='ascii')
+    return 0
+
+
+def main(words: Optional[List[str]] = None) -> int:
+    """Does what the words ask, and gives the status."""
+    parser = argparse.ArgumentParser(prog='python -m kpn', description='Without a command: lists parts and gallery.')
+    commands = parser.add_subparsers(dest='command')
+    command = commands.add_parser('gallery', help='run networks, and compare the sinks with plain Python')
+    command.add_argument('names', nargs='*', metavar='NAME', help='a network; without one all of them')
+    command.add_argument('--samples', type=int, default=10_000, metavar='N', help='items for each source (10000)')
+    command = commands.add_parser('store', help='write the texts of the gallery into a folder')
+    command.add_argument('folder')
+    given = parser.parse_args(words)
+    if given.command == 'store':
+        return store(given.folder)
+    if given.command == 'gallery':
+        unknown = [name for name in given.names if name not in GALLERY]
+        if unknown:
+            parser.error(f'the gallery has no {unknown[0]}: it has {", ".join(GALLERY)}')
+        try:
+            return run_gallery(given.names, given.samples)
+        except KpnError as error:
+            print(f'python -m kpn: {error}', file=sys.stderr)
+            return 1
+    return list_all()
+
+
+if __name__ == '__main__':
+    sys.exit(main())

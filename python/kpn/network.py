@@ -1,0 +1,349 @@
+"""Networks: built by calls, written as texts of the language."""
+from __future__ import annotations
+
+import collections
+import contextlib
+from typing import Any, Dict, Iterable, Iterator, List, Mapping, NamedTuple, Optional, Sequence, Tuple, Union
+
+from . import running
+from .errors import KpnError, Spot
+from .language import LARGEST_CAPACITY, LONGEST_NAME, Description, Reader, is_name, same_place
+from .process import MOST_PORTS, Capacities, Instance, Outputs, Process, Stream, forking
+from .program import Program, answer, draw_svg, explain
+
+LIMITS = (('processes', 256), ('instances', 256), ('channels', 1024))
+COPY = Process('copy', ('i',), ('o',), (), ('  while 1 {', '    read i x;', '    write o x;', '  }'))
+
+
+class Names:
+    """Gives each thing a name that no other one of its table has."""
+
+    def __init__(self, taken: Iterable[str] = ()):
+        self.taken = set(taken)
+        self.last: Dict[str, int] = {}
+
+    def give(self, wanted: str) -> str:
+        """The wanted name, or that with a number behind it."""
+        name, number = wanted[:LONGEST_NAME], self.last.get(wanted, 1)
+        while name in self.taken or not is_name(name):
+            number += 1
+            name = f'{wanted[:LONGEST_NAME - len(str(number)) - 1]}_{number}'
+        self.taken.add(name)
+        self.last[wanted] = number
+        return name
+
+
+class Layout(NamedTuple):
+    """The text of a network and what is called how in it. `begins` has where its processes begin, and `writers` the
+    instance that writes each channel."""
+
+    text: str
+    begins: List[Tuple[int, Process]]
+    names: Dict[Union[Instance, Stream], str]
+    instances: List[str]
+    channels: List[str]
+    sources: List[str]
+    sinks: List[str]
+    writers: Dict[str, str]
+
+    def spot_of(self, offset: int) -> Spot:
+        """The place in the source of a process that stands at this place of the text, or else the place itself."""
+        for start, process in self.begins:
+            text = str(process)
+            if process.source and start <= offset < start + len(text):
+                place = same_place(text, offset - start, process.source)
+                return Spot(f'process `{process.name}`', process.source, place)
+        return Spot('the network', self.text, offset)
+
+
+class Network:
+    """A network that is being built. Its text is `str(net)`, the one that `kpn print` gives.
+
+    `limit` is the largest capacity that a channel may grow to, `policy` is `cycles` or `all`, and `grow` is `one` or
+    `double`: Combrieks' docs/FORMATS.md tells which to choose. A stream that is used again is an error; with
+    `auto_fork` it is forked.
+    """
+
+    def __init__(self, limit: int = LARGEST_CAPACITY, policy: str = 'cycles', grow: str = 'one', *,
+                 auto_fork: bool = False):
+        if not 1 <= limit <= LARGEST_CAPACITY:
+            raise KpnError(f'the limit is {limit}: it has to be from 1 to {LARGEST_CAPACITY}')
+        for what, given, choices in (('policy', policy, ('cycles', 'all')), ('grow', grow, ('one', 'double'))):
+            if given not in choices:
+                raise KpnError(f'{what} is {given!r}: it has to be {choices[0]!r} or {choices[1]!r}')
+        self.limit, self.policy, self.grow, self.auto_fork = limit, policy, grow, auto_fork
+        self._processes: List[Process] = []
+        self._channels: List[Stream] = []
+        self._instances: List[Instance] = []
+        self._scope = ''
+        self._layout: Optional[Layout] = None
+
+    @classmethod
+    def from_text(cls, text: str) -> Network:
+        """Reads a description, such as a file that somebody has written."""
+        try:
+            found = Reader(text, 'the network').description()
+            settings = found.settings
+            net = cls(int(settings.get('limit', LARGEST_CAPACITY)), settings.get('policy', 'cycles'),
+                      settings.get('grow', 'one'))
+            return net._filled(found)
+        except (KpnError, TypeError) as error:
+            raise explain(text, lambda offset: Spot('the network', text, offset)) or error from None
+
+    def _filled(self, found: Description) -> Network:
+        """This network with what a text says."""
+        self._processes = found.processes
+        processes = {it.name: it for it in found.processes}
+        streams = {name: self._declare(kind, name, cap) for kind, name, cap in found.channels}
+        for name, (process, ins, outs, values) in found.instances:
+            unknown = [it for it in (*ins, *outs) if it not in streams] + [process] * (process not in processes)
+            if unknown:
+                raise KpnError(f'`{name}` names `{unknown[0]}`, which the text does not have')
+            made = processes[process](*(streams[it] for it in ins), *values, net=self, name=name)
+            made = () if made is None else made if isinstance(made, tuple) else (made,)
+            for out, stream in zip(outs, made):
+                streams[out].connect(stream)
+        return self
+
+    # ---- building
+
+    def source(self, name: str) -> Stream:
+        """A stream that the outside feeds."""
+        return self._declare('source', name, None)
+
+    def sink(self, name: str, stream: Optional[Stream] = None, cap: Optional[int] = None) -> Stream:
+        """Lets the outside take `stream` by this name. Without a stream, `connect` the sink to one later."""
+        if stream is not None:
+            self._check_written(stream)
+        sink = self._declare('sink', name, cap)
+        if stream is not None:
+            sink.connect(stream)
+        return sink
+
+    def channel(self, name: Optional[str] = None, cap: Optional[int] = None) -> Stream:
+        """A stream for a loop: read it first, and `connect` it later to the stream that flows into it."""
+        return self._declare('channel', name, cap)
+
+    def add(self, process: Process, *args: Any, name: Optional[str] = None, cap: Capacities = None,
+            **named: Any) -> Outputs:
+        """Adds an instance of a process, as the call of the process does."""
+        streams, values = process.bind(args, named)
+        caps = capacities_of(process, cap)
+        for given in caps.values():
+            self._check_capacity(given)
+        self._check_unread(streams, process.name)
+        instance = Instance(process, self._own(name, self._instances), self._scope, values)
+        for stream in streams:
+            instance.ins.append(self._unread(stream.channel))
+            instance.ins[-1].reader = instance
+        self._instances.append(instance)
+        for port in process.outs:
+            self._write(instance, caps.get(port))
+        outs = tuple(instance.outs)
+        return outs if len(outs) > 1 else outs[0] if outs else None
+
+    @contextlib.contextmanager
+    def scope(self, name: str) -> Iterator[None]:
+        """Within `with net.scope("left"):` the names of new instances begin with `left_`."""
+        before, self._scope = self._scope, f'{self._scope}{self._own(name, [])}_'
+        try:
+            yield
+        finally:
+            self._scope = before
+
+    def join(self, channel: Stream, stream: Stream) -> None:
+        """Lets a stream flow into a channel that nobody writes yet, as `channel.connect(stream)` does."""
+        if channel.writer or channel.kind == 'source':
+            raise KpnError(f'`{channel.name}` has a writer already')
+        self._check_written(stream)
+        stream = self._unread(stream)
+        if stream.kind == 'source':
+            stream = COPY(stream)
+        self._move_writer(stream, channel)
+        channel.given_name = channel.given_name or stream.given_name
+        channel.given_cap = channel.given_cap or stream.given_cap
+        stream.joined = channel
+        self._channels.remove(stream)
+        self._layout = None
+
+    def _own(self, name: Optional[str], others: Sequence[Union[Instance, Stream]]) -> Optional[str]:
+        """The name that was given for a new thing, if it may have it."""
+        if name is not None and not is_name(name):
+            raise KpnError(f'{name!r} is no name: a name has at most {LONGEST_NAME} letters, digits and `_`, begins '
+                           'with no digit, and is no word of the language')
+        if name is not None and any(it.given_name == name for it in others):
+            raise KpnError(f'there is another `{name}` already')
+        self._layout = None
+        return name
+
+    def _declare(self, kind: str, name: Optional[str], cap: Optional[int]) -> Stream:
+        self._check_capacity(cap)
+        stream = Stream(self, kind, self._own(name, self._channels), cap)
+        self._channels.append(stream)
+        return stream
+
+    def _check_capacity(self, cap: Optional[int]) -> None:
+        if cap is not None and not 1 <= cap <= self.limit:
+            raise KpnError(f'a capacity of {cap} is given: it has to be from 1 to the limit, {self.limit}')
+
+    def _write(self, instance: Instance, cap: Optional[int] = None) -> Stream:
+        """A new stream behind the last out port of an instance."""
+        stream = self._declare('channel', None, cap)
+        stream.writer = instance
+        instance.outs.append(stream)
+        return stream
+
+    def _move_writer(self, stream: Stream, channel: Stream) -> None:
+        """Lets what writes a stream write the channel instead."""
+        writer = stream.writer
+        if writer:
+            writer.outs[writer.outs.index(stream)] = channel
+        stream.writer, channel.writer = None, writer
+
+    def _check_written(self, stream: Stream) -> None:
+        """Refuses a stream that may not flow into a channel: one that has a reader, or no writer."""
+        self._check_unread([stream])
+        if stream.channel.writer is None and stream.channel.kind != 'source':
+            raise KpnError(f'`{stream.name}` has no writer yet: connect it first')
+
+    def _check_unread(self, streams: Sequence[Stream], reader: str = '') -> None:
+        """Refuses a stream of another network, and one that has a reader already unless it is forked then."""
+        for number, stream in enumerate(it.channel for it in streams):
+            if stream.net is not self:
+                raise KpnError(f'the stream `{stream.name}` is of another network')
+            if stream.kind == 'sink' and stream.writer is None:
+                raise KpnError(f'the sink `{stream.name}` has no writer yet: connect it first')
+            is_again = stream in [it.channel for it in streams[:number]]
+            if (is_again or stream.is_read) and not self.auto_fork:
+                by = f'the outside, as the sink `{stream.name}`,' if stream.kind == 'sink' else \
+                    f'`{self.layout().names[stream.reader] if stream.reader else reader}`'
+                raise KpnError(f'the stream `{stream.name}` is used twice: {by} reads it already, and a stream has '
+                               'one reader. Make several of it by `kpn.parts.fork`, or set `net.auto_fork = True`')
+
+    def _unread(self, stream: Stream) -> Stream:
+        """The stream, if nobody reads it yet, or else a fork of it."""
+        while stream.is_read:
+            fork = stream.reader
+            if fork is None or not fork.is_automatic:
+                fork = self._forked(stream)
+            if len(fork.outs) < MOST_PORTS:
+                fork.process = forking(len(fork.outs) + 1)
+                return self._write(fork)
+            stream = fork.outs[-1]
+        return stream
+
+    def _forked(self, stream: Stream) -> Instance:
+        """A new fork with one out port, between a stream and its reader."""
+        fork = Instance(forking(1), None, self._scope, [])
+        fork.is_automatic = True
+        self._instances.append(fork)
+        if stream.reader:
+            after, reader = self._write(fork), stream.reader
+            reader.ins[reader.ins.index(stream)], after.reader = after, reader
+            fork.ins, stream.reader = [stream], fork
+        else:
+            before = self._declare('channel', None, None)
+            self._move_writer(stream, before)
+            stream.writer, before.reader = fork, fork
+            fork.ins, fork.outs = [before], [stream]
+        return fork
+
+    # ---- the text
+
+    def layout(self) -> Layout:
+        """The text and the names in it, as the network is now."""
+        if self._layout is None:
+            self._layout = self._laid_out()
+        return self._layout
+
+    def _laid_out(self) -> Layout:
+        processes = dict.fromkeys([*self._processes, *(it.process for it in self._instances)])
+        called, table = {}, Names()
+        for process in processes:
+            called[process] = table.give(process.name)
+        names: Dict[Union[Instance, Stream], str] = {}
+        table = Names(it.given_name for it in self._instances if it.given_name)
+        for instance in self._instances:
+            names[instance] = instance.given_name or table.give(instance.prefix + instance.process.name)
+        table = Names(it.given_name for it in self._channels if it.given_name)
+        for stream in self._channels:
+            names[stream] = stream.given_name or table.give(stream.wanted_name(names))
+        begins, text = [], ''
+        for process, name in called.items():
+            begins.append((len(text), process.renamed(name)))
+            text += str(begins[-1][1])
+        text += ''.join(f'{line}\n' for line in self._lines(names, called))
+        of_kind = {kind: [names[it] for it in self._channels if it.kind == kind] for kind in ('source', 'sink')}
+        return Layout(text, begins, names, [names[it] for it in self._instances], [names[it] for it in self._channels],
+                      of_kind['source'], of_kind['sink'],
+                      {names[it]: names[it.writer] for it in self._channels if it.writer})
+
+    def _lines(self, names: Mapping[Union[Instance, Stream], str], called: Mapping[Process, str]) -> Iterator[str]:
+        """The lines of the network itself, behind its processes."""
+        yield 'network {'
+        yield from self._settings()
+        for stream in self._channels:
+            cap = '' if stream.kind == 'source' else f' cap {stream.cap}'
+            yield f'  {stream.kind} {names[stream]}{cap};'
+        for it in self._instances:
+            ins, outs = (', '.join(names[stream] for stream in streams) for streams in (it.ins, it.outs))
+            values = ', '.join(map(str, it.values))
+            yield f'  {names[it]} = {called[it.process]}({ins};{outs and " " + outs}{values and "; " + values});'
+        yield '}'
+
+    def _settings(self) -> List[str]:
+        """The lines of the text for what is not as it is by default."""
+        return ([f'  limit {self.limit};'] * (self.limit < LARGEST_CAPACITY)
+                + [f'  policy {self.policy};'] * (self.policy != 'cycles')
+                + [f'  grow {self.grow};'] * (self.grow != 'one'))
+
+    def __str__(self) -> str:
+        return self.layout().text
+
+    def __repr__(self) -> str:
+        return f'<Network of {len(self._instances)} instances and {len(self._channels)} channels>'
+
+    # ---- what `kpn` does with it
+
+    def check_limits(self) -> None:
+        """Raises an error if the network has more of something than the language allows."""
+        counts = (len(self.layout().begins), len(self._instances), len(self._channels))
+        for (what, most), count in zip(LIMITS, counts):
+            if count > most:
+                common = collections.Counter(it.process.name for it in self._instances).most_common(3)
+                of_these = ', '.join(f'{number} of `{name}`' for name, number in common)
+                raise KpnError(f'the network has {count} {what}: {count - most} more than the {most} that it may have. '
+                               f'Most of its instances are {of_these}')
+
+    def check(self, program: Program = None) -> None:
+        """Raises an error with the words of `kpn explain` if the network is not right."""
+        self.check_limits()
+        error = explain(str(self), self.layout().spot_of, program)
+        if error:
+            raise error
+
+    def dot(self, program: Program = None) -> str:
+        """The network as a graph for Graphviz, by `kpn draw`."""
+        self.check(program)
+        return answer('draw', str(self), program=program)
+
+    def _repr_svg_(self) -> Optional[str]:
+        """The picture that a notebook shows, if the network is right and Graphviz is there."""
+        try:
+            return draw_svg(self.dot())
+        except KpnError:
+            return None
+
+    def run(self, inputs: running.Inputs = None, **options: Any) -> running.Result:
+        """Runs the network on these items of its sources, as `kpn.run(net, inputs, ..)` does."""
+        return running.run(self, inputs, **options)
+
+
+def capacities_of(process: Process, cap: Capacities) -> Mapping[str, Optional[int]]:
+    """The capacity at each out port that the word `cap=` of a call gives."""
+    if cap is None or isinstance(cap, int):
+        return dict.fromkeys(process.outs, cap)
+    found = dict(cap) if isinstance(cap, Mapping) else dict(zip(process.outs, cap))
+    if not set(found) <= set(process.outs) or len(found) < len(cap):
+        raise TypeError(f'`cap` of `{process.name}` gives more than its out ports {", ".join(process.outs)}')
+    return found

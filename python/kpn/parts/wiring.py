@@ -1,0 +1,257 @@
+"""Parts that bring items to other places or in another number, and do not compute with them."""
+from __future__ import annotations
+
+from typing import TYPE_CHECKING, Optional, Sequence, Tuple
+
+from ..errors import KpnError
+from ..process import MOST_PORTS, Process, Stream, forking
+
+if TYPE_CHECKING:
+    from ..network import Network
+
+DROP = Process.from_text('''
+process drop(in i; out o; par n) {
+  while (n > 0) { read i x; n = (n - 1); }
+  while 1 { read i x; write o x; }
+}''')
+CONSTANT = Process.from_text('process constant(out o; par value) { while 1 { write o value; } }')
+REPEAT = Process.from_text('''
+process repeat(out o; par value, times) {
+  while (times > 0) { write o value; times = (times - 1); }
+}''')
+COUNT = Process.from_text('process count(out o; par n, step) { while 1 { write o n; n = (n + step); } }')
+DELAY = Process.from_text('''
+process delay(in i; out o; par n, initial) {
+  while (n > 0) { write o initial; n = (n - 1); }
+  while 1 { read i x; write o x; }
+}''')
+DOWNSAMPLE = Process.from_text('''
+process downsample(in i; out o; par n, phase) {
+  while 1 {
+    k = 0;
+    while (k < n) {
+      read i x;
+      if (k == phase) { write o x; } else { }
+      k = (k + 1);
+    }
+  }
+}''')
+UPSAMPLE = Process.from_text('''
+process upsample(in i; out o; par n, fill) {
+  while 1 {
+    read i x;
+    write o x;
+    k = 1;
+    while (k < n) { write o fill; k = (k + 1); }
+  }
+}''')
+HOLD = Process.from_text('''
+process hold(in i; out o; par n) {
+  while 1 {
+    read i x;
+    k = 0;
+    while (k < n) { write o x; k = (k + 1); }
+  }
+}''')
+SELECT = Process.from_text('''
+process select(in control, yes, no; out o) {
+  while 1 {
+    read control c;
+    if c { read yes x; } else { read no x; }
+    write o x;
+  }
+}''')
+SWITCH = Process.from_text('''
+process switch(in control, i; out yes, no) {
+  while 1 {
+    read control c;
+    read i x;
+    if c { write yes x; } else { write no x; }
+  }
+}''')
+ENCODE = Process.from_text('''
+process encode(in i; out values, counts; par longest) {
+  read i before;
+  n = 1;
+  while 1 {
+    read i x;
+    if ((x == before) && (n < longest)) {
+      n = (n + 1);
+    } else {
+      write values before;
+      write counts n;
+      before = x;
+      n = 1;
+    }
+  }
+}''')
+DECODE = Process.from_text('''
+process decode(in values, counts; out o) {
+  while 1 {
+    read values x;
+    read counts n;
+    while (n > 0) { write o x; n = (n - 1); }
+  }
+}''')
+
+
+def need(holds: bool, what: str) -> None:
+    """Refuses a word of a call that a part cannot take."""
+    if not holds:
+        raise KpnError(what)
+
+
+def largest_divisor(number: int) -> int:
+    """The largest divisor of a number that is no more than the ports of a process."""
+    return max(it for it in range(1, MOST_PORTS + 1) if number % it == 0)
+
+
+def fork(stream: Stream, n: int = 2) -> Tuple[Stream, ...]:
+    """Makes n streams of one. Each has all its items.
+
+    Rates: one item on each out for one in. Faults: none.
+    """
+    need(n >= 1, f'{n} streams are asked of a fork: it makes at least 1')
+    if n <= MOST_PORTS:
+        outs = forking(n)(stream)
+        return outs if n > 1 else (outs,)
+    sizes = [n // MOST_PORTS + (it < n % MOST_PORTS) for it in range(MOST_PORTS)]
+    parts = ([out] if size == 1 else fork(out, size) for out, size in zip(fork(stream, MOST_PORTS), sizes))
+    return tuple(it for part in parts for it in part)
+
+
+def drop(stream: Stream, n: int = 1) -> Stream:
+    """Leaves out the first n items.
+
+    Rates: one out for one in, n items in before. Faults: none.
+    """
+    return DROP(stream, n)
+
+
+def constant(net: Network, value: int, times: Optional[int] = None) -> Stream:
+    """Gives the value again and again, or so many times.
+
+    Rates: no items in. Faults: none. Without `times` it never ends: `take=` or a reader that waits ends the run.
+    """
+    return CONSTANT(value, net=net) if times is None else REPEAT(value, times, net=net)
+
+
+def count(net: Network, start: int = 0, step: int = 1) -> Stream:
+    """Gives start, start + step, start + 2 step and so on.
+
+    Rates: no items in. Faults: overflow behind the last number. It ends only so.
+    """
+    return COUNT(start, step, net=net)
+
+
+def delay(stream: Stream, n: int = 1, initial: int = 0, cap: Optional[int] = None) -> Stream:
+    """Gives n items `initial`, and then the stream. Each loop needs one.
+
+    Rates: one out for one in, n items out before. Faults: none. Its channel has room for n items if no `cap` is given.
+    """
+    return DELAY(stream, n, initial, cap=min(max(n, 1), stream.net.limit) if cap is None else cap)
+
+
+def downsample(stream: Stream, n: int, phase: int = 0) -> Stream:
+    """Keeps the item at place `phase`, counted from 0, of each n items.
+
+    Rates: one out for n in. Faults: none.
+    """
+    need(0 <= phase < n, f'phase {phase} of {n} items: it has to be from 0 to {n - 1}')
+    return DOWNSAMPLE(stream, n, phase)
+
+
+def upsample(stream: Stream, n: int, fill: int = 0) -> Stream:
+    """Puts n - 1 items `fill` behind each item.
+
+    Rates: n out for one in. Faults: none.
+    """
+    return UPSAMPLE(stream, n, fill)
+
+
+def hold(stream: Stream, n: int) -> Stream:
+    """Gives each item n times.
+
+    Rates: n out for one in. Faults: none.
+    """
+    return HOLD(stream, n)
+
+
+def deal(stream: Stream, n: int) -> Tuple[Stream, ...]:
+    """Deals the items to n streams by turns: stream k gets the items k, k + n, k + 2 n and so on.
+
+    Rates: one item on each out for n in. Faults: none. If n is over 16 it must be a product of numbers up to 16.
+    """
+    first = largest_divisor(n)
+    need(first > 1 or n == 1, f'a deal to {n} streams: the number has to be a product of numbers up to {MOST_PORTS}')
+    if n == 1:
+        return (stream,)
+    ports = [f'o{it}' for it in range(1, first + 1)]
+    outs = Process.from_text(f'process deal{first}(in i; out {", ".join(ports)}) {{ while 1 {{ '
+                             + ' '.join(f'read i x; write {port} x;' for port in ports) + ' } }')(stream)
+    parts = [deal(out, n // first) for out in outs]
+    return tuple(parts[it % first][it // first] for it in range(n))
+
+
+def merge(streams: Sequence[Stream]) -> Stream:
+    """Takes an item of each stream by turns, from the first one on.
+
+    Rates: as many out as there are streams, for one item of each. Faults: none. It ends with the first stream that has
+    no item at its turn. More than 16 streams must be a product of numbers up to 16.
+    """
+    first = largest_divisor(len(streams)) if streams else 0
+    need(first > 1 or len(streams) == 1,
+         f'a merge of {len(streams)} streams: the number has to be a product of numbers up to {MOST_PORTS}')
+    if len(streams) == 1:
+        return streams[0]
+    ports = [f'i{it}' for it in range(1, first + 1)]
+    process = Process.from_text(f'process merge{first}(in {", ".join(ports)}; out o) {{ while 1 {{ '
+                                + ' '.join(f'read {port} x; write o x;' for port in ports) + ' } }')
+    return process(*(merge(streams[it::first]) for it in range(first)))
+
+
+def zip_streams(*streams: Stream) -> Tuple[Stream, ...]:
+    """Gives the streams in step: an item of each goes on only once all have one. So all are as long as the shortest.
+
+    Rates: one item on each out for one on each in. Faults: none.
+    """
+    need(len(streams) > 1, 'a zip takes at least two streams')
+    numbers = range(1, len(streams) + 1)
+    text = (f'process zip{len(streams)}(in {", ".join(f"i{it}" for it in numbers)}; '
+            f'out {", ".join(f"o{it}" for it in numbers)}) {{ while 1 {{ '
+            + ' '.join(f'read i{it} x{it};' for it in numbers) + ' '.join(f' write o{it} x{it};' for it in numbers))
+    outs: Tuple[Stream, ...] = Process.from_text(text + ' } }')(*streams)
+    return outs
+
+
+def select(control: Stream, if_true: Stream, if_false: Stream) -> Stream:
+    """For each item of `control`, takes an item of `if_true` if it is not 0, and else of `if_false`.
+
+    Rates: one out for one of `control` and one of the stream that it selects. Faults: none.
+    """
+    return SELECT(control, if_true, if_false)
+
+
+def switch(control: Stream, stream: Stream) -> Tuple[Stream, Stream]:
+    """Sends each item to the first of two streams if the item of `control` is not 0, and else to the second.
+
+    Rates: one out, on one of the two, for one of `control` and one in. Faults: none.
+    """
+    return SWITCH(control, stream)
+
+
+def run_length_encode(stream: Stream, longest: int = 2**62) -> Tuple[Stream, Stream]:
+    """Gives the values of the runs of equal items, and how long these are; `longest` cuts longer runs.
+
+    Rates: one item on each out for each run. Faults: none. A run comes out once an item follows that is not of it, so
+    the last one never does.
+    """
+    return ENCODE(stream, longest)
+
+
+def run_length_decode(values: Stream, counts: Stream) -> Stream:
+    """Gives each value as often as the count beside it says; a count below 1 gives nothing.
+
+    Rates: for one item on each in, so many out as the count is. Faults: none.
+    """
+    return DECODE(values, counts)

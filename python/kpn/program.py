@@ -1,0 +1,103 @@
+"""Finds the program `kpn`, calls it, and tells why it refused something."""
+from __future__ import annotations
+
+import os
+import pathlib
+import re
+import shutil
+import subprocess
+import tempfile
+from typing import Callable, Dict, Optional, Sequence, Union
+
+from .errors import KpnError, Spot
+
+# The path of the program `kpn`; None stands for the one that is found.
+Program = Union[None, str, 'os.PathLike[str]']
+VARIABLE = 'KPN_PROGRAM'
+BUILT = pathlib.Path(__file__).resolve().parents[2] / 'crates/kpn/out/kpn'
+# The name under which a text is explained, and the first line of an explanation.
+NAME = 'text.kpn'
+EXPLANATION = re.compile(re.escape(NAME) + r":(\d+):(\d+): (.*?(?: \[(.*)\])?)$")
+ERROR = re.compile(r'kpn: ((\d+) \w+(?: at \d+)?)$', re.M)
+
+
+def find_program(given: Program = None) -> str:
+    """The program `kpn`: the given one, that of the variable KPN_PROGRAM, that of the repository around this package,
+    or that of the PATH."""
+    for path, whose in ((given, 'the one that was given'), (os.environ.get(VARIABLE), f'that of {VARIABLE}')):
+        if path:
+            if not os.access(path, os.X_OK) or os.path.isdir(path):
+                raise KpnError(f'{path} is no program: {whose} has to be the program `kpn`')
+            return os.path.abspath(path)
+    if os.access(BUILT, os.X_OK):
+        return str(BUILT)
+    found = shutil.which('kpn')
+    if not found:
+        raise KpnError(f'there is no program `kpn`: build it by `./kpn` in its repository, or name it by {VARIABLE}')
+    return found
+
+
+def environment() -> Dict[str, str]:
+    """The environment of the program. As the launcher does, it asks for huge pages: long runs take some tenth less."""
+    return {'GLIBC_TUNABLES': 'glibc.malloc.hugetlb=1', **os.environ}
+
+
+def call(words: Sequence[str], program: Program = None, folder: Optional[str] = None,
+         timeout: Optional[float] = None) -> subprocess.CompletedProcess[str]:
+    """Calls `kpn` with these words in a folder, and gives what it wrote and its status."""
+    path = find_program(program)
+    try:
+        return subprocess.run([path, *words], cwd=folder, env=environment(), timeout=timeout, stdin=subprocess.DEVNULL,
+                              capture_output=True, encoding='utf-8', errors='replace')
+    except subprocess.TimeoutExpired:
+        raise KpnError(f'`kpn {words[0]}` had not ended after {timeout} seconds') from None
+    except OSError as error:
+        raise KpnError(f'{path} does not run: {error.strerror}') from None
+
+
+def answer(command: str, text: str, *words: str, program: Program = None) -> str:
+    """What a command of `kpn` writes of a text; the words are those behind the name of its file."""
+    with tempfile.TemporaryDirectory(prefix='kpn-') as folder:
+        (pathlib.Path(folder) / NAME).write_bytes(text.encode())
+        done = call([command, NAME, *words], program, folder)
+    if done.returncode:
+        raise failure(done)
+    return done.stdout
+
+
+def draw_svg(dot: str) -> Optional[str]:
+    """A graph as a picture, if Graphviz is there."""
+    if not shutil.which('dot'):
+        return None
+    return subprocess.run(['dot', '-Tsvg'], input=dot, capture_output=True, text=True, check=True).stdout
+
+
+def failure(done: subprocess.CompletedProcess[str]) -> KpnError:
+    """The error of a call that failed, as `kpn` tells it."""
+    error = ERROR.search(done.stderr)
+    message = f'`kpn` failed with status {done.returncode}: {done.stderr.strip()}'
+    return KpnError(message, error=error[1] if error else None)
+
+
+def explain(text: str, spot_of: Callable[[int], Spot], program: Program = None
+            ) -> Optional[KpnError]:
+    """What `kpn explain` says of a wrong text, with its places shown where `spot_of` says; None of a right one."""
+    with tempfile.TemporaryDirectory(prefix='kpn-') as folder:
+        (pathlib.Path(folder) / NAME).write_bytes(text.encode())
+        done = call(['explain', NAME], program, folder)
+    if done.returncode == 0:
+        return None
+    lines, shown, place, error = done.stdout.splitlines(), [], None, None
+    while lines:
+        line = lines.pop(0)
+        found = EXPLANATION.match(line)
+        if not found:
+            shown.append(line)
+            continue
+        before = text.encode().split(b'\n')[:int(found[1])]
+        before[-1] = before[-1][:int(found[2]) - 1]
+        spot = spot_of(len(b'\n'.join(before).decode(errors='ignore')))
+        shown += spot.show(found[3])
+        place, error = place or spot.place(), error or found[4]
+        del lines[:2]
+    return KpnError('\n'.join(shown), place=place, error=error) if place else failure(done)

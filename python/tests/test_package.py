@@ -1,0 +1,98 @@
+"""The documents of the package, and its command."""
+import contextlib
+import inspect
+import io
+import re
+import sys
+import tempfile
+import types
+import unittest
+import unittest.mock
+import pathlib
+
+from support import GALLERY, TOP, kpn
+
+from kpn import gallery, parts
+from kpn.__main__ import main
+
+README = (TOP / 'python/README.md').read_text()
+
+
+def said(*words):
+    """The status of the command and what it wrote."""
+    with contextlib.redirect_stdout(io.StringIO()) as out:
+        status = main(list(words))
+    return status, out.getvalue()
+
+
+class Documents(unittest.TestCase):
+    def test_the_code_of_the_readme_runs(self):
+        plotted = []
+        plot = types.SimpleNamespace(plot=plotted.append, show=lambda: None)
+        modules = {'matplotlib': types.SimpleNamespace(pyplot=plot), 'matplotlib.pyplot': plot}
+        names = {}
+        with unittest.mock.patch.dict(sys.modules, modules), contextlib.redirect_stdout(io.StringIO()) as out:
+            for code in re.findall(r'```python\n(.*?)```', README, re.S):
+                exec(code, names)
+            print(names['net'].run([1, 2, 3])['sum'])
+        self.assertEqual([len(it) for it in plotted], [200, 200])
+        self.assertEqual(out.getvalue(), '[3, 6, 9]\n[1, 3, 6]\n')
+
+    def test_the_error_of_the_readme(self):
+        part = kpn.Process.from_text('process gain(in i; out o; par k) { while 1 { read i x; write o (x * j); } }')
+        net = kpn.Network()
+        net.sink('y', part(net.source('x'), 1))
+        with self.assertRaises(kpn.KpnError) as caught:
+            net.check()
+        first, *lines = str(caught.exception).splitlines()[:3]
+        self.assertIn(f'    {first.split(":")[0]}: `j` ', README)
+        self.assertIn(''.join(f'    {line}\n' for line in lines), README)
+
+    def test_each_public_thing_is_documented(self):
+        things = [getattr(kpn, name) for name in kpn.__all__]
+        for thing in list(things):
+            things += [it for name, it in vars(thing).items() if inspect.isclass(thing) and inspect.isfunction(it)
+                       and not name.startswith('_')]
+        for thing in things:
+            self.assertTrue(inspect.getdoc(thing), thing)
+
+    def test_the_words_of_the_readme(self):
+        for word in re.findall(r'`result\.(\w+)', README):
+            self.assertTrue(hasattr(kpn.Result, word) or word in ('outcome', 'faults', 'waits'), word)
+        for word in re.findall(r'parts\.(\w+)', README):
+            self.assertIn(word, parts.__all__)
+
+
+class Command(unittest.TestCase):
+    def test_it_lists_parts_and_gallery(self):
+        status, text = said()
+        self.assertEqual(status, 0)
+        for name in (*parts.__all__, *gallery.GALLERY):
+            self.assertIn(f'\n  {name} ', text)
+
+    def test_it_runs_the_gallery(self):
+        status, text = said('gallery', 'fir', 'matrix', '--samples', '99')
+        self.assertEqual(status, 0)
+        self.assertEqual(len(text.splitlines()), 2)
+        self.assertIn('right: 99 items of y', text)
+
+    def test_it_tells_what_is_wrong(self):
+        with unittest.mock.patch.object(gallery.GALLERY['fir'], 'expected', lambda given: {'y': []}):
+            status, text = said('gallery', 'fir', '--samples', '9')
+        self.assertEqual(status, 1)
+        self.assertIn('WRONG', text)
+
+    def test_it_stores_the_texts(self):
+        with tempfile.TemporaryDirectory() as folder:
+            self.assertEqual(said('store', folder), (0, ''))
+            for file in GALLERY.iterdir():
+                self.assertEqual(pathlib.Path(folder, file.name).read_text(), file.read_text())
+
+    def test_wrong_words(self):
+        with contextlib.redirect_stderr(io.StringIO()), self.assertRaises(SystemExit) as caught:
+            main(['gallery', 'nothing'])
+        self.assertEqual(caught.exception.code, 2)
+
+
+if __name__ == '__main__':
+    unittest.main()

@@ -1,0 +1,215 @@
+"""Runs: inputs, outcomes, options and what results tell."""
+import array
+import os
+import pathlib
+import stat
+import sys
+import tempfile
+import types
+import unittest
+import unittest.mock
+
+from support import PROGRAM, TOP, kpn
+
+from kpn import parts
+
+
+def example(name):
+    """The network of a file in examples/."""
+    return kpn.Network.from_text((TOP / 'examples' / f'{name}.kpn').read_text())
+
+
+def doubling():
+    """A network that doubles the items of `x`."""
+    net = kpn.Network()
+    net.sink('y', parts.gain(net.source('x'), 2))
+    return net
+
+
+class Inputs(unittest.TestCase):
+    def test_forms_of_inputs(self):
+        net = doubling()
+        for given in ([1, 2], (1, 2), range(1, 3), iter([1, 2]), {'x': [1, 2]}, {'x': iter([1, 2])}, [True, 2]):
+            self.assertEqual(net.run(given)['y'], [2, 4])
+        self.assertEqual(net.run([])['y'], [])
+        self.assertEqual(net.run([-2**62, 2**62 - 1])['y'], [-2**63, 2**63 - 2])
+
+    def test_an_array_gives_an_array(self):
+        found = doubling().run(array.array('h', [1, 2]))['y']
+        self.assertEqual(found, array.array('q', [2, 4]))
+        self.assertIsInstance(found, array.array)
+
+    def test_numpy_gives_numpy(self):
+        class Array:
+            __array_interface__ = None
+
+            def tolist(self):
+                return [1, 2]
+        numpy = types.SimpleNamespace(array=lambda items, dtype: (items, dtype), int64='int64')
+        with unittest.mock.patch.dict(sys.modules, numpy=numpy):
+            self.assertEqual(doubling().run(Array())['y'], ([2, 4], 'int64'))
+
+    def test_a_file(self):
+        net = doubling()
+        self.assertEqual(net.run({'x': TOP / 'examples/signal'})['y'], [6, 10, 20, -4])
+        with tempfile.TemporaryDirectory() as folder:
+            path = pathlib.Path(folder, 'items')
+            path.write_text('1\n2x\n')
+            self.refused('items:2:1', net, {'x': path})
+            self.refused('26 Read', net, {'x': pathlib.Path(folder, 'none')})
+
+    def refused(self, words, net, *args, error=kpn.KpnError, **named):
+        with self.assertRaises(error) as caught:
+            net.run(*args, **named)
+        self.assertIn(words, str(caught.exception))
+
+    def test_wrong_inputs(self):
+        self.refused('`x` is given no items', doubling())
+        self.refused('no source `z`: it has x', doubling(), {'x': [], 'z': []})
+        self.refused('has 0 sources', example('two'), [1])
+        self.refused('whole numbers', doubling(), [1.5], error=TypeError)
+        self.refused('whole numbers', doubling(), 'text', error=TypeError)
+        self.refused('out of range', doubling(), [2**63])
+
+    def test_wrong_options(self):
+        self.refused('status 2', doubling(), [1], workers=17)
+        self.refused('27 Write', doubling(), [1], trace='/nowhere/at/all')
+
+
+class Outcomes(unittest.TestCase):
+    def test_ended(self):
+        result = example('mean').run([3, 5, 10, -2])
+        self.assertEqual((result.outcome, dict(result), result.faults), ('ended', {'means': [3, 4, 6, 4]}, {}))
+        self.assertEqual(result.waits, [('running', 'signal', False)])
+        self.assertEqual(result.complete, {'means': True})
+        self.assertIs(result.check(), result)
+        self.assertEqual(repr(result), '<Result ended: 4 items of means>')
+
+    def test_enough(self):
+        result = example('fibonacci').run(take=10)
+        self.assertEqual((result.outcome, result['numbers']), ('enough', [0, 1, 1, 2, 3, 5, 8, 13, 21, 34]))
+        self.assertEqual(result.complete, {'numbers': None})
+        self.assertIs(result.check(), result)
+        self.assertEqual(example('fibonacci').run(take=10, trace=True).complete, {'numbers': False})
+
+    def test_clogged(self):
+        result = example('worked/sink_behind_a_full_channel').run()
+        self.assertEqual(result.outcome, 'clogged')
+        self.assertFalse(all(result.complete.values()))
+        with self.assertRaisesRegex(kpn.KpnError, 'has clogged; the sink `.*` is not complete; .* waits on the full'):
+            result.check()
+
+    def test_jammed(self):
+        result = example('jammed').run()
+        self.assertEqual((result.outcome, all(result.complete.values())), ('jammed', False))
+
+    def test_stopped(self):
+        result = example('fibonacci').run(max_commits=100)
+        self.assertEqual((result.outcome, result.complete), ('stopped', {'numbers': None}))
+        with self.assertRaisesRegex(kpn.KpnError, 'perhaps not complete'):
+            result.check()
+
+    def test_clogged_and_complete(self):
+        net = kpn.Network()
+        net.sink('y', parts.add(net.source('x'), parts.constant(net, 1)))
+        result = net.run([1, 2])
+        self.assertEqual((result.outcome, result['y'], result.complete), ('clogged', [2, 3], {'y': True}))
+        self.assertIs(result.check(), result)
+
+    def test_a_fault(self):
+        result = doubling().run([1, 2**62, 3])
+        self.assertEqual((result['y'], result.faults, result.complete), ([2], {'gain': 'overflow'}, {'y': True}))
+        with self.assertRaisesRegex(kpn.KpnError, '`gain` ended by a fault: overflow'):
+            result.check()
+
+    def test_complete_is_what_stats_says(self):
+        for name in 'clogged unclogged deadlock two jammed doubling fault kahn moving_average'.split():
+            net = example(name)
+            result = net.run({it: [1, 2, 3] for it in net.layout().sources}, trace=True, max_commits=5_000)
+            told = {row['channel']: row['complete'] == 'yes' for row in result.stats.channels}
+            self.assertEqual(result.complete, {it: told[it] for it in result}, name)
+
+    def test_workers_give_the_same(self):
+        items = list(range(1000))
+        net = kpn.Network()
+        net.sink('y', parts.fir(net.source('x'), [1, -2, 3]))
+        self.assertEqual(dict(net.run(items)), dict(net.run(items, workers=3)))
+
+
+class Traced(unittest.TestCase):
+    def test_stats(self):
+        result = example('two').run(trace=True)
+        self.assertEqual(result.stats.channels[0]['channel'], 'a')
+        self.assertEqual(result.stats.channels[0]['put'], 2)
+        self.assertEqual(result.stats.processes[1]['gets'], 3)
+
+    def test_explain_and_dot(self):
+        result = example('two').run(trace=True)
+        self.assertTrue(result.explain().startswith('legal\n'))
+        self.assertTrue(result.dot().startswith('digraph'))
+        self.assertTrue(example('two').dot().startswith('digraph'))
+
+    def test_without_a_trace(self):
+        result = example('two').run()
+        for call in (lambda: result.stats, result.explain, result.dot, result.trace):
+            self.assertRaisesRegex(kpn.KpnError, 'give `trace=True`', call)
+        self.assertIsNone(result._repr_svg_())
+
+    def test_the_folder_goes_with_the_result(self):
+        result = example('two').run(trace=True)
+        path = pathlib.Path(result.trace().path)
+        self.assertTrue(path.exists())
+        del result
+        self.assertFalse(path.parent.exists())
+
+    def test_a_named_trace_stays(self):
+        with tempfile.TemporaryDirectory() as folder:
+            path = pathlib.Path(folder, 'two.trace')
+            example('two').run(trace=path)
+            self.assertTrue(path.read_text().startswith('kpn-trace 2\n'))
+
+
+class Programs(unittest.TestCase):
+    def program(self, folder, text):
+        """A program that is a script."""
+        path = pathlib.Path(folder, 'program')
+        path.write_text(f'#!/bin/sh\n{text}\n')
+        path.chmod(stat.S_IRWXU)
+        return path
+
+    def test_which_program(self):
+        with unittest.mock.patch.dict(os.environ, {'KPN_PROGRAM': PROGRAM}):
+            self.assertEqual(kpn.find_program(), PROGRAM)
+            with tempfile.TemporaryDirectory() as folder:
+                path = self.program(folder, 'exit 0')
+                self.assertEqual(kpn.find_program(path), str(path))
+                self.assertRaisesRegex(kpn.KpnError, 'no program', kpn.find_program, folder)
+
+    def test_no_program(self):
+        missing = pathlib.Path('/nowhere')
+        with unittest.mock.patch.dict(os.environ, {'PATH': '/nowhere'}), \
+                unittest.mock.patch('kpn.program.BUILT', missing):
+            os.environ.pop('KPN_PROGRAM', None)
+            self.assertRaisesRegex(kpn.KpnError, 'no program `kpn`: build it', doubling().run, [1])
+
+    def test_a_program_that_fails(self):
+        with tempfile.TemporaryDirectory() as folder:
+            path = self.program(folder, 'echo "kpn: 42 NoMemory" >&2; exit 6')
+            with self.assertRaises(kpn.KpnError) as caught:
+                doubling().run([1], program=path)
+            self.assertEqual(caught.exception.error, '42 NoMemory')
+
+    def test_a_program_that_tells_nothing(self):
+        with tempfile.TemporaryDirectory() as folder:
+            path = self.program(folder, 'for word; do case $word in *.sink) : > "${word#*=}";; esac; done')
+            self.assertRaisesRegex(kpn.KpnError, 'has told no outcome', doubling().run, [1], program=path)
+
+    def test_a_program_that_does_not_end(self):
+        with tempfile.TemporaryDirectory() as folder:
+            path = self.program(folder, 'exec sleep 60')
+            self.assertRaisesRegex(kpn.KpnError, 'had not ended after 0.2 seconds', doubling().run, [1], program=path,
+                                   timeout=0.2)
+
+
+if __name__ == '__main__':
+    unittest.main()
