@@ -2,37 +2,20 @@
 use crate::traces::trace_of;
 use kpn_audit::{AuditFault, audit};
 use kpn_history::{Event, Version};
-use kpn_lang::{Expr, Program, Sequence, Stmt};
-use kpn_net::ChannelSpec::Inner;
-use kpn_net::{Growth, Instance, Network, Policy};
+use kpn_net::Growth;
+use kpn_text::read_network;
 use std::alloc::Global;
 use std::test::Fail;
 
-/// `write o 1; write o 2; write o 3; write o 4;` on a channel of capacity 1 that joins the process to itself.
-fn writing_four(alloc: Global, growth: Growth) -> Result<Network, Fail> {
-    let mut body = Vec::new(alloc);
-    for item in 1..5 {
-        body.push(Stmt::Write(0, Expr::Num(item)))?;
-    }
-    let program = Program::new(alloc, 1, 1, 0, 0, vec![in alloc; body]?)?;
-    let instance = Instance {
-        program: 0,
-        ins: Sequence::from_vec(vec![in alloc; 0]?),
-        outs: Sequence::from_vec(vec![in alloc; 0]?),
-        pars: Sequence::from_vec(Vec::new(alloc)),
-    };
-    let channels = vec![in alloc; Inner(1)]?;
-    let instances = vec![in alloc; instance]?;
-    Ok(Network::new(
-        alloc,
-        vec![in alloc; program]?,
-        instances,
-        channels,
-        9,
-        Policy::Cycles,
-        growth,
-    )?)
-}
+/// A process that writes four items on a channel of capacity 1 that joins it to itself, which grows by one.
+const BY_ONE: &str = "process four(in i; out o) { write o 1; write o 2; write o 3; write o 4; }
+network { limit 9; channel c cap 1; f = four(c; c); }
+";
+
+/// The same, but the channel doubles.
+const DOUBLING: &str = "process four(in i; out o) { write o 1; write o 2; write o 3; write o 4; }
+network { limit 9; grow double; channel c cap 1; f = four(c; c); }
+";
 
 /// The fourth item is there at once after two growths.
 const DOUBLED: [Event; 8] = [
@@ -49,34 +32,30 @@ const DOUBLED: [Event; 8] = [
 /// The capacity that an audit finds at the end, or why it refuses the events as a trace of this version and growth.
 fn audited(
     alloc: Global,
-    network: &Network,
+    text: &str,
     version: Version,
     growth: Growth,
-) -> Result<Option<u32>, AuditFault> {
+) -> Result<Result<Option<u32>, AuditFault>, Fail> {
     let trace = trace_of(alloc, version, growth, &DOUBLED)?;
-    let found = audit(alloc, network, &trace, 1_000)?;
-    Ok(found.caps.as_slice().get(0).copied().unwrap_or(None))
+    let document = read_network(alloc, text.as_bytes())?;
+    match audit(alloc, document.network(), &trace, 1_000) {
+        Ok(found) => Ok(Ok(found.caps.as_slice().get(0).copied().unwrap_or(None))),
+        Err(fault) => Ok(Err(fault)),
+    }
 }
 
 #[test]
 fn a_channel_grows_as_network_and_trace_say(rt: HostRuntime) -> Result<(), Fail> {
     use Growth::{Double, One};
-    let doubling = writing_four(rt.alloc(), Double)?;
-    let by_one = writing_four(rt.alloc(), One)?;
     let rows = [
-        (&doubling, Version::Two, Double, Ok(Some(4))),
-        (
-            &by_one,
-            Version::Two,
-            Double,
-            Err(AuditFault::PolicyDiffers),
-        ),
-        (&by_one, Version::Two, One, Err(AuditFault::Illegal(5))),
-        (&by_one, Version::One, One, Err(AuditFault::Illegal(7))),
-        (&doubling, Version::One, One, Err(AuditFault::Illegal(7))),
+        (DOUBLING, Version::Two, Double, Ok(Some(4))),
+        (BY_ONE, Version::Two, Double, Err(AuditFault::PolicyDiffers)),
+        (BY_ONE, Version::Two, One, Err(AuditFault::Illegal(5))),
+        (BY_ONE, Version::One, One, Err(AuditFault::Illegal(7))),
+        (DOUBLING, Version::One, One, Err(AuditFault::Illegal(7))),
     ];
-    for (network, version, growth, found) in rows {
-        assert_eq!(rt; audited(rt.alloc(), network, version, growth), found);
+    for (text, version, growth, found) in rows {
+        assert_eq!(rt; audited(rt.alloc(), text, version, growth)?, found);
     }
     Ok(())
 }

@@ -2,14 +2,16 @@
 //! succeeds.
 ghost use Rattle.kpn_configuration.specs.Configuration.{IsConfiguration};
 
-use crate::feeding::{copying, feed};
+use crate::feeding::feed;
 use kpn_configuration::Configuration;
 use kpn_net::{Network, Wait};
+use kpn_text::read_network;
 use linked_list_allocator::LocalHeap;
-use std::alloc::{AllocError, Allocator};
+use std::alloc::{AllocError, Allocator, Global};
 use std::process::Abort;
 use std::test::Fail;
 use test_support::heaps::fill;
+use test_support::texts::COPY;
 
 /// Feeds as many items as a new channel has room for.
 fn feed_four<A: Allocator + Copy>(
@@ -52,23 +54,54 @@ fn is_fed<A: Allocator, B: Allocator>(
     )
 }
 
+/// Whether each call that wants memory is refused it.
+fn are_refused<A: Allocator + Copy>(
+    heap: A,
+    network: &Network,
+    configuration: &mut Configuration<A>,
+) -> bool
+    requires { IsConfiguration network.now configuration.old }
+    ensures { IsConfiguration network.now configuration.new }
+{
+    if network.channels() != 2 {
+        return false;
+    }
+    let is_refused = configuration.reserve_one(0).is_err();
+    is_refused
+        && configuration.copy_journal(heap, 0).is_err()
+        && Configuration::new(heap, network).is_err()
+}
+
+/// Feeds a configuration, once more while its heap is full, and then once more.
+fn feed_on<'a>(
+    rt: &impl Abort,
+    alloc: Global,
+    heap: &'a LocalHeap,
+    network: &Network,
+    configuration: &mut Configuration<&'a LocalHeap>,
+) -> Result<(), AllocError>
+    requires { IsConfiguration network.now configuration.old }
+{
+    feed_four(rt, network, configuration)?;
+    let filling = fill(heap).expect(rt, "a block is left");
+    let refused = are_refused(heap, network, configuration);
+    assert!(rt; refused);
+    let same = is_fed(alloc, network, configuration, &[5, 6, 7, 8]);
+    filling.destroy_empty();
+    assert!(rt; same?);
+    assert_eq!(rt; feed(rt, network, configuration, 0, 9)?, None);
+    let same = is_fed(heap, network, configuration, &[5, 6, 7, 8, 9])?;
+    assert!(rt; same);
+    assert!(rt; Configuration::new(heap, network).is_ok());
+    Ok(())
+}
+
 #[test]
 fn refused_calls_change_nothing(rt: HostRuntime) -> Result<(), Fail> {
-    let network = copying(rt.alloc())?;
-    let heap = LocalHeap::new(rt.alloc(), 4_096)?;
-    let mut configuration = Configuration::new(&heap, &network)?;
-    feed_four(&rt, &network, &mut configuration)?;
-    let filling = fill(&heap).expect(&rt, "a block is left");
-    assert!(rt; network.channels() == 2);
-    assert!(rt; configuration.reserve_one(0).is_err());
-    assert!(rt; configuration.copy_journal(&heap, 0).is_err());
-    assert!(rt; Configuration::new(&heap, &network).is_err());
-    let same = is_fed(rt.alloc(), &network, &configuration, &[5, 6, 7, 8])?;
-    assert!(rt; same);
-    filling.destroy_empty();
-    assert_eq!(rt; feed(&rt, &network, &mut configuration, 0, 9)?, None);
-    let same = is_fed(&heap, &network, &configuration, &[5, 6, 7, 8, 9])?;
-    assert!(rt; same);
-    assert!(rt; Configuration::new(&heap, &network).is_ok());
+    let alloc = rt.alloc();
+    let document = read_network(alloc, COPY.as_bytes())?;
+    let heap = LocalHeap::new(alloc, 4_096)?;
+    let mut configuration = Configuration::new(&heap, document.network())?;
+    feed_on(&rt, alloc, &heap, document.network(), &mut configuration)?;
     Ok(())
 }

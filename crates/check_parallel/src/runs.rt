@@ -1,12 +1,16 @@
 //! Runs of described networks.
-use commit_gates::{Always, Held, Holding};
+ghost use Rattle.std.specs.Prelude.{◌≡◌, ◌<◌, ◌≤◌, length};
+ghost use Rattle.kpn_net.specs.Iteration.{sources};
+
+use commit_gates::{Held, Holding};
 use kpn_history::{Event, History};
 use kpn_lang::Sequence;
 use kpn_limits::MAX_WORKERS;
+use kpn_net::Network;
 use kpn_run_here::run_here;
 use kpn_text::read_network;
 use kpn_workers::{Gate, Go, Limits, Outcome, Report, RunFault, run};
-use std::alloc::Global;
+use std::alloc::{AllocError, Global};
 use std::sync::Wait;
 use std::sync::atomic::{AtomicU64, Ordering};
 use std::test::Fail;
@@ -83,25 +87,32 @@ const STILL: Limits = Limits {
     quota: 0,
 };
 
-/// A gate that abandons at one call, counted from 0.
+/// A gate that abandons at some calls, counted from 0: from one on, and before another one.
 #[derive(Drop)]
-struct AbandonsAt {
-    call: u64,
+struct Abandons {
+    from: u64,
+    until: u64,
     calls: AtomicU64,
 }
 
-impl AbandonsAt {
-    fn new(call: u64) -> AbandonsAt {
-        AbandonsAt {
-            call,
+impl Abandons {
+    fn new(from: u64, until: u64) -> Abandons {
+        Abandons {
+            from,
+            until,
             calls: AtomicU64::new(0),
         }
     }
+
+    fn never() -> Abandons {
+        Abandons::new(0, 0)
+    }
 }
 
-impl Gate for AbandonsAt {
+impl Gate for Abandons {
     fn between(&self, _worker: usize, _process: usize) -> Go {
-        if self.calls.fetch_add(1, Ordering::SeqCst) == self.call {
+        let call = self.calls.fetch_add(1, Ordering::SeqCst);
+        if self.from <= call && call < self.until {
             Go::Abandon
         } else {
             Go::On
@@ -109,42 +120,117 @@ impl Gate for AbandonsAt {
     }
 }
 
-/// What a run by this many workers returns, if there is a list for each source.
-fn answer<R: Threads + Wait + Clock + Sync, G: Gate>(
+/// What a report says, but for its items.
+#[derive(Clone, Copy)]
+struct Told {
+    outcome: Outcome,
+    commits: u64,
+    /// How many events feed an item to a source or close one.
+    feeds: usize,
+    first: Option<Event>,
+}
+
+/// How many events feed an item to a source or close one.
+fn feeds(history: &History) -> usize {
+    (0..history.len())
+        .filter(|k| matches!(history.at(*k), Some(Event::Feed(..) | Event::Close(_))))
+        .count()
+}
+
+fn told_of(report: &Report) -> Told {
+    Told {
+        outcome: report.outcome,
+        commits: report.commits,
+        feeds: feeds(&report.history),
+        first: report.history.at(0),
+    }
+}
+
+/// What a run by workers comes to, beside one on one thread.
+#[derive(Clone, Copy)]
+struct Beside {
+    workers: Result<Told, RunFault>,
+    here: Told,
+    /// Both took the same items of the sinks.
+    has_its_items: bool,
+}
+
+impl Beside {
+    /// Whether the outcome and the items are the same, and so is the number of commits if their limit stopped the run.
+    /// A run of several processes may pass the limit.
+    fn is_same(&self, limits: &Limits) -> bool {
+        let Ok(told) = self.workers else {
+            return false;
+        };
+        let has_stopped_in_time = told.outcome != Outcome::Stopped
+            || told.commits == limits.commits;
+        told.outcome == self.here.outcome && self.has_its_items && has_stopped_in_time
+    }
+
+    /// Whether the outcome is the same, and as many items were fed.
+    fn is_fed_the_same(&self) -> bool {
+        let Ok(told) = self.workers else {
+            return false;
+        };
+        told.outcome == self.here.outcome && told.feeds == self.here.feeds
+    }
+
+    /// The outcome of the run by workers.
+    fn outcome(&self) -> Result<Outcome, RunFault> {
+        match self.workers {
+            Ok(told) => Ok(told.outcome),
+            Err(fault) => Err(fault),
+        }
+    }
+}
+
+/// A run by workers, beside this one on one thread.
+fn ran_beside<R: Threads + Wait + Clock + Sync, G: Gate>(
     rt: &R,
     alloc: Global,
-    text: &str,
+    network: &Network,
     lists: &[Sequence<i64>],
     workers: usize,
     gate: &G,
     limits: &Limits,
-) -> Result<Option<Result<Report, RunFault>>, Fail> {
-    let document = read_network(alloc, text.as_bytes())?;
-    let network = document.network();
+    here: &Report,
+) -> Beside
+    requires lists { length lists.now ≡ sources network.now }
+    requires workers { (0 < workers) × (workers ≤ MAX_WORKERS) }
+{
+    match run(rt, alloc, network, lists, workers, gate, limits) {
+        Ok(report) => Beside {
+            workers: Ok(told_of(&report)),
+            here: told_of(here),
+            has_its_items: report.taken == here.taken,
+        },
+        Err(fault) => Beside {
+            workers: Err(fault),
+            here: told_of(here),
+            has_its_items: false,
+        },
+    }
+}
+
+/// A run of a network by this many workers, beside one on one thread. `None` if there is no list for each source.
+fn run_network<R: Threads + Wait + Clock + Sync, G: Gate>(
+    rt: &R,
+    alloc: Global,
+    network: &Network,
+    lists: &[Sequence<i64>],
+    workers: usize,
+    gate: &G,
+    limits: &Limits,
+) -> Result<Option<Beside>, AllocError> {
     if lists.len() != network.sources() || workers == 0 || workers > MAX_WORKERS {
         return Ok(None);
     }
-    Ok(Some(run(rt, alloc, network, lists, workers, gate, limits)))
+    let here = run_here(alloc, network, lists, limits)?;
+    Ok(Some(ran_beside(rt, alloc, network, lists, workers, gate, limits, &here)))
 }
 
-/// The report of a run on one thread, if there is a list for each source.
-fn here(
-    alloc: Global,
-    text: &str,
-    lists: &[Sequence<i64>],
-    limits: &Limits,
-) -> Result<Option<Report>, Fail> {
-    let document = read_network(alloc, text.as_bytes())?;
-    let network = document.network();
-    if lists.len() != network.sources() {
-        return Ok(None);
-    }
-    Ok(Some(run_here(alloc, network, lists, limits)?))
-}
-
-/// Whether a run by this many workers has the outcome and the items of a run on one thread, and, if the limit of
-/// commits stops it, makes as many commits as the limit. A run of several processes may pass the limit.
-fn runs_as_here<R: Threads + Wait + Clock + Sync, G: Gate>(
+/// The same of a described network.
+fn run_text<R: Threads + Wait + Clock + Sync, G: Gate>(
     rt: &R,
     alloc: Global,
     text: &str,
@@ -152,15 +238,23 @@ fn runs_as_here<R: Threads + Wait + Clock + Sync, G: Gate>(
     workers: usize,
     gate: &G,
     limits: &Limits,
+) -> Result<Option<Beside>, Fail> {
+    let document = read_network(alloc, text.as_bytes())?;
+    Ok(run_network(rt, alloc, document.network(), lists, workers, gate, limits)?)
+}
+
+/// Whether a run by this many workers has the outcome and the items of a run on one thread.
+fn runs_as_here<R: Threads + Wait + Clock + Sync>(
+    rt: &R,
+    alloc: Global,
+    text: &str,
+    lists: &[Sequence<i64>],
+    workers: usize,
+    gate: &Abandons,
+    limits: &Limits,
 ) -> Result<bool, Fail> {
-    let Some(Ok(report)) = answer(rt, alloc, text, lists, workers, gate, limits)? else {
-        return Ok(false);
-    };
-    let Some(wanted) = here(alloc, text, lists, limits)? else {
-        return Ok(false);
-    };
-    let is_same = report.outcome == wanted.outcome && report.taken == wanted.taken;
-    Ok(is_same && (report.outcome != Outcome::Stopped || report.commits == limits.commits))
+    let ran = run_text(rt, alloc, text, lists, workers, gate, limits)?;
+    Ok(ran.is_some_and(|ran| ran.is_same(limits)))
 }
 
 #[test]
@@ -170,36 +264,24 @@ fn refutes_run_always_refuses(rt: HostRuntime) -> Result<(), Fail> {
     let lists = vec![in alloc; items]?;
     let nothing = Sequence::from_vec(Vec::new(alloc));
     let closed = vec![in alloc; nothing]?;
-    let gate = Always(Go::On);
+    let none: &[Sequence<i64>] = &[];
+    let gate = Abandons::never();
     for workers in [1, 2, 16] {
-        assert!(rt;
-            runs_as_here(&rt, alloc, COPY, &lists, workers, &gate, &ALL)?,
-            "copy, {workers}"
-        );
-        assert!(rt;
-            runs_as_here(&rt, alloc, UNCLOGGED, &closed, workers, &gate, &ALL)?,
-            "unclogged, {workers}"
-        );
-        for (name, text, limits) in [
-            ("two", TWO, ALL),
-            ("two in turns of one step", TWO, STILL),
-            ("spin", SPIN, ONE),
-            ("stops", SPIN, FEW),
+        for (name, text, lists, limits) in [
+            ("copy", COPY, lists.as_slice(), ALL),
+            ("unclogged", UNCLOGGED, closed.as_slice(), ALL),
+            ("two", TWO, none, ALL),
+            ("two in turns of one step", TWO, none, STILL),
+            ("spin", SPIN, none, ONE),
+            ("stops", SPIN, none, FEW),
         ] {
             assert!(rt;
-                runs_as_here(&rt, alloc, text, &[], workers, &gate, &limits)?,
+                runs_as_here(&rt, alloc, text, lists, workers, &gate, &limits)?,
                 "{name}, {workers}"
             );
         }
     }
     Ok(())
-}
-
-/// How many events feed an item to a source or close one.
-fn feeds(history: &History) -> usize {
-    (0..history.len())
-        .filter(|k| matches!(history.at(*k), Some(Event::Feed(..) | Event::Close(_))))
-        .count()
 }
 
 /// Whether a run by this many workers feeds and closes the sources as a run on one thread does, and has the same
@@ -212,15 +294,8 @@ fn feeds_as_here<R: Threads + Wait + Clock + Sync>(
     workers: usize,
     limits: &Limits,
 ) -> Result<bool, Fail> {
-    let gate = Always(Go::On);
-    let Some(Ok(report)) = answer(rt, alloc, text, lists, workers, &gate, limits)? else {
-        return Ok(false);
-    };
-    let Some(wanted) = here(alloc, text, lists, limits)? else {
-        return Ok(false);
-    };
-    let is_same = feeds(&report.history) == feeds(&wanted.history);
-    Ok(is_same && report.outcome == wanted.outcome)
+    let ran = run_text(rt, alloc, text, lists, workers, &Abandons::never(), limits)?;
+    Ok(ran.is_some_and(|ran| ran.is_fed_the_same()))
 }
 
 /// A run feeds each list whole and closes its source, even if it takes fewer items of the sinks or makes fewer commits.
@@ -245,28 +320,30 @@ fn lists_are_fed_whole(rt: HostRuntime) -> Result<(), Fail> {
     Ok(())
 }
 
-/// The outcome of a run by this many workers through this gate.
-fn comes_to<R: Threads + Wait + Clock + Sync, G: Gate>(
+/// The outcome of a run by this many workers through a gate that abandons at these calls.
+fn comes_to<R: Threads + Wait + Clock + Sync>(
     rt: &R,
     alloc: Global,
     text: &str,
     workers: usize,
-    gate: &G,
+    from: u64,
+    until: u64,
+    limits: &Limits,
 ) -> Result<Option<Result<Outcome, RunFault>>, Fail> {
-    let answer = answer(rt, alloc, text, &[], workers, gate, &ALL)?;
-    Ok(answer.map(|answer| answer.map(|report| report.outcome)))
+    let gate = Abandons::new(from, until);
+    let ran = run_text(rt, alloc, text, &[], workers, &gate, limits)?;
+    Ok(ran.map(|ran| ran.outcome()))
 }
 
 #[test]
 fn a_gate_that_always_abandons(rt: HostRuntime) -> Result<(), Fail> {
-    let gate = Always(Go::Abandon);
-    for (text, workers, outcome) in [
-        (EMPTY, 2, Ok(Outcome::Ended)),
-        (TWO, 2, Err(RunFault::Abandoned)),
-        (SPINNER, 1, Err(RunFault::Abandoned)),
+    for (text, workers, limits, outcome) in [
+        (EMPTY, 2, ALL, Ok(Outcome::Ended)),
+        (TWO, 2, ALL, Err(RunFault::Abandoned)),
+        (SPINNER, 1, FEW, Err(RunFault::Abandoned)),
     ] {
         assert_eq!(rt;
-            comes_to(&rt, rt.alloc(), text, workers, &gate)?,
+            comes_to(&rt, rt.alloc(), text, workers, 0, u64::MAX, &limits)?,
             Some(outcome)
         );
     }
@@ -279,11 +356,12 @@ fn a_gate_that_abandons_at_one_call(rt: HostRuntime) -> Result<(), Fail> {
     let alloc = rt.alloc();
     for call in 0..11 {
         assert_eq!(rt;
-            comes_to(&rt, alloc, TWO, 1, &AbandonsAt::new(call))?,
+            comes_to(&rt, alloc, TWO, 1, call, call + 1, &ALL)?,
             Some(Err(RunFault::Abandoned))
         );
     }
-    assert!(rt; runs_as_here(&rt, alloc, TWO, &[], 1, &AbandonsAt::new(11), &ALL)?);
+    let gate = Abandons::new(11, 12);
+    assert!(rt; runs_as_here(&rt, alloc, TWO, &[], 1, &gate, &ALL)?);
     Ok(())
 }
 
@@ -295,13 +373,20 @@ fn first_event<R: Threads + Wait + Clock + Sync>(
     held: Held,
 ) -> Result<Option<Event>, Fail> {
     let gate = Holding::new(held);
-    let Some(Ok(report)) = answer(rt, alloc, SEVENS, &[], 2, &gate, &ALL)? else {
+    let ran = run_text(rt, alloc, SEVENS, &[], 2, &gate, &ALL)?;
+    let Some(
+        Beside {
+            workers: Ok(told),
+            ..
+        },
+    ) = ran
+    else {
         return Ok(None);
     };
-    if !gate.have_met() || report.outcome != Outcome::Ended {
+    if !gate.have_met() || told.outcome != Outcome::Ended {
         return Ok(None);
     }
-    Ok(report.history.at(0))
+    Ok(told.first)
 }
 
 /// Both processes are at the gate at once, whichever call the gate holds.
@@ -317,6 +402,16 @@ fn refutes_one_worker_steps_everything(rt: HostRuntime) -> Result<(), Fail> {
     Ok(())
 }
 
+/// How many commits a run on one thread makes.
+fn commits_here<R: Threads + Wait + Clock + Sync>(
+    rt: &R,
+    alloc: Global,
+    text: &str,
+) -> Result<Option<u64>, Fail> {
+    let ran = run_text(rt, alloc, text, &[], 1, &Abandons::never(), &ALL)?;
+    Ok(ran.map(|ran| ran.here.commits))
+}
+
 /// The history shows what the workers did: the process that the gate holds puts its item later. On one thread `TWO` is
 /// four puts, three gets, a wait and an end of each process.
 #[test]
@@ -328,7 +423,6 @@ fn journals_from_rounds(rt: HostRuntime) -> Result<(), Fail> {
         };
         assert_eq!(rt; first_event(&rt, rt.alloc(), held)?, Some(first));
     }
-    let two = here(rt.alloc(), TWO, &[], &ALL)?;
-    assert_eq!(rt; two.map(|report| report.commits), Some(11));
+    assert_eq!(rt; commits_here(&rt, rt.alloc(), TWO)?, Some(11));
     Ok(())
 }

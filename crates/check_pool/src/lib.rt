@@ -17,6 +17,8 @@ mod meeting;
 #[cfg(test)]
 mod networks;
 #[cfg(test)]
+mod opening;
+#[cfg(test)]
 mod outside;
 #[cfg(test)]
 mod refusals;

@@ -40,39 +40,57 @@ fn replay_line<O: Write>(
     write_state(alloc, network, state, out)
 }
 
+/// Replays the events of these lines.
+fn replay_lines<O: Write>(
+    alloc: Global,
+    network: &Network,
+    state: &mut Configuration,
+    lines: &str,
+    out: &mut O,
+) -> Result<()>
+    requires { IsConfiguration network.now state.old }
+{
+    write_state(alloc, network, state, out)?;
+    for line in lines.lines() {
+        replay_line(alloc, network, state, line, out)?;
+    }
+    Ok(())
+}
+
 /// Replays a trace without its first line.
 fn replay<O: Write>(alloc: Global, network: &Network, lines: &str, out: &mut O) -> Result<()> {
     let mut state = Configuration::new(alloc, network)?;
-    write_state(alloc, network, &state, out)?;
-    for line in lines.lines() {
-        replay_line(alloc, network, &mut state, line, out)?;
-    }
-    Ok(())
+    replay_lines(alloc, network, &mut state, lines, out)
 }
 
 fn replay_section<O: Write>(alloc: Global, section: &str, out: &mut O) -> Result<()> {
     let Some((description, lines)) = section.split_once("kpn-trace 1\n") else {
         bail!("a section is a description and a trace");
     };
-    let Ok(document) = read_network(alloc, description.as_bytes()) else {
-        bail!("a description is none");
-    };
     write!(out, "{description}")?;
-    replay(alloc, document.network(), lines, out)
+    match read_network(alloc, description.as_bytes()) {
+        Ok(document) => replay(alloc, document.network(), lines, out),
+        Err(_) => bail!("a description is none"),
+    }
+}
+
+/// Adds a line to a section, or replays one that is whole.
+fn add_line<O: Write>(alloc: Global, section: &mut String, line: &str, out: &mut O) -> Result<()> {
+    if line == "." {
+        replay_section(alloc, section.as_str(), out)?;
+        section.clear();
+        return Ok(());
+    }
+    section.push_str(line)?;
+    section.push('\n')?;
+    Ok(())
 }
 
 fn main(rt: HostRuntime) -> Result<()> {
     let mut out = rt.stdout();
     let mut section = String::new(rt.alloc());
     for line in rt.lines(rt.alloc()) {
-        let line = line?;
-        if line.as_str() == "." {
-            replay_section(rt.alloc(), section.as_str(), &mut out)?;
-            section.clear();
-        } else {
-            section.push_str(line.as_str())?;
-            section.push('\n')?;
-        }
+        add_line(rt.alloc(), &mut section, line?.as_str(), &mut out)?;
     }
     Ok(())
 }
