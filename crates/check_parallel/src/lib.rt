@@ -5,6 +5,8 @@
 #[cfg(test)]
 mod commits;
 #[cfg(test)]
+mod complete;
+#[cfg(test)]
 mod memory;
 #[cfg(test)]
 mod runs;
