@@ -17,7 +17,8 @@ import sys
 import definitions
 
 TOP = pathlib.Path(__file__).resolve().parent.parent
-DOCUMENTS = [TOP / 'README.md', *sorted((TOP / 'docs').glob('*.md')), TOP / 'bench/RESULTS.md']
+OTHERS = [TOP / name for name in ('README.md', 'bench/RESULTS.md', 'python/README.md')]
+DOCUMENTS = [*OTHERS, *sorted((TOP / 'docs').glob('*.md'))]
 COLUMNS = 120
 KINDS = ('.rt', '.antt', '.py', '.rs', '.kpn', '.edit')
 PATH = re.compile(r'(?<![\w./-])((?:\w[\w.-]*/)+(?:[\w.-]*\w)?|\w+\.(?:rt|antt|py|md|kpn|edit)\b)')
@@ -25,7 +26,7 @@ CRATE = re.compile(r'\b(?:kpn|check|bench)_[a-z_]*[a-z]\b')
 NAME = re.compile(r"`((?:\w+::)*[A-Za-z_][\w']*)`")
 CODE = re.compile(r'From\s+`([^`]+)`[^`]*?```rust\n(.*?)```', re.S)
 # Parts of a path that stand for something else, or that a build makes.
-STANDS_FOR = set('CRATE mine MODULE FILE NAME NAME.antt NAME.edit FILE.antt MODULE.rt m out rlib'.split())
+STANDS_FOR = set('PWD CRATE mine MODULE FILE NAME NAME.antt NAME.edit FILE.antt MODULE.rt m out rlib'.split())
 # What a claim depends on, the head of a function, the clauses in it, and a name.
 BY = re.compile(r'\bBy (.*?)\.(?=\s|$)')
 HEAD = re.compile(r'\bfn (\w+)(.*?)(?:^\s*\{\}?$|\{\n|;\n)', re.S | re.M)
@@ -39,7 +40,7 @@ ELSEWHERE = set("""rt go awk clap arrayvec indexmap itoa linked_list_allocator t
 
 
 def files_of_project():
-    for folder in ('crates', 'bench', 'tools', 'docs', '.ci'):
+    for folder in ('crates', 'bench', 'tools', 'docs', 'python', '.ci'):
         for file in (TOP / folder).rglob('*'):
             if 'out' not in file.relative_to(TOP).parts and '__pycache__' not in file.parts:
                 yield file

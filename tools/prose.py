@@ -4,16 +4,17 @@ those over 25 words.
 
 usage: tools/prose.py [--long N] [FILE ..]
 
-Without a file it looks at README.md, docs/ and bench/RESULTS.md. It does not count code blocks and tables. In a
-sentence, a piece of code in backquotes counts as one word. A heading is no sentence, and a point of a list ends one.
-With `--long N` it also writes each sentence of more than N words. It is run by hand.
+Without a file it looks at README.md, docs/, bench/RESULTS.md and python/README.md. It does not count code blocks and
+tables. In a sentence, a piece of code in backquotes counts as one word. A heading is no sentence, and a point of a list
+ends one. With `--long N` it also writes each sentence of more than N words. It is run by hand.
 """
 import argparse
 import pathlib
 import re
 
 TOP = pathlib.Path(__file__).resolve().parent.parent
-DOCUMENTS = [TOP / 'README.md', *sorted((TOP / 'docs').glob('*.md')), TOP / 'bench/RESULTS.md']
+DOCUMENTS = [TOP / 'README.md', *sorted((TOP / 'docs').glob('*.md')),
+             *(TOP / name for name in ('bench/RESULTS.md', 'python/README.md'))]
 LONG = 25
 POINT = re.compile(r'\s*(?:[-*+]|\d+\.)\s+')
 END = re.compile(r'(?<=[.!?])["\')*]*\s+(?=["\'(*]*[A-Z0-9`])')

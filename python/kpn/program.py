@@ -74,8 +74,9 @@ def draw_svg(dot: str) -> Optional[str]:
 
 def failure(done: subprocess.CompletedProcess[str]) -> KpnError:
     """The error of a call that failed, as `kpn` tells it."""
-    error = ERROR.search(done.stderr)
-    message = f'`kpn` failed with status {done.returncode}: {done.stderr.strip()}'
+    error, status, told = ERROR.search(done.stderr), done.returncode, done.stderr.strip()
+    how = f'was killed by signal {-status}' if status < 0 else f'failed with status {status}'
+    message = f'`kpn` {how}: {told}' if told else f'`kpn` {how}'
     return KpnError(message, error=error[1] if error else None)
 
 

@@ -5,6 +5,7 @@ import array
 import collections.abc
 import contextlib
 import functools
+import json
 import os
 import pathlib
 import shutil
@@ -183,8 +184,7 @@ def run(net: Network, inputs: Inputs = None, *, take: Optional[int] = None, work
         if done.returncode not in STATUSES:
             raise refusal(done, layout, given, program)
         as_given = maker_of(given)
-        sinks = {name: as_given(list(map(int, pathlib.Path(folder, f'{name}.sink').read_bytes().split())))
-                 for name in layout.sinks}
+        sinks = {name: as_given(items_of(pathlib.Path(folder, f'{name}.sink').read_bytes())) for name in layout.sinks}
         result = Result(layout, done.stdout, sinks, program)
         if kept:
             made.pop_all()
@@ -232,6 +232,13 @@ def lines_of(name: str, items: Iterable[int]) -> bytes:
         raise KpnError(f'an item of the source `{name}` is out of range: '
                        'it has to be from -2^63 to 2^63 - 1') from None
     return ('\n'.join(map(str, values)) + '\n' * bool(values)).encode()
+
+
+def items_of(lines: bytes) -> List[int]:
+    """The items of an item file that `kpn` has written."""
+    # As JSON they are read in half the time.
+    found: List[int] = json.loads(b'[' + lines.rstrip().replace(b'\n', b',') + b']')
+    return found
 
 
 def maker_of(given: Mapping[str, Items]) -> Callable[[List[int]], Any]:

@@ -199,6 +199,11 @@ class Programs(unittest.TestCase):
                 doubling().run([1], program=path)
             self.assertEqual(caught.exception.error, '42 NoMemory')
 
+    def test_a_program_that_is_killed(self):
+        with tempfile.TemporaryDirectory() as folder:
+            path = self.program(folder, 'kill -9 $$')
+            self.assertRaisesRegex(kpn.KpnError, 'was killed by signal 9$', doubling().run, [1], program=path)
+
     def test_a_program_that_tells_nothing(self):
         with tempfile.TemporaryDirectory() as folder:
             path = self.program(folder, 'for word; do case $word in *.sink) : > "${word#*=}";; esac; done')
