@@ -24,6 +24,7 @@ use std::marker::Model;
 mod complete;
 mod outside;
 mod processes;
+mod waiting;
 
 /// The value under the lock of a run: its network, the history so far, the configuration to which it leads, the
 /// schedule of the processes, and how many commits were made.

@@ -1,0 +1,41 @@
+//! Who waits at the ends of a channel, and for what.
+ghost use Rattle.std.specs.Prelude.{◌≡◌, ◌<◌, is_some, length};
+ghost use Rattle.kpn_chan.specs.Channel.{next_item};
+ghost use Rattle.kpn_configuration.specs.Configuration.{channel_in};
+ghost use Rattle.kpn_configuration.specs.Woken.{waiting_reader};
+
+use super::Book;
+use kpn_net::{End, Wait};
+use std::alloc::Allocator;
+
+impl<'n, A: Allocator> Book<'n, A> {
+    /// Whether a process waits on a channel as empty.
+    pub fn is_awaited(&self, c: usize) -> bool
+        requires { c < length self.now.tables.channels }
+        ensures { let waits = self.now.configuration.waits in
+            result ≡ is_some (waiting_reader self.now.tables waits c) }
+    {
+        let network = self.parts.network;
+        network.known();
+        match network.reader_of(c) {
+            End::Process(p) => self.parts.configuration.wait(p) == Wait::Empty(c),
+            End::Source | End::Sink => false,
+        }
+    }
+
+    /// Whether the reader of a channel is gone: a process that has ended, or the outside, which has left the sink.
+    pub fn is_left(&self, c: usize) -> bool
+        requires { c < length self.now.tables.channels }
+        ensures { result ≡ (channel_in self.now.configuration c).is_retired }
+    {
+        self.parts.configuration.channel(c).is_retired()
+    }
+
+    /// The item that a take from this sink, or a get from this channel, would give. It stays unread.
+    pub fn next_item(&self, c: usize) -> Option<i64>
+        requires { c < length self.now.tables.channels }
+        ensures { result ≡ next_item (channel_in self.now.configuration c) }
+    {
+        self.parts.configuration.channel(c).peek()
+    }
+}

@@ -1,0 +1,13 @@
+use Rattle.std.proofs.Common.{rules, subst, w64, SFits}
+use Rattle.std.proofs.lemmas.Int.{to_z-of_z}
+use Rattle.kpn_history.specs.declared.event.Event.TheVariants as event
+use Rattle.kpn_run_state.specs.Appending.{Appends}
+use Rattle.kpn_run_here.proofs.Happening.{happens_alone}
+use Rattle.kpn_stream.proofs.reading.feed.Goals as goal
+
+pub returns-in-Ok-clause-fed : goal.returns-in-Ok-clause-fed
+returns-in-Ok-clause-fed c =
+    let fits : SFits w64 c.args.item = search rules in
+    happens_alone (event.Feed c.args.c c.args.item) c.args.book.now c.feed.new.self c.known.ensures
+    (subst (λ v. Appends (event.Feed c.args.c v) c.args.book.now c.feed.new.self)
+    (to_z-of_z w64 c.args.item fits) c.in-Ok.ensures.done.appends)

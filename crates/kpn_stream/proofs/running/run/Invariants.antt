@@ -1,0 +1,18 @@
+use Rattle.std.proofs.Common.{◌≡◌, None}
+use Rattle.kpn_net.specs.Tables.{is_source, is_sink}
+use Rattle.kpn_stream.specs.Ending.{end_numbers}
+use Rattle.kpn_stream.specs.Streaming.{GoesOn}
+use Rattle.kpn_stream.proofs.running.run.Given as goal
+
+abbrev pub invariant-turns : goal.invariant-turns
+invariant-turns g l = record {
+  goes_on : GoesOn g.S.Sources.gives g.K.Sinks.takes g.K.Sinks.flushes l.limits None
+      l.initial.book
+      l.book
+      l.initial.sources
+      l.sources
+      l.initial.sinks
+      l.sinks;
+  sources : l.ends.sources.items ≡ end_numbers is_source l.book.tables;
+  sinks : l.ends.sinks.items ≡ end_numbers is_sink l.book.tables;
+}

@@ -1,0 +1,11 @@
+use Rattle.std.proofs.Common.{◌≡◌, None}
+use Rattle.kpn_net.specs.Tables.{is_sink}
+use Rattle.kpn_stream.specs.Ending.{end_numbers}
+use Rattle.kpn_stream.specs.Streaming.{Serves}
+use Rattle.kpn_stream.proofs.taking.flush_all.Given as goal
+
+abbrev pub invariant-sinks : goal.invariant-sinks
+invariant-sinks g l = record {
+  serves : Serves g.K.Sinks.takes g.K.Sinks.flushes l.limits None l.initial.book l.book l.initial.sinks l.sinks;
+  ends : l.ends.sinks.items ≡ end_numbers is_sink l.book.tables;
+}

@@ -1,0 +1,12 @@
+use Rattle.std.proofs.Common.{◌≡◌, true, None}
+use Rattle.kpn_net.specs.Tables.{channel_at, is_sink}
+use Rattle.kpn_stream.specs.Ending.{end_numbers}
+use Rattle.kpn_stream.specs.Streaming.{Serves}
+use Rattle.kpn_stream.proofs.taking.take_each.Given as goal
+
+abbrev pub invariant-items : goal.invariant-items
+invariant-items g l = record {
+  serves : Serves g.K.Sinks.takes g.K.Sinks.flushes l.limits None l.initial.book l.book l.initial.sinks l.sinks;
+  ends : l.ends.sinks.items ≡ end_numbers is_sink l.book.tables;
+  sink : is_sink (channel_at l.book.tables l.c) ≡ true;
+}

@@ -1,0 +1,54 @@
+-- How a stream ends, and what is true then.
+use Rattle.std.specs.Prelude.{◌≡◌, ℕ, ◌<◌, Bool, true, false, ◌⊎◌, List, length, count_by, is_some, Option, Some, None}
+use Rattle.std.specs.List.{filter}
+use Rattle.kpn_net.specs.declared.tables.ChannelSpec.{ChannelSpec}
+use Rattle.kpn_net.specs.declared.tables.Policy.TheVariants.{Cycles}
+use Rattle.kpn_net.specs.Tables.{Tables, channel_at, is_source, is_sink}
+use Rattle.kpn_net.specs.Faults.{channel_numbers}
+use Rattle.kpn_history.specs.Views.{is_ready}
+use Rattle.kpn_history.specs.Channels.{is_closed}
+use Rattle.kpn_configuration.specs.Configuration.{channel_in}
+use Rattle.kpn_configuration.specs.Woken.{waiting_reader}
+use Rattle.kpn_run_state.specs.Book.{Book}
+use Rattle.kpn_run_here.specs.declared.outcome.Limits.{Limits}
+use Rattle.kpn_run_here.specs.Outcomes.{IsOutcome}
+use Rattle.kpn_stream.specs.declared.faults.SourceFault.{SourceFault}
+use Rattle.kpn_stream.specs.declared.faults.SinkFault.{SinkFault}
+use Rattle.kpn_stream.specs.declared.ending.Ending.{Ending}
+use Rattle.kpn_stream.specs.declared.ending.Ending.TheVariants.{Outcome, Resting, Left, SourceFailed, SinkFailed}
+
+-- the channels that are ends of this kind, in order of number
+abbrev pub end_numbers : (ChannelSpec → Bool) → Tables → List ℕ
+end_numbers is_end t = filter (λ c. is_end (channel_at t c)) (channel_numbers t)
+
+-- a source is closed, or no process waits for its item
+abbrev pub IsUnwanted : Book → (c : ℕ) → Type 0
+IsUnwanted b c =
+    (is_closed b.history c ≡ true) ⊎ (is_some (waiting_reader b.tables b.configuration.waits c) ≡ false)
+
+-- no process is ready, and no process waits for an item of an open source
+pub record IsResting (b : Book) : Type 0 where
+  pub nobody_ready : count_by is_ready b.schedule.states ≡ 0
+  pub unwanted : (c : ℕ) → is_source (channel_at b.tables c) ≡ true → IsUnwanted b c
+
+-- each sink was left
+abbrev pub AreLeft : Book → Type 0
+AreLeft b = (c : ℕ) → is_sink (channel_at b.tables c) ≡ true → (channel_in b.configuration c).is_retired ≡ true
+
+-- what an ending says of the book
+abbrev pub IsEnding : Limits → Ending → Book → Type 0
+IsEnding limits (Outcome outcome) b = IsOutcome b.tables b.history b.commits limits (Some outcome)
+IsEnding limits Resting b = IsResting b
+IsEnding limits Left b = AreLeft b
+IsEnding limits (SourceFailed c fault) b = Unit {0}
+IsEnding limits (SinkFailed c fault) b = Unit {0}
+
+-- the source whose device failed, if the stream has ended so
+abbrev pub failed_source : Option Ending → Option (ℕ × SourceFault)
+failed_source (Some (SourceFailed c fault)) = Some (c, fault)
+failed_source ending = None
+
+-- the sink whose device failed
+abbrev pub failed_sink : Option Ending → Option (ℕ × SinkFault)
+failed_sink (Some (SinkFailed c fault)) = Some (c, fault)
+failed_sink ending = None

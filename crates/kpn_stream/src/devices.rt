@@ -1,0 +1,38 @@
+//! What stands at the sources and at the sinks of a network while it runs.
+ghost use Rattle.std.specs.Prelude.{ℕ, ℤ, Option as Maybe, Result as Answer};
+ghost use Rattle.kpn_stream.specs.declared.faults.SourceFault.{SourceFault as Refusal};
+ghost use Rattle.kpn_stream.specs.declared.faults.SinkFault.{SinkFault as Failure};
+
+use crate::faults::{SinkFault, SourceFault};
+
+/// The devices of the sources. A source goes by the number of its channel.
+pub trait Sources {
+    /// What `next` may answer for a source: the devices before the call, the source, the answer, and the devices
+    /// after it.
+    ghost gives: { Self → ℕ → Answer (Maybe ℤ) Refusal → Self → Type 0 };
+
+    /// The next item of a source, or `None` at the end of its input. It waits for the device if it has to. After
+    /// `None` or a fault it is not called for this source again.
+    fn next(&mut self, source: usize) -> Result<Option<i64>, SourceFault>
+        ensures { gives self.old source result self.new };
+
+    /// Whether `next` would answer for this source without waiting for its device.
+    fn is_at_hand(&self, source: usize) -> bool;
+}
+
+/// The devices of the sinks. A sink goes by the number of its channel.
+pub trait Sinks {
+    /// What `put` may answer for a sink and an item.
+    ghost takes: { Self → ℕ → ℤ → Answer (Unit {0}) Failure → Self → Type 0 };
+
+    /// What `flush` may answer for a sink.
+    ghost flushes: { Self → ℕ → Answer (Unit {0}) Failure → Self → Type 0 };
+
+    /// Takes an item of a sink. It may keep it for a while. After a fault it is not called for this sink again.
+    fn put(&mut self, sink: usize, item: i64) -> Result<(), SinkFault>
+        ensures { takes self.old sink item result self.new };
+
+    /// Hands on what it kept of a sink.
+    fn flush(&mut self, sink: usize) -> Result<(), SinkFault>
+        ensures { flushes self.old sink result self.new };
+}

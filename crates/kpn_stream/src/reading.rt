@@ -1,0 +1,181 @@
+//! A source is read.
+ghost use Rattle.std.specs.Prelude.{◌≡◌, ◌<◌, ℕ, true, false, None, length, IfOk, IfSome, IfNone, IsTrue};
+ghost use Rattle.kpn_net.specs.Tables.{channel_at, is_source, is_sink};
+ghost use Rattle.kpn_history.specs.declared.event.Event.TheVariants as event;
+ghost use Rattle.kpn_history.specs.Channels.{is_closed};
+ghost use Rattle.kpn_run_state.specs.Appending.{Happens};
+ghost use Rattle.kpn_stream.specs.Ending.{end_numbers, IsUnwanted};
+ghost use Rattle.kpn_stream.specs.Streaming.{GoesOn, IsRestingIf, Reads, Serves};
+
+use crate::devices::{Sinks, Sources};
+use crate::ending::Ending;
+use crate::ends::Ends;
+use crate::stepping::is_idle;
+use crate::taking::flush_all;
+use kpn_net::Policy;
+use kpn_run_here::Limits;
+use kpn_run_state::Book;
+use std::alloc::AllocError;
+
+/// Reads one item of the source that is due, and feeds it, or closes the source at the end of its input. Before it
+/// waits for the device of the source, those of the sinks hand on all that they kept.
+pub(crate) fn read_one<S: Sources, K: Sinks>(
+    book: &mut Book<'_>,
+    ends: &Ends,
+    sources: &mut S,
+    sinks: &mut K,
+    limits: &Limits,
+) -> Result<Option<Ending>, AllocError>
+    requires sources { ends.now.sources.items ≡ end_numbers is_source book.old.tables }
+    requires sinks { ends.now.sinks.items ≡ end_numbers is_sink book.old.tables }
+    ensures { IfOk result (λ ended. GoesOn S.gives K.takes K.flushes limits.now ended
+        book.old book.new sources.old sources.new sinks.old sinks.new) }
+{
+    let is_idle = is_idle(book);
+    let Some(c) = source_due(book, ends, is_idle) else {
+        return rest(book, ends, sinks, limits);
+    };
+    let ended = flush_unless_at_hand(book, ends, sources, sinks, limits, c)?;
+    if ended.is_some() {
+        return Ok(ended);
+    }
+    read(book, sources, c)
+}
+
+/// If a read of source `c` has to wait, lets the devices of the sinks hand on all that they kept.
+fn flush_unless_at_hand<S: Sources, K: Sinks>(
+    book: &mut Book<'_>,
+    ends: &Ends,
+    sources: &S,
+    sinks: &mut K,
+    limits: &Limits,
+    c: usize,
+) -> Result<Option<Ending>, AllocError>
+    requires { ends.now.sinks.items ≡ end_numbers is_sink book.old.tables }
+    ensures { IfOk result (λ ended. Serves K.takes K.flushes limits.now ended book.old book.new
+        sinks.old sinks.new) }
+{
+    if sources.is_at_hand(c) {
+        return Ok(None);
+    }
+    flush_all(book, ends, sinks, limits)
+}
+
+/// No source is due. If no process is ready either, the stream comes to rest.
+fn rest<K: Sinks>(
+    book: &mut Book<'_>,
+    ends: &Ends,
+    sinks: &mut K,
+    limits: &Limits,
+) -> Result<Option<Ending>, AllocError>
+    requires sources { ends.now.sources.items ≡ end_numbers is_source book.old.tables }
+    requires sinks { ends.now.sinks.items ≡ end_numbers is_sink book.old.tables }
+    ensures { IfOk result (λ ended. Serves K.takes K.flushes limits.now ended book.old book.new
+        sinks.old sinks.new) }
+{
+    if !is_idle(book) {
+        return Ok(None);
+    }
+    let ended = flush_all(book, ends, sinks, limits)?;
+    if ended.is_some() {
+        return Ok(ended);
+    }
+    Ok(ending_if_resting(book, ends))
+}
+
+/// The ending of a stream that rests.
+fn ending_if_resting(book: &Book<'_>, ends: &Ends) -> Option<Ending>
+    requires { ends.now.sources.items ≡ end_numbers is_source book.now.tables }
+    ensures { IsRestingIf result book.now }
+{
+    if !is_idle(book) {
+        return None;
+    }
+    match least_open(book, ends, true) {
+        Some(_) => None,
+        None => Some(Ending::Resting),
+    }
+}
+
+/// Reads source `c`.
+fn read<S: Sources>(
+    book: &mut Book<'_>,
+    sources: &mut S,
+    c: usize,
+) -> Result<Option<Ending>, AllocError>
+    requires { is_closed book.old.history c ≡ false }
+    ensures { IfOk result (λ ended.
+        Reads S.gives ended book.old book.new sources.old sources.new) }
+{
+    match sources.next(c) {
+        Ok(Some(item)) => feed(book, c, item),
+        Ok(None) => close(book, c),
+        Err(fault) => Ok(Some(Ending::SourceFailed(c, fault))),
+    }
+}
+
+fn feed(book: &mut Book<'_>, c: usize, item: i64) -> Result<Option<Ending>, AllocError>
+    ensures fed { IfOk result (λ _. Happens (event.Feed c item) book.old book.new) }
+    ensures goes_on { IfOk result (λ ended. ended ≡ None) }
+{
+    match book.feed(c, item, usize::MAX) {
+        Ok(()) => {
+            book.known();
+            Ok(None)
+        }
+        Err(_) => Err(AllocError),
+    }
+}
+
+fn close(book: &mut Book<'_>, c: usize) -> Result<Option<Ending>, AllocError>
+    requires { is_closed book.old.history c ≡ false }
+    ensures closed { IfOk result (λ _. Happens (event.Close c) book.old book.new) }
+    ensures goes_on { IfOk result (λ ended. ended ≡ None) }
+{
+    book.known();
+    match book.close_source(c) {
+        Ok(()) => Ok(None),
+        Err(_) => Err(AllocError),
+    }
+}
+
+/// The source that is due: the least open one for whose item a process waits. If there is none and no process is
+/// ready, under the policy `all` the least open one: a growth may wait for the end of all inputs.
+fn source_due(book: &Book<'_>, ends: &Ends, is_idle: bool) -> Option<usize>
+    requires { ends.now.sources.items ≡ end_numbers is_source book.now.tables }
+    ensures { IfSome result (λ c. is_closed book.now.history c ≡ false) }
+{
+    let awaited = least_open(book, ends, true);
+    if awaited.is_some() || !is_idle || book.network().policy() == Policy::Cycles {
+        return awaited;
+    }
+    least_open(book, ends, false)
+}
+
+/// The least open source, of those for whose item a process waits or of all.
+fn least_open(book: &Book<'_>, ends: &Ends, awaited_only: bool) -> Option<usize>
+    requires { ends.now.sources.items ≡ end_numbers is_source book.now.tables }
+    ensures open { IfSome result (λ c. is_closed book.now.history c ≡ false) }
+    ensures none { IfNone result ((c : ℕ) → is_source (channel_at book.now.tables c) ≡ true
+        → IsUnwanted book.now c) }
+{
+    'sources: for i in 0..ends.sources.len() {
+        let c = ends.sources[i];
+        if is_due(book, c, awaited_only) {
+            return Some(c);
+        }
+    }
+    None
+}
+
+/// Whether a source is open and, if this is asked for, a process waits for its item.
+fn is_due(book: &Book<'_>, c: usize, awaited_only: bool) -> bool
+    requires { c < length book.now.tables.channels }
+    ensures open { IsTrue result → is_closed book.now.history c ≡ false }
+    ensures not_due { result ≡ false → IsUnwanted book.now c }
+{
+    if book.is_closed(c) {
+        return false;
+    }
+    !awaited_only || book.is_awaited(c)
+}
