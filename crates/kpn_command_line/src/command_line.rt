@@ -7,7 +7,7 @@ ghost use Rattle.kpn_command_line.specs.CommandLine.{explain_words, print_words,
 ghost use Rattle.kpn_command_line.specs.CommandLine.{stream_words, audit_words, stats_words, file_word, rounds_word};
 ghost use Rattle.kpn_command_line.specs.CommandLine.{source_option, sink_option, workers_option, steps_option};
 ghost use Rattle.kpn_command_line.specs.CommandLine.{items_flag, quiet_flag, format_option, trace_word, run_inputs};
-ghost use Rattle.kpn_command_line.specs.CommandLine.{stream_ends, bare_command_line, flag};
+ghost use Rattle.kpn_command_line.specs.CommandLine.{timeline_words, stream_ends, bare_command_line, flag};
 
 use clap::builder::ValueParser;
 use clap::{Arg, ArgAction, Command};
@@ -50,7 +50,9 @@ pub(crate) const QUIET: &str = "QUIET";
 pub(crate) fn program<'a>(alloc: Global) -> Result<Command<'a>, AllocError>
     ensures { IfOk result (IsCommand command_line) }
 {
-    first_nine(alloc)?.subcommand(stats_words(alloc)?)
+    first_nine(alloc)?
+        .subcommand(stats_words(alloc)?)?
+        .subcommand(timeline_words(alloc)?)
 }
 
 // The program with nine commands.
@@ -86,10 +88,10 @@ fn first_three<'a>(alloc: Global) -> Result<Command<'a>, AllocError>
 // What help says below the commands.
 const STATUSES: &str = "\
 Statuses: 0 for success, 1 for a refused input or a device that fails, 2 for words that are not
-understood, 6 for want of memory; explain, draw, run, stream, audit and stats have more. If an input is
-refused, one line on standard error says why. If the words are not understood, standard error says how
-to use them. Standard output is then empty, except that explain writes there what is wrong, and stream
-what it has computed before.";
+understood, 6 for want of memory; explain, draw, run, stream, audit, stats and timeline have more. If an
+input is refused, one line on standard error says why. If the words are not understood, standard error
+says how to use them. Standard output is then empty, except that explain writes there what is wrong, and
+stream what it has computed before.";
 
 // The program without its commands.
 fn bare_program<'a>(alloc: Global) -> Command<'a>
@@ -408,6 +410,28 @@ fn stats_words<'a>(alloc: Global) -> Result<Command<'a>, AllocError>
         .arg(trace_word(alloc))?
         .arg(steps_word(alloc))?
         .arg(option(alloc, TABLE, "tsv", "TABLE", table))
+}
+
+const TIMELINE_HELP: &str = "\
+Writes when the gets and puts of a run take place if each takes one tick and begins as early as it can:
+after the one before it of its process, a get once its item is there, and a put once there is room. What
+is written is JSON in the Trace Event Format, for https://ui.perfetto.dev and chrome://tracing. A
+microsecond there is a tick. A process is a track, with a slice for each get, put and wait. A channel is
+a counter of its unread items. A trace that is not legal is answered as by `kpn audit`.
+
+Statuses: 0 for a timeline, 1 for an illegal trace, for a refused file and for a device that fails, 2
+for words that are not understood, 5 for a trace that would take more steps: then give --steps a larger
+number; 6 for want of memory.";
+
+// The words of `kpn timeline`.
+fn timeline_words<'a>(alloc: Global) -> Result<Command<'a>, AllocError>
+    ensures { IfOk result (IsCommand timeline_words) }
+{
+    let about = "Shows when the gets and puts of a run take place, from its trace";
+    command(alloc, "timeline", about, TIMELINE_HELP)
+        .arg(file_word(alloc))?
+        .arg(trace_word(alloc))?
+        .arg(steps_word(alloc))
 }
 
 // The word for the number of rounds.
