@@ -3,6 +3,8 @@
 
 mod clocks;
 mod held;
+mod traces;
 
 pub use clocks::{Clocks, clocks_after};
 pub use held::reads_before;
+pub use traces::clocks_of;
