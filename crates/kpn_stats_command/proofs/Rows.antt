@@ -1,16 +1,17 @@
 -- Tables row by row.
-use Rattle.std.proofs.Common.{◌≡◌, ◌≢◌, ℕ, suc, ◌+◌, ◌<◌, ◌≤◌, max, List, [], ◌∷◌, ◌++◌, length, map, drop, get_or, codes, cond, eq-eqb, ne_eqb, drop-cons, drop_of_length-le, sym, ap, ◌∙◌, arith}
+use Rattle.std.proofs.Common.{◌≡◌, ℕ, suc, ◌+◌, ◌<◌, ◌≤◌, max, List, [], ◌∷◌, ◌++◌, length, map, drop, get_or, codes, drop-cons, drop_of_length-le, sym, ap, ◌∙◌, arith}
 use Rattle.std.specs.List.{range_with_len}
 use Rattle.std.proofs.lemmas.List.FromFn.{map-range_with_len_more}
 use Rattle.kpn_stats_command.specs.declared.table.Row.{Row}
-use Rattle.std.specs.Fmt.{decimal}
+use Rattle.kpn_stats_command.specs.declared.times.Times.{Times}
 use Rattle.kpn_stats_command.specs.Layout.{longest, aligned_table}
-use Rattle.std.proofs.lemmas.List.{append_assoc}
+use Rattle.std.proofs.lemmas.List.{append_assoc, drop_more}
+use Rattle.kpn_pieces.specs.ListText.{lines_from}
 use Rattle.kpn_text.specs.Document.{Document}
 use Rattle.kpn_audit.specs.declared.findings.Audit.{Audit}
 use Rattle.kpn_stats_command.specs.declared.figures.ChannelFigures.{ChannelFigures}
 use Rattle.kpn_stats_command.specs.declared.figures.ProcessFigures.{ProcessFigures}
-use Rattle.kpn_stats_command.specs.StatsText.{channel_rows, process_rows, advice, advice_for, people_text}
+use Rattle.kpn_stats_command.specs.StatsText.{channel_rows, process_rows, advice, tables_text}
 
 -- one entry more
 pub one_more : {A : Type 0} (f : ℕ → A) (n : ℕ) (xs more : List A) → xs ≡ map f (range_with_len 0 n)
@@ -45,37 +46,34 @@ longest_done f rows k width all past so_far =
     ap (λ (xs : List Row). longest (map f xs)) (drop_of_length-le rows past) in
     omega (arith, none, so_far)
 
--- the advice if no writer waited, and if one did
-pub advice_enough : (waits last most enough : ℕ) → waits ≡ 0 → enough ≡ max most 1
-    → codes ": " ++ decimal enough ++ codes " would have been enough for these events\n" ≡ advice_for waits last most
-advice_enough waits last most enough none is =
-    ap (λ n. codes ": " ++ decimal n ++ codes " would have been enough for these events\n") is
-    ∙ sym (ap (λ b. cond b
-    (codes ": " ++ decimal (max most 1) ++ codes " would have been enough for these events\n")
-    (codes ": more than " ++ decimal last ++ codes ", since its writer waited for room\n")) (eq-eqb waits 0 none))
-
-pub advice_more : (waits last most : ℕ) → waits ≢ 0
-    → codes ": more than " ++ decimal last ++ codes ", since its writer waited for room\n" ≡ advice_for waits last most
-advice_more waits last most some =
-    sym (ap (λ b. cond b
-    (codes ": " ++ decimal (max most 1) ++ codes " would have been enough for these events\n")
-    (codes ": more than " ++ decimal last ++ codes ", since its writer waited for room\n")) (ne_eqb waits 0 some))
-
 -- ---- one text behind another
 
-joined : (old a b so_far more : List ℕ) → so_far ≡ old ++ a → more ≡ so_far ++ b → more ≡ old ++ (a ++ b)
+pub joined : (old a b so_far more : List ℕ) → so_far ≡ old ++ a → more ≡ so_far ++ b → more ≡ old ++ (a ++ b)
 joined old a b so_far more was added = added ∙ ap (λ x. x ++ b) was ∙ append_assoc old a b
 
-pub people_told : {A : Type 0} (d : Document) (audit : Audit A) (channels : List ChannelFigures)
-    (processes : List ProcessFigures) (old t1 t2 t3 t4 new : List ℕ) (first second : List Row)
-    → first ≡ channel_rows d audit channels → t1 ≡ old ++ aligned_table 10 first → t2 ≡ t1 ++ codes "\n"
+pub tables_told : {A : Type 0} (d : Document) (audit : Audit A) (channels : List ChannelFigures)
+    (processes : List ProcessFigures) (times : Times) (old t1 t2 t3 t4 new : List ℕ) (first second : List Row)
+    → first ≡ channel_rows d audit channels times → t1 ≡ old ++ aligned_table 11 first → t2 ≡ t1 ++ codes "\n"
     → second ≡ process_rows d audit processes → t3 ≡ t2 ++ aligned_table 5 second → t4 ≡ t3 ++ codes "\n"
-    → new ≡ t4 ++ advice d audit channels → new ≡ old ++ people_text d audit channels processes
-people_told d audit channels processes old t1 t2 t3 t4 new first second rows e1 e2 more e3 e4 e5 =
-    let a = aligned_table 10 (channel_rows d audit channels) in
+    → new ≡ t4 ++ advice d audit channels times → new ≡ old ++ tables_text d audit channels processes times
+tables_told d audit channels processes times old t1 t2 t3 t4 new first second rows e1 e2 more e3 e4 e5 =
+    let a = aligned_table 11 (channel_rows d audit channels times) in
     let b = aligned_table 5 (process_rows d audit processes) in
-    let s1 : t1 ≡ old ++ a = e1 ∙ ap (λ r. old ++ aligned_table 10 r) rows in
+    let s1 : t1 ≡ old ++ a = e1 ∙ ap (λ r. old ++ aligned_table 11 r) rows in
     let s2 = joined old a (codes "\n") t1 t2 s1 e2 in
     let s3 = joined old (a ++ codes "\n") b t2 t3 s2 (e3 ∙ ap (λ r. t2 ++ aligned_table 5 r) more) in
     let s4 = joined old (a ++ codes "\n" ++ b) (codes "\n") t3 t4 s3 e4 in
-    joined old (a ++ codes "\n" ++ b ++ codes "\n") (advice d audit channels) t4 new s4 e5
+    joined old (a ++ codes "\n" ++ b ++ codes "\n") (advice d audit channels times) t4 new s4 e5
+
+-- what is written of one thing more
+pub line_next : {A : Type 0} (line : ℕ → A → List ℕ) (n : ℕ) (xs : List A) (d : A) (text more : List ℕ)
+    → n < length xs → more ≡ text ++ line n (get_or xs n d)
+    → more ++ lines_from line (n + 1) (drop (n + 1) xs) ≡ text ++ lines_from line n (drop n xs)
+line_next line n xs d text more below added =
+    let x = get_or xs n d in
+    let rest = drop (n + 1) xs in
+    let one : n + 1 ≡ suc n = omega arith in
+    ap (λ t. t ++ lines_from line (n + 1) rest) added
+    ∙ append_assoc text (line n x) (lines_from line (n + 1) rest)
+    ∙ ap (λ m. text ++ (line n x ++ lines_from line m rest)) one
+    ∙ ap (λ ys. text ++ lines_from line n ys) (sym (drop_more xs n d below))

@@ -1,6 +1,6 @@
 -- The figures of the events of a trace are those of its history. The two differ only in the capacities of growths, and
 -- no figure depends on those.
-use Rattle.std.proofs.Common.{◌≡◌, ℕ, ℤ, ◌≤◌, Bool, cond, List, [], ◌∷◌, ◌++◌, length, map, take, drop, count_by, sum, refl, sym, ap, ap₂, ◌∙◌, subst}
+use Rattle.std.proofs.Common.{◌≡◌, ℕ, ℤ, ◌≤◌, Bool, true, false, cond, List, [], ◌∷◌, ◌++◌, length, map, take, drop, count_by, sum, refl, sym, ap, ap₂, ◌∙◌, subst}
 use Rattle.std.specs.List.{flat_map}
 use Rattle.std.proofs.lemmas.List.Sums.{sum-map}
 use Rattle.std.proofs.lemmas.List.{take-map, length-map}
@@ -16,6 +16,10 @@ use Rattle.kpn_audit.specs.Stored.{told, told_behind, history_of, tables_for, hi
 use Rattle.kpn_stats_command.specs.declared.figures.ChannelFigures.{ChannelFigures}
 use Rattle.kpn_stats_command.specs.declared.figures.ProcessFigures.{ProcessFigures}
 use Rattle.kpn_stats_command.specs.declared.figures.Figures.{Figures}
+use Rattle.kpn_ticks.specs.Ticks.{Clocks, clocks_after}
+use Rattle.kpn_ticks.specs.Shown.{shown}
+use Rattle.kpn_stats_command.specs.declared.times.Times.{Times}
+use Rattle.kpn_stats_command.specs.Times.{is_move, AreTimes}
 use Rattle.kpn_stats_command.specs.Figures.{waits_for_item, waits_for_room, is_get_of, is_put_of, is_wait_empty_of, is_wait_full_of, unread_behind, IsMostUnread, CountsChannel, CountsProcess, AreFigures}
 
 -- ---- events without the capacities of growths
@@ -139,4 +143,19 @@ of_history t trace figures are =
       channels = λ c below. channel_alike trace.events (history_in t trace) c _ alike (are.channels c below);
       process_count = are.process_count;
       processes = λ p below. process_alike trace.events (history_in t trace) p _ alike (are.processes p below);
+    }
+
+pub times_of_history : (t : Tables) (trace : Trace Global) (times : Times) (bounded free : Clocks)
+    → shown times.bounded ≡ bounded → shown times.free ≡ free
+    → bounded ≡ clocks_after (tables_for t trace) true (history_in t trace)
+    → free ≡ clocks_after (tables_for t trace) false (history_in t trace)
+    → times.events ≡ length trace.events → times.moves ≡ count_by is_move trace.events
+    → AreTimes (tables_for t trace) (history_in t trace) times
+times_of_history t trace times bounded free is_bounded is_free with_caps without events moves =
+    let alike = history_plain trace.version (tables_for t trace) trace.events in
+    record {
+      bounded = is_bounded ∙ with_caps;
+      free = is_free ∙ without;
+      events = events ∙ alike_length trace.events (history_in t trace) alike;
+      moves = moves ∙ same_count is_move (λ p c n. refl) trace.events (history_in t trace) alike;
     }

@@ -1,4 +1,5 @@
 pub mod Figures
+pub mod Times
 pub mod Layout
 pub mod StatsText
 pub mod Answers

@@ -6,6 +6,7 @@ ghost use Rattle.kpn_stats_command.specs.Answers.{AreStats, AreTables};
 
 use crate::figures::count;
 use crate::stats_text::text_of;
+use crate::times::times_of;
 use kpn_audited::{Audited, Finding, load_audited};
 use kpn_conclusion::Conclusion;
 use kpn_refusals::Refusal;
@@ -48,7 +49,8 @@ fn conclusion_of(
                 audited.document.network(),
                 audited.trace.events.as_slice(),
             )?;
-            let text = text_of(alloc, tables, &audited.document, audit, &figures)?;
+            let times = times_of(alloc, audited.document.network(), &audited.trace)?;
+            let text = text_of(alloc, tables, &audited.document, audit, &figures, &times)?;
             Ok(Conclusion {
                 text,
                 status: 0,

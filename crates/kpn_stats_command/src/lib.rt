@@ -5,5 +5,6 @@ mod command;
 mod figures;
 mod stats_text;
 mod table;
+mod times;
 
 pub use command::stats_command;

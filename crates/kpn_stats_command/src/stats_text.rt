@@ -1,10 +1,15 @@
 //! The text that `kpn stats` writes of a legal history.
-ghost use Rattle.std.specs.Prelude.{◌≡◌, ◌++◌, ◌<◌, length, map, slice_index_or, None, IfOk, OnOk, string_bytes};
+ghost use Rattle.std.specs.Fmt.{decimal};
+ghost use Rattle.std.specs.Prelude.{◌≡◌, ◌++◌, ◌<◌, codes, length, map, slice_index_or, None, IfOk, OnOk, string_bytes};
 ghost use Rattle.kpn_pieces.specs.Added.{Adds};
-ghost use Rattle.kpn_stats_command.specs.StatsText.{stats_text, people_text, number_cell, channel_heading, channel_row, channel_rows, complete_cell, process_heading, process_row, process_rows, end_cell, advice, advice_line, row_of};
+ghost use Rattle.kpn_stats_command.specs.Layout.{tabbed_table};
+ghost use Rattle.kpn_ticks.specs.Held.{capacity_needed};
+ghost use Rattle.kpn_ticks.specs.Shown.{shown};
+ghost use Rattle.kpn_stats_command.specs.StatsText.{hundredths, parallelism, head_text, tables_text, counted_cells, shortest_capacity, advised, advice_for, stats_text, people_text, number_cell, channel_heading, channel_row, channel_rows, complete_cell, process_heading, process_row, process_rows, end_cell, advice, advice_line, row_of};
 
 use crate::figures::{ChannelFigures, Figures, ProcessFigures};
 use crate::table::{Row, push_aligned, push_tabbed};
+use crate::times::Times;
 use kpn_audit::Audit;
 use kpn_history::How;
 use kpn_lang::Sequence;
@@ -22,32 +27,76 @@ pub(crate) fn text_of(
     document: &Document,
     audit: &Audit,
     figures: &Figures,
+    times: &Times,
 ) -> Result<Vec<u8>, AllocError>
     requires channels { length figures.now.channels ≡ length document.now.tables.channels }
     requires processes { length figures.now.processes ≡ length document.now.tables.instances }
     ensures { IfOk result (λ text.
-        text.items ≡ stats_text tables document.now audit.now figures.now) }
+        text.items ≡ stats_text tables document.now audit.now figures.now times.now) }
 {
-    let mut text = Vec::new(alloc);
     let channels = figures.channels.as_slice();
     let processes = figures.processes.as_slice();
     match tables {
-        StatsTables::People => {
-            push_people(alloc, &mut text, document, audit, channels, processes)?;
-        }
-        StatsTables::Channels => {
-            let rows = channel_rows(alloc, document, audit, channels)?;
-            push_tabbed(&mut text, &rows)?;
-        }
-        StatsTables::Processes => {
-            let rows = process_rows(alloc, document, audit, processes)?;
-            push_tabbed(&mut text, &rows)?;
-        }
+        StatsTables::People => people_of(alloc, document, audit, channels, processes, times),
+        StatsTables::Channels => channels_of(alloc, document, audit, channels, times),
+        StatsTables::Processes => processes_of(alloc, document, audit, processes),
     }
+}
+
+fn people_of(
+    alloc: Global,
+    document: &Document,
+    audit: &Audit,
+    channels: &[ChannelFigures],
+    processes: &[ProcessFigures],
+    times: &Times,
+) -> Result<Vec<u8>, AllocError>
+    requires channels { length channels.now ≡ length document.now.tables.channels }
+    requires processes { length processes.now ≡ length document.now.tables.instances }
+    ensures { IfOk result (λ text. text.items
+        ≡ people_text document.now audit.now channels.now processes.now times.now) }
+{
+    let mut text = Vec::new(alloc);
+    push_people(
+        alloc, &mut text, document, audit, channels, processes, times,
+    )?;
     Ok(text)
 }
 
-// Both tables and the advice.
+fn channels_of(
+    alloc: Global,
+    document: &Document,
+    audit: &Audit,
+    channels: &[ChannelFigures],
+    times: &Times,
+) -> Result<Vec<u8>, AllocError>
+    requires { length channels.now ≡ length document.now.tables.channels }
+    ensures { IfOk result (λ text. text.items
+        ≡ tabbed_table (channel_rows document.now audit.now channels.now times.now)) }
+{
+    let mut text = Vec::new(alloc);
+    let rows = channel_rows(alloc, document, audit, channels, times)?;
+    push_tabbed(&mut text, &rows)?;
+    Ok(text)
+}
+
+fn processes_of(
+    alloc: Global,
+    document: &Document,
+    audit: &Audit,
+    processes: &[ProcessFigures],
+) -> Result<Vec<u8>, AllocError>
+    requires { length processes.now ≡ length document.now.tables.instances }
+    ensures { IfOk result (λ text.
+        text.items ≡ tabbed_table (process_rows document.now audit.now processes.now)) }
+{
+    let mut text = Vec::new(alloc);
+    let rows = process_rows(alloc, document, audit, processes)?;
+    push_tabbed(&mut text, &rows)?;
+    Ok(text)
+}
+
+// The head, both tables and the advice.
 fn push_people(
     alloc: Global,
     text: &mut Vec<u8>,
@@ -55,19 +104,103 @@ fn push_people(
     audit: &Audit,
     channels: &[ChannelFigures],
     processes: &[ProcessFigures],
+    times: &Times,
+) -> Pushed
+    requires channels { length channels.now ≡ length document.now.tables.channels }
+    requires processes { length processes.now ≡ length document.now.tables.instances }
+    ensures { OnOk result (text.new.items ≡ text.old.items
+        ++ people_text document.now audit.now channels.now processes.now times.now) }
+{
+    let head = head_of(alloc, times)?;
+    text.extend_from_slice(head.as_bytes())?;
+    push_tables(alloc, text, document, audit, channels, processes, times)?;
+    Ok(())
+}
+
+// The lengths of the run, and how much happens in it.
+fn head_of(alloc: Global, times: &Times) -> Result<String, AllocError>
+    ensures { IfOk result (λ text. string_bytes text ≡ head_text (shown times.now.bounded).last
+        (shown times.now.free).last times.now.events times.now.moves) }
+{
+    let mut text = String::new(alloc);
+    let length = times.bounded.last();
+    push_lengths(&mut text, length, times.free.last())?;
+    push_counts(&mut text, times.events, times.moves)?;
+    push_parallelism(&mut text, times.moves, length)?;
+    text.push_str("\n\n")?;
+    Ok(text)
+}
+
+fn push_lengths(text: &mut String, length: usize, shortest: usize) -> Pushed
+    ensures { Adds result text.old text.new
+        (codes "length " ++ decimal length ++ codes " ticks, "
+        ++ (decimal shortest ++ codes " without capacities\n")) }
+{
+    push_length(text, length)?;
+    push_shortest(text, shortest)?;
+    Ok(())
+}
+
+fn push_length(text: &mut String, length: usize) -> Pushed
+    ensures { Adds result text.old text.new (codes "length " ++ decimal length ++ codes " ticks, ") }
+{
+    write!(text, "length {length} ticks, ")
+}
+
+fn push_shortest(text: &mut String, shortest: usize) -> Pushed
+    ensures { Adds result text.old text.new (decimal shortest ++ codes " without capacities\n") }
+{
+    write!(text, "{shortest} without capacities\n")
+}
+
+fn push_counts(text: &mut String, events: usize, moves: usize) -> Pushed
+    ensures { Adds result text.old text.new
+        (codes "events " ++ decimal events ++ codes ", gets and puts " ++ decimal moves
+        ++ codes ", in a tick ") }
+{
+    write!(text, "events {events}, gets and puts {moves}, in a tick ")
+}
+
+// How many gets and puts there are in a tick.
+fn push_parallelism(text: &mut String, moves: usize, length: usize) -> Pushed
+    ensures { Adds result text.old text.new (parallelism moves length) }
+{
+    if length == 0 {
+        text.push_str("-")
+    } else {
+        push_hundredths(text, moves as u128 * 100 / length as u128)
+    }
+}
+
+fn push_hundredths(text: &mut String, n: u128) -> Pushed
+    ensures { Adds result text.old text.new (hundredths n) }
+{
+    write!(text, "{}.{}{}", n / 100, n / 10 % 10, n % 10)
+}
+
+// Both tables and the advice.
+fn push_tables(
+    alloc: Global,
+    text: &mut Vec<u8>,
+    document: &Document,
+    audit: &Audit,
+    channels: &[ChannelFigures],
+    processes: &[ProcessFigures],
+    times: &Times,
 ) -> Pushed
     requires channels { length channels.now ≡ length document.now.tables.channels }
     requires processes { length processes.now ≡ length document.now.tables.instances }
     ensures { OnOk result (text.new.items
-        ≡ text.old.items ++ people_text document.now audit.now channels.now processes.now) }
+        ≡ text.old.items
+        ++ tables_text document.now audit.now channels.now processes.now times.now) }
 {
-    let rows = channel_rows(alloc, document, audit, channels)?;
-    push_aligned(alloc, text, 10, &rows)?;
+    let rows = channel_rows(alloc, document, audit, channels, times)?;
+    push_aligned(alloc, text, 11, &rows)?;
     text.push(b'\n')?;
     let rows = process_rows(alloc, document, audit, processes)?;
     push_aligned(alloc, text, 5, &rows)?;
     text.push(b'\n')?;
-    let advice = advice_of(alloc, document, audit, channels)?;
+    let advice = advice_of(alloc, document, audit, channels, times)?;
     text.extend_from_slice(advice.as_bytes())?;
     Ok(())
 }
@@ -78,15 +211,17 @@ fn channel_rows(
     document: &Document,
     audit: &Audit,
     figures: &[ChannelFigures],
+    times: &Times,
 ) -> Result<Vec<Row>, AllocError>
     requires { length figures.now ≡ length document.now.tables.channels }
-    ensures { IfOk result (λ rows. rows.items ≡ channel_rows document.now audit.now figures.now) }
+    ensures { IfOk result (λ rows.
+        rows.items ≡ channel_rows document.now audit.now figures.now times.now) }
 {
     let mut rows = Vec::new(alloc);
     let heading = channel_heading(alloc)?;
     rows.push(heading)?;
     for c in 0..figures.len() {
-        let row = channel_row(alloc, document, audit, figures, c)?;
+        let row = channel_row(alloc, document, audit, figures, times, c)?;
         rows.push(row)?;
     }
     Ok(rows)
@@ -106,6 +241,7 @@ fn channel_heading(alloc: Global) -> Result<Row, AllocError>
         "waits_empty",
         "waits_full",
         "complete",
+        "cap_shortest",
     ];
     row_of(alloc, "channel", word_cells(alloc, &words)?)
 }
@@ -115,11 +251,34 @@ fn channel_row(
     document: &Document,
     audit: &Audit,
     figures: &[ChannelFigures],
+    times: &Times,
     c: usize,
 ) -> Result<Row, AllocError>
     requires channel { c < length document.now.tables.channels }
     requires channels { length figures.now ≡ length document.now.tables.channels }
-    ensures { IfOk result (λ row. row ≡ channel_row document.now audit.now figures.now c) }
+    ensures { IfOk result (λ row.
+        row ≡ channel_row document.now audit.now figures.now times.now c) }
+{
+    let mut cells = counted_cells(alloc, document, audit, figures, c)?;
+    let first = as_number(document.network().cap_of(c));
+    let needed = times.free.capacity_needed(c);
+    let shortest = number_cell(alloc, shortest_capacity(first, needed))?;
+    cells.push(shortest)?;
+    row_of(alloc, document.channel_name(c), cells)
+}
+
+// What is counted of a channel, and whether it is complete.
+fn counted_cells(
+    alloc: Global,
+    document: &Document,
+    audit: &Audit,
+    figures: &[ChannelFigures],
+    c: usize,
+) -> Result<Vec<Sequence<u8>>, AllocError>
+    requires channel { c < length document.now.tables.channels }
+    requires channels { length figures.now ≡ length document.now.tables.channels }
+    ensures { IfOk result (λ cells.
+        cells.items ≡ counted_cells document.now audit.now figures.now c) }
 {
     let f = figures[c];
     let first = as_number(document.network().cap_of(c));
@@ -140,7 +299,17 @@ fn channel_row(
     let mut cells = number_cells(alloc, &numbers)?;
     let cell = text_cell(alloc, complete_cell(complete))?;
     cells.push(cell)?;
-    row_of(alloc, document.channel_name(c), cells)
+    Ok(cells)
+}
+
+// The capacity with which the run is as short as it can be; none of a source.
+fn shortest_capacity(first: Option<usize>, needed: usize) -> Option<usize>
+    ensures { result ≡ shortest_capacity first needed }
+{
+    match first {
+        Some(_) => Some(needed),
+        None => None,
+    }
 }
 
 // Whether a channel is complete.
@@ -299,35 +468,60 @@ fn advice_of(
     document: &Document,
     audit: &Audit,
     figures: &[ChannelFigures],
+    times: &Times,
 ) -> Result<String, AllocError>
     ensures { IfOk result (λ text.
-        string_bytes text ≡ advice document.now audit.now figures.now) }
+        string_bytes text ≡ advice document.now audit.now figures.now times.now) }
 {
     let mut text = String::new(alloc);
-    for (c, f) in figures.iter().enumerate() {
-        push_advice(&mut text, document.channel_name(c), last_cap(audit, c), *f)?;
+    for (c, _figures) in figures.iter().enumerate() {
+        push_advice(
+            &mut text,
+            document.channel_name(c),
+            last_cap(audit, c),
+            times,
+            c,
+        )?;
     }
     Ok(text)
 }
 
 // The advice on a channel of this last capacity.
-fn push_advice(text: &mut String, name: &str, last: Option<u32>, figures: ChannelFigures) -> Pushed
-    ensures { Adds result text.old text.new (advice_line name.now last figures) }
+fn push_advice(text: &mut String, name: &str, last: Option<u32>, times: &Times, c: usize) -> Pushed
+    ensures { Adds result text.old text.new (advice_line name.now last times.now c) }
 {
     let Some(last) = last else {
         return Ok(());
     };
-    let waits = figures.waits_full;
-    if waits == 0 {
-        let enough = figures.most.max(1);
-        write!(
-            text,
-            "{name}: {enough} would have been enough for these events\n"
-        )
+    let last = last as usize;
+    let number = advised(times, last, c);
+    text.push_str(name)?;
+    push_advice_for(text, number, last)?;
+    Ok(())
+}
+
+// The capacity that the advice names.
+fn advised(times: &Times, last: usize, c: usize) -> usize
+    ensures { let bounded = shown times.now.bounded in let free = shown times.now.free in
+        result ≡ advised bounded.last free.last last (capacity_needed bounded c)
+        (capacity_needed free c) }
+{
+    if times.bounded.last() == times.free.last() {
+        times.bounded.capacity_needed(c).min(last)
+    } else {
+        times.free.capacity_needed(c)
+    }
+}
+
+fn push_advice_for(text: &mut String, number: usize, last: usize) -> Pushed
+    ensures { Adds result text.old text.new (advice_for number last) }
+{
+    if number <= last {
+        write!(text, ": {number} keeps the run as short as it can be\n")
     } else {
         write!(
             text,
-            "{name}: more than {last}, since its writer waited for room\n"
+            ": {number} would keep the run as short as it can be, and it has {last}\n"
         )
     }
 }

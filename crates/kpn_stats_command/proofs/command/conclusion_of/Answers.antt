@@ -1,7 +1,9 @@
 -- The figures are those of the history, and there is one for each channel of the network.
 use Rattle.std.proofs.Common.{◌∙◌, ap, length, refl, subst}
 use Rattle.kpn_net.specs.Tables.{Tables}
+use Rattle.kpn_audit.specs.Stored.{tables_for, history_in}
 use Rattle.kpn_stats_command.specs.Figures.{AreFigures}
+use Rattle.kpn_stats_command.specs.Times.{AreTimes}
 use Rattle.kpn_stats_command.proofs.Told.{of_history}
 use Rattle.kpn_stats_command.proofs.command.conclusion_of.Goals as goal
 
@@ -26,6 +28,10 @@ returns-in_ok-text-in-Legal c =
         record {
           figures = figures;
           are = of_history a.document.tables a.trace figures are;
+          times = c.in_ok-times-in-Legal.times;
+          are_times =
+              subst (λ (t : Tables). AreTimes (tables_for t a.trace) (history_in t a.trace) c.in_ok-times-in-Legal.times)
+              c.network-in-Legal.ensures c.in_ok-times-in-Legal.ensures;
           made = c.in_ok-text-in-Legal.ensures;
         },
         refl,

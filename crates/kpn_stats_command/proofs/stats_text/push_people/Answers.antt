@@ -1,12 +1,18 @@
+-- The head, and behind it the tables.
 use Rattle.std.proofs.Common.{◌++◌, ap, ◌∙◌}
-use Rattle.kpn_stats_command.proofs.Rows.{people_told}
+use Rattle.kpn_ticks.specs.Shown.{shown}
+use Rattle.kpn_stats_command.specs.StatsText.{head_text, tables_text}
+use Rattle.kpn_stats_command.proofs.Rows.{joined}
 use Rattle.kpn_stats_command.proofs.stats_text.push_people.Goals as goal
 
 pub returns : goal.returns
 returns c =
-    let advice = c.as_bytes.ensures.value ∙ c.in_ok-advice.ensures in
-    people_told c.args.document.now c.args.audit.now c.args.channels.now c.args.processes.now c.args.text.now.items _ _
-    _ _ _ c.deref.result.now c.deref-2.result.now (c.deref.ensures.value ∙ c.in_ok-rows.ensures)
-    c.in_ok-push_aligned.ensures c.in_ok-push.ensures.items (c.deref-2.ensures.value ∙ c.in_ok-rows-2.ensures)
-    c.in_ok-push_aligned-2.ensures c.in_ok-push-2.ensures.items
-    (c.in_ok-extend_from_slice.ensures.items ∙ ap (λ bytes. c.push-2.new.self.items ++ bytes) advice)
+    let a = c.args in
+    let times = a.times.now in
+    joined a.text.now.items
+    (head_text (shown times.bounded).last (shown times.free).last times.events times.moves)
+    (tables_text a.document.now a.audit.now a.channels.now a.processes.now times)
+    c.extend_from_slice.new.self.items c.push_tables.new.text.items
+    (c.in_ok-extend_from_slice.ensures.items
+    ∙ ap (λ bytes. a.text.now.items ++ bytes) (c.as_bytes.ensures.value ∙ c.in_ok-head.ensures))
+    c.in_ok-push_tables.ensures

@@ -1,0 +1,11 @@
+-- One capacity more.
+use Rattle.std.proofs.Common.{[], ◌∷◌, ◌++◌, ap, ◌∙◌}
+use Rattle.kpn_net.specs.Tables.{channel_at, capacity}
+use Rattle.kpn_ticks.proofs.Counting.{one_more}
+use Rattle.kpn_ticks.proofs.clocks.first_capacities.Goals as goal
+
+pub loop-c-preserved : goal.loop-c-preserved
+loop-c-preserved c =
+    one_more (λ d. capacity (channel_at c.args.network.now d)) c.loop-c.c c.loop-c.capacities.items
+    c.push.new.self.items c.loop-c.invariant
+    (c.in_ok-push.ensures.items ∙ ap (λ x. c.loop-c.capacities.items ++ x ∷ []) c.cap_of.ensures)

@@ -1,0 +1,2 @@
+pub mod TimelineText
+pub mod Answers
