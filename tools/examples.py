@@ -12,8 +12,8 @@ of an example.
 A run on one thread computes what a run by workers writes, since that is the same for any number of workers. Of the
 audit of its trace it compares only the lines that are the same.
 
-It knows the commands `check`, `print`, `draw`, `rounds`, `run`, `audit` and `stats`, `explain` of descriptions that are
-right and of traces that are legal, and of the refusals those that the lines meet.
+It knows the commands `check`, `print`, `draw`, `rounds`, `run`, `audit`, `stats` and `timeline`, `explain` of
+descriptions that are right and of traces that are legal, and of the refusals those that the lines meet.
 """
 import argparse
 import contextlib
@@ -27,6 +27,7 @@ import figures
 import histories
 import history_tables
 import rounds
+import ticks
 
 EXAMPLES, CHANGED = '# The examples\n', '# Changed histories\n'
 RUN_BY_WORKERS, WORKERS = '# The examples run by workers\n', (1, 2, 16)
@@ -142,7 +143,7 @@ def histories_answer(words):
 
 
 def read_words_of_figures(words):
-    parser = argparse.ArgumentParser(description='kpn draw, kpn stats and kpn explain, computed by another program.')
+    parser = argparse.ArgumentParser(description='kpn draw, stats, timeline and explain, computed by another program.')
     parser.add_argument('command')
     parser.add_argument('file')
     parser.add_argument('history', nargs='?')
@@ -152,8 +153,8 @@ def read_words_of_figures(words):
 
 
 def figures_answer(words):
-    """What `draw`, `stats` and `explain` write, and the status: those of an audit, if the trace is not legal. Explained
-    traces of examples are legal."""
+    """What `draw`, `stats`, `timeline` and `explain` write, and the status: those of an audit, if the trace is not
+    legal. Explained traces of examples are legal."""
     found = read_words_of_figures(words)
     description(found.file)
     network = histories.Network(load(found.file))
@@ -167,6 +168,8 @@ def figures_answer(words):
         return figures.explained(network, trace), 0
     if found.command == 'draw':
         return figures.drawing(network, trace), 0
+    if found.command == 'timeline':
+        return ticks.timeline_text(network, trace), 0
     return figures.stats_text(network, trace, found.tsv), 0
 
 
@@ -176,7 +179,7 @@ def answer(words):
     try:
         if command in ('run', 'audit'):
             return histories_answer(words)
-        if command in ('draw', 'stats') or command == 'explain' and len(rest) > 1:
+        if command in ('draw', 'stats', 'timeline') or command == 'explain' and len(rest) > 1:
             return figures_answer(words)
         # Explained files of examples are right.
         return {'check': check, 'explain': check, 'print': print_text, 'rounds': rounds_text}[command](*rest), 0

@@ -3,8 +3,10 @@ than the proved one computes it from what an audit keeps of channels and process
 of the trace.
 """
 import histories
+import ticks
 
-CHANNEL_HEADING = 'channel put read left most cap_first cap_last growths waits_empty waits_full complete'.split()
+CHANNEL_HEADING = ('channel put read left most cap_first cap_last growths waits_empty waits_full complete '
+                   'cap_shortest').split()
 PROCESS_HEADING = 'process gets puts waits_empty waits_full end'.split()
 HEAD = '''digraph network {
   rankdir=LR;
@@ -41,13 +43,14 @@ def count(history, word, place, number):
     return sum(event[0] == word and event[place] == number for event in history)
 
 
-def channel_row(audit, history, most, c):
+def channel_row(audit, history, most, free, c):
     network = audit.network
     put, read = len(audit.written[c]), audit.read_count[c]
     capacities = ['-' if cap is None else cap for cap in (network.capacities[c], audit.capacities[c])]
     events = [count(history, word, 2, c) for word in ('grow', 'wait-empty', 'wait-full')]
     complete = 'yes' if audit.complete()[c] else 'no'
-    return [network.channels[c], put, read, put - read, most[c], *capacities, *events, complete]
+    shortest = '-' if network.capacities[c] is None else free.needed(c)
+    return [network.channels[c], put, read, put - read, most[c], *capacities, *events, complete, shortest]
 
 
 def process_row(audit, history, p):
@@ -55,13 +58,21 @@ def process_row(audit, history, p):
     return [audit.network.instances[p], *events, standing(audit, p) or '-']
 
 
-def advice(audit, history, most, c):
-    if audit.capacities[c] is None:
+def advice(audit, bounded, free, c):
+    last = audit.capacities[c]
+    if last is None:
         return ''
-    name = audit.network.channels[c]
-    if count(history, 'wait-full', 2, c):
-        return f'{name}: more than {audit.capacities[c]}, since its writer waited for room\n'
-    return f'{name}: {max(most[c], 1)} would have been enough for these events\n'
+    number = min(bounded.needed(c), last) if bounded.length == free.length else free.needed(c)
+    would, has = ('keeps', '') if number <= last else ('would keep', f', and it has {last}')
+    return f'{audit.network.channels[c]}: {number} {would} the run as short as it can be{has}\n'
+
+
+def head(history, bounded, free):
+    moves = len(bounded.places)
+    hundredths = moves * 100 // bounded.length if bounded.length else None
+    in_a_tick = '-' if hundredths is None else f'{hundredths // 100}.{hundredths % 100:02}'
+    return (f'length {bounded.length} ticks, {free.length} without capacities\n'
+            f'events {len(history)}, gets and puts {moves}, in a tick {in_a_tick}\n')
 
 
 def aligned(rows):
@@ -78,12 +89,13 @@ def tabbed(rows):
 def stats_text(network, trace, tsv=None):
     audit, most = replay(network, trace)
     channels, processes = range(len(network.channels)), range(len(network.instances))
-    of_channels = [CHANNEL_HEADING, *(channel_row(audit, trace.history, most, c) for c in channels)]
+    bounded, free = (ticks.Timing(network, trace, has_capacities) for has_capacities in (True, False))
+    of_channels = [CHANNEL_HEADING, *(channel_row(audit, trace.history, most, free, c) for c in channels)]
     of_processes = [PROCESS_HEADING, *(process_row(audit, trace.history, p) for p in processes)]
     if tsv:
         return tabbed(of_channels if tsv == 'channels' else of_processes)
-    said = ''.join(advice(audit, trace.history, most, c) for c in channels)
-    return f'{aligned(of_channels)}\n{aligned(of_processes)}\n{said}'
+    said = ''.join(advice(audit, bounded, free, c) for c in channels)
+    return f'{head(trace.history, bounded, free)}\n{aligned(of_channels)}\n{aligned(of_processes)}\n{said}'
 
 
 # ---- the drawing

@@ -2,11 +2,11 @@
 """Random networks under each policy and each growth. The program runs and audits them beside tools/histories.py.
 
 Report, trace and audit of the run on one thread have to be the same. So have the audits of its history with one change,
-and of a run by workers, which has to be legal. Of each legal history the tables and the explanation have to be the
-same, which say which channels are complete. Then the network runs once more by workers, with other capacities, and
-perhaps under the other policy and the other growth: what a sink gets there begins what it has where it is complete. It
-is no part of the gate. Words: for how many seconds, by default 60; where the random numbers begin, else by chance; and
-the program, if another one than that of `kpn`.
+and of a run by workers, which has to be legal. Of each legal history the tables, the timeline and the explanation have
+to be the same, and the tables say which channels are complete. Then the network runs once more by workers, with other
+capacities, and perhaps under the other policy and the other growth: what a sink gets there begins what it has where it
+is complete. It is no part of the gate. Words: for how many seconds, by default 60; where the random numbers begin, else
+by chance; and the program, if another one than that of `kpn`.
 """
 import collections
 import pathlib
@@ -24,6 +24,7 @@ import figures  # noqa: E402
 import histories  # noqa: E402
 import measure  # noqa: E402
 import random_networks  # noqa: E402
+import ticks  # noqa: E402
 
 # seconds that a run may take, commits of a run, and steps of an audit between two events
 MOST, COMMITS, STEPS = 60, 500, 10_000
@@ -78,6 +79,7 @@ class Beside:
         self.counts[what, wanted.split()[0]] += 1
         if wanted.startswith('legal'):
             self.same(f'{what}: tables', figures.stats_text(network, trace), self.call('stats', 'net', 'audited'))
+            self.same(f'{what}: timeline', ticks.timeline_text(network, trace), self.call('timeline', 'net', 'audited'))
             self.same(f'{what}: explanation', figures.explained(network, trace), self.call('explain', 'net', 'audited'))
         return wanted
 

@@ -1,0 +1,165 @@
+"""When the gets and puts of a history take place, if each takes one tick and begins as early as it can. This is another
+program than the proved one: it takes no event after another, but follows what each get and put waits for.
+"""
+import collections
+import json
+import typing
+
+
+class Place(typing.NamedTuple):
+    """A get or put: of which process, on which channel, and which item of that channel it is."""
+    process: int
+    word: str
+    channel: int
+    item: int
+    value: int
+    room: int | None
+
+
+def grown(network, trace, capacity):
+    if trace.version == 1 or trace.growth == 'one':
+        return capacity + 1
+    return min(2 * capacity, network.growing.limit)
+
+
+def places(network, trace):
+    """The gets and puts in order. `room` is the number of the item that has to be read before a put; None if a put
+    needs none."""
+    written, read, capacities = collections.Counter(), collections.Counter(), list(network.capacities)
+    for event in trace.history:
+        word, *rest = event
+        if word == 'grow':
+            capacities[rest[1]] = grown(network, trace, capacities[rest[1]])
+        elif word == 'get':
+            p, c, value = rest
+            yield Place(p, word, c, read[c], value, None)
+            read[c] += 1
+        elif word == 'put':
+            p, c, value = rest
+            needed = -1 if capacities[c] is None else written[c] - capacities[c]
+            yield Place(p, word, c, written[c], value, needed if needed >= 0 else None)
+            written[c] += 1
+        elif word == 'feed':
+            written[rest[0]] += 1
+        elif word == 'take':
+            read[rest[0]] += 1
+
+
+class Timing:
+    """The tick of each get and put of the history of a trace."""
+
+    def __init__(self, network, trace, has_capacities=True):
+        history = trace.history
+        self.network, self.places = network, list(places(network, trace))
+        self.has_capacities = has_capacities
+        self.of_process = collections.defaultdict(list)
+        self.puts, self.gets = {}, {}
+        for k, place in enumerate(self.places):
+            self.of_process[place.process].append(k)
+            (self.puts if place.word == 'put' else self.gets)[place.channel, place.item] = k
+        self.before = {}
+        for numbers in self.of_process.values():
+            self.before.update(zip(numbers[1:], numbers))
+        self.ticks = self.follow()
+        self.length = max(self.ticks, default=0)
+        self.fed = collections.Counter(event[1] for event in history if event[0] == 'feed')
+        self.taken = collections.Counter(event[1] for event in history if event[0] == 'take')
+
+    def causes(self, k):
+        """The gets and puts that have to be over before this one."""
+        place = self.places[k]
+        found = [self.before.get(k)]
+        if place.word == 'get':
+            found.append(self.puts.get((place.channel, place.item)))
+        elif self.has_capacities and place.room is not None:
+            reader = self.network.readers[place.channel]
+            if (place.channel, place.room) in self.gets:
+                found.append(self.gets[place.channel, place.room])
+            elif reader is not None:
+                found.append(max((j for j in self.of_process[reader] if j < k), default=None))
+        return [cause for cause in found if cause is not None]
+
+    def follow(self):
+        ticks, left = [None] * len(self.places), list(range(len(self.places)))
+        while left:
+            k = left[-1]
+            late = [cause for cause in self.causes(k) if ticks[cause] is None]
+            if ticks[k] is None and late:
+                left += late
+                continue
+            left.pop()
+            if ticks[k] is None:
+                ticks[k] = 1 + max((ticks[cause] for cause in self.causes(k)), default=0)
+        return ticks
+
+    def written(self, c):
+        """The ticks of the items that were written on a channel; 0 of one that was fed."""
+        puts = sorted((place.item, tick) for place, tick in zip(self.places, self.ticks)
+                      if place.word == 'put' and place.channel == c)
+        return [0] * self.fed[c] + [tick for _, tick in puts]
+
+    def read(self, c):
+        """The ticks of the items that were read; what is taken is taken at once."""
+        gets = [tick for place, tick in zip(self.places, self.ticks) if place.word == 'get' and place.channel == c]
+        return self.written(c)[:self.taken[c]] + gets
+
+    def needed(self, c):
+        """The capacity with which the puts on a channel have these ticks."""
+        written, read = self.written(c), self.read(c)
+        return max([1, *(k + 1 - sum(other < tick for other in read) for k, tick in enumerate(written))])
+
+
+# ---- the timeline
+
+def line(**entries):
+    return json.dumps(entries, separators=(',', ':')) + '\n'
+
+
+def event_lines(network, timing, history):
+    """The slices in the order of the history, and the growths."""
+    latest, numbers = collections.Counter(), iter(range(len(timing.places)))
+    for event in history:
+        if event[0] == 'grow':
+            p, c = event[1:3]
+            yield line(ph='i', s='t', pid=1, tid=p + 1, ts=latest[p], name=f'{network.channels[c]} grows')
+        if event[0] not in ('get', 'put'):
+            continue
+        k = next(numbers)
+        place, tick = timing.places[k], timing.ticks[k]
+        p, name, begin = place.process, network.channels[place.channel], latest[place.process]
+        if tick - 1 > begin:
+            full = ' full' if place.word == 'put' else ''
+            yield line(ph='X', pid=1, tid=p + 1, ts=begin, dur=tick - 1 - begin, name=f'waits {name}{full}')
+        yield line(ph='X', pid=1, tid=p + 1, ts=tick - 1, dur=1, name=f'{place.word} {name}',
+                   args={'item': place.value})
+        latest[p] = tick
+
+
+def counter_lines(network, timing, c):
+    """Writes and reads by their ticks; a read comes behind the writes of its tick."""
+    unread = 0
+    writes = [(tick, 0) for tick in timing.written(c)]
+    for tick, is_read in sorted(writes + [(tick, 1) for tick in timing.read(c)]):
+        unread += -1 if is_read else 1
+        yield line(ph='C', pid=1, ts=tick, name=network.channels[c], args={'unread': unread})
+
+
+def timeline_text(network, trace):
+    timing = Timing(network, trace)
+    tracks = [line(ph='M', pid=1, tid=p + 1, name='thread_name', args={'name': name})
+              for p, name in enumerate(network.instances)]
+    counters = [told for c in range(len(network.channels)) for told in counter_lines(network, timing, c)]
+    first = line(ph='M', pid=1, name='process_name', args={'name': 'kpn'})
+    lines = [first, *(f',{told}' for told in [*tracks, *event_lines(network, timing, trace.history), *counters])]
+    text = '{"traceEvents":[\n' + ''.join(lines) + ']}\n'
+    check_timeline(text)
+    return text
+
+
+def check_timeline(text):
+    """Reads a timeline back: it is JSON, and the slices of a track do not overlap."""
+    ends = collections.Counter()
+    for event in json.loads(text)['traceEvents']:
+        if event['ph'] == 'X':
+            assert event['ts'] >= ends[event['tid']] and event['dur'] > 0, event
+            ends[event['tid']] = event['ts'] + event['dur']
