@@ -1,2 +1,1 @@
 pub mod RunRequest
-pub mod StreamRequest
