@@ -14,6 +14,7 @@ use std::io::Write;
 /// Each reading is replaced by the mean of it and the one before.
 const SMOOTHER: &str = "
 process smooth(in readings; out means) {
+  before = 0;
   while 1 { read readings now; write means ((before + now) / 2); before = now; }
 }
 network { source sensor; sink display cap 1; smooth = smooth(sensor; display); }
@@ -26,6 +27,7 @@ const LIMITS: Limits = Limits {
 };
 
 /// A sensor that is read 10 times.
+#[derive(Drop)]
 struct Sensor {
     readings: u32,
 }
@@ -47,6 +49,7 @@ impl Sources for Sensor {
 }
 
 /// Shows each item in a line.
+#[derive(Drop)]
 struct Display<'o, O> {
     out: &'o mut O,
 }

@@ -14,14 +14,13 @@ use Rattle.kpn_run_state.specs.Appending.{IsGrowthOwed, Happens}
 use Rattle.kpn_run_state.specs.Commits.{HasToWait, IsAnswer}
 use Rattle.kpn_run_state.specs.Stepping.{IsStep}
 use Rattle.kpn_run_here.specs.declared.outcome.Limits.{Limits}
-use Rattle.kpn_run_here.proofs.Happening.{happens_tables, happens_history, happens_commits}
+use Rattle.kpn_run_here.proofs.Happening.{happens_tables, happens_history}
 use Rattle.kpn_run_here.proofs.Stepped.{step_tables, step_history, step_commits}
 use Rattle.kpn_stream.specs.declared.faults.SourceFault.{SourceFault}
 use Rattle.kpn_stream.specs.declared.faults.SinkFault.{SinkFault}
 use Rattle.kpn_stream.specs.declared.ending.Ending.{Ending}
 use Rattle.kpn_stream.specs.Devices.{is_of_source, is_of_sink, Fed, by_others, Served, meanwhile}
-use Rattle.kpn_stream.specs.Ending.{failed_source, failed_sink}
-use Rattle.kpn_stream.specs.Streaming.{is_of_outside, NoneIs, HappensBesides, MayEnd, MayEndWell, IsStepped, Serves, Reads, GoesOn}
+use Rattle.kpn_stream.specs.Streaming.{is_of_outside, NoneIs, HappensBesides, MayEndWell, IsStepped, Serves, Reads, GoesOn}
 
 -- ---- events of other kinds
 

@@ -1,6 +1,6 @@
 -- What becomes of what a device answers.
 use Rattle.std.proofs.Common.{◌≡◌, ℕ, zero, suc, ◌+◌, ◌<◌, ◌≤◌, Bool, true, false, cond, ℤ, List, [], ◌∷◌, ◌++◌, length, slice_get, get_or, is_some, IfOk, Option, Some, None, Result, Ok, Err, refl, sym, ap, ◌∙◌, subst, inl, inr, arith}
-use Rattle.std.specs.List.{Contains, filter, range_with_len}
+use Rattle.std.specs.List.{filter, range_with_len}
 use Rattle.std.proofs.lemmas.Bool.{cases_lt}
 use Rattle.std.proofs.lemmas.List.{get_or_default}
 use Rattle.std.proofs.lemmas.List.Elements.{filter-append}
@@ -10,7 +10,6 @@ use Rattle.kpn_net.specs.declared.tables.ChannelSpec.{ChannelSpec}
 use Rattle.kpn_net.specs.Tables.{Tables, channel_at}
 use Rattle.kpn_net.specs.Faults.{channel_numbers}
 use Rattle.kpn_chan.specs.Channel.{ChannelState, unread, next_item}
-use Rattle.kpn_history.specs.declared.event.Event.{Event}
 use Rattle.kpn_history.specs.declared.event.Event.TheVariants as event
 use Rattle.kpn_history.specs.Channels.{read_on}
 use Rattle.kpn_configuration.specs.Configuration.{channel_in}
@@ -26,7 +25,7 @@ use Rattle.kpn_stream.specs.declared.faults.SinkFault.{SinkFault}
 use Rattle.kpn_stream.specs.declared.faults.SinkFault.TheVariants.{Gone, NoSample, Write}
 use Rattle.kpn_stream.specs.declared.ending.Ending.{Ending}
 use Rattle.kpn_stream.specs.declared.ending.Ending.TheVariants.{SourceFailed, SinkFailed}
-use Rattle.kpn_stream.specs.Devices.{is_of_source, is_of_sink, Fed, by_item, by_end, by_fault, Served, took, took_not, flushed, flushed_not, left, had_enough}
+use Rattle.kpn_stream.specs.Devices.{is_of_source, is_of_sink, by_item, by_end, by_fault, Served, took, took_not, flushed, flushed_not, left, had_enough}
 use Rattle.kpn_stream.specs.Ending.{end_numbers}
 use Rattle.kpn_stream.specs.Streaming.{IsHandled, IsLeaving, Serves, Reads}
 use Rattle.kpn_stream.proofs.Going.{besides-refl, happens_besides, fed_happens, served_happens}

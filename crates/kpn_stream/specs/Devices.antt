@@ -1,5 +1,5 @@
--- What the devices of a network have to do with its history. Each item that a source is fed is one that its device gave,
--- and each item that is taken from a sink is one that its device took.
+-- What the devices of a network have to do with its history. Each item that a source is fed is one that its device
+-- gave, and each item that is taken from a sink is one that its device took.
 use Rattle.std.specs.Prelude.{◌≡◌, ℕ, Bool, true, false, ℤ, List, [], ◌∷◌, ◌++◌, length, Option, Some, None, Result, Ok, Err}
 use Rattle.kpn_history.specs.declared.event.Event.{Event}
 use Rattle.kpn_history.specs.declared.event.Event.TheVariants.{Feed, Close, Take, Leave}

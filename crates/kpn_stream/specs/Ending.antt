@@ -1,8 +1,7 @@
 -- How a stream ends, and what is true then.
-use Rattle.std.specs.Prelude.{◌≡◌, ℕ, ◌<◌, Bool, true, false, ◌⊎◌, List, length, count_by, is_some, Option, Some, None}
+use Rattle.std.specs.Prelude.{◌≡◌, ℕ, Bool, true, false, ◌⊎◌, List, count_by, is_some, Option, Some, None}
 use Rattle.std.specs.List.{filter}
 use Rattle.kpn_net.specs.declared.tables.ChannelSpec.{ChannelSpec}
-use Rattle.kpn_net.specs.declared.tables.Policy.TheVariants.{Cycles}
 use Rattle.kpn_net.specs.Tables.{Tables, channel_at, is_source, is_sink}
 use Rattle.kpn_net.specs.Faults.{channel_numbers}
 use Rattle.kpn_history.specs.Views.{is_ready}

@@ -1,5 +1,5 @@
 -- Scaffolding: what the parts of a stream do to its book. Only contracts of private functions use it.
-use Rattle.std.specs.Prelude.{◌≡◌, ℕ, ◌≤◌, ◌||◌, Bool, true, false, ℤ, List, [], ◌∷◌, ◌++◌, Option, Some, None, Result}
+use Rattle.std.specs.Prelude.{◌≡◌, ℕ, ◌≤◌, ◌||◌, Bool, false, ℤ, List, [], ◌∷◌, ◌++◌, Option, Some, None, Result}
 use Rattle.kpn_history.specs.declared.event.Event.{Event}
 use Rattle.kpn_history.specs.declared.event.Event.TheVariants.{Leave}
 use Rattle.kpn_run_state.specs.Book.{Book}
@@ -8,7 +8,7 @@ use Rattle.kpn_stream.specs.declared.faults.SourceFault.{SourceFault}
 use Rattle.kpn_stream.specs.declared.faults.SinkFault.{SinkFault}
 use Rattle.kpn_stream.specs.declared.faults.SinkFault.TheVariants.{Gone}
 use Rattle.kpn_stream.specs.declared.ending.Ending.{Ending}
-use Rattle.kpn_stream.specs.declared.ending.Ending.TheVariants.{Outcome, Resting, Left, SourceFailed, SinkFailed}
+use Rattle.kpn_stream.specs.declared.ending.Ending.TheVariants.{Resting, SinkFailed}
 use Rattle.kpn_run_here.specs.declared.outcome.Limits.{Limits}
 use Rattle.kpn_stream.specs.Devices.{is_of_source, is_of_sink, Fed, Served}
 use Rattle.kpn_stream.specs.Ending.{IsEnding, IsResting, failed_source, failed_sink}

@@ -15,7 +15,8 @@ pub(crate) struct Ends {
 
 /// The ends of a network. The error is that memory ran out.
 pub(crate) fn ends_of(alloc: Global, network: &Network) -> Result<Ends, AllocError>
-    ensures sources { IfOk result (λ found. found.sources.items ≡ end_numbers is_source network.now) }
+    ensures sources { IfOk result (λ found.
+        found.sources.items ≡ end_numbers is_source network.now) }
     ensures sinks { IfOk result (λ found. found.sinks.items ≡ end_numbers is_sink network.now) }
 {
     let mut sources = Vec::new(alloc);

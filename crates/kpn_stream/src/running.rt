@@ -28,7 +28,7 @@ const STRETCH: u64 = 1_000;
 /// sinks hand on all that they took.
 ///
 /// A sink is left once nobody reads what its device hands on, and once it has given the items that the limits want of
-/// it. If a device fails, the call returns at once: what the devices of the sinks keep is for the caller to hand on. The
+/// it. If a device fails, the call returns at once: what the devices of the sinks keep is for the caller to flush. The
 /// error is that memory ran out.
 pub fn stream<'n, S: Sources, K: Sinks>(
     alloc: Global,

@@ -1,4 +1,4 @@
-use Rattle.kpn_net.specs.Tables.{channel_at, is_source, is_sink}
+use Rattle.kpn_net.specs.Tables.{is_source, is_sink}
 use Rattle.kpn_stream.proofs.Handling.{end_more}
 use Rattle.kpn_stream.proofs.ends.ends_of.Goals as goal
 

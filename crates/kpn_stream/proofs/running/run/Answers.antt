@@ -1,4 +1,4 @@
-use Rattle.std.proofs.Common.{◌≡◌, Some, None, sym, ap, ◌∙◌, subst}
+use Rattle.std.proofs.Common.{Some, None, sym, ap, ◌∙◌, subst}
 use Rattle.kpn_net.specs.Tables.{is_source, is_sink}
 use Rattle.kpn_stream.specs.Ending.{end_numbers}
 use Rattle.kpn_stream.specs.Streaming.{GoesOn}

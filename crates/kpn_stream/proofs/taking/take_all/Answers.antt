@@ -16,7 +16,8 @@ take_each-requires-clause-sink g c =
 pub returns-then-is_some : goal.returns-then-is_some
 returns-then-is_some g c =
     serves-trans g.K.Sinks.takes g.K.Sinks.flushes c.args.limits.now c.in_ok-ended.ended c.args.book.now c.sinks.book
-    c.take_each.new.book c.args.sinks.now c.sinks.sinks c.take_each.new.sinks c.sinks.invariant.serves c.in_ok-ended.ensures
+    c.take_each.new.book c.args.sinks.now c.sinks.sinks c.take_each.new.sinks c.sinks.invariant.serves
+    c.in_ok-ended.ensures
 
 pub sinks-preserved : goal.sinks-preserved
 sinks-preserved g c =

@@ -1,10 +1,8 @@
 use Rattle.std.proofs.Common.{rules, ◌≡◌, ◌<◌, true, length, Ok, Err, Some, None, sym, ap, ◌∙◌, subst}
 use Rattle.std.proofs.lemmas.Result.{IfOk-weaker}
 use Rattle.kpn_net.specs.Tables.{channel_at, is_sink}
-use Rattle.kpn_chan.specs.Channel.{next_item}
 use Rattle.kpn_history.specs.declared.event.Event.TheVariants as event
 use Rattle.kpn_history.specs.Channels.{read_on}
-use Rattle.kpn_configuration.specs.Configuration.{channel_in}
 use Rattle.kpn_run_state.specs.Appending.{Happens}
 use Rattle.kpn_run_here.proofs.Ends.{sink_there}
 use Rattle.kpn_run_here.proofs.Happening.{happens_tables}
