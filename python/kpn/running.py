@@ -134,6 +134,10 @@ class Result(collections.abc.Mapping):  # type: ignore[type-arg]
         """The network after its run as a graph for Graphviz, by `kpn draw`."""
         return self._ask('draw')
 
+    def timeline(self) -> str:
+        """The run in ticks, by `kpn timeline`: a text in the Trace Event Format, which Perfetto opens."""
+        return self._ask('timeline')
+
     def _repr_svg_(self) -> Optional[str]:
         """The picture that a notebook shows, if there are a trace and Graphviz."""
         return draw_svg(self.dot()) if self._trace else None

@@ -1,5 +1,6 @@
 """Runs: inputs, outcomes, options and what results tell."""
 import array
+import json
 import os
 import pathlib
 import stat
@@ -149,9 +150,17 @@ class Traced(unittest.TestCase):
         self.assertTrue(result.dot().startswith('digraph'))
         self.assertTrue(example('two').dot().startswith('digraph'))
 
+    def test_timeline(self):
+        result = example('two').run(trace=True)
+        events = json.loads(result.timeline())['traceEvents']
+        self.assertEqual([it['args']['name'] for it in events if it['name'] == 'thread_name'], ['p', 'q'])
+        slices = [it['name'] for it in events if it['ph'] == 'X' and not it['name'].startswith('waits')]
+        self.assertEqual(sorted(slices), sorted(f'{it.kind} {it.channel}' for it in result.trace()
+                                                if it.kind in ('get', 'put')))
+
     def test_without_a_trace(self):
         result = example('two').run()
-        for call in (lambda: result.stats, result.explain, result.dot, result.trace):
+        for call in (lambda: result.stats, result.explain, result.dot, result.trace, result.timeline):
             self.assertRaisesRegex(kpn.KpnError, 'give `trace=True`', call)
         self.assertIsNone(result._repr_svg_())
 
