@@ -17,6 +17,7 @@ use kpn_request::RunRequest;
 use kpn_run_command::run_command;
 use kpn_shelf::Shelf;
 use kpn_stats_command::stats_command;
+use kpn_timeline_command::timeline_command;
 use std::alloc::Global;
 use std::io::Read;
 
@@ -62,6 +63,9 @@ pub fn answer_here<'a, S: Shelf, I: Read>(
         },
         Request::Audit { file, trace, steps } => {
             Progress::Answered(audit_command(alloc, file, trace, steps, shelf))
+        }
+        Request::Timeline { file, trace, steps } => {
+            Progress::Answered(timeline_command(alloc, file, trace, steps, shelf))
         }
         Request::Stats {
             file,

@@ -20,7 +20,7 @@ use Rattle.kpn_request.specs.declared.tables.StatsTables.TheVariants.{People, Ch
 use Rattle.kpn_command_line.specs.declared.request.Request.{Request}
 use Rattle.kpn_command_line.specs.declared.request.Request.TheVariants.{Alone, Check, Explain, ExplainItems}
 use Rattle.kpn_command_line.specs.declared.request.Request.TheVariants.{Print, Draw, Rounds, Run}
-use Rattle.kpn_command_line.specs.declared.request.Request.TheVariants.{Audit, Stats, Help}
+use Rattle.kpn_command_line.specs.declared.request.Request.TheVariants.{Audit, Stats, Timeline, Help}
 use Rattle.kpn_command_line.specs.declared.request.WordsFault.{WordsFault}
 use Rattle.kpn_command_line.specs.declared.request.WordsFault.TheVariants.{Usage, NoMemory}
 use Rattle.kpn_command_line.specs.CommandLine.{command_line}
@@ -84,6 +84,7 @@ command_of (Rounds file n sources) = codes "rounds"
 command_of (Run run) = codes "run"
 command_of (Audit file trace steps) = codes "audit"
 command_of (Stats file trace steps tables) = codes "stats"
+command_of (Timeline file trace steps) = codes "timeline"
 command_of (Help text) = []
 
 -- the most steps before an event: 10,000,000 without `--steps`
@@ -121,6 +122,9 @@ Gives given (Audit file trace steps) =
 Gives given (Stats file trace steps tables) =
     (text_for (codes "FILE") given ≡ Some file.now) × (text_for (codes "TRACE") given ≡ Some trace.now)
     × (steps_for given ≡ steps) × (text_for (codes "TABLE") given ≡ table_name tables)
+Gives given (Timeline file trace steps) =
+    (text_for (codes "FILE") given ≡ Some file.now) × (text_for (codes "TRACE") given ≡ Some trace.now)
+    × (steps_for given ≡ steps)
 Gives given (Help text) = ⊥
 
 -- the request is what the words ask for

@@ -104,11 +104,14 @@ audit_words = command (codes "audit") (file_word ∷ trace_word ∷ steps_option
 abbrev pub stats_words : App
 stats_words = command (codes "stats") (file_word ∷ trace_word ∷ steps_option ∷ table_option ∷ [])
 
+abbrev pub timeline_words : App
+timeline_words = command (codes "timeline") (file_word ∷ trace_word ∷ steps_option ∷ [])
+
 -- the words of all commands, in the order in which help lists these
 abbrev pub all_words : List App
 all_words =
     alone_words ∷ check_words ∷ explain_words ∷ print_words ∷ draw_words ∷ rounds_words ∷ run_words ∷ audit_words
-    ∷ stats_words ∷ []
+    ∷ stats_words ∷ timeline_words ∷ []
 
 -- the program, which has a version and one command on each line
 abbrev pub command_line : App

@@ -4,7 +4,7 @@ ghost use Rattle.clap.specs.Words.{new_app};
 ghost use Rattle.kpn_command_line.specs.CommandLine.{IsArg, IsCommand, command_line, first_commands};
 ghost use Rattle.kpn_command_line.specs.CommandLine.{optional_word, word, option, count, alone_words, check_words};
 ghost use Rattle.kpn_command_line.specs.CommandLine.{explain_words, print_words, draw_words, rounds_words, run_words};
-ghost use Rattle.kpn_command_line.specs.CommandLine.{audit_words, stats_words, file_word, rounds_word, source_option};
+ghost use Rattle.kpn_command_line.specs.CommandLine.{audit_words, stats_words, timeline_words, file_word, rounds_word, source_option};
 ghost use Rattle.kpn_command_line.specs.CommandLine.{sink_option, workers_option, steps_option, items_flag};
 ghost use Rattle.kpn_command_line.specs.CommandLine.{trace_word, run_inputs, bare_command_line};
 
@@ -45,6 +45,13 @@ pub(crate) const ITEMS: &str = "ITEMS";
 pub(crate) fn program<'a>(alloc: Global) -> Result<Command<'a>, AllocError>
     ensures { IfOk result (IsCommand command_line) }
 {
+    first_nine(alloc)?.subcommand(timeline_words(alloc)?)
+}
+
+// The program with nine commands.
+fn first_nine<'a>(alloc: Global) -> Result<Command<'a>, AllocError>
+    ensures { IfOk result (IsCommand (first_commands 9)) }
+{
     first_six(alloc)?
         .subcommand(run_words(alloc)?)?
         .subcommand(audit_words(alloc)?)?
@@ -74,9 +81,9 @@ fn first_three<'a>(alloc: Global) -> Result<Command<'a>, AllocError>
 // What help says below the commands.
 const STATUSES: &str = "\
 Statuses: 0 for success, 1 for a refused input or a device that fails, 2 for words that are not
-understood, 6 for want of memory; explain, draw, run, audit and stats have more. If an input is refused,
-one line on standard error says why. If the words are not understood, standard error says how to use
-them. Standard output is then empty, except that explain writes there what is wrong.";
+understood, 6 for want of memory; explain, draw, run, audit, stats and timeline have more. If an input
+is refused, one line on standard error says why. If the words are not understood, standard error says
+how to use them. Standard output is then empty, except that explain writes there what is wrong.";
 
 // The program without its commands.
 fn bare_program<'a>(alloc: Global) -> Command<'a>
@@ -307,12 +314,14 @@ fn audit_words<'a>(alloc: Global) -> Result<Command<'a>, AllocError>
 }
 
 const STATS_HELP: &str = "\
-Counts the events of a trace that `kpn run --trace` has stored. Writes a table of the channels, a table
-of the processes, and what they say of the capacities.
+Counts the events of a trace that `kpn run --trace` has stored. Writes how long the run is if each get
+and put takes one tick, with the capacities and without any, a table of the channels, a table of the
+processes, and which capacities keep the run as short as it can be.
 
 Of each channel: the items that were put and read, those that are left unread, the most that lay
-unread, the capacity at first and at last, how often it grew, and how often its reader came to wait for
-an item and its writer for room. Of each process: the items that it got and put, how often it came to
+unread, the capacity at first and at last, how often it grew, how often its reader came to wait for an
+item and its writer for room, whether it is complete, and the capacity that a run without capacities
+makes use of. Of each process: the items that it got and put, how often it came to
 wait for an item and for room, and how it ended or what it waits for.
 
 With --tsv one of the tables is written for other programs: a line of names, then a line for each
@@ -334,6 +343,28 @@ fn stats_words<'a>(alloc: Global) -> Result<Command<'a>, AllocError>
         .arg(trace_word(alloc))?
         .arg(steps_word(alloc))?
         .arg(option(alloc, TABLE, "tsv", "TABLE", table))
+}
+
+const TIMELINE_HELP: &str = "\
+Writes when the gets and puts of a run take place if each takes one tick and begins as early as it can:
+after the one before it of its process, a get once its item is there, and a put once there is room. What
+is written is JSON in the Trace Event Format, for https://ui.perfetto.dev and chrome://tracing. A
+microsecond there is a tick. A process is a track, with a slice for each get, put and wait. A channel is
+a counter of its unread items. A trace that is not legal is answered as by `kpn audit`.
+
+Statuses: 0 for a timeline, 1 for an illegal trace, for a refused file and for a device that fails, 2
+for words that are not understood, 5 for a trace that would take more steps: then give --steps a larger
+number; 6 for want of memory.";
+
+// The words of `kpn timeline`.
+fn timeline_words<'a>(alloc: Global) -> Result<Command<'a>, AllocError>
+    ensures { IfOk result (IsCommand timeline_words) }
+{
+    let about = "Shows when the gets and puts of a run take place, from its trace";
+    command(alloc, "timeline", about, TIMELINE_HELP)
+        .arg(file_word(alloc))?
+        .arg(trace_word(alloc))?
+        .arg(steps_word(alloc))
 }
 
 // The word for the number of rounds.

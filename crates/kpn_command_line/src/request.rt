@@ -47,6 +47,12 @@ pub enum Request<'a> {
         steps: u64,
         tables: StatsTables,
     },
+    /// `timeline FILE TRACE`, with the most steps before an event.
+    Timeline {
+        file: &'a str,
+        trace: &'a str,
+        steps: u64,
+    },
     /// `--help`, `help` or `--version`, with the text that answers it.
     Help(Error),
 }

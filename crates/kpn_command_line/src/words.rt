@@ -83,6 +83,11 @@ fn command_request<'a>(
             steps: count_or_usual(given, STEPS),
         }),
         "stats" => stats_request(program, given),
+        "timeline" => Ok(Request::Timeline {
+            file: required(program, given, FILE)?,
+            trace: required(program, given, TRACE)?,
+            steps: count_or_usual(given, STEPS),
+        }),
         _ => Err(without_command(program)),
     }
 }

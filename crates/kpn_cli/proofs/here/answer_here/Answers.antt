@@ -35,6 +35,9 @@ returns-in-Draw g c = rw c.in-Draw.is (refl, (c.draw_command.ensures.ok, c.draw_
 pub returns-in-Audit : goal.returns-in-Audit
 returns-in-Audit g c = rw c.in-Audit.is (refl, (c.audit_command.ensures.ok, c.audit_command.ensures.refused))
 
+pub returns-in-Timeline : goal.returns-in-Timeline
+returns-in-Timeline g c = rw c.in-Timeline.is (refl, (c.timeline_command.ensures.ok, c.timeline_command.ensures.refused))
+
 pub returns : goal.returns
 returns g c = rw c.in-Stats.is (refl, (c.stats_command.ensures.ok, c.stats_command.ensures.refused))
 
