@@ -81,9 +81,9 @@ fn first_three<'a>(alloc: Global) -> Result<Command<'a>, AllocError>
 // What help says below the commands.
 const STATUSES: &str = "\
 Statuses: 0 for success, 1 for a refused input or a device that fails, 2 for words that are not
-understood, 6 for want of memory; explain, draw, run, audit, stats and timeline have more. If an input is
-refused, one line on standard error says why. If the words are not understood, standard error says how to use
-them. Standard output is then empty, except that explain writes there what is wrong.";
+understood, 6 for want of memory; explain, draw, run, audit, stats and timeline have more. If an input
+is refused, one line on standard error says why. If the words are not understood, standard error says
+how to use them. Standard output is then empty, except that explain writes there what is wrong.";
 
 // The program without its commands.
 fn bare_program<'a>(alloc: Global) -> Command<'a>
@@ -314,12 +314,14 @@ fn audit_words<'a>(alloc: Global) -> Result<Command<'a>, AllocError>
 }
 
 const STATS_HELP: &str = "\
-Counts the events of a trace that `kpn run --trace` has stored. Writes a table of the channels, a table
-of the processes, and what they say of the capacities.
+Counts the events of a trace that `kpn run --trace` has stored. Writes how long the run is if each get
+and put takes one tick, with the capacities and without any, a table of the channels, a table of the
+processes, and which capacities keep the run as short as it can be.
 
 Of each channel: the items that were put and read, those that are left unread, the most that lay
-unread, the capacity at first and at last, how often it grew, and how often its reader came to wait for
-an item and its writer for room. Of each process: the items that it got and put, how often it came to
+unread, the capacity at first and at last, how often it grew, how often its reader came to wait for an
+item and its writer for room, whether it is complete, and the capacity that a run without capacities
+makes use of. Of each process: the items that it got and put, how often it came to
 wait for an item and for room, and how it ended or what it waits for.
 
 With --tsv one of the tables is written for other programs: a line of names, then a line for each
