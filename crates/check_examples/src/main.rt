@@ -4,7 +4,6 @@
 //!   line and its status. Its standard input is the file `input`, if there is one.
 //! - `first COUNT kpn WORDS`, a command line too. Only so many lines of what it wrote follow, since the rest of an audit
 //!   of a run by workers depends on the order of their turns.
-//! - `last kpn WORDS`, a command line of whose answer only the last line follows.
 //! - `file NAME TEXT` makes a file. In the text `\n`, `\r` and `\0` are bytes that no line can have.
 //! - `many NAME COUNT TEXT` puts such a text so often behind what the file holds.
 //! - `cat NAME`: what the file holds follows.
@@ -44,15 +43,7 @@ fn make_file<S: Shelf>(alloc: Global, shelf: &mut S, line: &str) -> Result<()> {
         return Ok(());
     };
     let text = unescaped(alloc, text)?;
-    Ok(shelf.store(name, text.as_bytes())?)
-}
-
-/// Puts a text so many times behind these bytes.
-fn extend(bytes: &mut Vec<u8>, text: &str, count: u32) -> Result<()> {
-    bytes.reserve(text.len().saturating_mul(count as usize))?;
-    for _time in 0..count {
-        bytes.extend_from_slice(text.as_bytes())?;
-    }
+    shelf.store(name, text.as_bytes())?;
     Ok(())
 }
 
@@ -67,8 +58,12 @@ fn extend_file<S: Shelf>(alloc: Global, shelf: &mut S, line: &str) -> Result<()>
     let count = count.parse::<u32>()?;
     let text = unescaped(alloc, text)?;
     let mut bytes = bytes_of(alloc, shelf, name);
-    extend(&mut bytes, text.as_str(), count)?;
-    Ok(shelf.store(name, &bytes)?)
+    bytes.reserve(text.len().saturating_mul(count as usize))?;
+    for _time in 0..count {
+        bytes.extend_from_slice(text.as_bytes())?;
+    }
+    shelf.store(name, &bytes)?;
+    Ok(())
 }
 
 /// What a file holds, and nothing if it can't be read.
@@ -79,53 +74,27 @@ fn bytes_of<S: Shelf>(alloc: Global, shelf: &S, name: &str) -> Vec<u8> {
     }
 }
 
-/// Behind what a command wrote, its error line and its status, if it failed.
-fn tell_failure(text: &mut Vec<u8>, errors: &[u8], status: u8) -> Result<()> {
-    if status != 0 {
-        text.extend_from_slice(errors)?;
-        writeln!(text, "status {status}")?;
-    }
-    Ok(())
-}
-
-/// Runs a command line over this input.
-fn run_over<R: Threads + Wait + Clock + Sync, S: Shelf>(
+/// Runs a command line.
+fn run<R: Threads + Wait + Clock + Sync, S: Shelf, O: Write>(
     rt: &R,
     alloc: Global,
     shelf: &mut S,
-    text: &mut Vec<u8>,
-    words: &[String],
-    input: &[u8],
-) -> Result<()> {
-    let mut input = input;
-    let mut errors = Vec::new(alloc);
-    let status = command(rt, alloc, words, shelf, &mut input, text, &mut errors);
-    tell_failure(text, &errors, status)
-}
-
-/// Runs a command line, and adds to the text what comes of it.
-fn run<R: Threads + Wait + Clock + Sync, S: Shelf>(
-    rt: &R,
-    alloc: Global,
-    shelf: &mut S,
-    text: &mut Vec<u8>,
+    out: &mut O,
     line: &str,
 ) -> Result<()> {
     let words = words_of(alloc, line)?;
     let input = bytes_of(alloc, shelf, "input");
-    run_over(rt, alloc, shelf, text, &words, &input)
-}
-
-/// Writes the first lines of a text.
-fn write_first<O: Write>(out: &mut O, text: &[u8], count: usize) -> Result<()> {
-    let text = str::from_utf8(text)?;
-    for line in text.lines().take(count) {
-        writeln!(out, "{line}")?;
+    let mut errors = Vec::new(alloc);
+    let mut input = input.as_slice();
+    let status = command(rt, alloc, &words, shelf, &mut input, out, &mut errors);
+    if status != 0 {
+        out.write_all(&errors)?;
+        writeln!(out, "status {status}")?;
     }
     Ok(())
 }
 
-/// Runs the command line of `COUNT kpn WORDS`, and writes the first lines of what comes of it.
+/// Runs the command line of `COUNT kpn WORDS`, and writes the first lines of what it wrote.
 fn run_first<R: Threads + Wait + Clock + Sync, S: Shelf, O: Write>(
     rt: &R,
     alloc: Global,
@@ -136,78 +105,32 @@ fn run_first<R: Threads + Wait + Clock + Sync, S: Shelf, O: Write>(
     let Some((count, line)) = rest.split_once(' ') else {
         return Ok(());
     };
-    let count = count.parse()?;
     let mut text = Vec::new(alloc);
     run(rt, alloc, shelf, &mut text, line)?;
-    write_first(out, &text, count)
-}
-
-/// Writes the last line of a text.
-fn write_last<O: Write>(out: &mut O, text: &[u8]) -> Result<()> {
-    let text = str::from_utf8(text)?;
-    let mut last = "";
-    for line in text.lines() {
-        last = line;
-    }
-    writeln!(out, "{last}")?;
-    Ok(())
-}
-
-/// Runs a command line, and writes the last line of what comes of it.
-fn run_last<R: Threads + Wait + Clock + Sync, S: Shelf, O: Write>(
-    rt: &R,
-    alloc: Global,
-    shelf: &mut S,
-    out: &mut O,
-    line: &str,
-) -> Result<()> {
-    let mut text = Vec::new(alloc);
-    run(rt, alloc, shelf, &mut text, line)?;
-    write_last(out, &text)
-}
-
-/// Runs a command line, and writes what comes of it.
-fn run_whole<R: Threads + Wait + Clock + Sync, S: Shelf, O: Write>(
-    rt: &R,
-    alloc: Global,
-    shelf: &mut S,
-    out: &mut O,
-    line: &str,
-) -> Result<()> {
-    let mut text = Vec::new(alloc);
-    run(rt, alloc, shelf, &mut text, line)?;
-    out.write_all(&text)?;
-    Ok(())
-}
-
-/// Does what a line says.
-fn answer<R: Threads + Wait + Clock + Sync, S: Shelf, O: Write>(
-    rt: &R,
-    alloc: Global,
-    shelf: &mut S,
-    out: &mut O,
-    line: &str,
-) -> Result<()> {
-    if line.starts_with('#') {
+    let text = str::from_utf8(&text)?;
+    for line in text.lines().take(count.parse()?) {
         writeln!(out, "{line}")?;
-        return Ok(());
     }
-    writeln!(out, "$ {line}")?;
-    match line.split_once(' ') {
-        Some(("file", rest)) => make_file(alloc, shelf, rest),
-        Some(("many", rest)) => extend_file(alloc, shelf, rest),
-        Some(("cat", name)) => Ok(out.write_all(&bytes_of(alloc, shelf, name))?),
-        Some(("first", rest)) => run_first(rt, alloc, shelf, out, rest),
-        Some(("last", line)) => run_last(rt, alloc, shelf, out, line),
-        _ => run_whole(rt, alloc, shelf, out, line),
-    }
+    Ok(())
 }
 
 fn main(rt: HostRuntime) -> Result<()> {
     let mut out = rt.stdout();
     let mut shelf = FileShelf::new(&rt);
     for line in rt.lines(rt.alloc()) {
-        answer(&rt, rt.alloc(), &mut shelf, &mut out, line?.as_str())?;
+        let line = line?;
+        if line.starts_with('#') {
+            writeln!(out, "{line}")?;
+            continue;
+        }
+        writeln!(out, "$ {line}")?;
+        match line.split_once(' ') {
+            Some(("file", rest)) => make_file(rt.alloc(), &mut shelf, rest)?,
+            Some(("many", rest)) => extend_file(rt.alloc(), &mut shelf, rest)?,
+            Some(("cat", name)) => out.write_all(&bytes_of(rt.alloc(), &shelf, name))?,
+            Some(("first", rest)) => run_first(&rt, rt.alloc(), &mut shelf, &mut out, rest)?,
+            _ => run(&rt, rt.alloc(), &mut shelf, &mut out, line.as_str())?,
+        }
     }
     Ok(())
 }
