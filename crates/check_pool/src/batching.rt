@@ -1,15 +1,18 @@
 //! What a worker claims in one hold: of nine processes eight, whose steps it commits in their order, up to the one for
 //! which the gate ends it. This and the others are put back in their order.
-use crate::networks::NINE_SEVENS;
-use crate::opening::{Seats, Trial, try_run};
+ghost use Rattle.std.specs.Prelude.{◌≡◌};
+
+use crate::networks::nine_sevens;
 use commit_gates::Flag;
-use kpn_desk::{Gate, Go, Job, Shared, Why, WorkerSeat, work};
-use kpn_run_state::{Book, Event, View};
-use std::alloc::Global;
+use kpn_desk::{Gate, Go, Job, Opened, Shared, View, Why, WorkerSeat, gather, work};
+use kpn_net::Network;
+use kpn_run_state::{Book, Event};
+use std::alloc::{AllocError, Global};
+use std::marker::Brand;
 use std::sync::Wait;
 use std::sync::atomic::{AtomicUsize, Ordering};
+use std::sync::ledger::Blank;
 use std::test::Fail;
-use std::thread::Threads;
 use std::time::Clock;
 
 /// The calls of a gate.
@@ -113,51 +116,40 @@ fn put_by(book: &Book<'_>, processes: &[u16]) -> bool {
     is_so
 }
 
-/// Two turns of a worker, and whether all is as it has to be after each.
-#[derive(Drop)]
-struct Turns {
+/// Two turns of a worker. Returns whether all is as it has to be after each.
+fn ends_twice<J: Job + Send + Sync, R: Wait + Clock>(
+    rt: &R,
     alloc: Global,
-    are_good: bool,
-    is_gathered: bool,
-}
-
-impl Trial for Turns {
-    fn go<J: Job + Send + Sync, R: Threads + Wait + Clock + Sync>(
-        &mut self,
-        rt: &R,
-        shared: &Shared<'_, J>,
-        seats: Seats<J>,
-    ) -> Vec<WorkerSeat<J>> {
-        let Seats { mut workers, .. } = seats;
-        let Some(seat) = workers.pop() else {
-            return workers;
-        };
-        let (seat, first) = works(rt, self.alloc, shared, seat, &[0, 1, 2]);
-        let is_shown = match shared.try_snapshot(self.alloc) {
-            Ok(view) => shows(&view, 2),
-            Err(_) => false,
-        };
-        let (seat, second) = works(rt, self.alloc, shared, seat, &[8, 0, 1, 2, 3, 4, 5, 6]);
-        let is_back = workers.push(seat).is_ok();
-        self.are_good = first && is_shown && second && is_back;
-        workers
-    }
-
-    fn end(&mut self, book: &Book<'_>) {
-        self.is_gathered = put_by(book, &[0, 1, 8]);
-    }
+    blank: Blank,
+    network: &Network,
+) -> Result<bool, AllocError>
+    requires ledger { (blank.name ≡ J.name) × (blank.parts ≡ J.parts) }
+    requires network { network.now ≡ J.network }
+    requires one { J.parts ≡ 1 }
+{
+    let opened: Opened<'_, J> = Shared::new(alloc, blank, network, 1, u64::MAX)?;
+    let Opened {
+        shared,
+        mut workers,
+        sources: _,
+        sinks: _,
+    } = opened;
+    let Some(seat) = workers.pop() else {
+        return Ok(false);
+    };
+    let (seat, first) = works(rt, alloc, &shared, seat, &[0, 1, 2]);
+    let is_shown = shows(&shared.try_snapshot(alloc)?, 2);
+    let (seat, second) = works(rt, alloc, &shared, seat, &[8, 0, 1, 2, 3, 4, 5, 6]);
+    let book = gather(shared, vec![in alloc; seat]?);
+    Ok(first && is_shown && second && put_by(&book, &[0, 1, 8]))
 }
 
 /// The gate is asked for processes 0, 1 and 2, and ends the worker at the last. The queue is then 8, 0, 1, 2 and so on.
 #[test]
 fn refutes_batches_in_another_order(rt: HostRuntime) -> Result<(), Fail> {
-    let alloc = rt.alloc();
-    let mut turns = Turns {
-        alloc,
-        are_good: false,
-        is_gathered: false,
-    };
-    try_run(&rt, alloc, NINE_SEVENS, 1, u64::MAX, &mut turns)?;
-    assert!(rt; turns.are_good && turns.is_gathered);
+    let network = nine_sevens(rt.alloc())?;
+    let blank = Blank::new(1);
+    let is_so = ends_twice::<Brand, HostRuntime>(&rt, rt.alloc(), blank, &network)?;
+    assert!(rt; is_so);
     Ok(())
 }

@@ -1,47 +1,46 @@
 //! Why a worker ends, and what is seen then.
-use crate::networks::SPINNING;
-use crate::opening::{Seats, Trial, try_run};
+ghost use Rattle.std.specs.Prelude.{◌≡◌};
+
+use crate::networks::spinning;
 use commit_gates::Always;
-use kpn_desk::{Go, Job, Shared, Why, WorkerSeat, work};
-use kpn_run_state::View;
-use std::alloc::Global;
+use kpn_desk::{Gate, Go, Job, Opened, Shared, View, Why, work};
+use kpn_net::Network;
+use std::alloc::{AllocError, Global};
+use std::marker::Brand;
 use std::sync::Wait;
+use std::sync::ledger::Blank;
 use std::test::Fail;
-use std::thread::Threads;
 use std::time::Clock;
 
-/// A lone worker, halted beforehand or not.
-#[derive(Drop)]
-struct Lone {
+/// Why a lone worker ends, halted beforehand or not, and a snapshot then.
+fn ends_alone<J: Job, G: Gate, R: Wait + Clock>(
+    rt: &R,
     alloc: Global,
+    blank: Blank,
+    network: &Network,
+    most: u64,
     is_told: bool,
-    gate: Always,
-    /// Why it ends.
-    why: Option<Why>,
-    /// A snapshot then shows the process as ready.
-    is_ready: bool,
-}
-
-impl Trial for Lone {
-    fn go<J: Job + Send + Sync, R: Threads + Wait + Clock + Sync>(
-        &mut self,
-        rt: &R,
-        shared: &Shared<'_, J>,
-        seats: Seats<J>,
-    ) -> Vec<WorkerSeat<J>> {
-        let Seats { mut workers, .. } = seats;
-        if self.is_told {
-            shared.halt(rt);
-        }
-        if let Some(seat) = workers.pop() {
-            self.why = work(rt, shared, &self.gate, seat, 1_000).why();
-        }
-        self.is_ready = match shared.try_snapshot(self.alloc) {
-            Ok(view) => is_ready(&view),
-            Err(_) => false,
-        };
-        workers
+    gate: &G,
+) -> Result<(Option<Why>, Option<View>), AllocError>
+    requires ledger { (blank.name ≡ J.name) × (blank.parts ≡ J.parts) }
+    requires network { network.now ≡ J.network }
+    requires one { J.parts ≡ 1 }
+{
+    let opened: Opened<'_, J> = Shared::new(alloc, blank, network, 1, most)?;
+    let Opened {
+        shared,
+        mut workers,
+        sources: _,
+        sinks: _,
+    } = opened;
+    if is_told {
+        shared.halt(rt);
     }
+    let why = match workers.pop() {
+        Some(seat) => work(rt, &shared, gate, seat, 1_000).why(),
+        None => None,
+    };
+    Ok((why, shared.try_snapshot(alloc)?))
 }
 
 /// Whether the one process of a run is ready.
@@ -54,21 +53,24 @@ pub fn is_ready(view: &Option<View>) -> bool {
 
 #[test]
 fn a_worker_tells_why_it_ends(rt: HostRuntime) -> Result<(), Fail> {
-    let alloc = rt.alloc();
+    let network = spinning(rt.alloc())?;
     for (most, is_told, answer, wanted) in [
         (u64::MAX, true, Go::On, Why::Halted),
         (u64::MAX, false, Go::Abandon, Why::Abandoned),
         (100, false, Go::On, Why::Limit),
     ] {
-        let mut lone = Lone {
-            alloc,
+        let gate = Always(answer);
+        let blank = Blank::new(1);
+        let (why, view) = ends_alone::<Brand, Always, HostRuntime>(
+            &rt,
+            rt.alloc(),
+            blank,
+            &network,
+            most,
             is_told,
-            gate: Always(answer),
-            why: None,
-            is_ready: false,
-        };
-        try_run(&rt, alloc, SPINNING, 1, most, &mut lone)?;
-        assert!(rt; lone.why == Some(wanted) && lone.is_ready, "{wanted:?}");
+            &gate,
+        )?;
+        assert!(rt; why == Some(wanted) && is_ready(&view), "{wanted:?}");
     }
     Ok(())
 }

@@ -17,8 +17,6 @@ mod meeting;
 #[cfg(test)]
 mod networks;
 #[cfg(test)]
-mod opening;
-#[cfg(test)]
 mod outside;
 #[cfg(test)]
 mod refusals;

@@ -1,10 +1,14 @@
 //! The lock is free while a process is stepped, and while an expression is evaluated.
-use crate::networks::{SPINNING, summing};
-use crate::opening::{Seats, Trial, try_run};
+ghost use Rattle.std.specs.Prelude.{◌≡◌};
+
+use crate::networks::{spinning, summing};
 use commit_gates::{Flag, MOST_TURNS};
-use kpn_desk::{Gate, Go, Job, Shared, Why, WorkerSeat, work};
-use std::alloc::Global;
+use kpn_desk::{Gate, Go, Job, Opened, Shared, Why, WorkerSeat, work};
+use kpn_net::Network;
+use std::alloc::{AllocError, Global};
+use std::marker::Brand;
 use std::sync::Wait;
+use std::sync::ledger::Blank;
 use std::test::Fail;
 use std::thread;
 use std::thread::Threads;
@@ -113,53 +117,42 @@ fn work_and_look<J: Job + Send + Sync, R: Threads + Wait + Clock + Sync>(
     (count, seat.why())
 }
 
-/// The same as a trial: how many snapshots were counted, and why the worker ended.
-#[derive(Drop)]
-struct Seen {
-    alloc: Global,
-    looks: Looks,
-    count: u64,
-    why: Option<Why>,
-}
-
-impl Trial for Seen {
-    fn go<J: Job + Send + Sync, R: Threads + Wait + Clock + Sync>(
-        &mut self,
-        rt: &R,
-        shared: &Shared<'_, J>,
-        seats: Seats<J>,
-    ) -> Vec<WorkerSeat<J>> {
-        let Seats { mut workers, .. } = seats;
-        if let Some(seat) = workers.pop() {
-            let (count, why) = work_and_look(rt, self.alloc, shared, seat, self.looks);
-            self.count = count;
-            self.why = why;
-        }
-        workers
-    }
-}
-
-/// How many snapshots were counted while one worker was at work on a network, and why it ended.
-fn seen_while_working<R: Threads + Wait + Clock + Sync>(
+/// The same, of a run that is opened for it.
+fn seen_while_working<J: Job + Send + Sync, R: Threads + Wait + Clock + Sync>(
     rt: &R,
     alloc: Global,
-    text: &str,
+    blank: Blank,
+    network: &Network,
     looks: Looks,
-) -> Result<(u64, Option<Why>), Fail> {
-    let mut seen = Seen {
-        alloc,
-        looks,
-        count: 0,
-        why: None,
+) -> Result<(u64, Option<Why>), AllocError>
+    requires ledger { (blank.name ≡ J.name) × (blank.parts ≡ J.parts) }
+    requires network { network.now ≡ J.network }
+    requires one { J.parts ≡ 1 }
+{
+    let opened: Opened<'_, J> = Shared::new(alloc, blank, network, 1, MOST_COMMITS)?;
+    let Opened {
+        shared,
+        mut workers,
+        ..
+    } = opened;
+    let Some(seat) = workers.pop() else {
+        return Ok((0, None));
     };
-    try_run(rt, alloc, text, 1, MOST_COMMITS, &mut seen)?;
-    Ok((seen.count, seen.why))
+    Ok(work_and_look(rt, alloc, &shared, seat, looks))
 }
 
 /// A worker makes 100,000,000 steps, and many snapshots are given meanwhile.
 #[test]
 fn refutes_holds_the_lock_while_stepping(rt: HostRuntime) -> Result<(), Fail> {
-    let (held, why) = seen_while_working(&rt, rt.alloc(), SPINNING, Looks::Held)?;
+    let network = spinning(rt.alloc())?;
+    let blank = Blank::new(1);
+    let (held, why) = seen_while_working::<Brand, HostRuntime>(
+        &rt,
+        rt.alloc(),
+        blank,
+        &network,
+        Looks::Held,
+    )?;
     assert!(rt;
         held >= 100 && why == Some(Why::Abandoned),
         "{held} snapshots"
@@ -171,8 +164,15 @@ fn refutes_holds_the_lock_while_stepping(rt: HostRuntime) -> Result<(), Fail> {
 /// time. One that does not has it for a small part: for two commits at each item.
 #[test]
 fn refutes_evaluates_under_the_lock(rt: HostRuntime) -> Result<(), Fail> {
-    let text = summing(rt.alloc())?;
-    let (taken, why) = seen_while_working(&rt, rt.alloc(), text.as_str(), Looks::Taken)?;
+    let network = summing(rt.alloc())?;
+    let blank = Blank::new(1);
+    let (taken, why) = seen_while_working::<Brand, HostRuntime>(
+        &rt,
+        rt.alloc(),
+        blank,
+        &network,
+        Looks::Taken,
+    )?;
     let most = LOOKS * 4 / 10;
     assert!(rt;
         taken < most && why.is_some(),

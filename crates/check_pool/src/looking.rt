@@ -1,13 +1,16 @@
 //! A look at the desk under its lock, while workers are at work.
+ghost use Rattle.std.specs.Prelude.{◌≡◌};
 ghost use Rattle.kpn_desk.specs.Invariant.{AreBelowLeast, HasNoneLeftToGrow};
 
-use crate::networks::THREE_SPINNING;
-use crate::opening::{Seats, Trial, try_run};
+use crate::networks::three_spinning;
 use crate::working::both_work;
 use commit_gates::{Always, MOST_TURNS};
-use kpn_desk::{Desk, Go, Job, Shared, Why, WorkerSeat};
-use std::alloc::Global;
+use kpn_desk::{Desk, Go, Job, Opened, Shared, Why, WorkerSeat};
+use kpn_net::Network;
+use std::alloc::{AllocError, Global};
+use std::marker::Brand;
 use std::sync::Wait;
+use std::sync::ledger::Blank;
 use std::test::Fail;
 use std::thread;
 use std::thread::Threads;
@@ -65,40 +68,34 @@ fn work_and_look<J: Job + Send + Sync, R: Threads + Wait + Clock + Sync>(
     (first.why(), second.why(), found)
 }
 
-/// The same as a trial.
-#[derive(Drop)]
-struct Seen {
-    whys: (Option<Why>, Option<Why>),
-    found: bool,
-}
-
-impl Trial for Seen {
-    fn go<J: Job + Send + Sync, R: Threads + Wait + Clock + Sync>(
-        &mut self,
-        rt: &R,
-        shared: &Shared<'_, J>,
-        seats: Seats<J>,
-    ) -> Vec<WorkerSeat<J>> {
-        let Seats { mut workers, .. } = seats;
-        let (Some(second), Some(first)) = (workers.pop(), workers.pop()) else {
-            return workers;
-        };
-        let (first, second, found) = work_and_look(rt, shared, first, second);
-        self.whys = (first, second);
-        self.found = found;
-        workers
-    }
+/// The same, of a run that is opened for it.
+fn seen_while_working<J: Job + Send + Sync, R: Threads + Wait + Clock + Sync>(
+    rt: &R,
+    alloc: Global,
+    blank: Blank,
+    network: &Network,
+) -> Result<(Option<Why>, Option<Why>, bool), AllocError>
+    requires ledger { (blank.name ≡ J.name) × (blank.parts ≡ J.parts) }
+    requires network { network.now ≡ J.network }
+    requires two { J.parts ≡ 2 }
+{
+    let opened: Opened<'_, J> = Shared::new(alloc, blank, network, 2, COMMITS)?;
+    let Opened {
+        shared,
+        mut workers,
+        sources: _,
+        sinks: _,
+    } = opened;
+    let (Some(second), Some(first)) = (workers.pop(), workers.pop()) else {
+        return Ok((None, None, false));
+    };
+    Ok(work_and_look(rt, &shared, first, second))
 }
 
 #[test]
 fn a_look_while_two_workers_run(rt: HostRuntime) -> Result<(), Fail> {
-    let alloc = rt.alloc();
-    let mut seen = Seen {
-        whys: (None, None),
-        found: false,
-    };
-    try_run(&rt, alloc, THREE_SPINNING, 2, COMMITS, &mut seen)?;
-    assert!(rt; seen.found);
-    assert_eq!(rt; seen.whys, (Some(Why::Limit), Some(Why::Limit)));
+    let network = three_spinning(rt.alloc())?;
+    let seen = seen_while_working::<Brand, HostRuntime>(&rt, rt.alloc(), Blank::new(2), &network)?;
+    assert_eq!(rt; seen, (Some(Why::Limit), Some(Why::Limit), true));
     Ok(())
 }

@@ -1,12 +1,15 @@
 //! Two workers that are at work at once: a gate holds one of them until the other comes with another process.
-use crate::networks::{TWO_READERS, TWO_SEVENS};
-use crate::opening::{Seats, Trial, try_run};
+ghost use Rattle.std.specs.Prelude.{◌≡◌};
+
+use crate::networks::{two_readers, two_sevens};
 use crate::working::both_work;
 use commit_gates::{Held, Holding, MOST_TURNS};
-use kpn_desk::{Gate, Go, Job, Shared, Why, WorkerSeat};
-use kpn_run_state::Book;
-use std::alloc::Global;
+use kpn_desk::{Gate, Go, Job, Opened, Shared, Why, WorkerSeat, gather};
+use kpn_net::Network;
+use std::alloc::{AllocError, Global};
+use std::marker::Brand;
 use std::sync::Wait;
+use std::sync::ledger::Blank;
 use std::test::Fail;
 use std::thread;
 use std::thread::Threads;
@@ -57,71 +60,54 @@ fn work_till_met<J: Job + Send + Sync, R: Threads + Wait + Clock + Sync>(
     (first, second, holding.have_met())
 }
 
-/// Two workers, and the commits of their seats and of the book.
-#[derive(Drop)]
-struct Two {
-    alloc: Global,
-    have_met: bool,
-    /// Why they ended.
-    whys: (Option<Why>, Option<Why>),
-    commits: (u64, u64),
-}
+/// Whether two workers met, why they ended, and the commits of the two seats and of the book.
+type Met = (bool, (Option<Why>, Option<Why>), (u64, u64));
 
-impl Trial for Two {
-    fn go<J: Job + Send + Sync, R: Threads + Wait + Clock + Sync>(
-        &mut self,
-        rt: &R,
-        shared: &Shared<'_, J>,
-        seats: Seats<J>,
-    ) -> Vec<WorkerSeat<J>> {
-        let Seats { mut workers, .. } = seats;
-        let (Some(second), Some(first)) = (workers.pop(), workers.pop()) else {
-            return workers;
-        };
-        let (first, second, have_met) = work_till_met(rt, self.alloc, shared, first, second);
-        self.whys = (first.why(), second.why());
-        self.commits.0 = first.commits().saturating_add(second.commits());
-        let are_back = workers.push(first).is_ok() && workers.push(second).is_ok();
-        self.have_met = have_met && are_back;
-        workers
-    }
-
-    fn end(&mut self, book: &Book<'_>) {
-        self.commits.1 = book.commits();
-    }
-}
-
-/// Whether two workers, which are allowed so many commits, meet, end both for this reason, and make so many commits.
-fn meet<R: Threads + Wait + Clock + Sync>(
+/// What comes of two workers, which are allowed so many commits.
+fn meet<J: Job + Send + Sync, R: Threads + Wait + Clock + Sync>(
     rt: &R,
     alloc: Global,
-    text: &str,
+    blank: Blank,
+    network: &Network,
     most: u64,
-    why: Why,
-    commits: u64,
-) -> Result<bool, Fail> {
-    let mut two = Two {
-        alloc,
-        have_met: false,
-        whys: (None, None),
-        commits: (0, 0),
+) -> Result<Option<Met>, AllocError>
+    requires ledger { (blank.name ≡ J.name) × (blank.parts ≡ J.parts) }
+    requires network { network.now ≡ J.network }
+    requires two { J.parts ≡ 2 }
+{
+    let opened: Opened<'_, J> = Shared::new(alloc, blank, network, 2, most)?;
+    let Opened {
+        shared,
+        mut workers,
+        ..
+    } = opened;
+    let (Some(second), Some(first)) = (workers.pop(), workers.pop()) else {
+        return Ok(None);
     };
-    try_run(rt, alloc, text, 2, most, &mut two)?;
-    let are_ended = two.whys == (Some(why), Some(why));
-    Ok(two.have_met && are_ended && two.commits == (commits, commits))
+    let (first, second, have_met) = work_till_met(rt, alloc, &shared, first, second);
+    let whys = (first.why(), second.why());
+    let sum = first.commits().saturating_add(second.commits());
+    let book = gather(shared, vec![in alloc; first, second]?);
+    Ok(Some((have_met, whys, (sum, book.commits()))))
 }
 
 /// Both are at work at once, with the lock free while the gate is asked. Each of the two processes writes once and
 /// ends.
 #[test]
 fn refutes_one_worker_steps_everything(rt: HostRuntime) -> Result<(), Fail> {
-    assert!(rt; meet(&rt, rt.alloc(), TWO_SEVENS, 4, Why::Limit, 4)?);
+    let network = two_sevens(rt.alloc())?;
+    let met = meet::<Brand, HostRuntime>(&rt, rt.alloc(), Blank::new(2), &network, 4)?;
+    let limit = Some(Why::Limit);
+    assert_eq!(rt; met, Some((true, (limit, limit), (4, 4))));
     Ok(())
 }
 
 /// The same if each of the two processes waits for the other one.
 #[test]
 fn two_workers_settle(rt: HostRuntime) -> Result<(), Fail> {
-    assert!(rt; meet(&rt, rt.alloc(), TWO_READERS, 9, Why::Settled, 2)?);
+    let network = two_readers(rt.alloc())?;
+    let met = meet::<Brand, HostRuntime>(&rt, rt.alloc(), Blank::new(2), &network, 9)?;
+    let settled = Some(Why::Settled);
+    assert_eq!(rt; met, Some((true, (settled, settled), (2, 2))));
     Ok(())
 }

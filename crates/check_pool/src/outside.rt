@@ -1,17 +1,23 @@
 //! The seats of the outside: what is fed is copied by a worker and taken, and a seat of another run is known as such.
-use crate::opening::{Seats, Trial, try_run};
+ghost use Rattle.std.specs.Prelude.{◌≡◌};
+
+use crate::networks::copying;
 use commit_gates::{Always, MOST_TURNS};
 use kpn_desk::{
-    Go, Job, Refused, Shared, SinkSeat, SnapFault, SourceSeat, View, Why, WorkerSeat, close, feed,
-    leave, snapshot, take, work,
+    Go, Job, Opened, Refused, Shared, SinkSeat, SnapFault, SourceSeat, View, Why, WorkerSeat,
+    close, feed, leave, snapshot, take, work,
 };
-use std::alloc::{Allocator, Global};
+use kpn_net::Network;
+use kpn_text::read_network;
+use std::alloc::{AllocError, Allocator, Global};
+use std::marker::Brand;
 use std::sync::Wait;
+use std::sync::ledger::Blank;
 use std::test::Fail;
 use std::thread;
 use std::thread::Threads;
 use std::time::Clock;
-use test_support::texts::{COPY, TWO};
+use test_support::texts::TWO;
 
 /// Whether the journals of the two channels are these.
 pub fn shows<A: Allocator>(
@@ -77,64 +83,58 @@ fn copies<J: Job + Send + Sync, R: Threads + Wait + Clock + Sync>(
     (seat.why(), came)
 }
 
-/// A whole run by one worker. It keeps the seat of the source.
-#[derive(Drop)]
-struct Copied {
+/// A whole run by one worker. Returns the seat of the source, or none if something is not answered as it has to be.
+fn copied<J: Job + Send + Sync, R: Threads + Wait + Clock + Sync>(
+    rt: &R,
     alloc: Global,
-    /// All is answered as it has to be.
-    is_good: bool,
-    source: Option<SourceSeat>,
-}
-
-impl Trial for Copied {
-    fn go<J: Job + Send + Sync, R: Threads + Wait + Clock + Sync>(
-        &mut self,
-        rt: &R,
-        shared: &Shared<'_, J>,
-        seats: Seats<J>,
-    ) -> Vec<WorkerSeat<J>> {
-        let Seats {
-            mut workers,
-            mut sources,
-            mut sinks,
-        } = seats;
-        let (Some(seat), Some(mut source), Some(sink)) = (workers.pop(), sources.pop(), sinks.pop())
-        else {
-            return workers;
-        };
-        let is_fed = feeds(rt, self.alloc, shared, &mut source);
-        let (why, came) = copies(rt, shared, seat, sink);
-        let seen = snapshot(rt, self.alloc, shared, &source);
-        let is_shown = shows(&seen, &[1, 2, 3], &[1, 2, 3]);
-        self.is_good = is_fed && came && why == Some(Why::Settled) && is_shown;
-        self.source = Some(source);
-        workers
+    blank: Blank,
+    network: &Network,
+) -> Result<Option<SourceSeat>, AllocError>
+    requires ledger { (blank.name ≡ J.name) × (blank.parts ≡ J.parts) }
+    requires network { network.now ≡ J.network }
+    requires one { J.parts ≡ 1 }
+{
+    let opened: Opened<'_, J> = Shared::new(alloc, blank, network, 1, u64::MAX)?;
+    let Opened {
+        shared,
+        mut workers,
+        mut sources,
+        mut sinks,
+    } = opened;
+    let (Some(seat), Some(mut source), Some(sink)) = (workers.pop(), sources.pop(), sinks.pop())
+    else {
+        return Ok(None);
+    };
+    let is_fed = feeds(rt, alloc, &shared, &mut source);
+    let (why, came) = copies(rt, &shared, seat, sink);
+    let seen = snapshot(rt, alloc, &shared, &source);
+    let is_shown = shows(&seen, &[1, 2, 3], &[1, 2, 3]);
+    if is_fed && came && why == Some(Why::Settled) && is_shown {
+        return Ok(Some(source));
     }
+    Ok(None)
 }
 
-/// What a seat of another run is answered: the refusals of a snapshot, a feed and a close.
-#[derive(Drop)]
-struct Stranger {
+/// The refusals of a snapshot, a feed and a close.
+type Refusals = (Option<SnapFault>, Option<Refused>, Option<Refused>);
+
+/// What a seat of another run is answered.
+fn answered<J: Job, R: Wait>(
+    rt: &R,
     alloc: Global,
-    seat: SourceSeat,
-    refusals: (Option<SnapFault>, Option<Refused>, Option<Refused>),
-}
-
-impl Trial for Stranger {
-    fn go<J: Job + Send + Sync, R: Threads + Wait + Clock + Sync>(
-        &mut self,
-        rt: &R,
-        shared: &Shared<'_, J>,
-        seats: Seats<J>,
-    ) -> Vec<WorkerSeat<J>> {
-        let fault = snapshot(rt, self.alloc, shared, &self.seat).err();
-        let fed = feed(rt, shared, &mut self.seat, 4, 9).err();
-        let closed = close(rt, shared, &self.seat).err();
-        self.refusals = (fault, fed, closed);
-        let Seats { mut workers, .. } = seats;
-        workers.clear();
-        workers
-    }
+    blank: Blank,
+    network: &Network,
+    seat: &mut SourceSeat,
+) -> Result<Refusals, AllocError>
+    requires ledger { (blank.name ≡ J.name) × (blank.parts ≡ J.parts) }
+    requires network { network.now ≡ J.network }
+    requires one { J.parts ≡ 1 }
+{
+    let opened: Opened<'_, J> = Shared::new(alloc, blank, network, 1, u64::MAX)?;
+    let shared = &opened.shared;
+    let fault = snapshot(rt, alloc, shared, seat).err();
+    let fed = feed(rt, shared, seat, 4, 9).err();
+    Ok((fault, fed, close(rt, shared, seat).err()))
 }
 
 /// What is seen is what the whole run did, and what was fed and taken is in the seats and in the run. The seat is then
@@ -142,27 +142,16 @@ impl Trial for Stranger {
 #[test]
 fn snapshot_shows_own_feeds_alone(rt: HostRuntime) -> Result<(), Fail> {
     let alloc = rt.alloc();
-    let mut copied = Copied {
-        alloc,
-        is_good: false,
-        source: None,
-    };
-    try_run(&rt, alloc, COPY, 1, u64::MAX, &mut copied)?;
-    let Copied {
-        is_good,
-        source,
-        ..
-    } = copied;
-    assert!(rt; is_good);
-    let mut stranger = Stranger {
-        alloc,
-        seat: source.expect(&rt, "a seat"),
-        refusals: (None, None, None),
-    };
-    for (text, fed) in [(TWO, Some(Refused::NoSuchEnd)), (COPY, None)] {
-        assert!(rt; stranger.seat.fed() == [1, 2, 3].as_slice());
-        try_run(&rt, alloc, text, 1, u64::MAX, &mut stranger)?;
-        assert_eq!(rt; stranger.refusals, (Some(SnapFault::Foreign), fed, fed));
+    let network = copying(alloc, 1)?;
+    let other = read_network(alloc, TWO.as_bytes())?;
+    let seat = copied::<Brand, HostRuntime>(&rt, alloc, Blank::new(1), &network)?;
+    let mut seat = seat.expect(&rt, "a whole run");
+    let no_such_end = Some(Refused::NoSuchEnd);
+    for (network, fed) in [(other.network(), no_such_end), (&network, None)] {
+        assert!(rt; seat.fed() == [1, 2, 3].as_slice());
+        let blank = Blank::new(1);
+        let refusals = answered::<Brand, HostRuntime>(&rt, alloc, blank, network, &mut seat)?;
+        assert_eq!(rt; refusals, (Some(SnapFault::Foreign), fed, fed));
     }
     Ok(())
 }

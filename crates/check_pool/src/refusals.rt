@@ -3,15 +3,14 @@
 ghost use Rattle.std.specs.Prelude.{◌≡◌};
 
 use crate::endings::is_ready;
-use crate::networks::POURING;
+use crate::networks::{copying, pouring};
 use crate::outside::shows;
 use commit_gates::Always;
 use kpn_desk::{
-    Go, Job, Opened, Refused, Shared, SinkSeat, SnapFault, SourceSeat, Why, WorkerSeat, close,
-    feed, gather, leave, snapshot, take, work,
+    Go, Job, Opened, Refused, Shared, SinkSeat, SnapFault, SourceSeat, Why, close, feed, gather,
+    leave, snapshot, take, work,
 };
 use kpn_net::Network;
-use kpn_text::read_network;
 use linked_list_allocator::LocalHeap;
 use std::alloc::{AllocError, Global};
 use std::marker::Brand;
@@ -20,7 +19,6 @@ use std::sync::ledger::Blank;
 use std::test::Fail;
 use std::time::Clock;
 use test_support::heaps::fill;
-use test_support::texts::COPY;
 
 /// How many bytes the heap of a test has.
 const HEAP: usize = 16_384;
@@ -74,25 +72,7 @@ fn feeds_until_refused<'a, J: Job, R: Wait>(
     false
 }
 
-/// Whether all is answered as it has to be while the heap is full and then.
-fn are_fed<'a, J: Job, R: Wait>(
-    rt: &R,
-    alloc: Global,
-    heap: &'a LocalHeap,
-    shared: &Shared<'_, J, &'a LocalHeap>,
-    source: &mut SourceSeat<&'a LocalHeap>,
-    sink: &mut SinkSeat<&'a LocalHeap>,
-) -> bool {
-    let Some(filling) = fill(heap) else {
-        return false;
-    };
-    let are_refused = all_refused(rt, alloc, heap, shared, source, sink);
-    filling.destroy_empty();
-    let is_shown = shows(&snapshot(rt, heap, shared, source), &[], &[]);
-    are_refused && is_shown && feeds_until_refused(rt, alloc, shared, source)
-}
-
-/// The same of a run that is opened for it.
+/// A run that is fed. Returns whether all is answered as it has to be, while the heap is full and then.
 fn is_fed<'a, J: Job, R: Wait>(
     rt: &R,
     alloc: Global,
@@ -111,12 +91,17 @@ fn is_fed<'a, J: Job, R: Wait>(
         mut sources,
         mut sinks,
     } = opened;
-    match (sources.pop(), sinks.pop()) {
-        (Some(mut source), Some(mut sink)) => {
-            Ok(are_fed(rt, alloc, heap, &shared, &mut source, &mut sink))
-        }
-        _ => Ok(false),
-    }
+    let (Some(mut source), Some(mut sink)) = (sources.pop(), sinks.pop()) else {
+        return Ok(false);
+    };
+    let Some(filling) = fill(heap) else {
+        return Ok(false);
+    };
+    let are_refused = all_refused(rt, alloc, heap, &shared, &mut source, &mut sink);
+    filling.destroy_empty();
+    let is_shown = shows(&snapshot(rt, heap, &shared, &source), &[], &[]);
+    let are_fed = feeds_until_refused(rt, alloc, &shared, &mut source);
+    Ok(are_refused && is_shown && are_fed)
 }
 
 /// Feeds an item, closes the source and leaves the sink. Returns whether all succeeds.
@@ -131,26 +116,8 @@ fn is_ended<'a, J: Job, R: Wait>(
         && leave(rt, shared, sink).is_ok()
 }
 
-/// Whether the calls that want no memory succeed while the heap is full: the source is closed and the sink left a second
-/// time, the seats are read, and the run is halted.
-fn ends_again<'a, J: Job, R: Wait>(
-    rt: &R,
-    shared: &Shared<'_, J, &'a LocalHeap>,
-    workers: &[WorkerSeat<J>],
-    source: &SourceSeat<&'a LocalHeap>,
-    sink: &SinkSeat<&'a LocalHeap>,
-) -> bool {
-    let have_ended = close(rt, shared, source).is_ok() && leave(rt, shared, sink).is_ok();
-    let are_kept = source.fed() == [5].as_slice() && sink.taken().is_empty();
-    let is_new = workers
-        .first()
-        .is_some_and(|seat| seat.why().is_none() && seat.commits() == 0);
-    shared.halt(rt);
-    have_ended && are_kept && is_new
-}
-
-/// A run that is ended by the outside. Returns whether the calls that want no memory succeed while the heap is full, and
-/// the book is then gathered.
+/// A run that is ended by the outside. Returns whether the calls that want no memory succeed while the heap is full:
+/// the source is closed and the sink left a second time, the seats are read, the run is halted and its book gathered.
 fn is_gathered<'a, J: Job, R: Wait>(
     rt: &R,
     heap: &'a LocalHeap,
@@ -172,10 +139,18 @@ fn is_gathered<'a, J: Job, R: Wait>(
         return Ok(false);
     };
     let has_ended = is_ended(rt, &shared, &mut source, &sink);
-    let filling = fill(heap);
-    let has_ended_again = ends_again(rt, &shared, &workers, &source, &sink);
-    let events = gather(shared, workers).history().len();
-    Ok(has_ended && filling.is_some() && has_ended_again && events == 3)
+    let Some(filling) = fill(heap) else {
+        return Ok(false);
+    };
+    let has_ended_again = close(rt, &shared, &source).is_ok() && leave(rt, &shared, &sink).is_ok();
+    let are_kept = source.fed() == [5].as_slice() && sink.taken().is_empty();
+    let is_new = workers
+        .first()
+        .is_some_and(|seat| seat.why().is_none() && seat.commits() == 0);
+    shared.halt(rt);
+    let book = gather(shared, workers);
+    filling.destroy_empty();
+    Ok(has_ended && has_ended_again && are_kept && is_new && book.history().len() == 3)
 }
 
 /// Takes until memory is refused. Returns whether the seat then has what was taken before.
@@ -195,38 +170,6 @@ fn takes_until_refused<'a, J: Job, R: Wait>(
         }
     }
     false
-}
-
-/// A worker writes until the heap is full. Returns whether it ends for that, its process is put back, and the others are
-/// told to end.
-fn pours<'a, J: Job, R: Wait + Clock>(
-    rt: &R,
-    alloc: Global,
-    shared: &Shared<'_, J, &'a LocalHeap>,
-    seat: WorkerSeat<J>,
-) -> bool {
-    let gate = Always(Go::On);
-    let seat = work(rt, shared, &gate, seat, 1_000);
-    let has_ended = seat.why() == Some(Why::NoMemory);
-    let is_put_back = match shared.try_snapshot(alloc) {
-        Ok(view) => is_ready(&view),
-        Err(_) => false,
-    };
-    let seat = work(rt, shared, &gate, seat, 1_000);
-    has_ended && is_put_back && seat.why() == Some(Why::Halted)
-}
-
-/// Takes until memory is refused, and then, once some memory is free again, one item more. Returns whether all is
-/// answered as it has to be.
-fn takes_again<'a, J: Job, R: Wait>(
-    rt: &R,
-    shared: &Shared<'_, J, &'a LocalHeap>,
-    sink: &mut SinkSeat<&'a LocalHeap>,
-    filling: Vec<u8, &'a LocalHeap>,
-) -> bool {
-    let are_refused = takes_until_refused(rt, shared, sink);
-    drop(filling);
-    are_refused && take(rt, shared, sink) == Ok(Some(7))
 }
 
 /// A run whose worker writes until the heap is full. Returns whether all is answered as it has to be.
@@ -252,28 +195,35 @@ fn is_poured<'a, J: Job, R: Wait + Clock>(
         return Ok(false);
     };
     let filling = Vec::<u8, &'a LocalHeap>::with_capacity(heap, HEAP / 2)?;
-    let are_poured = pours(rt, alloc, &shared, seat);
-    Ok(are_poured && takes_again(rt, &shared, &mut sink, filling))
+    let gate = Always(Go::On);
+    let seat = work(rt, &shared, &gate, seat, 1_000);
+    let has_ended = seat.why() == Some(Why::NoMemory);
+    let is_put_back = is_ready(&shared.try_snapshot(alloc)?);
+    let seat = work(rt, &shared, &gate, seat, 1_000);
+    let is_halted = seat.why() == Some(Why::Halted);
+    let are_refused = takes_until_refused(rt, &shared, &mut sink);
+    filling.destroy_empty();
+    let is_taken = take(rt, &shared, &mut sink) == Ok(Some(7));
+    Ok(has_ended && is_put_back && is_halted && are_refused && is_taken)
 }
 
 #[test]
 fn refused_calls_change_nothing(rt: HostRuntime) -> Result<(), Fail> {
     let alloc = rt.alloc();
-    let copying = read_network(alloc, COPY.as_bytes())?;
-    let pouring = read_network(alloc, POURING.as_bytes())?;
-    let (copying, pouring) = (copying.network(), pouring.network());
+    let copying = copying(alloc, 1)?;
+    let pouring = pouring(alloc)?;
     let heap = LocalHeap::new(alloc, HEAP)?;
     let used = heap.used();
     let filling = fill(&heap).expect(&rt, "a block is left");
-    assert!(rt; !opens::<Brand>(&heap, Blank::new(1), copying));
+    assert!(rt; !opens::<Brand>(&heap, Blank::new(1), &copying));
     filling.destroy_empty();
     assert_eq!(rt; heap.used(), used);
-    assert!(rt; opens::<Brand>(&heap, Blank::new(1), copying));
-    let fed = is_fed::<Brand, HostRuntime>(&rt, alloc, &heap, Blank::new(1), copying)?;
+    assert!(rt; opens::<Brand>(&heap, Blank::new(1), &copying));
+    let fed = is_fed::<Brand, HostRuntime>(&rt, alloc, &heap, Blank::new(1), &copying)?;
     assert!(rt; fed);
-    let gathered = is_gathered::<Brand, HostRuntime>(&rt, &heap, Blank::new(1), copying)?;
+    let gathered = is_gathered::<Brand, HostRuntime>(&rt, &heap, Blank::new(1), &copying)?;
     assert!(rt; gathered);
-    let poured = is_poured::<Brand, HostRuntime>(&rt, alloc, &heap, Blank::new(1), pouring)?;
+    let poured = is_poured::<Brand, HostRuntime>(&rt, alloc, &heap, Blank::new(1), &pouring)?;
     assert!(rt; poured);
     Ok(())
 }

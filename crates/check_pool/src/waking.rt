@@ -1,17 +1,20 @@
 //! A thread that sleeps is woken: a run takes far longer if a thread wakes only by the clock. On a busy machine some
 //! runs may.
+ghost use Rattle.std.specs.Prelude.{◌≡◌};
+
 use crate::gates::Pausing;
-use crate::networks::{COPYING, COPYING_BESIDE, READING};
-use crate::opening::{Seats, Trial, try_run};
+use crate::networks::{copying, copying_beside, reading};
 use crate::working::both_work;
-use kpn_desk::{Job, Shared, SinkSeat, SourceSeat, Why, WorkerSeat, close, feed, take_when_due};
-use std::alloc::Global;
+use kpn_desk::{Job, Opened, Shared, SinkSeat, SourceSeat, Why, close, feed, take_when_due};
+use kpn_net::Network;
+use std::alloc::{AllocError, Global};
+use std::marker::Brand;
 use std::sync::Wait;
+use std::sync::ledger::Blank;
 use std::test::Fail;
 use std::thread;
 use std::thread::Threads;
 use std::time::{Clock, Duration, Instant};
-use test_support::texts::COPY;
 
 /// How many runs there are of each kind.
 const RUNS: u32 = 20;
@@ -114,60 +117,52 @@ fn serve<J: Job, R: Wait + Clock>(
 /// A run by two workers while the outside does its task. Returns whether all went well, and why the workers end.
 fn work_and_serve<J: Job + Send + Sync, R: Threads + Wait + Clock + Sync>(
     rt: &R,
-    shared: &Shared<'_, J>,
-    first: WorkerSeat<J>,
-    second: WorkerSeat<J>,
-    outside: Outside,
-    held: Option<usize>,
+    opened: Opened<'_, J>,
+    gate: &Pausing,
     task: Task,
-) -> (bool, Option<Why>, Option<Why>) {
-    let gate = &Pausing::new(held);
+) -> Option<(bool, Option<Why>, Option<Why>)> {
+    let Opened {
+        shared,
+        mut workers,
+        mut sources,
+        sinks,
+    } = opened;
+    let (Some(second), Some(first), Some(source)) = (workers.pop(), workers.pop(), sources.pop())
+    else {
+        return None;
+    };
+    let shared = &shared;
+    let outside = Outside { source, sinks };
     let (seats, went_well) = thread::join(
         rt,
         move || both_work(rt, shared, gate, first, second),
         move || serve(rt, shared, gate, task, outside),
     );
-    (went_well, seats.0.why(), seats.1.why())
+    Some((went_well, seats.0.why(), seats.1.why()))
 }
 
-/// The same as a trial.
-#[derive(Drop)]
-struct Served {
+/// The same, of a run that is opened for it.
+fn comes_to<J: Job + Send + Sync, R: Threads + Wait + Clock + Sync>(
+    rt: &R,
+    alloc: Global,
+    blank: Blank,
+    network: &Network,
     held: Option<usize>,
     task: Task,
-    seen: (bool, Option<Why>, Option<Why>),
-}
-
-impl Trial for Served {
-    fn go<J: Job + Send + Sync, R: Threads + Wait + Clock + Sync>(
-        &mut self,
-        rt: &R,
-        shared: &Shared<'_, J>,
-        seats: Seats<J>,
-    ) -> Vec<WorkerSeat<J>> {
-        let Seats {
-            mut workers,
-            mut sources,
-            sinks,
-        } = seats;
-        let (Some(second), Some(first), Some(source)) = (
-            workers.pop(),
-            workers.pop(),
-            sources.pop(),
-        ) else {
-            return workers;
-        };
-        let outside = Outside { source, sinks };
-        self.seen = work_and_serve(rt, shared, first, second, outside, self.held, self.task);
-        workers
-    }
+) -> Result<Option<(bool, Option<Why>, Option<Why>)>, AllocError>
+    requires ledger { (blank.name ≡ J.name) × (blank.parts ≡ J.parts) }
+    requires network { network.now ≡ J.network }
+    requires two { J.parts ≡ 2 }
+{
+    let opened: Opened<'_, J> = Shared::new(alloc, blank, network, 2, u64::MAX)?;
+    Ok(work_and_serve(rt, opened, &Pausing::new(held), task))
 }
 
 /// How many runs of a network by two workers are late. `None` if one did not go well, or a worker ended otherwise.
 fn late_runs<R: Threads + Wait + Clock + Sync>(
     rt: &R,
     alloc: Global,
-    text: &str,
+    network: &Network,
     held: Option<usize>,
     task: Task,
     why: Why,
@@ -175,13 +170,8 @@ fn late_runs<R: Threads + Wait + Clock + Sync>(
     let mut late: u32 = 0;
     for _ in 0..RUNS {
         let begun = Instant::now(rt)?;
-        let mut served = Served {
-            held,
-            task,
-            seen: (false, None, None),
-        };
-        try_run(rt, alloc, text, 2, u64::MAX, &mut served)?;
-        if served.seen != (true, Some(why), Some(why)) {
+        let seen = comes_to::<Brand, R>(rt, alloc, Blank::new(2), network, held, task)?;
+        if seen != Some((true, Some(why), Some(why))) {
             return Ok(None);
         }
         if begun.elapsed(rt)? > Duration::from_millis(LATE) {
@@ -195,8 +185,13 @@ fn late_runs<R: Threads + Wait + Clock + Sync>(
 /// sink that is then full, on one that is not half full, and behind a gate that holds the other worker.
 #[test]
 fn items_go_from_hand_to_hand(rt: HostRuntime) -> Result<(), Fail> {
-    for (text, held) in [(COPY, None), (COPYING, None), (COPYING_BESIDE, Some(0))] {
-        let late = late_runs(&rt, rt.alloc(), text, held, Task::HandsOver, Why::Halted)?;
+    let alloc = rt.alloc();
+    for (network, held) in [
+        (copying(alloc, 1)?, None),
+        (copying(alloc, 64)?, None),
+        (copying_beside(alloc)?, Some(0)),
+    ] {
+        let late = late_runs(&rt, alloc, &network, held, Task::HandsOver, Why::Halted)?;
         assert!(rt;
             late.is_some_and(|late| late < RUNS / 2),
             "{held:?}: {late:?} late"
@@ -208,12 +203,14 @@ fn items_go_from_hand_to_hand(rt: HostRuntime) -> Result<(), Fail> {
 /// All workers end at once, if a call of the outside or a commit settles the run or the outside halts it.
 #[test]
 fn all_workers_end_at_once(rt: HostRuntime) -> Result<(), Fail> {
+    let alloc = rt.alloc();
+    let network = reading(alloc)?;
     for (task, why) in [
         (Task::Closes, Why::Settled),
         (Task::FeedsAndCloses, Why::Settled),
         (Task::Halts, Why::Halted),
     ] {
-        let late = late_runs(&rt, rt.alloc(), READING, None, task, why)?;
+        let late = late_runs(&rt, alloc, &network, None, task, why)?;
         assert!(rt;
             late.is_some_and(|late| late < RUNS / 2),
             "{task:?}: {late:?} late"
