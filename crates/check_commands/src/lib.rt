@@ -7,8 +7,6 @@ mod lines;
 #[cfg(test)]
 mod refusals;
 #[cfg(test)]
-mod shelves;
-#[cfg(test)]
 mod troubles;
 #[cfg(test)]
 mod usage;

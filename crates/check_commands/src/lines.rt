@@ -1,6 +1,5 @@
 //! Command lines, run over shelves and devices in memory.
 
-use crate::shelves::{Call, Troubled, empty_shelf};
 use kpn_cli::{MemoryShelf, Shelf, command};
 use std::alloc::{AllocError, Global};
 use std::io::ErrorKind;
@@ -8,7 +7,7 @@ use std::sync::Wait;
 use std::test::Fail;
 use std::thread::Threads;
 use std::time::Clock;
-use test_support::devices::{Fall, Stumbling, Tripping};
+use test_support::devices::{Broken, Fall, Tripping};
 use test_support::texts::COPY;
 
 /// The status of a command line, and what it wrote.
@@ -19,44 +18,13 @@ pub struct Answer {
     pub err: Vec<u8>,
 }
 
-/// An input that fails at each read.
-pub const BROKEN: Stumbling<'static> = Stumbling {
-    bytes: b"",
-    fall: Fall::Always(ErrorKind::Other),
-};
-
 /// The words of a command line.
-fn words_of(alloc: Global, line: &str) -> Result<Vec<String>, AllocError> {
+pub fn words_of(alloc: Global, line: &str) -> Result<Vec<String>, AllocError> {
     let mut words = Vec::new(alloc);
     for word in line.split(' ') {
         words.push(String::from_str(alloc, word)?)?;
     }
     Ok(words)
-}
-
-/// Runs a command line over a shelf, an input and two outputs, of which some calls fail.
-pub fn run_over<R: Threads + Wait + Clock + Sync>(
-    rt: &R,
-    alloc: Global,
-    line: &str,
-    shelf: &mut Troubled<'_>,
-    input: Stumbling<'_>,
-    out: Fall,
-    err: Fall,
-) -> Result<Answer, AllocError> {
-    let words = words_of(alloc, line)?;
-    let mut input = input;
-    let mut out = Tripping {
-        kept: Vec::new(alloc),
-        fall: out,
-    };
-    let mut err = Tripping {
-        kept: Vec::new(alloc),
-        fall: err,
-    };
-    let status = command(rt, alloc, &words, shelf, &mut input, &mut out, &mut err);
-    let (Tripping { kept: out, .. }, Tripping { kept: err, .. }) = (out, err);
-    Ok(Answer { status, out, err })
 }
 
 /// Runs a command line over an input that fails and an empty shelf.
@@ -65,16 +33,20 @@ pub fn run<R: Threads + Wait + Clock + Sync>(
     alloc: Global,
     line: &str,
 ) -> Result<Answer, AllocError> {
-    let mut shelf = empty_shelf(alloc);
-    run_over(
+    let words = words_of(alloc, line)?;
+    let mut out = Vec::new(alloc);
+    let mut err = Vec::new(alloc);
+    let mut shelf = MemoryShelf::new(alloc);
+    let status = command(
         rt,
         alloc,
-        line,
+        &words,
         &mut shelf,
-        BROKEN,
-        Fall::Never,
-        Fall::Never,
-    )
+        &mut Broken,
+        &mut out,
+        &mut err,
+    );
+    Ok(Answer { status, out, err })
 }
 
 /// Whether a command line over an input that fails ends with this status and this error line, and writes nothing else.
@@ -93,19 +65,8 @@ fn is_refused<R: Threads + Wait + Clock + Sync>(
     )
 }
 
-/// A shelf that holds copy as `n` and a trace as `t`.
-fn shelf_of_copy(alloc: Global) -> Result<Troubled<'static>, Fail> {
-    let mut kept = MemoryShelf::new(alloc);
-    kept.store("n", COPY.as_bytes())?;
-    kept.store("t", b"kpn-trace 1\n")?;
-    Ok(Troubled {
-        kept,
-        call: Call::Nothing,
-        name: "",
-    })
-}
-
-/// Whether a command line ends with this status and this error line, if its output fails once, after so many calls.
+/// Whether a command line ends with this status and this error line. Its shelf holds copy as `n` and a trace as `t`, and
+/// its output fails once, after so many calls.
 fn writes_to<R: Threads + Wait + Clock + Sync>(
     rt: &R,
     alloc: Global,
@@ -114,14 +75,22 @@ fn writes_to<R: Threads + Wait + Clock + Sync>(
     wanted: u8,
     error: &str,
 ) -> Result<bool, Fail> {
-    let mut shelf = shelf_of_copy(alloc)?;
-    let input = Stumbling {
-        bytes: b"1\n",
-        fall: Fall::Never,
+    let mut shelf = MemoryShelf::new(alloc);
+    shelf.store("n", COPY.as_bytes())?;
+    shelf.store("t", b"kpn-trace 1\n")?;
+    let words = words_of(alloc, line)?;
+    let mut out = Tripping {
+        fall: Fall {
+            before: Some(calls),
+            kind: ErrorKind::Other,
+        },
     };
-    let out = Fall::Once(calls, ErrorKind::Other);
-    let answer = run_over(rt, alloc, line, &mut shelf, input, out, Fall::Never)?;
-    Ok(answer.status == wanted && answer.err.as_slice() == error.as_bytes())
+    let mut err = Vec::new(alloc);
+    let mut input = b"1\n".as_slice();
+    let status = command(
+        rt, alloc, &words, &mut shelf, &mut input, &mut out, &mut err,
+    );
+    Ok(status == wanted && err.as_slice() == error.as_bytes())
 }
 
 /// Whether a command line reports an output that fails once, at the write or at the flush, and succeeds over one that

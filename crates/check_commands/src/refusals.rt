@@ -1,9 +1,10 @@
 //! Refusals that no command line causes if there is memory and no worker goes astray.
 
+use kpn_items::ItemFault;
 use kpn_lang::ProgramFault;
 use kpn_net::NetFault;
 use kpn_refusals::Refusal;
-use kpn_text::{ItemFault, TextFault};
+use kpn_text::TextFault;
 use std::alloc::Global;
 
 /// Whether a refusal has this line and this status.

@@ -1,16 +1,66 @@
 //! One call that fails: of a shelf for one of its names, of an input, or of the place for faults.
 
-use crate::lines::{Answer, BROKEN, run_over};
-use crate::shelves::{Call, Troubled, empty_shelf};
-use kpn_cli::{MemoryShelf, Shelf};
+use crate::lines::words_of;
+use kpn_cli::{MemoryShelf, Shelf, command};
+use kpn_items::{ItemFault, WriteFault};
 use std::alloc::{AllocError, Global};
 use std::io::ErrorKind;
 use std::sync::Wait;
 use std::test::Fail;
 use std::thread::Threads;
 use std::time::Clock;
-use test_support::devices::{Fall, Stumbling};
+use test_support::devices::{Broken, Fall, Stumbling};
 use test_support::texts::{COPY, TWO};
+
+/// The call of a shelf that answers otherwise.
+#[derive(Clone, Copy, Debug, PartialEq, Eq)]
+enum Call {
+    Load,
+    Store,
+    IsSameFile,
+    MakeReady,
+}
+
+/// A shelf in memory. One call of it fails for one name, or takes every name for one file with that one.
+#[derive(Drop)]
+struct Troubled<'a> {
+    kept: MemoryShelf,
+    call: Call,
+    name: &'a str,
+}
+
+impl Shelf for Troubled<'_> {
+    ghost use Rattle.std.specs.Prelude.{⊤};
+
+    ghost may_give = { λ _ _ _. ⊤ };
+
+    ghost may_alias = { λ _ _ _. ⊤ };
+
+    fn load(&self, alloc: Global, name: &str) -> Result<Vec<u8>, ItemFault> {
+        if self.call == Call::Load && self.name == name {
+            return Err(ItemFault::Read);
+        }
+        self.kept.load(alloc, name)
+    }
+
+    fn store(&mut self, name: &str, bytes: &[u8]) -> Result<(), WriteFault> {
+        if self.call == Call::Store && self.name == name {
+            return Err(WriteFault::Write);
+        }
+        self.kept.store(name, bytes)
+    }
+
+    fn is_same_file(&self, _name: &str, other: &str) -> Result<bool, AllocError> {
+        Ok(self.call == Call::IsSameFile && self.name == other)
+    }
+
+    fn make_ready(&self, name: &str) -> Result<(), WriteFault> {
+        if self.call == Call::MakeReady && self.name == name {
+            return Err(WriteFault::Write);
+        }
+        Ok(())
+    }
+}
 
 const READ: &str = "kpn: 26 Read\n";
 
@@ -68,20 +118,23 @@ fn is_reported<R: Threads + Wait + Clock + Sync>(
     row: &(&str, Call, &str, u8, &str, bool),
 ) -> Result<bool, Fail> {
     let (line, call, name, wanted, error, stored) = *row;
+    let words = words_of(alloc, line)?;
     let mut shelf = shelf_of(alloc, call, name)?;
-    let answer = run_over(
+    let mut out = Vec::new(alloc);
+    let mut err = Vec::new(alloc);
+    let status = command(
         rt,
         alloc,
-        line,
+        &words,
         &mut shelf,
-        BROKEN,
-        Fall::Never,
-        Fall::Never,
-    )?;
+        &mut Broken,
+        &mut out,
+        &mut err,
+    );
     Ok(
-        answer.status == wanted
-            && answer.err.as_slice() == error.as_bytes()
-            && answer.out.is_empty() != error.is_empty()
+        status == wanted
+            && err.as_slice() == error.as_bytes()
+            && out.is_empty() != error.is_empty()
             && shelf.kept.load(alloc, "out").is_ok() == stored,
     )
 }
@@ -93,21 +146,20 @@ fn sums<R: Threads + Wait + Clock + Sync>(
     before: u8,
     kind: ErrorKind,
 ) -> Result<(u8, Vec<u8>), AllocError> {
-    let input = Stumbling {
+    let words = words_of(alloc, "kpn alone sum")?;
+    let mut input = Stumbling {
         bytes: b"1\n2\n3\n",
-        fall: Fall::Once(before, kind),
+        fall: Fall {
+            before: Some(before),
+            kind,
+        },
     };
-    let mut shelf = empty_shelf(alloc);
-    let answer = run_over(
-        rt,
-        alloc,
-        "kpn alone sum",
-        &mut shelf,
-        input,
-        Fall::Never,
-        Fall::Never,
-    )?;
-    let Answer { status, out, err } = answer;
+    let mut out = Vec::new(alloc);
+    let mut err = Vec::new(alloc);
+    let mut shelf = MemoryShelf::new(alloc);
+    let status = command(
+        rt, alloc, &words, &mut shelf, &mut input, &mut out, &mut err,
+    );
     Ok((status, if status == 0 { out } else { err }))
 }
 
@@ -117,10 +169,18 @@ fn status_unseen<R: Threads + Wait + Clock + Sync>(
     alloc: Global,
     line: &str,
 ) -> Result<u8, Fail> {
+    let words = words_of(alloc, line)?;
     let mut shelf = shelf_of(alloc, Call::Store, "out")?;
-    let unseen = Fall::Always(ErrorKind::Other);
-    let answer = run_over(rt, alloc, line, &mut shelf, BROKEN, Fall::Never, unseen)?;
-    Ok(answer.status)
+    let mut out = Vec::new(alloc);
+    Ok(command(
+        rt,
+        alloc,
+        &words,
+        &mut shelf,
+        &mut Broken,
+        &mut out,
+        &mut Broken,
+    ))
 }
 
 #[test]

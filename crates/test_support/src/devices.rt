@@ -38,33 +38,32 @@ impl Read for Halting {
     }
 }
 
-/// Which calls of a device fail, and how.
-#[derive(Clone, Copy, Debug)]
-pub enum Fall {
-    Never,
-    /// One call fails, after so many that succeed.
-    Once(u8, ErrorKind),
-    Always(ErrorKind),
+/// Counts down to one call that fails; all others succeed.
+#[derive(Debug, Drop)]
+pub struct Fall {
+    /// How many calls succeed before it, or `None` once it was made.
+    pub before: Option<u8>,
+    /// How it fails.
+    pub kind: ErrorKind,
 }
 
 impl Fall {
     fn call(&mut self) -> io::Result<()> {
-        match *self {
-            Fall::Never => Ok(()),
-            Fall::Once(0, kind) => {
-                *self = Fall::Never;
-                Err(io::Error::from(kind))
+        match self.before {
+            None => Ok(()),
+            Some(0) => {
+                self.before = None;
+                Err(io::Error::from(self.kind))
             }
-            Fall::Once(before, kind) => {
-                *self = Fall::Once(before - 1, kind);
+            Some(calls) => {
+                self.before = Some(calls - 1);
                 Ok(())
             }
-            Fall::Always(kind) => Err(io::Error::from(kind)),
         }
     }
 }
 
-/// Returns its bytes, one at each read. Some reads fail.
+/// Returns its bytes, one at each read, and fails once.
 #[derive(Drop)]
 pub struct Stumbling<'a> {
     pub bytes: &'a [u8],
@@ -82,17 +81,16 @@ impl Read for Stumbling<'_> {
     }
 }
 
-/// Keeps the bytes that it gets. Some calls fail.
+/// Takes the bytes that it gets, and fails once.
 #[derive(Drop)]
 pub struct Tripping {
-    pub kept: Vec<u8>,
     pub fall: Fall,
 }
 
 impl Write for Tripping {
     fn write(&mut self, buf: &[u8]) -> io::Result<usize> {
         self.fall.call()?;
-        self.kept.write(buf)
+        Ok(buf.len())
     }
 
     fn flush(&mut self) -> io::Result<()> {
