@@ -1,22 +1,27 @@
 //! Frames, copied and compared.
-use crate::loops::counting;
 use anyhow::{Result, bail};
 use kpn_lang::Program;
+use kpn_net::Network;
 use kpn_step::{Frame, advance};
+use kpn_text::read_network;
 use std::alloc::Global;
 
-/// Copies one of two frames with two variables, in a block inside the body, again and again, and compares it with the
-/// first: how often they were equal.
-pub fn equal_frames(alloc: Global, count: u64) -> Result<u64> {
-    let Ok(program) = Program::new(alloc, 0, 0, 1, 1, counting(alloc)?) else {
-        bail!("the loop is no program");
-    };
+/// A process with two variables, which counts in a block inside its body.
+const COUNTING: &str = "process loop(par wanted) {
+  turn = 0;
+  while (turn < wanted) { turn = (turn + 1); }
+}
+network { }
+";
+
+/// How many of so many copies, of one of two frames of a program in turn, were equal to the first one.
+fn equal_copies(program: &Program, count: u64) -> Result<u64> {
     if program.pars() != 1 {
-        bail!("the loop is no program");
+        bail!("the loop has other parameters");
     }
-    let start = Frame::start(&program, &[i64::MAX]);
-    let first = advance(&program, start.copy(), 1);
-    let second = advance(&program, start.copy(), 4);
+    let start = Frame::start(program, &[i64::MAX]);
+    let first = advance(program, start.copy(), 2);
+    let second = advance(program, start.copy(), 5);
     let mut kept = start;
     let mut equal = 0;
     for index in 0..count {
@@ -27,4 +32,20 @@ pub fn equal_frames(alloc: Global, count: u64) -> Result<u64> {
         }
     }
     Ok(equal)
+}
+
+fn equal_copies_on(network: &Network, count: u64) -> Result<u64> {
+    if network.programs() == 0 {
+        bail!("there is no loop");
+    }
+    equal_copies(network.program_at(0), count)
+}
+
+/// Copies one of two frames with two variables, in a block inside the body, again and again, and compares it with the
+/// first: how often they were equal.
+pub fn equal_frames(alloc: Global, count: u64) -> Result<u64> {
+    match read_network(alloc, COUNTING.as_bytes()) {
+        Ok(document) => equal_copies_on(document.network(), count),
+        Err(_) => bail!("the loop is no description"),
+    }
 }

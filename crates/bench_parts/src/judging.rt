@@ -1,7 +1,6 @@
 //! Whether a run by workers is like one on one thread.
-use anyhow::Result;
 use kpn_audit::audit;
-use kpn_history::{History, Trace, Version};
+use kpn_history::{Event, History, Trace, Version};
 use kpn_lang::Sequence;
 use kpn_net::Network;
 use kpn_run_here::{Limits, Outcome, Report};
@@ -9,6 +8,19 @@ use std::alloc::{AllocError, Global};
 
 /// The most steps that the auditor makes for an event.
 const STEPS: u64 = 10_000_000;
+
+/// Whether the audit of a history is exact, or `None` if the auditor does not find it legal.
+fn exactness(
+    alloc: Global,
+    network: &Network,
+    history: &History,
+) -> Result<Option<bool>, AllocError> {
+    let trace = trace_of(alloc, network, history)?;
+    match audit(alloc, network, &trace, STEPS) {
+        Ok(audit) => Ok(Some(audit.exact)),
+        Err(_) => Ok(None),
+    }
+}
 
 /// Whether a report has the wanted outcome, and the auditor finds its history legal. If the run has ended or has
 /// enough, it must have the wanted items too. If it has ended, the audit must be exact.
@@ -18,9 +30,8 @@ pub fn is_as_wanted(
     limits: &Limits,
     report: &Report,
     wanted: &Report,
-) -> Result<bool> {
-    let trace = trace_of(alloc, network, &report.history)?;
-    let Ok(audit) = audit(alloc, network, &trace, STEPS) else {
+) -> Result<bool, AllocError> {
+    let Some(exact) = exactness(alloc, network, &report.history)? else {
         return Ok(false);
     };
     let has_items = are_same(
@@ -29,7 +40,7 @@ pub fn is_as_wanted(
         limits.take,
     );
     let is_whole = match report.outcome {
-        Outcome::Ended => audit.exact && has_items,
+        Outcome::Ended => exact && has_items,
         Outcome::Enough => has_items,
         Outcome::Clogged | Outcome::Jammed | Outcome::Stopped => true,
     };
@@ -57,14 +68,20 @@ fn wanted_of(items: &[i64], most: Option<u64>) -> &[i64] {
     }
 }
 
-/// The trace of a history of the network.
-fn trace_of(alloc: Global, network: &Network, history: &History) -> Result<Trace, AllocError> {
-    let mut events = Vec::with_capacity(alloc, history.len())?;
+/// Adds the events of a history to a list.
+fn add_events(events: &mut Vec<Event>, history: &History) -> Result<(), AllocError> {
     for k in 0..history.len() {
         if let Some(event) = history.at(k) {
             events.push(event)?;
         }
     }
+    Ok(())
+}
+
+/// The trace of a history of the network.
+fn trace_of(alloc: Global, network: &Network, history: &History) -> Result<Trace, AllocError> {
+    let mut events = Vec::with_capacity(alloc, history.len())?;
+    add_events(&mut events, history)?;
     Ok(Trace {
         version: Version::Two,
         policy: network.policy(),

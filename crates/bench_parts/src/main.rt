@@ -38,15 +38,14 @@ use step::computed;
 use stress::{Plan, stress};
 use trace::written;
 
-/// Does what a line says, and writes what follows.
-fn measure<R: Files<File = File> + AllocGlobal + Threads + Wait + Clock + Sync, O: Write>(
+/// Does what these words say, and writes what follows.
+fn measure_words<R: Files<File = File> + AllocGlobal + Threads + Wait + Clock + Sync, O: Write>(
     rt: &R,
     alloc: Global,
     out: &mut O,
-    line: &str,
+    words: &[&str],
 ) -> Result<()> {
-    let words: Vec<&str> = line.split_whitespace().collect(alloc)?;
-    match words.as_slice() {
+    match words {
         ["stress", file, workers, times, seed, take, lists @ ..] => {
             let plan = Plan {
                 workers: workers.parse()?,
@@ -60,6 +59,17 @@ fn measure<R: Files<File = File> + AllocGlobal + Threads + Wait + Clock + Sync, 
         }
         words => measure_part(alloc, out, words),
     }
+}
+
+/// Does what a line says, and writes what follows.
+fn measure<R: Files<File = File> + AllocGlobal + Threads + Wait + Clock + Sync, O: Write>(
+    rt: &R,
+    alloc: Global,
+    out: &mut O,
+    line: &str,
+) -> Result<()> {
+    let words: Vec<&str> = line.split_whitespace().collect(alloc)?;
+    measure_words(rt, alloc, out, &words)
 }
 
 /// Does what these words say on one thread.

@@ -1,86 +1,56 @@
-//! Networks in which each process writes to the next, and tables in which each waits for the next.
+//! Networks in which each process writes to the next, as descriptions, and tables in which each waits for the next.
 ghost use Rattle.std.specs.Prelude.{IfOk, IfSome};
 ghost use Rattle.kpn_net.specs.Waits.{AreWaits};
 
 use kpn_cycle::{Wait, Waits};
-use kpn_lang::{Program, Sequence};
-use kpn_limits::MAX_PROCESSES;
-use kpn_net::{ChannelSpec, End, Growth, Instance, Network, Policy};
+use kpn_net::{End, Network};
 use std::alloc::{AllocError, Global};
+use std::fmt::Write;
 
-/// A process of this program with these ports, at most one each way.
-fn instance(
-    alloc: Global,
-    program: usize,
-    ins: &[usize],
-    outs: &[usize],
-) -> Result<Instance, AllocError> {
-    Ok(Instance {
-        program,
-        ins: Sequence::from_vec(ins.to_vec(alloc)?),
-        outs: Sequence::from_vec(outs.to_vec(alloc)?),
-        pars: Sequence::new(alloc),
-    })
-}
+/// Processes that do nothing: without ports, with only an out port, and with an in port and an out port.
+const PROCESSES: &str = "process none() { }
+process first(out o) { }
+process next(in i; out o) { }
+";
 
-/// Programs that do nothing: without ports, with only an out port, and with an in port and an out port.
-fn programs(alloc: Global) -> Result<Option<Vec<Program>>, AllocError> {
-    let mut programs = Vec::new(alloc);
-    for (ins, outs) in [(0, 0), (0, 1), (1, 1)] {
-        let body = vec![in alloc; Vec::new(alloc)]?;
-        let Ok(program) = Program::new(alloc, ins, outs, 0, 0, body) else {
-            return Ok(None);
-        };
-        programs.push(program)?;
+/// Writes process `p` of a row of so many.
+fn write_process(
+    text: &mut String,
+    closed: bool,
+    length: usize,
+    p: usize,
+) -> Result<(), AllocError> {
+    if p >= length {
+        return writeln!(text, "  p{p} = none(;);");
     }
-    Ok(Some(programs))
+    if p == 0 && !closed {
+        return writeln!(text, "  p{p} = first(; c{p});");
+    }
+    let before = if p == 0 { length - 1 } else { p - 1 };
+    writeln!(text, "  p{p} = next(c{before}; c{p});")
 }
 
-/// Process `p` of the first `length` processes writes channel `p`, which the next one reads. The last one writes to the
-/// first, or to the outside. All other processes have no ports. There are from 1 to `processes` in the row, and at
-/// most `MAX_PROCESSES` in all: else it is `None`.
-pub fn network_of(
-    alloc: Global,
+/// Writes a network. Process `p` of the first `length` processes writes channel `p`, which the next one reads. The last
+/// one writes to the first, or to the outside. All other processes have no ports.
+pub fn write_network(
+    text: &mut String,
     closed: bool,
     length: usize,
     processes: usize,
-) -> Result<Option<Network>, AllocError> {
-    if length == 0 || length > processes || processes > MAX_PROCESSES {
-        return Ok(None);
+) -> Result<(), AllocError> {
+    writeln!(text, "{PROCESSES}network {{\n  limit 8;")?;
+    for c in 0..length {
+        let kind = if closed || length - c > 1 {
+            "channel"
+        } else {
+            "sink"
+        };
+        writeln!(text, "  {kind} c{c} cap 8;")?;
     }
-    let Some(programs) = programs(alloc)? else {
-        return Ok(None);
-    };
-    let mut instances = Vec::new(alloc);
-    let mut channels = Vec::new(alloc);
     for p in 0..processes {
-        if p >= length {
-            instances.push(instance(alloc, 0, &[], &[])?)?;
-            continue;
-        }
-        channels.push(if closed || p + 1 < length {
-            ChannelSpec::Inner(8)
-        } else {
-            ChannelSpec::Sink(8)
-        })?;
-        instances.push(if p > 0 {
-            instance(alloc, 2, &[p - 1], &[p])?
-        } else if closed {
-            instance(alloc, 2, &[length - 1], &[p])?
-        } else {
-            instance(alloc, 1, &[], &[p])?
-        })?;
+        write_process(text, closed, length, p)?;
     }
-    Ok(Network::new(
-        alloc,
-        programs,
-        instances,
-        channels,
-        8,
-        Policy::Cycles,
-        Growth::One,
-    )
-    .ok())
+    writeln!(text, "}}")
 }
 
 /// Process `p` of the first `length` processes waits on channel `p` as full, and all others wait for nobody. It is

@@ -1,23 +1,39 @@
 //! A loop of the process language, stepped alone. `bench/step` measures it beside a plain interpreter.
-use crate::loops::blocks_of;
+use crate::loops::loop_of;
 use anyhow::{Result, anyhow, bail};
-use kpn_lang::{Program, Said};
+use kpn_net::Network;
+use kpn_step::{Said, alone};
+use kpn_text::read_network;
 use std::alloc::Global;
+
+/// The item that was put, if nothing else was said.
+fn item_of(talk: &[Said]) -> Result<i64> {
+    match talk {
+        [Said::Put(_, item)] => Ok(*item),
+        _ => Err(anyhow!("the loop put no item")),
+    }
+}
+
+/// The item that the first process of a network puts at its end.
+fn put_by(alloc: Global, network: &Network, turns: i64) -> Result<i64> {
+    if network.programs() == 0 {
+        bail!("there is no loop");
+    }
+    let program = network.program_at(0);
+    if program.pars() != 1 || program.ins() != 0 {
+        bail!("the loop has other ports or parameters");
+    }
+    let run = alone(alloc, program, &[turns], &[], u64::MAX)?;
+    item_of(run.talk.as_slice())
+}
 
 /// The item that the loop of this name puts at its end.
 pub fn computed(alloc: Global, name: &str, turns: i64) -> Result<i64> {
-    let Some(blocks) = blocks_of(alloc, name)? else {
+    let Some(text) = loop_of(name) else {
         bail!("the loops are counting, ifs, arithmetic, computing, remainder and deep");
     };
-    let Ok(program) = Program::new(alloc, 0, 1, 1, 2, blocks) else {
-        bail!("the loop is no program");
-    };
-    if program.pars() != 1 || program.ins() != 0 {
-        bail!("the loop is no program");
-    }
-    let run = kpn_step::alone(alloc, &program, &[turns], &[], u64::MAX)?;
-    match run.talk.as_slice() {
-        [Said::Put(_, item)] => Ok(*item),
-        _ => Err(anyhow!("the loop put no item")),
+    match read_network(alloc, text.as_bytes()) {
+        Ok(document) => put_by(alloc, document.network(), turns),
+        Err(_) => bail!("the loop is no description"),
     }
 }

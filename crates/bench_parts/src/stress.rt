@@ -1,14 +1,14 @@
 //! A network that workers run often while their gate dawdles at random. `bench/stress` measures nothing by it: each run
 //! has to come to the outcome and the items of a run on one thread, with a history that the auditor finds legal.
-ghost use Rattle.std.specs.Prelude.{◌≡◌, length};
+ghost use Rattle.std.specs.Prelude.{◌≡◌, ◌<◌, ◌≤◌, length};
 ghost use Rattle.kpn_net.specs.Iteration.{sources};
 
 use crate::dawdling::Dawdling;
 use crate::judging::is_as_wanted;
-use anyhow::{Context, Result, anyhow, bail};
+use anyhow::{Result, anyhow, bail};
 use kpn_inputs::{Inputs, load_inputs};
 use kpn_limits::MAX_WORKERS;
-use kpn_run_here::{Limits, run_here};
+use kpn_run_here::{Limits, Report, run_here};
 use kpn_shelf::FileShelf;
 use kpn_workers::run;
 use std::alloc::{AllocGlobal, Global};
@@ -33,7 +33,51 @@ pub struct Plan {
     pub take: u64,
 }
 
-/// Makes these runs. The first that is not like one on one thread ends them with an error.
+/// Makes a run. Returns whether it is like this one on one thread.
+fn is_like<R: Threads + Wait + Clock + Sync>(
+    rt: &R,
+    alloc: Global,
+    inputs: &Inputs,
+    limits: &Limits,
+    workers: usize,
+    gate: &Dawdling,
+    wanted: &Report,
+) -> Result<bool>
+    requires lists { length inputs.now.given.items ≡ sources inputs.now.document.tables }
+    requires workers { (0 < workers) × (workers ≤ MAX_WORKERS) }
+{
+    let network = inputs.document.network();
+    match run(rt, alloc, network, &inputs.given, workers, gate, limits) {
+        Ok(report) => Ok(is_as_wanted(alloc, network, limits, &report, wanted)?),
+        Err(fault) => Err(anyhow!("{fault:?}")),
+    }
+}
+
+/// Makes so many runs. The first that is not like this one on one thread ends them with an error.
+fn run_times<R: Threads + Wait + Clock + Sync>(
+    rt: &R,
+    alloc: Global,
+    inputs: &Inputs,
+    limits: &Limits,
+    plan: Plan,
+    wanted: &Report,
+) -> Result<()>
+    requires { length inputs.now.given.items ≡ sources inputs.now.document.tables }
+{
+    let workers = plan.workers;
+    if workers == 0 || workers > MAX_WORKERS {
+        bail!("1 to 16 workers");
+    }
+    let gate = Dawdling::new(plan.seed);
+    for time in 0..plan.times {
+        if !is_like(rt, alloc, inputs, limits, workers, &gate, wanted)? {
+            bail!("run {time} is not as one on one thread");
+        }
+    }
+    Ok(())
+}
+
+/// Makes the runs of a plan, beside one on one thread.
 fn run_often<R: Threads + Wait + Clock + Sync>(
     rt: &R,
     alloc: Global,
@@ -43,27 +87,10 @@ fn run_often<R: Threads + Wait + Clock + Sync>(
 ) -> Result<()>
     requires { length inputs.now.given.items ≡ sources inputs.now.document.tables }
 {
-    let Plan {
-        workers,
-        times,
-        seed,
-        take: _,
-    } = plan;
-    if workers == 0 || workers > MAX_WORKERS {
-        bail!("1 to 16 workers");
+    match run_here(alloc, inputs.document.network(), &inputs.given, limits) {
+        Ok(wanted) => run_times(rt, alloc, inputs, limits, plan, &wanted),
+        Err(_) => bail!("out of memory on one thread"),
     }
-    let network = inputs.document.network();
-    let wanted = run_here(alloc, network, &inputs.given, limits).context("one thread")?;
-    let gate = Dawdling::new(seed);
-    for time in 0..times {
-        let report = run(rt, alloc, network, &inputs.given, workers, &gate, limits).map_err(
-            |fault| anyhow!("run {time}: {fault:?}"),
-        )?;
-        if !is_as_wanted(alloc, network, limits, &report, &wanted)? {
-            bail!("run {time} is not as one on one thread");
-        }
-    }
-    Ok(())
 }
 
 /// Makes the runs of a plan, of the network of a file with the lists that the words `NAME=FILE` name.
