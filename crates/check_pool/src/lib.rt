@@ -15,6 +15,8 @@ mod looking;
 #[cfg(test)]
 mod meeting;
 #[cfg(test)]
+mod moving;
+#[cfg(test)]
 mod networks;
 #[cfg(test)]
 mod outside;
