@@ -22,7 +22,7 @@ import sys
 import tempfile
 import time
 
-from prover import PARTS, Crate, find_kit, link_words, read_crates, words_of
+from prover import Crate, find_kit, link_words, needed_by, read_crates, words_of
 
 TOP = pathlib.Path(__file__).resolve().parent.parent
 OUT = TOP / 'out'
@@ -218,6 +218,8 @@ def make(kit, crates, number):
     """Makes what is not current, and returns whether all of it was proved."""
     progress = Progress(number)
     progress.line(f'kpn: the program is proved and built first, {counted(number)}; {last_build()}')
+    if number == len(crates):
+        progress.line('kpn: `./kpn --unproved` builds it without proofs, in some three minutes')
     room = pathlib.Path(tempfile.mkdtemp(prefix='kpn-build-'))
     try:
         for crate in [it for it in crates if it.sum]:
@@ -242,8 +244,7 @@ def build():
     number = sum(not it.look(kit) for it in crates)
     if number and not make(kit, crates, number):
         return 1
-    parts = [f'crates/{it.name}/{part}' for it in crates for part in PARTS if (it.folder / part).is_dir()]
-    (OUT / 'needed').write_text('\n'.join(['crates.txt', *parts]) + '\n')
+    (OUT / 'needed').write_text('\n'.join(needed_by(crates)) + '\n')
     # Then a source that has changed since is newer.
     os.utime(program.made, (began, began))
     return 0

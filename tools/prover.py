@@ -43,6 +43,12 @@ def read_crates(top, kind=Crate):
     return found
 
 
+def needed_by(crates):
+    """The files and folders that a program over these crates is made from, below the top."""
+    parts = [f'crates/{it.name}/{part}' for it in crates for part in PARTS if (it.folder / part).is_dir()]
+    return ['crates.txt', *parts]
+
+
 def words_of(verb, crate, kit, libraries, *more):
     own = {it.name for it in crate.below}
     words = [kit / 'bin/rattle', verb, '--crate-name', crate.name, f'src/{"main" if crate.is_program else "lib"}.rt']

@@ -3,7 +3,7 @@
 
 One process copies the items of a source to a sink. A thread of its own feeds an item after each pause, and the calling
 thread sleeps until it can take one. The program makes only public calls of `kpn_pool`. Its source is main.rt.txt,
-since the gate wants each .rt file in a crate that it proves. The build is that of optimised.py, in a copy of the tree:
+since the gate wants each .rt file in a crate that it proves. The build is that of tools/unproved.py, in a copy of the tree:
 optimised, and not proved. Beside it is a plain Rust program of three threads, which hand the items on by channels of
 std. It prints for 1, 4 and 16 workers
 
@@ -40,14 +40,14 @@ def built(folder):
     """The program, built in a copy of the tree with a crate more."""
     tree, program = folder / 'tree', folder / 'idle'
     shutil.copytree(measure.TOP / 'crates', tree / 'crates', symlinks=True, ignore=shutil.ignore_patterns('out'))
-    (tree / 'bench').mkdir()
-    for name in ('HANDLES', 'crates.txt', 'bench/optimised.py'):
+    (tree / 'tools').mkdir()
+    for name in ('HANDLES', 'crates.txt', 'tools/unproved.py', 'tools/prover.py'):
         shutil.copy(measure.TOP / name, tree / name)
     with open(tree / 'crates.txt', 'a') as crates:
         crates.write(f'{CRATE}: {USES}\n')
     (tree / 'crates' / CRATE / 'src').mkdir(parents=True)
     shutil.copy(HERE / 'main.rt.txt', tree / 'crates' / CRATE / 'src/main.rt')
-    words = [sys.executable, tree / 'bench/optimised.py', program, CRATE]
+    words = [sys.executable, tree / 'tools/unproved.py', program, CRATE]
     done = subprocess.run(words, stdin=subprocess.DEVNULL, capture_output=True, text=True)
     if done.returncode != 0:
         sys.exit(done.stdout + done.stderr)
