@@ -21,7 +21,9 @@ mod value;
 pub use chain::Chain;
 pub use code::{Code, Round};
 pub use codes::Coded;
-pub use formula::{Below, Difference, Equal, Formula, IsRest, Product, ProductRest, Rest, Sum};
+pub use formula::{
+    Below, Difference, Equal, Formula, IsRest, Product, ProductRest, Rest, RestSum, Sum,
+};
 pub use link::Link;
 pub use plain::{Run, run_alone};
 pub use program::{Program, ProgramFault, same};

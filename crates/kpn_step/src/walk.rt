@@ -8,8 +8,8 @@ use crate::stop::Stop;
 use kpn_lang::Program;
 
 /// Makes at most `quota` steps, until the process stops. It returns how many, and the stop.
-// It goes along the codes of the program and keeps its position there. A code may take two steps and more. So the last
-// step goes by the statement, and so does a pause.
+// It goes along the codes of the program and keeps its position there. A code may take three steps. So the last two go
+// by the statement, and so does a pause.
 pub(crate) fn walk(program: &Program, frame: &mut Frame, quota: u64) -> (u64, Stop)
     requires { IsTrue (fits program.now frame.old) }
     ensures { Walked program.now.blocks quota frame.old result.0 result.1 frame.new }
@@ -19,7 +19,7 @@ pub(crate) fn walk(program: &Program, frame: &mut Frame, quota: u64) -> (u64, St
     let mut at = frame.position(program);
     let mut left = quota;
     'steps: loop {
-        if left < 2 {
+        if left < 3 {
             match frame.step_by_tree(program, at, left == 0) {
                 Ok(next) => {
                     at = next;
