@@ -19,7 +19,7 @@ mod talk;
 mod value;
 
 pub use chain::Chain;
-pub use code::{Code, Round};
+pub use code::{Code, Round, Ways};
 pub use codes::Coded;
 pub use formula::{
     Below, Difference, Equal, Formula, IsRest, Product, ProductRest, Rest, RestSum, Sum,

@@ -7,9 +7,12 @@ use crate::frame::Frame;
 use crate::stop::Stop;
 use kpn_lang::Program;
 
+/// No code takes more steps.
+const STEPS_OF_A_CODE: u64 = 3;
+
 /// Makes at most `quota` steps, until the process stops. It returns how many, and the stop.
-// It goes along the codes of the program and keeps its position there. A code may take three steps. So the last two go
-// by the statement, and so does a pause.
+// It goes along the codes of the program and keeps its position there. A code may take several steps. So the last ones
+// go by the statement, and so does a pause.
 pub(crate) fn walk(program: &Program, frame: &mut Frame, quota: u64) -> (u64, Stop)
     requires { IsTrue (fits program.now frame.old) }
     ensures { Walked program.now.blocks quota frame.old result.0 result.1 frame.new }
@@ -19,7 +22,7 @@ pub(crate) fn walk(program: &Program, frame: &mut Frame, quota: u64) -> (u64, St
     let mut at = frame.position(program);
     let mut left = quota;
     'steps: loop {
-        if left < 3 {
+        if left < STEPS_OF_A_CODE {
             match frame.step_by_tree(program, at, left == 0) {
                 Ok(next) => {
                     at = next;
