@@ -1,8 +1,8 @@
 -- The queue of a schedule as its states change.
-use Rattle.std.proofs.Common.{◌≡◌, ℕ, zero, suc, ◌+◌, ◌<◌, ◌≤◌, false, cond, List, [], ◌∷◌, ◌++◌, length, set, get_or, count_by, refl, sym, ap, ◌∙◌, subst, inl, inr, arith, length-append}
+use Rattle.std.proofs.Common.{◌≡◌, ℕ, zero, suc, ◌+◌, ◌<◌, ◌≤◌, false, cond, List, [], ◌∷◌, ◌++◌, length, set, get_or, drop, slice_get, Some, count_by, refl, sym, ap, ◌∙◌, subst, inl, inr, arith, length-append}
 use Rattle.std.specs.List.{Contains, range_with_len}
 use Rattle.std.proofs.lemmas.Bool.{cases_eq, both_ways}
-use Rattle.std.proofs.lemmas.List.{length-replicate, length-set, get_or-set_same, get_or-set_other, get_or-replicate}
+use Rattle.std.proofs.lemmas.List.{length-replicate, length-set, get_or-set_same, get_or-set_other, get_or-replicate, set-set, set-get_or}
 use Rattle.std.proofs.lemmas.List.Elements.{Contains-append_left, Contains-append_cases, Contains-push}
 use Rattle.std.proofs.lemmas.List.FromFn.{length-range_with_len, get_or-range_with_len}
 use Rattle.std.proofs.lemmas.List.Sums.{count_by-le-length}
@@ -11,7 +11,8 @@ use Rattle.kpn_net.proofs.Cycles.{Contains-first, Contains-later, Contains-cases
 use Rattle.kpn_history.specs.declared.state.State.{State}
 use Rattle.kpn_history.specs.declared.state.State.TheVariants.{Ready, Held}
 use Rattle.kpn_history.specs.Views.{is_ready}
-use Rattle.kpn_schedule.specs.Schedule.{IsSchedule, HoldsFirst, all_ready, made_ready, with_state}
+use Rattle.kpn_schedule.specs.Schedule.{Schedule, IsSchedule, HoldsFirst, all_ready, first_held, made_ready, with_state}
+use Rattle.kpn_schedule.proofs.Waiting.{first_taken}
 use Rattle.kpn_schedule.proofs.Tallies.{count_set, AreCounts-ready}
 
 -- ---- all are ready at the start
@@ -240,3 +241,37 @@ module _ (states : List State) (queue : List ℕ) (is : IsSchedule (record { sta
           let before = is.count in
           omega arith;
     }
+
+-- ---- the first moves to the tail
+
+abbrev pub scheduled : List State → List ℕ → Schedule
+scheduled states queue = record { states = states; queue = queue }
+
+module _ (states : List State) (queue : List ℕ) (p : ℕ)
+    (is : IsSchedule (record { states = states; queue = queue })) (first : slice_get queue 0 ≡ Some p) where
+  apart : IsSchedule (record { states = states; queue = p ∷ drop 1 queue })
+  apart = popped states queue p (drop 1 queue) is (first_taken queue 0 p first)
+
+  -- it is held, and ready again
+  states_back : set (set states p Held) p Ready ≡ states
+  states_back =
+      set-set states p Held Ready
+      ∙ ap (set states p) (sym (first_ready states p (drop 1 queue) apart))
+      ∙ set-get_or states p Ready
+
+  pub IsSchedule-rotated : IsSchedule (record { states = states; queue = drop 1 queue ++ p ∷ [] })
+  IsSchedule-rotated =
+      let there = first_there states p (drop 1 queue) apart in
+      let still : p < length (set states p Held) = omega (arith, there, length-set states p Held) in
+      subst (λ xs. IsSchedule (record { states = xs; queue = drop 1 queue ++ p ∷ [] })) states_back
+      (IsSchedule-made_ready (set states p Held) (drop 1 queue) (IsSchedule-held states p (drop 1 queue) apart) p still
+      (ap is_ready (get_or-set_same states p Held Ready there)))
+
+  pub rotated : (after : List ℕ) → after ≡ drop 1 queue ++ p ∷ []
+      → scheduled states after ≡ made_ready p (first_held p (scheduled states queue))
+  rotated after same =
+      ap (scheduled states) same ∙ ap (λ xs. scheduled xs (drop 1 queue ++ p ∷ [])) (sym states_back)
+
+  -- no more are in the queue than there are processes
+  pub few_wait : length queue ≤ length states
+  few_wait = let long = is.count in let most = count_by-le-length is_ready states in omega (arith, long, most)

@@ -1,5 +1,5 @@
 -- The schedule of a run: the state of each process, and the order in which to step those that are ready.
-use Rattle.std.specs.Prelude.{◌≡◌, ◌↔◌, ℕ, ◌<◌, true, List, [], ◌∷◌, ◌++◌, length, replicate, slice_index_or, slice_set, count_by, Contains}
+use Rattle.std.specs.Prelude.{◌≡◌, ◌↔◌, ℕ, ◌<◌, true, List, [], ◌∷◌, ◌++◌, length, drop, replicate, slice_index_or, slice_set, count_by, Contains}
 use Rattle.std.specs.List.{range_with_len}
 use Rattle.kpn_net.specs.Waits.{AreDistinct}
 use Rattle.kpn_history.specs.declared.state.State.{State}
@@ -38,6 +38,10 @@ pub record HoldsFirst (p : ℕ) (before after : Schedule) : Type 0 where
   pub was_ready : state_at before.states p ≡ Ready
   pub queue : before.queue ≡ p ∷ after.queue
   pub states : after.states ≡ slice_set before.states p Held
+
+-- the schedule after the first process of the queue, p, has become held
+abbrev pub first_held : (p : ℕ) → Schedule → Schedule
+first_held p s = record { states = slice_set s.states p Held; queue = drop 1 s.queue }
 
 -- process p becomes ready, at the tail of the queue
 abbrev pub made_ready : (p : ℕ) → Schedule → Schedule

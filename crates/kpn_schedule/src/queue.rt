@@ -1,5 +1,5 @@
 //! The queue of the ready processes. A process leaves at its head and another joins at its tail in a few instructions.
-ghost use Rattle.std.specs.Prelude.{◌≡◌, ◌<◌, ◌≤◌, ℕ, [], ◌∷◌, ◌++◌, length, IfOk, IfSome, IfNone, slice_get, vec_len, vec_capacity};
+ghost use Rattle.std.specs.Prelude.{◌≡◌, ◌<◌, ◌≤◌, ℕ, [], ◌∷◌, ◌++◌, length, drop, IfOk, Some, IfSome, IfNone, slice_get, vec_len, vec_capacity};
 ghost use Rattle.std.specs.List.{range_with_len};
 ghost use Rattle.kpn_schedule.specs.Queue.{waiting, IsQueue};
 
@@ -60,6 +60,17 @@ impl<A: Allocator> Queue<A> {
     {
         self.make_room();
         self.numbers.push_reserved(p);
+    }
+
+    /// Moves `p`, which is the first number, behind the others.
+    pub(crate) fn rotate(&mut self, p: usize)
+        requires first { slice_get self.old.numbers.items self.old.taken ≡ Some p }
+        requires room { (room : ℕ) × IsQueue room self.old × (length (waiting self.old) ≤ room) }
+        ensures numbers { waiting self.new ≡ drop 1 (waiting self.old) ++ p ∷ [] }
+        ensures queue { (room : ℕ) → IsQueue room self.old → IsQueue room self.new }
+    {
+        self.taken += 1;
+        self.put(p);
     }
 
     /// Makes sure that there is a place for one more number.

@@ -1,9 +1,9 @@
 //! A schedule as it is stored: the states of the processes, and a queue with room for all of them.
-ghost use Rattle.std.specs.Prelude.{◌≡◌, ◌↔◌, ℕ, ◌<◌, ◌^◌, true, false, [], length, replicate, count_by, slice_get, slice_set, IfOk, IfSome, IfNone};
+ghost use Rattle.std.specs.Prelude.{◌≡◌, ◌↔◌, ℕ, ◌<◌, ◌^◌, true, false, [], length, replicate, count_by, slice_get, slice_set, Some, IfOk, IfSome, IfNone};
 ghost use Rattle.kpn_history.specs.declared.state.State.TheVariants.{Ready};
 ghost use Rattle.kpn_history.specs.Views.{AreCounts, is_ready, is_held};
 ghost use Rattle.kpn_schedule.specs.Counting.{IsTally};
-ghost use Rattle.kpn_schedule.specs.Schedule.{state_at, IsSchedule, HaveStopped, all_ready, HoldsFirst, made_ready, with_state};
+ghost use Rattle.kpn_schedule.specs.Schedule.{state_at, IsSchedule, HaveStopped, all_ready, HoldsFirst, first_held, made_ready, with_state};
 
 use crate::counting::{Tally, enter, leave};
 use crate::queue::Queue;
@@ -139,6 +139,14 @@ impl<A: Allocator> Schedule<A> {
     {
         self.states[p] = State::Ready;
         self.queue.put(p);
+    }
+
+    /// Moves process `p`, which is the first of the queue, to its tail, as if it were held and put back. No state changes.
+    pub fn rotate(&mut self, p: usize)
+        requires { slice_get self.old.queue 0 ≡ Some p }
+        ensures { self.new ≡ made_ready p (first_held p self.old) }
+    {
+        self.queue.rotate(p);
     }
 
     /// Puts process `p`, which is not ready, into this state, which is not ready either.
