@@ -6,6 +6,7 @@ pub mod Held
 pub mod Supplying
 pub mod Settling
 pub mod Stepped
+pub mod InARow
 pub mod Told
 pub mod Turning
 pub mod Completing

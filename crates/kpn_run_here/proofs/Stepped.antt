@@ -27,7 +27,7 @@ use Rattle.kpn_run_state.specs.Stepping.{ClaimsNobody, IsStep, StepsNext}
 use Rattle.kpn_run_state.proofs.Appended.{commit_tables, commit_history, commit_commits}
 use Rattle.kpn_run_here.specs.declared.outcome.Limits.{Limits}
 use Rattle.kpn_run_here.specs.Outcomes.{IsEnough}
-use Rattle.kpn_run_here.specs.Running.{IsLeftToItself, IsFrontStepped, IsLater, IsCommitted, HasPut, KeepsSinks, sinks_after, has_put, sink_of, ReadsOneMore, IsStepped}
+use Rattle.kpn_run_here.specs.Running.{IsLeftToItself, IsFrontStepped, IsLater, IsCommitted, HasPut, HasPutOn, KeepsSinks, sinks_after, has_put, ReadsOneMore, IsStepped}
 use Rattle.kpn_run_here.proofs.Ends.{AddNothing, nothing_more, sink_there, closed_later}
 use Rattle.kpn_run_here.specs.RunHere.{takes_of, takes_from_sinks}
 use Rattle.kpn_run_here.proofs.Held.{held_after_step, held_after_take}
@@ -421,58 +421,35 @@ module _ (limits : Limits) (before now after : Book) (to_itself : IsLeftToItself
 
 -- ---- all of it
 
-sink_is : (t : Tables) (p c : ℕ) (v : ℤ) (sink : ℕ) → Some sink ≡ sink_of t (event.Put p c v) → sink ≡ c
-sink_is t p c v sink = by (is_sink (channel_at t c))
-  where
-    by : (b : Bool) → Some sink ≡ cond b (Some c) None → sink ≡ c
-    by true e = cc
-    by false e = absurd cc
-
-no_sink_is : (t : Tables) (p c : ℕ) (v : ℤ) → None ≡ sink_of t (event.Put p c v)
-    → is_sink (channel_at t c) ≡ false
-no_sink_is t p c v = by (is_sink (channel_at t c)) refl
-  where
-    by : (b : Bool) → is_sink (channel_at t c) ≡ b → None ≡ cond b (Some c) None → is_sink (channel_at t c) ≡ false
-    by true is e = absurd cc
-    by false is e = is
-
 module _ (limits : Limits) (before now : Book) (to_itself : IsLeftToItself before)
     (front : IsFrontStepped (max limits.quota 1) before now) (committed : IsCommitted before now)
-    (put : HasPut before now) (few : IsEnough before.tables before.history limits.take → ⊥) (found : Option ℕ)
-    (is_found : (B : List Event) (e : Event) → now.history ≡ B ++ e ∷ [] → found ≡ sink_of now.tables e) where
-  found_is : found ≡ sink_of now.tables (event.Put put.process put.channel put.item)
-  found_is = is_found before.history (event.Put put.process put.channel put.item) put.history
-
-  pub put_taken_stepped : (sink : ℕ) → Some sink ≡ found → IsBook now → (item : Option ℤ)
+    (few : IsEnough before.tables before.history limits.take → ⊥) where
+  pub put_taken_stepped : (sink : ℕ) → HasPutOn sink before now → IsBook now → (item : Option ℤ)
       (after : Book) → Takes sink item now after → (enough : Bool)
       → ((B : List Event) → ReadsOneMore after.tables sink B after.history
       → (IsEnough after.tables B limits.take → ⊥) → IsTrue enough ↔ IsEnough after.tables after.history limits.take)
       → IsStepped limits enough before after
-  put_taken_stepped sink at book item after takes enough decides =
-      let same =
-      sink_is now.tables put.process put.channel put.item sink (at ∙ found_is) in
-      let here : now.history ≡ before.history ++ event.Put put.process sink put.item ∷ [] =
-      put.history ∙ ap (λ x. before.history ++ event.Put put.process x put.item ∷ []) (sym same) in
-      put_taken limits before now after to_itself committed put.process sink put.item here book item takes front enough
+  put_taken_stepped sink put book item after takes enough decides =
+      put_taken limits before now after to_itself committed put.process sink put.item put.history book item takes front
+      enough
       (decides before.history
-      (put_taken_more limits before now after to_itself committed put.process sink put.item here book item takes)
+      (put_taken_more limits before now after to_itself committed put.process sink put.item put.history book item takes)
       (λ has.
       few (subst (λ t. IsEnough t before.history limits.take)
-      (put_taken_tables limits before now after to_itself committed put.process sink put.item here book item takes)
-      has)))
+      (put_taken_tables limits before now after to_itself committed put.process sink put.item put.history book item
+      takes) has)))
 
   -- it was put on a channel between processes
-  pub put_inside_stepped : None ≡ found → IsStepped limits false before now
-  put_inside_stepped none =
-      let inside = no_sink_is now.tables put.process put.channel put.item (none ∙ found_is) in
+  pub put_inside_stepped : (put : HasPut before now) → is_sink (channel_at before.tables put.channel) ≡ false
+      → IsStepped limits false before now
+  put_inside_stepped put inside =
       not_put limits before now to_itself committed front
       (record {
         written = λ d sink.
             put_elsewhere before now put.process put.channel put.item put.history d
             (λ same.
-            both_ways (is_sink (channel_at now.tables d))
-            (subst (λ x. is_sink (channel_at now.tables x) ≡ false) same inside)
-            (subst (λ t. is_sink (channel_at t d) ≡ true) (sym committed.later.tables) sink));
+            both_ways (is_sink (channel_at before.tables d))
+            (subst (λ x. is_sink (channel_at before.tables x) ≡ false) same inside) sink);
         read = λ d sink. put_read before now put.process put.channel put.item put.history d;
       })
       few

@@ -1,5 +1,5 @@
 -- Scaffolding: what the code keeps while it runs a network by itself. Only contracts of private functions use it.
-use Rattle.std.specs.Prelude.{◌≡◌, ◌≢◌, ◌↔◌, ℕ, ◌+◌, ◌<◌, ◌≤◌, if◌then◌else◌, Bool, true, false, IsTrue, ℤ, List, [], ◌∷◌, ◌++◌, length, take, slice_index_or, Option, Some, None}
+use Rattle.std.specs.Prelude.{◌≡◌, ◌≢◌, ◌↔◌, ℕ, ◌+◌, ◌<◌, ◌≤◌, Bool, true, false, IsTrue, ℤ, List, [], ◌∷◌, ◌++◌, length, take, slice_index_or, Option, Some, None}
 use Rattle.kpn_lang.specs.Prefix.{IsPrefix}
 use Rattle.kpn_net.specs.Tables.{Tables, channel_at, is_source, is_sink}
 use Rattle.kpn_net.specs.Process.{Family}
@@ -68,6 +68,13 @@ pub record HasPut (before after : Book) : Type 0 where
   pub item : ℤ
   pub history : after.history ≡ before.history ++ event.Put process channel item ∷ []
 
+-- a step has put an item on this sink, and nothing else has come
+pub record HasPutOn (c : ℕ) (before after : Book) : Type 0 where
+  pub sink : is_sink (channel_at before.tables c) ≡ true
+  pub process : ℕ
+  pub item : ℤ
+  pub history : after.history ≡ before.history ++ event.Put process c item ∷ []
+
 -- a commit was made, and nobody is held
 pub record IsCommitted (before after : Book) : Type 0 where
   pub later : IsLater before after
@@ -86,11 +93,6 @@ abbrev pub sinks_after : (put : Bool) → (before after : Book) → Type 0
 sinks_after true before after = HasPut before after
 sinks_after false before after = KeepsSinks before after
 
--- the sink on which an event has put an item, if it has
-abbrev pub sink_of : Tables → Event → Option ℕ
-sink_of t (event.Put p c v) = if is_sink (channel_at t c) then Some c else None
-sink_of t e = None
-
 -- of one sink at most one item more was read, of the others none
 pub record ReadsOneMore (t : Tables) (sink : ℕ) (before after : List Event) : Type 0 where
   pub here : length (read_on after sink) ≤ length (read_on before sink) + 1
@@ -102,6 +104,15 @@ pub record IsStepped (limits : Limits) (enough : Bool) (before after : Book) : T
   pub turn : IsTurn limits.quota before after
   pub later : IsLater before after
   pub commits : after.commits ≡ before.commits + 1
+  pub to_itself : IsLeftToItself after
+  pub decides : IsTrue enough ↔ IsEnough after.tables after.history limits.take
+
+-- turns, at least one, that have not gone beyond the limit of the commits
+pub record AreStepped (limits : Limits) (enough : Bool) (before after : Book) : Type 0 where
+  pub made : (first : Book) (n : ℕ) → Turns limits first n before → (m : ℕ) × Turns limits first m after
+  pub later : IsLater before after
+  pub further : before.commits < after.commits
+  pub within : after.commits ≤ limits.commits
   pub to_itself : IsLeftToItself after
   pub decides : IsTrue enough ↔ IsEnough after.tables after.history limits.take
 

@@ -52,7 +52,7 @@ counts_ready other p b = refl
 
 -- ---- a commit
 
-base_tables : (answer : Done) (p : ℕ) (b : Book) → (ready_if_paused p answer b).tables ≡ b.tables
+pub base_tables : (answer : Done) (p : ℕ) (b : Book) → (ready_if_paused p answer b).tables ≡ b.tables
 base_tables done.Paused p b = refl
 base_tables other p b = refl
 

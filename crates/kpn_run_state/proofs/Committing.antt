@@ -68,6 +68,15 @@ module _ (s : Stop) (b o : Book) (but : is_but_reserved s b o) where
   pub tables_reserved : o.tables ≡ b.tables
   tables_reserved = by_cases (λ x. x.tables ≡ b.tables) refl (λ c below. refl)
 
+  pub history_reserved : o.history ≡ b.history
+  history_reserved = by_cases (λ x. x.history ≡ b.history) refl (λ c below. refl)
+
+  pub commits_reserved : o.commits ≡ b.commits
+  commits_reserved = by_cases (λ x. x.commits ≡ b.commits) refl (λ c below. refl)
+
+  pub count_reserved : held_count o ≡ held_count b
+  count_reserved = by_cases (λ x. held_count x ≡ held_count b) refl (λ c below. refl)
+
   pub frame_reserved : (p : ℕ) → frame_in o.configuration p ≡ frame_in b.configuration p
   frame_reserved p =
       by_cases (λ x. frame_in x.configuration p ≡ frame_in b.configuration p) refl (λ c below. refl)
@@ -341,7 +350,7 @@ module _ (quota p : ℕ) (b o0 : Book) (x : Advanced) (claimed : IsClaimed p b o
 
 -- ---- memory for a write
 
-no_pause : (s : Stop) (port : ℕ) (v : ℤ) → s ≡ stop.WantWrite port v → s ≡ stop.Paused → ⊥
+pub no_pause : (s : Stop) (port : ℕ) (v : ℤ) → s ≡ stop.WantWrite port v → s ≡ stop.Paused → ⊥
 no_pause s port v is paused = let clash : stop.WantWrite port v ≡ stop.Paused = sym is ∙ paused in absurd cc
 
 one_port : (p : ℕ) (s : Stop) (port : ℕ) (v : ℤ) (c d : ℕ) (w : ℤ) (t : Tables) → s ≡ stop.WantWrite port v

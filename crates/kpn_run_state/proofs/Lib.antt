@@ -7,6 +7,7 @@ pub mod Following
 pub mod Answering
 pub mod Reserved
 pub mod Committing
+pub mod FirstOfQueue
 pub mod Standing
 pub mod Outside
 pub mod Seen

@@ -1,5 +1,6 @@
 -- What stays true of a book in the midst of a call. A reader of the public contracts needs none of it.
-use Rattle.std.specs.Prelude.{◌≡◌, ◌≢◌, ℕ, ◌+◌, ◌<◌, ◌≤◌, ◌⊎◌, false, ℤ, IsTrue, if◌then◌else◌, List, [], ◌∷◌, ◌++◌, length, Option, Some, None, Contains, Result, Ok, Err}
+use Rattle.std.specs.Prelude.{◌≡◌, ◌≢◌, ℕ, ◌+◌, ◌<◌, ◌≤◌, ◌⊎◌, false, ℤ, IsTrue, if◌then◌else◌, List, [], ◌∷◌, ◌++◌, length, Option, Some, None, Contains, Result, Ok, Err, slice_index}
+use Rattle.kpn_net.specs.Tables.{Tables, instance_at, channel_at, is_sink}
 use Rattle.kpn_net.specs.Waits.{AreDistinct}
 use Rattle.kpn_step.specs.declared.stop.Stop.{Stop}
 use Rattle.kpn_step.specs.declared.stop.Stop.TheVariants as stop
@@ -11,7 +12,7 @@ use Rattle.kpn_history.specs.Views.{is_ready}
 use Rattle.kpn_history.specs.Legal.{OwesGrowth, growth_after, waiter}
 use Rattle.kpn_history.specs.Stops.{OwesNothing}
 use Rattle.kpn_configuration.specs.Configuration.{channel_in, with_channel}
-use Rattle.kpn_schedule.specs.Schedule.{Schedule, state_at}
+use Rattle.kpn_schedule.specs.Schedule.{Schedule, state_at, first_held}
 use Rattle.kpn_run_state.specs.declared.open_book.OpenBook.{OpenBook}
 use Rattle.kpn_run_state.specs.declared.answers.Done.{Done}
 use Rattle.kpn_run_state.specs.declared.answers.Done.TheVariants as done
@@ -20,6 +21,7 @@ use Rattle.kpn_run_state.specs.Appending.{Appends, AppendsAll}
 use Rattle.kpn_run_state.specs.Commits.{IsWriteTo, IsAnswer, ready_if_paused}
 use Rattle.kpn_run_state.specs.Stepping.{ClaimsNobody}
 use Rattle.kpn_run_state.specs.Kept.{IsInStep, IsKept}
+use Rattle.kpn_run_state.specs.InARow.{IsStepInRow}
 
 -- the book that has these parts
 abbrev pub book_of : {A : Type 0} → OpenBook A → Book
@@ -36,6 +38,10 @@ book_of parts =
 abbrev pub reserved_on : (c : ℕ) → Book → Book
 reserved_on c b =
     record b { configuration = with_channel c (with_room (channel_in b.configuration c)) b.configuration }
+
+-- the book whose first ready process, p, is held
+abbrev pub first_claimed : (p : ℕ) → Book → Book
+first_claimed p b = record b { schedule = first_held p b.schedule }
 
 -- ---- conditions within a call
 
@@ -132,3 +138,38 @@ abbrev pub reserves_by : {T E : Type 0} → (p : ℕ) → Stop → Result T E �
     → Type 0
 reserves_by p s (Ok _) before room after = IsReserved p s room after × is_but_reserved s before after
 reserves_by p s (Err _) before room after = (s ≢ stop.Paused) × (after ≡ before)
+
+-- ---- steps in a row
+
+-- channel c, if it is a sink
+abbrev pub if_sink : Tables → (c : ℕ) → Option ℕ
+if_sink t c = if is_sink (channel_at t c) then Some c else None
+
+-- channel c, if it is a sink and a commit with this result has put an item there
+abbrev pub sink_of : Tables → (c : ℕ) → Done → Option ℕ
+sink_of t c done.Put = if_sink t c
+sink_of t c answer = None
+
+-- the sink on which process p has put an item, if it was committed at this stop with this result and has put one
+abbrev pub sink_by : Tables → (p : ℕ) → Stop → Done → Option ℕ
+sink_by t p (stop.WantWrite port v) answer = sink_of t (slice_index (instance_at t p).outs port) answer
+sink_by t p s answer = None
+
+-- process p is committed at a stop of this kind, and has put an item on this sink or on none
+pub record AnsweredFirst (p : ℕ) (asks : Stop → Type 0) (sink : Option ℕ) (before after : Book) : Type 0 where
+  pub answer : Done
+  pub answered : Answered p asks answer before after
+  pub sink_is : (s : Stop) → asks s → sink ≡ sink_by before.tables p s answer
+
+-- the same, once an item is reserved if the process would put one
+pub record HandlesFirst (p : ℕ) (s : Stop) (sink : Option ℕ) (before after : Book) : Type 0 where
+  pub reserved : Book
+  pub but : is_but_reserved s before reserved
+  pub answered : AnsweredFirst p (λ (z : Stop). z ≡ s) sink reserved after
+
+-- one turn: a step of a row, after which the book is kept, and as many processes are held
+pub record IsTurn (quota : ℕ) (sink : Option ℕ) (before after : Book) : Type 0 where
+  pub step : IsStepInRow quota sink before after
+  pub kept : IsKept after
+  pub commits : after.commits ≡ before.commits + 1
+  pub held : held_count after ≡ held_count before

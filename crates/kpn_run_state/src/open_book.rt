@@ -16,6 +16,7 @@ use std::alloc::Allocator;
 
 mod commits;
 mod outside;
+mod turns;
 
 /// The network, the history so far, the configuration to which it leads, the schedule of the processes, and how many
 /// commits were made.

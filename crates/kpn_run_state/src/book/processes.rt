@@ -1,9 +1,10 @@
 //! The calls that step processes: claim, commit and put back, and one call that does all for a single owner.
-ghost use Rattle.std.specs.Prelude.{◌≡◌, ◌↔◌, true, false, IfOk, IfErr, OnErr, IsTrue, IfSome, IfNone};
+ghost use Rattle.std.specs.Prelude.{◌≡◌, ◌↔◌, ◌+◌, ◌<◌, ◌^◌, true, false, IfOk, IfErr, OnErr, IsTrue, IfSome, IfNone};
 ghost use Rattle.kpn_net.specs.Tables.{program_of};
 ghost use Rattle.kpn_step.specs.Frame.{fits};
 ghost use Rattle.kpn_configuration.specs.Configuration.{frame_in};
-ghost use Rattle.kpn_run_state.specs.Book.{IsHeld, IsClaimed, put_back};
+ghost use Rattle.kpn_run_state.specs.Book.{IsHeld, IsClaimed, held_count, put_back};
+ghost use Rattle.kpn_run_state.specs.InARow.{RunsOn};
 ghost use Rattle.kpn_run_state.specs.Commits.{Commits};
 ghost use Rattle.kpn_run_state.specs.Refusals.{RefusesCommit, RefusesPutBack};
 ghost use Rattle.kpn_run_state.specs.Stepping.{ClaimsNobody, IsStep, StepsInVain};
@@ -146,6 +147,19 @@ impl<'n, A: Allocator> Book<'n, A> {
         let done = self.parts.handle_stop(p, stop);
         self.parts.commits += 1;
         Ok(Some(done))
+    }
+
+    /// Makes steps in place, as `step_next` does, one after another, until one has put an item on a sink or no process
+    /// is ready, and at most `most`. It returns that sink. The error is that memory ran out: the process whose turn it
+    /// is may have made its steps, and is ready.
+    #[inline(never)]
+    pub fn run_on(&mut self, quota: u32, most: u64) -> Result<Option<usize>, AllocError>
+    where
+        A: Copy,
+        requires { self.old.commits + held_count self.old + most < 2 ^ 64 }
+        ensures { IfOk result (λ sink. RunsOn quota most sink self.old self.new) }
+    {
+        self.parts.run_on(quota, most)
     }
 }
 

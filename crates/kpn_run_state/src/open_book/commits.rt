@@ -86,7 +86,7 @@ impl<'n, A: Allocator> OpenBook<'n, A> {
     }
 
     /// Process `p`, which is at a read from channel `c`, gets its next item, or waits if there is none.
-    fn read(&mut self, p: usize, c: usize) -> Done
+    pub(super) fn read(&mut self, p: usize, c: usize) -> Done
         requires room { 2 ≤ self.old.history.room }
         requires sound { IsSound (book_of self.old) }
         requires held { IsHeld (book_of self.old) p }
@@ -109,7 +109,7 @@ impl<'n, A: Allocator> OpenBook<'n, A> {
     }
 
     /// Process `p`, which is at a write of this item to channel `c`, puts it there, or waits if the channel is full.
-    fn write(&mut self, p: usize, c: usize, item: i64) -> Done
+    pub(super) fn write(&mut self, p: usize, c: usize, item: i64) -> Done
         requires room { 2 ≤ self.old.history.room }
         requires sound { IsSound (book_of self.old) }
         requires held { IsHeld (book_of self.old) p }
@@ -239,7 +239,7 @@ impl<'n, A: Allocator> OpenBook<'n, A> {
     }
 
     /// Ends process `p`, which is at this end, and makes the growth that is then owed.
-    fn finish(&mut self, p: usize, how: How) -> Done
+    pub(super) fn finish(&mut self, p: usize, how: How) -> Done
         requires room { 2 ≤ self.old.history.room }
         requires sound { IsSound (book_of self.old) }
         requires held { IsHeld (book_of self.old) p }
@@ -279,7 +279,7 @@ fn wake_all<A: Allocator>(schedule: &mut Schedule<A>, woken: &[usize])
     }
 }
 
-fn in_channel(network: &Network, p: usize, port: usize) -> usize
+pub(super) fn in_channel(network: &Network, p: usize, port: usize) -> usize
     requires process { p < length network.now.instances }
     requires port { port < length (instance_at network.now p).ins }
     ensures { IsChannelAt (instance_at network.now p).ins port result }
@@ -287,7 +287,7 @@ fn in_channel(network: &Network, p: usize, port: usize) -> usize
     network.ins(p)[port]
 }
 
-fn out_channel(network: &Network, p: usize, port: usize) -> usize
+pub(super) fn out_channel(network: &Network, p: usize, port: usize) -> usize
     requires process { p < length network.now.instances }
     requires port { port < length (instance_at network.now p).outs }
     ensures { IsChannelAt (instance_at network.now p).outs port result }
@@ -295,7 +295,7 @@ fn out_channel(network: &Network, p: usize, port: usize) -> usize
     network.outs(p)[port]
 }
 
-fn how_of(fault: Fault) -> How
+pub(super) fn how_of(fault: Fault) -> How
     ensures { stop_of result ≡ Faulted fault }
 {
     match fault {

@@ -1,14 +1,8 @@
-use Rattle.std.proofs.Common.{sym}
-use Rattle.kpn_run_here.proofs.Stepped.{put_taken_stepped, put_inside_stepped}
+use Rattle.kpn_run_here.proofs.Stepped.{put_taken_stepped}
 use Rattle.kpn_run_here.proofs.stepping.take_what_was_put.Goals as goal
-
-pub returns-in_default : goal.returns-in_default
-returns-in_default c before to_itself front committed put few =
-    put_inside_stepped c.args.limits.now before c.args.book.now to_itself front committed put few
-    c.sink_of_last_put.result c.sink_of_last_put.ensures (sym c.in_default.is)
 
 pub returns-in-Ok : goal.returns-in-Ok
 returns-in-Ok c before to_itself front committed put few =
-    put_taken_stepped c.args.limits.now before c.args.book.now to_itself front committed put few
-    c.sink_of_last_put.result c.sink_of_last_put.ensures c.in-Some.sink (sym c.in-Some.is) c.known.ensures
-    c.in-Ok.field-0 c.take.new.self c.in-Ok.ensures.done c.has_enough_by.result c.has_enough_by.ensures
+    put_taken_stepped c.args.limits.now before c.args.book.now to_itself front committed few c.args.sink put
+    c.known.ensures c.in-Ok.field-0 c.take.new.self c.in-Ok.ensures.done c.has_enough_by.result
+    c.has_enough_by.ensures

@@ -1,0 +1,188 @@
+use Rattle.std.proofs.Common.{◌≡◌, ◌<◌, length, IsTrue, refl, sym, ap, subst, ◌∙◌, inl, inr, arith, w64, SFits, rules}
+use Rattle.std.proofs.lemmas.Int.{to_z-of_z}
+use Rattle.std.proofs.lemmas.List.Elements.{Contains-get_or}
+use Rattle.std.specs.List.{Contains}
+use Rattle.kpn_net.specs.Tables.{instance_at, program_of}
+use Rattle.kpn_net.proofs.Networks.{IsInstance-of}
+use Rattle.kpn_net.proofs.PortsApart.{out_is_there}
+use Rattle.kpn_step.specs.Stops.{IsAtPort}
+use Rattle.kpn_step.specs.declared.stop.Stop.{Stop}
+use Rattle.kpn_step.specs.declared.stop.Stop.TheVariants as stop
+use Rattle.kpn_configuration.specs.Configuration.{channel_in}
+use Rattle.kpn_configuration.specs.Due.{stop_of}
+use Rattle.kpn_run_state.specs.declared.answers.Done.TheVariants as done
+use Rattle.kpn_run_state.specs.Book.{put_back}
+use Rattle.kpn_run_state.specs.Commits.{IsReadFrom, IsWriteTo}
+use Rattle.kpn_run_state.specs.Open.{book_of, first_claimed, reserved_on, sink_by, Answered, AnsweredFirst}
+use Rattle.kpn_run_state.proofs.Following.{held_is_there, recorded}
+use Rattle.kpn_run_state.proofs.Answering.{asked_otherwise, answered_paused}
+use Rattle.kpn_run_state.proofs.Committing.{no_pause}
+use Rattle.kpn_run_state.proofs.Reserved.{is_reserved_here}
+use Rattle.kpn_run_state.proofs.FirstOfQueue.{held_first}
+use Rattle.kpn_run_state.proofs.open_book.OpenBook.handle_first.Goals as goal
+
+pub in_channel-c-requires-clause-port : goal.in_channel-c-requires-clause-port
+in_channel-c-requires-clause-port g c =
+    let b = first_claimed c.args.p (book_of c.args.self.now) in
+    let held = held_first (book_of c.args.self.now) c.args.p c.requires.first in
+    let there = held_is_there b c.requires.kept.in_step c.args.p held in
+    let at = subst (λ s. IsAtPort (program_of b.tables c.args.p) c.requires.port.0 s) c.in-WantRead.is
+    c.requires.port.1 in
+    let below = at.0 in
+    let long = (IsInstance-of b.tables c.known.ensures c.args.p there).ins in
+    omega (arith, below, long)
+
+pub out_channel-c-requires-clause-port : goal.out_channel-c-requires-clause-port
+out_channel-c-requires-clause-port g c =
+    let b = first_claimed c.args.p (book_of c.args.self.now) in
+    let held = held_first (book_of c.args.self.now) c.args.p c.requires.first in
+    let there = held_is_there b c.requires.kept.in_step c.args.p held in
+    let at =
+    subst (λ s. IsAtPort (program_of b.tables c.args.p) c.requires.port.0 s) c.in-WantWrite.is c.requires.port.1 in
+    let below = at.0 in
+    let long = (IsInstance-of b.tables c.known.ensures c.args.p there).outs in
+    omega (arith, below, long)
+
+pub reserve_one-requires : goal.reserve_one-requires
+reserve_one-requires g c =
+    let b = first_claimed c.args.p (book_of c.args.self.now) in
+    let outs = (instance_at b.tables c.args.p).outs in
+    let below =
+    out_is_there b.tables c.known.ensures c.args.p c.out_channel-c.result
+    (subst (λ x. Contains outs x) c.out_channel-c.ensures.1
+    (Contains-get_or outs c.in-WantWrite.port 0 c.out_channel-c.ensures.0)) in
+    let long = c.requires.kept.in_step.run.shape.channels in
+    omega (arith, below, long)
+
+pub write_first-requires-clause-reserved : goal.write_first-requires-clause-reserved
+write_first-requires-clause-reserved g c =
+    let b = book_of c.args.self.now in
+    let outs = (instance_at b.tables c.args.p).outs in
+    let there =
+    out_is_there b.tables c.known.ensures c.args.p c.out_channel-c.result
+    (subst (λ x. Contains outs x) c.out_channel-c.ensures.1
+    (Contains-get_or outs c.in-WantWrite.port 0 c.out_channel-c.ensures.0)) in
+    let long = c.requires.kept.in_step.run.shape.channels in
+    let below : c.out_channel-c.result < length b.configuration.channels = omega (arith, there, long) in
+    subst (λ s. IsTrue (channel_in s c.out_channel-c.result).is_reserved)
+    (sym c.in_ok-reserve_one-in-WantWrite.ensures.after) (is_reserved_here b c.out_channel-c.result below)
+
+pub returns-in-WantRead-clause-handles : goal.returns-in-WantRead-clause-handles
+returns-in-WantRead-clause-handles g c =
+    let b = book_of c.args.self.now in
+    let answer = c.read_first.ensures.0 in
+    record {
+      reserved = first_claimed c.args.p b;
+      but = inl refl;
+      answered = record {
+        answer = answer;
+        answered =
+            asked_otherwise c.args.p (λ s. IsReadFrom b.tables c.args.p s c.in_channel-c.result)
+            (λ s. s ≡ c.args.stop) answer (first_claimed c.args.p b) (book_of c.read_first.new.self)
+            (λ s is. record {
+              port = c.in-WantRead.port;
+              asks = is ∙ c.in-WantRead.is;
+              channel = c.in_channel-c.ensures;
+            }) c.read_first.ensures.1;
+        sink_is = λ s is. sym (ap (λ z. sink_by b.tables c.args.p z answer) (is ∙ c.in-WantRead.is));
+      };
+    }
+
+pub returns-in_ok-reserve_one-in-WantWrite-clause-handles :
+    goal.returns-in_ok-reserve_one-in-WantWrite-clause-handles
+returns-in_ok-reserve_one-in-WantWrite-clause-handles g c =
+    let b = book_of c.args.self.now in
+    let o = first_claimed c.args.p b in
+    let d = c.out_channel-c.result in
+    let outs = (instance_at b.tables c.args.p).outs in
+    let there =
+    out_is_there b.tables c.known.ensures c.args.p d
+    (subst (λ x. Contains outs x) c.out_channel-c.ensures.1
+    (Contains-get_or outs c.in-WantWrite.port 0 c.out_channel-c.ensures.0)) in
+    let long = c.requires.kept.in_step.run.shape.channels in
+    let below : d < length b.configuration.channels = omega (arith, there, long) in
+    let reserved = recorded o b.history c.reserve_one.new.self o.schedule in
+    let same : reserved ≡ reserved_on d o =
+    ap (λ s. recorded o b.history s o.schedule) c.in_ok-reserve_one-in-WantWrite.ensures.after in
+    let fits : SFits w64 c.in-WantWrite.item = search rules in
+    let made : AnsweredFirst c.args.p (λ s. IsWriteTo b.tables c.args.p s d c.in-WantWrite.item) c.write_first.result
+    reserved (book_of c.write_first.new.self) =
+    subst (λ v. AnsweredFirst c.args.p (λ s. IsWriteTo b.tables c.args.p s d v) c.write_first.result reserved
+    (book_of c.write_first.new.self)) (to_z-of_z w64 c.in-WantWrite.item fits) c.write_first.ensures in
+    let asks : (s : Stop) → s ≡ c.args.stop → IsWriteTo b.tables c.args.p s d c.in-WantWrite.item =
+    λ s is. record {
+      port = c.in-WantWrite.port;
+      asks = is ∙ c.in-WantWrite.is;
+      channel = c.out_channel-c.ensures;
+    } in
+    record {
+      reserved = reserved;
+      but =
+          inr (
+            λ paused. no_pause c.args.stop c.in-WantWrite.port c.in-WantWrite.item c.in-WantWrite.is paused,
+            (d, below, same),
+          );
+      answered = record {
+        answer = made.answer;
+        answered =
+            asked_otherwise c.args.p (λ s. IsWriteTo b.tables c.args.p s d c.in-WantWrite.item)
+            (λ s. s ≡ c.args.stop) made.answer reserved (book_of c.write_first.new.self) asks made.answered;
+        sink_is = λ s is. made.sink_is s (asks s is);
+      };
+    }
+
+pub returns-in-Done-clause-handles : goal.returns-in-Done-clause-handles
+returns-in-Done-clause-handles g c =
+    let b = book_of c.args.self.now in
+    let answer = c.finish_held.ensures.0 in
+    record {
+      reserved = first_claimed c.args.p b;
+      but = inl refl;
+      answered = record {
+        answer = answer;
+        answered =
+            asked_otherwise c.args.p (λ (s : Stop). s ≡ stop.Done) (λ s. s ≡ c.args.stop) answer
+            (first_claimed c.args.p b) (book_of c.finish_held.new.self) (λ s is. is ∙ c.in-Done.is)
+            c.finish_held.ensures.1;
+        sink_is = λ s is. sym (ap (λ z. sink_by b.tables c.args.p z answer) (is ∙ c.in-Done.is));
+      };
+    }
+
+pub returns-in-Faulted-clause-handles : goal.returns-in-Faulted-clause-handles
+returns-in-Faulted-clause-handles g c =
+    let b = book_of c.args.self.now in
+    let answer = c.finish_held-in-Faulted.ensures.0 in
+    record {
+      reserved = first_claimed c.args.p b;
+      but = inl refl;
+      answered = record {
+        answer = answer;
+        answered =
+            asked_otherwise c.args.p (λ (s : Stop). s ≡ stop_of c.how_of.result) (λ s. s ≡ c.args.stop) answer
+            (first_claimed c.args.p b) (book_of c.finish_held-in-Faulted.new.self)
+            (λ s is. is ∙ c.in-Faulted.is ∙ sym c.how_of.ensures) c.finish_held-in-Faulted.ensures.1;
+        sink_is = λ s is. sym (ap (λ z. sink_by b.tables c.args.p z answer) (is ∙ c.in-Faulted.is));
+      };
+    }
+
+pub returns-in-Paused-clause-handles : goal.returns-in-Paused-clause-handles
+returns-in-Paused-clause-handles g c =
+    let b = book_of c.args.self.now in
+    let o = first_claimed c.args.p b in
+    let held = held_first b c.args.p c.requires.first in
+    record {
+      reserved = o;
+      but = inl refl;
+      answered = record {
+        answer = done.Paused;
+        answered =
+            subst (λ z. Answered c.args.p (λ (s : Stop). s ≡ c.args.stop) done.Paused o
+            (recorded b b.history b.configuration z)) (sym c.rotate.ensures)
+            (asked_otherwise c.args.p (λ s. s ≡ stop.Paused) (λ s. s ≡ c.args.stop) done.Paused o
+            (put_back c.args.p o) (λ s is. is ∙ c.in-Paused.is)
+            (answered_paused o
+            (record { in_step = c.requires.kept.in_step; nothing_owed = c.requires.kept.nothing_owed }) c.args.p
+            held));
+        sink_is = λ s is. sym (ap (λ z. sink_by b.tables c.args.p z done.Paused) (is ∙ c.in-Paused.is));
+      };
+    }
