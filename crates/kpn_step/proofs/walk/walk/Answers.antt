@@ -39,5 +39,5 @@ stand-requires c =
 pub returns-in-Some : goal.returns-in-Some
 returns-in-Some c =
     Walked-here c.args.program.now c.args.quota c.args.frame.now c.steps.at c.steps.left c.steps.frame
-    c.follow.new.at c.follow.new.left c.follow.new.self c.stand.new.self c.in-Some.stop (omega (arith, c.if-left-lt-STEPS_OF_A_CODE.false))
-    c.steps.invariant c.in-Some.ensures c.stand.ensures
+    c.follow.new.at c.follow.new.left c.follow.new.self c.stand.new.self c.in-Some.stop
+    (omega (arith, c.if-left-lt-STEPS_OF_A_CODE.false)) c.steps.invariant c.in-Some.ensures c.stand.ensures
