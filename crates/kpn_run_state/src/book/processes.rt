@@ -152,7 +152,6 @@ impl<'n, A: Allocator> Book<'n, A> {
     /// Makes steps in place, as `step_next` does, one after another, until one has put an item on a sink or no process
     /// is ready, and at most `most`. It returns that sink. The error is that memory ran out: the process whose turn it
     /// is may have made its steps, and is ready.
-    #[inline(never)]
     pub fn run_on(&mut self, quota: u32, most: u64) -> Result<Option<usize>, AllocError>
     where
         A: Copy,

@@ -24,7 +24,8 @@ use std::alloc::{AllocError, Allocator};
 
 impl<'n, A: Allocator> OpenBook<'n, A> {
     /// Makes turns in a row, as `Book::run_on` says.
-    #[inline(never)]
+    // Its caller inlines it. As a function of its own it takes 195 instructions a commit of a pipeline in place of 179,
+    // since the compiler then calls the get of the configuration.
     pub(crate) fn run_on(&mut self, quota: u32, most: u64) -> Result<Option<usize>, AllocError>
     where
         A: Copy,
