@@ -1,2 +1,5 @@
 pub mod Lines
 pub mod Told
+pub mod PictureTold
+pub mod Drawn
+pub mod Pictured
