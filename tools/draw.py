@@ -20,6 +20,8 @@ PICTURES = {
     'fibonacci': ('fibonacci.kpn', None),
     'moving_average_after_its_run': ('moving_average.kpn', ('--source', f'signal={EXAMPLES / "signal"}')),
 }
+# those of a run in time, which need no Graphviz
+IN_TIME = {'moving_average_in_time': ('moving_average.kpn', ('--source', f'signal={EXAMPLES / "signal"}'))}
 MOST_BYTES = 20_000
 
 
@@ -37,10 +39,15 @@ def svg(drawing):
 
 def drawing_after(example, words):
     """The drawing of an example after a run."""
+    return of_run(example, words, 'draw')
+
+
+def of_run(example, words, command, *more):
+    """What a command writes of the trace of a run."""
     with tempfile.TemporaryDirectory() as folder:
         trace = pathlib.Path(folder) / 'trace'
         kpn('run', example, *words, '--trace', trace)
-        return kpn('draw', example, trace)
+        return kpn(command, example, trace, *more)
 
 
 def write(path, picture):
@@ -59,6 +66,8 @@ def main():
         picture = svg(kpn('draw', file) if words is None else drawing_after(file, words))
         assert len(picture) <= MOST_BYTES, name
         write(TOP / 'docs/pictures' / f'{name}.svg', picture)
+    for name, (example, words) in IN_TIME.items():
+        write(TOP / 'docs/pictures' / f'{name}.svg', of_run(EXAMPLES / example, words, 'timeline', '--svg'))
 
 
 if __name__ == '__main__':

@@ -149,6 +149,9 @@ def read_words_of_figures(words):
     parser.add_argument('history', nargs='?')
     parser.add_argument('--steps', type=int, default=histories.MOST_STEPS)
     parser.add_argument('--tsv', choices=('channels', 'processes'))
+    parser.add_argument('--svg', action='store_true')
+    parser.add_argument('--from', type=int, default=1, dest='first')
+    parser.add_argument('--to', type=int, default=10 ** 9, dest='last')
     return parser.parse_args(words)
 
 
@@ -168,6 +171,8 @@ def figures_answer(words):
         return figures.explained(network, trace), 0
     if found.command == 'draw':
         return figures.drawing(network, trace), 0
+    if found.command == 'timeline' and found.svg:
+        return ticks.picture_text(network, trace, found.first, found.last), 0
     if found.command == 'timeline':
         return ticks.timeline_text(network, trace), 0
     return figures.stats_text(network, trace, found.tsv), 0
