@@ -53,6 +53,6 @@ pub of_audited : (may_give : Loads) (file trace : List ℕ) (steps first last : 
     → IsAudited may_give file trace steps audited → (it : Refusal)
     → IsNoPicture (size_for first last audited.document audited.trace) it
     → IsRefusalOfPicture may_give file trace steps first last it
-of_audited may_give file trace steps first last audited is refusal.PictureWords h = (audited, (is, h))
+of_audited may_give file trace steps first last audited is refusal.PictureWords h = (audited, is, h)
 of_audited may_give file trace steps first last audited is refusal.NoMemory h = tt
 of_audited may_give file trace steps first last audited is other h = absurd h

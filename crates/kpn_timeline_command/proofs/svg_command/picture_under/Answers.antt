@@ -24,3 +24,19 @@ returns-in_ok-plain-in-One-clause-refused c =
     (IsNoPicture (picture_size a.document.now t a.first a.last a.events.now)))
     (c.in_ok-plain-in-One.ensures ∙ ap (under Cycles growth.One) c.network-network.ensures)
     c.picture_of.ensures.refused)
+
+pub returns-in-Two-clause-ok : goal.returns-in-Two-clause-ok
+returns-in-Two-clause-ok c =
+    let a = c.args in
+    rw c.in-Two.is
+    (subst (λ (t : Tables). IfOk c.picture_of-in-Two.result
+    (λ text. IsPicture a.document.now t a.first a.last a.events.now text.items)) c.network-network.ensures
+    c.picture_of-in-Two.ensures.ok)
+
+pub returns-in-Two-clause-refused : goal.returns-in-Two-clause-refused
+returns-in-Two-clause-refused c =
+    let a = c.args in
+    rw c.in-Two.is
+    (subst (λ (t : Tables). IfErr c.picture_of-in-Two.result
+    (IsNoPicture (picture_size a.document.now t a.first a.last a.events.now))) c.network-network.ensures
+    c.picture_of-in-Two.ensures.refused)
