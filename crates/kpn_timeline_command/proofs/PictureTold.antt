@@ -1,15 +1,13 @@
 -- The picture of the events of a trace is that of its history. The two differ only in the capacities of growths, which
 -- the picture does not show.
 use Rattle.std.proofs.Common.{◌≡◌, ℕ, ◌+◌, max, true, List, [], ◌∷◌, ◌++◌, length, refl, sym, ap, ap₂, ◌∙◌}
-use Rattle.std.specs.declared.alloc.Global.{Global}
 use Rattle.kpn_net.specs.Tables.{Tables}
 use Rattle.kpn_history.specs.declared.event.Event.{Event}
 use Rattle.kpn_history.specs.declared.event.Event.TheVariants.{Grow}
 use Rattle.kpn_history.specs.declared.stored.Version.{Version}
 use Rattle.kpn_history.specs.declared.stored.Version.TheVariants.{One, Two}
-use Rattle.kpn_history.specs.declared.stored.Trace.{Trace}
 use Rattle.kpn_text.specs.Document.{Document}
-use Rattle.kpn_audit.specs.Stored.{told, told_behind, history_of, tables_for, history_in}
+use Rattle.kpn_audit.specs.Stored.{told, told_behind, history_of}
 use Rattle.kpn_ticks.specs.Ticks.{Clocks, after, start, clocks_after}
 use Rattle.kpn_ticks.proofs.Told.{same_after, history_clocks}
 use Rattle.kpn_timeline_command.specs.declared.scale.Scale.{Scale}

@@ -1,5 +1,5 @@
 -- A picture that is small enough: no place in it is beyond the numbers of the code.
-use Rattle.std.specs.Prelude.{ℕ, ◌≤◌}
+use Rattle.std.specs.Prelude.{◌≤◌}
 use Rattle.kpn_timeline_command.specs.declared.scale.Scale.{Scale}
 use Rattle.kpn_timeline_command.specs.PictureText.{ticks_in}
 

@@ -22,7 +22,7 @@ const MOST: usize = 2_000;
 
 /// The picture of ticks `first` to `last` of these events of the network, which has the names of the document. It
 /// refuses one of more than 2,000 ticks or boxes.
-#[tactic(auto, using(crate::proofs::Pictured::pictured, crate::proofs::Pictured::few_rows))]
+#[tactic(auto, using(crate::proofs::Pictured::few_rows))]
 pub(crate) fn picture_of(
     alloc: Global,
     document: &Document,

@@ -1,9 +1,9 @@
 -- The events of the trace have the picture of its history.
-use Rattle.std.proofs.Common.{◌≡◌, ◌≤◌, ℕ, List, refl, ap, sym, subst, ◌∙◌}
+use Rattle.std.proofs.Common.{◌≤◌, List, refl, ap, subst, ◌∙◌}
 use Rattle.kpn_history.specs.declared.event.Event.{Event}
 use Rattle.kpn_audit.specs.Stored.{tables_for}
 use Rattle.kpn_timeline_command.specs.PictureText.{picture, picture_size}
-use Rattle.kpn_timeline_command.specs.PictureAnswers.{IsPicture, IsNoPicture}
+use Rattle.kpn_timeline_command.specs.PictureAnswers.{IsNoPicture}
 use Rattle.kpn_timeline_command.proofs.PictureTold.{same_picture, same_size}
 use Rattle.kpn_timeline_command.proofs.svg_command.conclusion_of.Goals as goal
 
