@@ -1,6 +1,6 @@
--- The picture that `kpn timeline --svg` writes, in SVG. The processes stand below one another, and the ticks go from left
--- to right. A box is a get or put of one tick, or a wait, and a mark is the growth of a channel. All places are in pixels
--- from the upper left corner. Names need no escape, since they are letters, digits and `_`.
+-- The picture that `kpn timeline --svg` writes, in SVG. The processes stand below one another, and the ticks go from
+-- left to right. A box is a get or put of one tick, or a wait, and a mark is the growth of a channel. All places are in
+-- pixels from the upper left corner. Names need no escape, since they are letters, digits and `_`.
 use Rattle.std.specs.Prelude.{ℕ, zero, suc, ◌+◌, ◌-◌, ◌*◌, ◌/◌, ◌%◌, min, max, true, nat_le, nat_eq, ◌&&◌, if◌then◌else◌, ℤ, List, [], ◌∷◌, ◌++◌, length, codes}
 use Rattle.std.specs.List.{concat}
 use Rattle.std.specs.Fmt.{decimal, signed_decimal}
