@@ -281,6 +281,9 @@ def is_part(lines, written):
 def what_is_wrong(command, said, lines, rows):
     """What is wrong with what is said of a command, if anything. It runs the command in the current folder."""
     words = command.replace('examples/', '').split()
+    if words[0] == 'stream':
+        # what streams write stands above the rows that this program answers
+        return None
     if without('--workers', without('--trace', words)) not in [without('--trace', row) for row in rows]:
         return 'no row has this command'
     text, status = answer(words)

@@ -7,6 +7,8 @@ mod lines;
 #[cfg(test)]
 mod refusals;
 #[cfg(test)]
+mod streams;
+#[cfg(test)]
 mod troubles;
 #[cfg(test)]
 mod usage;

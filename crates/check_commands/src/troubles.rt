@@ -1,10 +1,10 @@
 //! One call that fails: of a shelf for one of its names, of an input, or of the place for faults.
 
 use crate::lines::words_of;
-use kpn_cli::{MemoryShelf, Shelf, command};
+use kpn_cli::{MemoryShelf, Ports, Shelf, command};
 use kpn_items::{ItemFault, WriteFault};
 use std::alloc::{AllocError, Global};
-use std::io::ErrorKind;
+use std::io::{Cursor, ErrorKind};
 use std::sync::Wait;
 use std::test::Fail;
 use std::thread::Threads;
@@ -59,6 +59,24 @@ impl Shelf for Troubled<'_> {
             return Err(WriteFault::Write);
         }
         Ok(())
+    }
+}
+
+impl Ports for Troubled<'_> {
+    type Input = Cursor<Vec<u8>>;
+
+    type Output = Vec<u8>;
+
+    fn open_input(&self, name: &str) -> Result<Cursor<Vec<u8>>, ItemFault> {
+        self.kept.open_input(name)
+    }
+
+    fn open_output(&self, name: &str) -> Result<Vec<u8>, WriteFault> {
+        self.kept.open_output(name)
+    }
+
+    fn is_plain(&self, name: &str) -> bool {
+        self.kept.is_plain(name)
     }
 }
 

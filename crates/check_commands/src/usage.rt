@@ -8,7 +8,7 @@ use std::thread::Threads;
 use std::time::Clock;
 
 /// Words and their status: 2 if they are not understood, 0 if they ask for help.
-const ROWS: [(&str, u8); 43] = [
+const ROWS: [(&str, u8); 48] = [
     ("kpn", 2),
     ("kpn alone", 2),
     ("kpn run two.kpn --take 0", 2),
@@ -40,6 +40,10 @@ const ROWS: [(&str, u8); 43] = [
     ("kpn rounds two.kpn three", 2),
     ("kpn rounds two.kpn 3 --source", 2),
     ("kpn alone sum 3", 2),
+    ("kpn stream", 2),
+    ("kpn stream two.kpn --format u8", 2),
+    ("kpn stream two.kpn --take 0", 2),
+    ("kpn stream two.kpn --max-commits 0", 2),
     ("kpn --flag", 2),
     ("kpn --help", 0),
     ("kpn help", 0),
@@ -50,6 +54,7 @@ const ROWS: [(&str, u8); 43] = [
     ("kpn draw --help", 0),
     ("kpn rounds --help", 0),
     ("kpn run --help", 0),
+    ("kpn stream --help", 0),
     ("kpn audit --help", 0),
     ("kpn stats --help", 0),
 ];

@@ -14,7 +14,7 @@
 #![tactic(auto)]
 
 use anyhow::Result;
-use kpn_cli::{FileShelf, Shelf, command};
+use kpn_cli::{FileShelf, Ports, Shelf, command};
 use std::alloc::Global;
 use std::io::Write;
 use std::sync::Wait;
@@ -75,7 +75,7 @@ fn bytes_of<S: Shelf>(alloc: Global, shelf: &S, name: &str) -> Vec<u8> {
 }
 
 /// Runs a command line.
-fn run<R: Threads + Wait + Clock + Sync, S: Shelf, O: Write>(
+fn run<R: Threads + Wait + Clock + Sync, S: Ports, O: Write>(
     rt: &R,
     alloc: Global,
     shelf: &mut S,
@@ -95,7 +95,7 @@ fn run<R: Threads + Wait + Clock + Sync, S: Shelf, O: Write>(
 }
 
 /// Runs the command line of `COUNT kpn WORDS`, and writes the first lines of what it wrote.
-fn run_first<R: Threads + Wait + Clock + Sync, S: Shelf, O: Write>(
+fn run_first<R: Threads + Wait + Clock + Sync, S: Ports, O: Write>(
     rt: &R,
     alloc: Global,
     shelf: &mut S,

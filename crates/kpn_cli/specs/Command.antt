@@ -22,14 +22,17 @@ use Rattle.kpn_draw_command.specs.Answers.{IsDrawn, IsRefusalOfDrawing}
 use Rattle.kpn_stats_command.specs.Answers.{AreStats}
 use Rattle.kpn_timeline_command.specs.Answers.{IsTimeline}
 use Rattle.kpn_timeline_command.specs.PictureAnswers.{IsPictured, IsRefusalOfPicture}
+use Rattle.kpn_request.specs.StreamRequest.{StreamRequest}
+use Rattle.kpn_stream_command.specs.Command.{Streams, known_of}
 use Rattle.kpn_command_line.specs.Asked.{AreUnclear, IsAsked}
 use Rattle.kpn_command_line.specs.declared.request.Request.{Request}
 use Rattle.kpn_command_line.specs.declared.request.Request.TheVariants.{Alone, Check, Explain, ExplainItems}
-use Rattle.kpn_command_line.specs.declared.request.Request.TheVariants.{Print, Draw, Rounds, Run, Audit, Stats, Timeline, Picture, Help}
+use Rattle.kpn_command_line.specs.declared.request.Request.TheVariants.{Print, Draw, Rounds, Run, Stream}
+use Rattle.kpn_command_line.specs.declared.request.Request.TheVariants.{Audit, Stats, Timeline, Picture, Help}
 use Rattle.kpn_command_line.specs.declared.request.WordsFault.{WordsFault}
 use Rattle.kpn_command_line.specs.declared.request.WordsFault.TheVariants.{Usage, NoMemory as Unread}
 use Rattle.kpn_cli.specs.declared.here.Progress.{Progress}
-use Rattle.kpn_cli.specs.declared.here.Progress.TheVariants.{Answered, NeedsWorkers}
+use Rattle.kpn_cli.specs.declared.here.Progress.TheVariants.{Answered, NeedsWorkers, NeedsDevices}
 use Rattle.kpn_cli.specs.Concludes.{Concludes}
 
 -- ---- answers
@@ -48,7 +51,8 @@ Explains may_give file (Some trace) steps answer =
     Answers (Tells (traces.IsExplained may_give file trace steps)) (traces.IsRefusalOfExplaining may_give file trace)
     answer
 
--- What is answered to a request. Given is the input as it was and as it is afterwards: only `alone` reads it.
+-- What is answered to a request. Given is the input as it was and as it is afterwards: only `alone` reads it. A stream
+-- is not answered by a conclusion.
 abbrev pub IsAnswer : {I : Type 0} → (may_give : Loads) (may_alias : Aliases) (remaining : I → Option (List ℕ))
     → Request → (input read : I) → Result Conclusion Refusal → Type 0
 IsAnswer may_give may_alias remaining (Alone name) input read answer = RunsAlone remaining name.now input read answer
@@ -72,6 +76,7 @@ IsAnswer may_give may_alias remaining (Rounds file n sources) input read answer 
     (IsRefusalOfInputs may_give file.now words) answer
 IsAnswer may_give may_alias remaining (Run run) input read answer =
     (read ≡ input) × Answers (IsRun may_give run) (IsNoRun may_give may_alias run) answer
+IsAnswer may_give may_alias remaining (Stream stream) input read answer = ⊥
 IsAnswer may_give may_alias remaining (Audit file trace steps) input read answer =
     (read ≡ input) × Answers (Tells (AnswersAudit may_give file.now trace.now steps))
     (IsRefusalOfAudit may_give file.now trace.now) answer
@@ -91,31 +96,37 @@ IsAnswer may_give may_alias remaining (Help text) input read answer =
 
 -- What the program does. Given are the words of the command line, the shelf, the input, the output and the place for
 -- faults, each as it was and as it is afterwards, and the status.
-pub data Runs {S I O E : Type 0} (may_give : S → Loads) (may_alias : S → Aliases)
-    (remaining : I → Option (List ℕ)) (contents : O → Option (List ℕ)) (asked : List (List ℕ))
-    (shelf kept : S) (input read : I) (out written : O) (err told : E) (status : ℕ) : Type 0 where
+pub data Runs {S I F O G E : Type 0} (may_give : S → Loads) (may_alias : S → Aliases)
+    (remaining : I → Option (List ℕ)) (left_in : F → Option (List ℕ)) (contents : O → Option (List ℕ))
+    (holds_in : G → Option (List ℕ)) (asked : List (List ℕ)) (shelf kept : S) (input read : I) (out written : O)
+    (err told : E) (status : ℕ) : Type 0 where
   -- the words ask for something, which is answered, and the answer is carried out
   answers : (request : Request) → IsAsked asked request → (answer : Result Conclusion Refusal) →
       IsAnswer (may_give shelf) (may_alias shelf) remaining request input read answer →
       Concludes may_give contents answer shelf kept out written err told status →
-      Runs may_give may_alias remaining contents asked shelf kept input read out written err told status
+      Runs may_give may_alias remaining left_in contents holds_in asked shelf kept input read out written err told status
+  -- they ask for a stream, which reads and writes while it goes on
+  streams : (stream : StreamRequest) → IsAsked asked (Stream stream) →
+      Streams may_give (known_of remaining left_in contents holds_in) stream shelf kept input read out written status →
+      Runs may_give may_alias remaining left_in contents holds_in asked shelf kept input read out written err told status
   -- they are not understood, and the place for faults gets how to use words
   unclear : AreUnclear asked → kept ≡ shelf → read ≡ input → written ≡ out → status ≡ 2 →
-      Runs may_give may_alias remaining contents asked shelf kept input read out written err told status
+      Runs may_give may_alias remaining left_in contents holds_in asked shelf kept input read out written err told status
   -- there is no memory to read them
   unread : kept ≡ shelf → read ≡ input → written ≡ out → status ≡ status_of NoMemory →
-      Runs may_give may_alias remaining contents asked shelf kept input read out written err told status
+      Runs may_give may_alias remaining left_in contents holds_in asked shelf kept input read out written err told status
 
 -- ---- scaffolding: what the parts of the code answer
 
 -- A request is answered without workers. Or it asks for a run by workers: then this run is handed back, and the input is
--- as it was.
+-- as it was. The same holds of a stream.
 abbrev pub ComesTo : {I : Type 0} → (may_give : Loads) (may_alias : Aliases) (remaining : I → Option (List ℕ))
     → Request → (input read : I) → Progress → Type 0
 ComesTo may_give may_alias remaining request input read (Answered answer) =
     IsAnswer may_give may_alias remaining request input read answer
 ComesTo may_give may_alias remaining request input read (NeedsWorkers run) =
     (request ≡ Run run) × IsSome run.workers × (read ≡ input)
+ComesTo may_give may_alias remaining request input read (NeedsDevices stream) = (request ≡ Stream stream) × (read ≡ input)
 
 -- the status for words that are not understood, or for want of memory to read them
 abbrev pub fault_status : WordsFault → ℕ

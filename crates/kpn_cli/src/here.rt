@@ -13,7 +13,7 @@ use kpn_explain_command::{explain_command, explain_items_command};
 use kpn_explain_trace::explain_trace_command;
 use kpn_limits::USUAL_COUNT;
 use kpn_refusals::Refusal;
-use kpn_request::RunRequest;
+use kpn_request::{RunRequest, StreamRequest};
 use kpn_run_command::run_command;
 use kpn_shelf::Shelf;
 use kpn_stats_command::stats_command;
@@ -28,9 +28,11 @@ pub enum Progress<'a> {
     Answered(Result<Conclusion, Refusal>),
     /// It asks for this run by workers. Nothing of it is done yet.
     NeedsWorkers(RunRequest<'a>),
+    /// It asks for this stream, which writes while it goes on. Nothing of it is done yet.
+    NeedsDevices(StreamRequest<'a>),
 }
 
-/// Answers everything except a run by workers, which it hands back.
+/// Answers everything except a run by workers and a stream, which it hands back.
 pub fn answer_here<'a, S: Shelf, I: Read>(
     alloc: Global,
     request: Request<'a>,
@@ -61,6 +63,7 @@ pub fn answer_here<'a, S: Shelf, I: Read>(
             Some(_) => Progress::NeedsWorkers(run),
             None => Progress::Answered(run_command(alloc, &run, shelf)),
         },
+        Request::Stream(stream) => Progress::NeedsDevices(stream),
         Request::Audit { file, trace, steps } => {
             Progress::Answered(audit_command(alloc, file, trace, steps, shelf))
         }
@@ -73,9 +76,7 @@ pub fn answer_here<'a, S: Shelf, I: Read>(
             steps,
             first,
             last,
-        } => Progress::Answered(picture_command(
-            alloc, file, trace, steps, first, last, shelf,
-        )),
+        } => Progress::Answered(picture_command(alloc, file, trace, steps, first, last, shelf)),
         Request::Stats {
             file,
             trace,

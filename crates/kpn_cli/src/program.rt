@@ -8,7 +8,8 @@ use crate::here::{Progress, answer_here};
 use crate::usage::refuse;
 use kpn_command_line::read_words;
 use kpn_run_command::run_command_by_workers;
-use kpn_shelf::Shelf;
+use kpn_shelf::{Ports, Shelf};
+use kpn_stream_command::stream_command;
 use std::alloc::Global;
 use std::io::{Read, Write};
 use std::sync::Wait;
@@ -19,8 +20,8 @@ use std::time::Clock;
 /// that the user called the program by. It returns the status of the program: 0 for success and for help, 1 for a
 /// refused input, a device that fails or an illegal trace, 2 for words that are not understood, 3 for a run that has
 /// clogged, 4 for one that has jammed, 5 for one that has stopped or an audit without steps left, 6 for want of memory, 7
-/// for workers that came to no outcome. Only a run by workers may wait.
-pub fn command<R: Threads + Wait + Clock + Sync, S: Shelf, I: Read, O: Write, E: Write>(
+/// for workers that came to no outcome, 8 for a stream of which a process has faulted. Only a run by workers may wait.
+pub fn command<R: Threads + Wait + Clock + Sync, S: Shelf + Ports, I: Read, O: Write, E: Write>(
     rt: &R,
     alloc: Global,
     words: &[String],
@@ -29,8 +30,8 @@ pub fn command<R: Threads + Wait + Clock + Sync, S: Shelf, I: Read, O: Write, E:
     out: &mut O,
     err: &mut E,
 ) -> u8
-    ensures { Runs S.may_give S.may_alias I.remaining O.contents (map string_bytes words.now)
-        shelf.old shelf.new input.old input.new out.old out.new err.old err.new result }
+    ensures { Runs S.may_give S.may_alias I.remaining S.Input.remaining O.contents
+        S.Output.contents (map string_bytes words.now) shelf.old shelf.new input.old input.new out.old out.new err.old err.new result }
 {
     match read_words(alloc, words) {
         Ok(request) => match answer_here(alloc, request, shelf, input) {
@@ -38,6 +39,9 @@ pub fn command<R: Threads + Wait + Clock + Sync, S: Shelf, I: Read, O: Write, E:
             Progress::NeedsWorkers(run) => {
                 let answer = run_command_by_workers(rt, alloc, &run, shelf);
                 conclude(answer, shelf, out, err)
+            }
+            Progress::NeedsDevices(stream) => {
+                stream_command(alloc, &stream, shelf, input, out, err)
             }
         },
         Err(fault) => refuse(&fault, err),

@@ -17,9 +17,11 @@ use Rattle.clap.specs.declared.error.kind.ErrorKind.{ErrorKind}
 use Rattle.clap.specs.declared.error.kind.ErrorKind.TheVariants.{DisplayHelp, DisplayVersion, OutOfMemory}
 use Rattle.kpn_request.specs.declared.tables.StatsTables.{StatsTables}
 use Rattle.kpn_request.specs.declared.tables.StatsTables.TheVariants.{People, Channels, Processes}
+use Rattle.kpn_request.specs.declared.stream.ItemFormat.{ItemFormat}
+use Rattle.kpn_request.specs.declared.stream.ItemFormat.TheVariants.{Lines, S16, S32, S64}
 use Rattle.kpn_command_line.specs.declared.request.Request.{Request}
 use Rattle.kpn_command_line.specs.declared.request.Request.TheVariants.{Alone, Check, Explain, ExplainItems}
-use Rattle.kpn_command_line.specs.declared.request.Request.TheVariants.{Print, Draw, Rounds, Run}
+use Rattle.kpn_command_line.specs.declared.request.Request.TheVariants.{Print, Draw, Rounds, Run, Stream}
 use Rattle.kpn_command_line.specs.declared.request.Request.TheVariants.{Audit, Stats, Timeline, Picture, Help}
 use Rattle.kpn_command_line.specs.declared.request.WordsFault.{WordsFault}
 use Rattle.kpn_command_line.specs.declared.request.WordsFault.TheVariants.{Usage, NoMemory}
@@ -72,6 +74,17 @@ table_name People = None
 table_name Channels = Some (codes "channels")
 table_name Processes = Some (codes "processes")
 
+-- the word that names a format
+abbrev pub format_name : ItemFormat → List ℕ
+format_name Lines = codes "lines"
+format_name S16 = codes "s16le"
+format_name S32 = codes "s32le"
+format_name S64 = codes "s64le"
+
+-- the word for the format: `lines` without `--format`
+abbrev pub format_for : (given : List Row) → List ℕ
+format_for given = unwrap_or (text_for (codes "FORMAT") given) (codes "lines")
+
 -- the name of the command that a request is for; help is for none
 abbrev pub command_of : Request → List ℕ
 command_of (Alone name) = codes "alone"
@@ -82,6 +95,7 @@ command_of (Print file) = codes "print"
 command_of (Draw file trace) = codes "draw"
 command_of (Rounds file n sources) = codes "rounds"
 command_of (Run run) = codes "run"
+command_of (Stream stream) = codes "stream"
 command_of (Audit file trace steps) = codes "audit"
 command_of (Stats file trace steps tables) = codes "stats"
 command_of (Timeline file trace steps) = codes "timeline"
@@ -92,9 +106,9 @@ command_of (Help text) = []
 abbrev pub steps_for : (given : List Row) → ℕ
 steps_for given = unwrap_or (number_for 64 (codes "STEPS") given) 10000000
 
--- What the words give to its command is what the request has. There are 10,000,000 commits without `--max-commits`, and
--- the tables for people without `--tsv`. A picture begins with tick 1 without `--from`, and ends with tick 1,000,000,000
--- without `--to`.
+-- What the words give to its command is what the request has. A run has 10,000,000 commits without `--max-commits`, and
+-- statistics have the tables for people without `--tsv`. A picture begins with tick 1 without `--from`, and ends with
+-- tick 1,000,000,000 without `--to`.
 abbrev pub Gives : (given : List Row) → Request → Type 0
 Gives given (Alone name) = text_for (codes "NAME") given ≡ Some name.now
 Gives given (Check file) = text_for (codes "FILE") given ≡ Some file.now
@@ -118,6 +132,11 @@ Gives given (Run run) =
     × (unwrap_or (number_for 64 (codes "MAX_COMMITS") given) 10000000 ≡ run.commits)
     × (number_for 64 (codes "K") given ≡ run.take) × (text_for (codes "TRACE") given ≡ run.trace)
     × (number_for 32 (codes "WORKERS") given ≡ run.workers)
+Gives given (Stream stream) =
+    (text_for (codes "FILE") given ≡ Some stream.file) × (texts_for (codes "SOURCE") given ≡ stream.sources)
+    × (texts_for (codes "SINK") given ≡ stream.sinks) × (format_for given ≡ format_name stream.format)
+    × (number_for 64 (codes "MAX_COMMITS") given ≡ stream.commits) × (number_for 64 (codes "K") given ≡ stream.take)
+    × (text_for (codes "TRACE") given ≡ stream.trace) × (is_set (codes "QUIET") given ≡ stream.quiet)
 Gives given (Audit file trace steps) =
     (text_for (codes "FILE") given ≡ Some file.now) × (text_for (codes "TRACE") given ≡ Some trace.now)
     × (steps_for given ≡ steps)
@@ -198,3 +217,7 @@ IsRefusalOfKind kind NoMemory = ⊤
 -- this text names no table
 abbrev pub IsNoTable : Option (List ℕ) → Type 0
 IsNoTable text = (tables : StatsTables) → text ≡ table_name tables → ⊥
+
+-- this word names no format
+abbrev pub IsNoFormat : (name : List ℕ) → Type 0
+IsNoFormat name = (format : ItemFormat) → name ≡ format_name format → ⊥

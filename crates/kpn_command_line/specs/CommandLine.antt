@@ -79,6 +79,12 @@ from_option = count (codes "FROM") (codes "from")
 abbrev pub to_option : Rule
 to_option = count (codes "TO") (codes "to")
 
+abbrev pub format_option : Rule
+format_option = option (codes "FORMAT") (codes "format")
+
+abbrev pub quiet_flag : Rule
+quiet_flag = flag (codes "QUIET") (codes "quiet")
+
 -- a command with these words and options
 abbrev pub command : (name : List ℕ) → List Rule → App
 command name rules = on_top (λ shape. record shape { rules = rules }) (new_app name)
@@ -107,6 +113,12 @@ run_words =
     command (codes "run")
     (file_word ∷ source_option ∷ sink_option ∷ workers_option ∷ take_option ∷ commits_option ∷ trace_option ∷ [])
 
+abbrev pub stream_words : App
+stream_words =
+    command (codes "stream")
+    (file_word ∷ source_option ∷ sink_option ∷ format_option ∷ take_option ∷ commits_option ∷ trace_option
+    ∷ quiet_flag ∷ [])
+
 abbrev pub audit_words : App
 audit_words = command (codes "audit") (file_word ∷ trace_word ∷ steps_option ∷ [])
 
@@ -121,8 +133,8 @@ timeline_words =
 -- the words of all commands, in the order in which help lists these
 abbrev pub all_words : List App
 all_words =
-    alone_words ∷ check_words ∷ explain_words ∷ print_words ∷ draw_words ∷ rounds_words ∷ run_words ∷ audit_words
-    ∷ stats_words ∷ timeline_words ∷ []
+    alone_words ∷ check_words ∷ explain_words ∷ print_words ∷ draw_words ∷ rounds_words ∷ run_words ∷ stream_words
+    ∷ audit_words ∷ stats_words ∷ timeline_words ∷ []
 
 -- the program, which has a version and one command on each line
 abbrev pub command_line : App
@@ -164,3 +176,7 @@ run_inputs = command (codes "run") (file_word ∷ source_option ∷ sink_option 
 -- the words of `timeline` for the network and its trace
 abbrev pub timeline_inputs : App
 timeline_inputs = command (codes "timeline") (file_word ∷ trace_word ∷ steps_option ∷ [])
+
+-- the words of `stream` for the network, its sources and sinks, and how the items are written
+abbrev pub stream_ends : App
+stream_ends = command (codes "stream") (file_word ∷ source_option ∷ sink_option ∷ format_option ∷ [])

@@ -4,9 +4,11 @@ ghost use Rattle.clap.specs.Words.{new_app};
 ghost use Rattle.kpn_command_line.specs.CommandLine.{IsArg, IsCommand, command_line, first_commands};
 ghost use Rattle.kpn_command_line.specs.CommandLine.{optional_word, word, option, count, alone_words, check_words};
 ghost use Rattle.kpn_command_line.specs.CommandLine.{explain_words, print_words, draw_words, rounds_words, run_words};
-ghost use Rattle.kpn_command_line.specs.CommandLine.{audit_words, stats_words, timeline_words, file_word, rounds_word, source_option};
-ghost use Rattle.kpn_command_line.specs.CommandLine.{sink_option, workers_option, steps_option, items_flag, svg_flag, from_option, to_option};
-ghost use Rattle.kpn_command_line.specs.CommandLine.{trace_word, run_inputs, timeline_inputs, bare_command_line};
+ghost use Rattle.kpn_command_line.specs.CommandLine.{stream_words, audit_words, stats_words, timeline_words};
+ghost use Rattle.kpn_command_line.specs.CommandLine.{file_word, rounds_word, source_option, sink_option};
+ghost use Rattle.kpn_command_line.specs.CommandLine.{workers_option, steps_option, items_flag, quiet_flag, svg_flag};
+ghost use Rattle.kpn_command_line.specs.CommandLine.{format_option, from_option, to_option, trace_word};
+ghost use Rattle.kpn_command_line.specs.CommandLine.{run_inputs, stream_ends, timeline_inputs, bare_command_line, flag};
 
 use clap::builder::ValueParser;
 use clap::{Arg, ArgAction, Command};
@@ -47,11 +49,17 @@ pub(crate) const FROM: &str = "FROM";
 
 pub(crate) const TO: &str = "TO";
 
+pub(crate) const FORMAT: &str = "FORMAT";
+
+pub(crate) const QUIET: &str = "QUIET";
+
 // The commands and their words.
 pub(crate) fn program<'a>(alloc: Global) -> Result<Command<'a>, AllocError>
     ensures { IfOk result (IsCommand command_line) }
 {
-    first_nine(alloc)?.subcommand(timeline_words(alloc)?)
+    first_nine(alloc)?
+        .subcommand(stats_words(alloc)?)?
+        .subcommand(timeline_words(alloc)?)
 }
 
 // The program with nine commands.
@@ -60,8 +68,8 @@ fn first_nine<'a>(alloc: Global) -> Result<Command<'a>, AllocError>
 {
     first_six(alloc)?
         .subcommand(run_words(alloc)?)?
-        .subcommand(audit_words(alloc)?)?
-        .subcommand(stats_words(alloc)?)
+        .subcommand(stream_words(alloc)?)?
+        .subcommand(audit_words(alloc)?)
 }
 
 // The program with six commands.
@@ -87,9 +95,10 @@ fn first_three<'a>(alloc: Global) -> Result<Command<'a>, AllocError>
 // What help says below the commands.
 const STATUSES: &str = "\
 Statuses: 0 for success, 1 for a refused input or a device that fails, 2 for words that are not
-understood, 6 for want of memory; explain, draw, run, audit, stats and timeline have more. If an input
-is refused, one line on standard error says why. If the words are not understood, standard error says
-how to use them. Standard output is then empty, except that explain writes there what is wrong.";
+understood, 6 for want of memory; explain, draw, run, stream, audit, stats and timeline have more. If an
+input is refused, one line on standard error says why. If the words are not understood, standard error
+says how to use them. Standard output is then empty, except that explain writes there what is wrong, and
+stream what it has computed before.";
 
 // The program without its commands.
 fn bare_program<'a>(alloc: Global) -> Command<'a>
@@ -220,6 +229,10 @@ fn draw_words<'a>(alloc: Global) -> Result<Command<'a>, AllocError>
         .arg(optional_word(alloc, TRACE, trace))
 }
 
+// What help says of `--source`, if sources have files.
+const SOURCE_HELP: &str =
+    "Gives a source the items of a file, and may be repeated; a source without it has none";
+
 const ROUNDS_HELP: &str = "\
 Round 0 is the given lists on the sources and nothing elsewhere. In each further round every process
 runs alone from its start on the lists of the round before, and each loop has N turns. Writes a line
@@ -240,7 +253,7 @@ fn rounds_words<'a>(alloc: Global) -> Result<Command<'a>, AllocError>
     command(alloc, "rounds", about, ROUNDS_HELP)
         .arg(file_word(alloc))?
         .arg(rounds_word(alloc))?
-        .arg(source_word(alloc))
+        .arg(source_word(alloc, "NAME=FILE", SOURCE_HELP))
 }
 
 const RUN_HELP: &str = "\
@@ -293,11 +306,68 @@ fn run_inputs<'a>(alloc: Global) -> Result<Command<'a>, AllocError>
     ensures { IfOk result (IsCommand run_inputs) }
 {
     let about = "Runs a network, and writes what it has come to";
+    let sink =
+        "Stores what a sink received in the file OUT, which is no input, before the report is written; may be repeated";
     command(alloc, "run", about, RUN_HELP)
         .arg(file_word(alloc))?
-        .arg(source_word(alloc))?
-        .arg(sink_word(alloc))?
+        .arg(source_word(alloc, "NAME=FILE", SOURCE_HELP))?
+        .arg(sink_word(alloc, sink))?
         .arg(workers_word(alloc))
+}
+
+const STREAM_HELP: &str = "\
+Runs a network on live input, on one thread, and writes each item as it comes. A source is read only if
+a process waits for its item, and all that was computed is written and flushed before that read.
+
+IN and OUT are files, pipes or devices, and `-` is standard input or output. The only source may be left
+out, and is standard input then; the only sink may be left out, and is standard output. Every other
+source and sink has to be named.
+
+--format lines, the usual one, has an item on each line: an optional `-` and 1 to 19 digits. s16le, s32le
+and s64le are samples of 16, 32 and 64 bits, the lowest byte first, for all sources and sinks.
+
+A bad item, or a read or write that fails, ends the run. All that was computed before is written, and
+standard error names the source or sink. A sink whose reader has gone is left. At the end standard error
+says of each sink how many items it has and whether these are complete, which processes have faulted or
+wait, and the outcome as `kpn run` does.
+
+All events and items are kept in memory until the end: a million items through ten processes take some
+600 MB. The trace is stored at the end.
+
+Statuses: 0 if no process faulted and each sink is complete, was left, or has the K items of --take; 8
+if a process faulted; 3 for clogged, 4 for jammed and 5 for stopped if a sink is not complete; 1 for a
+refused input or a device that fails, 2 for words that are not understood, 6 for want of memory.";
+
+// The words of `kpn stream`.
+fn stream_words<'a>(alloc: Global) -> Result<Command<'a>, AllocError>
+    ensures { IfOk result (IsCommand stream_words) }
+{
+    let take = "Stops once each sink was given K items, and writes K at most: 1 to 1000000000";
+    let commits = "Stops after N commits: 1 to 1000000000; a stream has no limit without it";
+    let trace =
+        "Stores all events in the file OUT at the end; it is no input and no output of the stream";
+    let quiet = "Says nothing of the end on standard error, but for what is wrong";
+    stream_ends(alloc)?
+        .arg(count(alloc, TAKE, "take", "K", take))?
+        .arg(count(alloc, MAX_COMMITS, "max-commits", "N", commits))?
+        .arg(option(alloc, TRACE, "trace", "OUT", trace))?
+        .arg(flag(alloc, QUIET, "quiet", quiet))
+}
+
+// The words of `kpn stream` for the network, its sources and sinks, and how the items are written.
+fn stream_ends<'a>(alloc: Global) -> Result<Command<'a>, AllocError>
+    ensures { IfOk result (IsCommand stream_ends) }
+{
+    let about = "Runs a network on live input, and writes the items as they come";
+    let source =
+        "Reads the items of a source from IN, or from standard input for `-`; may be repeated";
+    let sink = "Writes the items of a sink to OUT, or to standard output for `-`; may be repeated";
+    let format = "How all items are written: lines, s16le, s32le or s64le; lines without it";
+    command(alloc, "stream", about, STREAM_HELP)
+        .arg(file_word(alloc))?
+        .arg(source_word(alloc, "NAME=IN", source))?
+        .arg(sink_word(alloc, sink))?
+        .arg(option(alloc, FORMAT, "format", "FORMAT", format))
 }
 
 const AUDIT_HELP: &str = "\
@@ -407,20 +477,16 @@ fn workers_word<'a>(alloc: Global) -> Arg<'a>
 }
 
 // The `--source` options of a command.
-fn source_word<'a>(alloc: Global) -> Arg<'a>
+fn source_word<'a>(alloc: Global, value: &'static str, help: &'static str) -> Arg<'a>
     ensures { IsArg source_option result }
 {
-    let help =
-        "Gives a source the items of a file, and may be repeated; a source without it has none";
-    option(alloc, SOURCE, "source", "NAME=FILE", help).action(ArgAction::Append)
+    option(alloc, SOURCE, "source", value, help).action(ArgAction::Append)
 }
 
 // The `--sink` options of a command.
-fn sink_word<'a>(alloc: Global) -> Arg<'a>
+fn sink_word<'a>(alloc: Global, help: &'static str) -> Arg<'a>
     ensures { IsArg sink_option result }
 {
-    let help =
-        "Stores what a sink received in the file OUT, which is no input, before the report is written; may be repeated";
     option(alloc, SINK, "sink", "NAME=OUT", help).action(ArgAction::Append)
 }
 
@@ -428,20 +494,15 @@ fn sink_word<'a>(alloc: Global) -> Arg<'a>
 fn items_word<'a>(alloc: Global) -> Arg<'a>
     ensures { IsArg items_flag result }
 {
-    Arg::new(alloc, ITEMS)
-        .long("items")
-        .help("Reads FILE as a file of items, as sources have; then there is no TRACE")
-        .action(ArgAction::SetTrue)
+    let help = "Reads FILE as a file of items, as sources have; then there is no TRACE";
+    flag(alloc, ITEMS, "items", help)
 }
 
 // The `--svg` flag.
 fn svg_word<'a>(alloc: Global) -> Arg<'a>
     ensures { IsArg svg_flag result }
 {
-    Arg::new(alloc, SVG)
-        .long("svg")
-        .help("Writes a picture in place of JSON")
-        .action(ArgAction::SetTrue)
+    flag(alloc, SVG, "svg", "Writes a picture in place of JSON")
 }
 
 // The `--from` option.
@@ -512,6 +573,16 @@ fn option<'a>(
         .value_name(value)
         .help(help)
         .action(ArgAction::Set)
+}
+
+// An option without a value.
+fn flag<'a>(alloc: Global, id: &'static str, long: &'static str, help: &'static str) -> Arg<'a>
+    ensures { IsArg (flag id.entry.now long.entry.now) result }
+{
+    Arg::new(alloc, id)
+        .long(long)
+        .help(help)
+        .action(ArgAction::SetTrue)
 }
 
 // An option whose value is a count of items, commits or steps.

@@ -1,7 +1,7 @@
 //! What a command line may ask for.
 
 use clap::Error;
-use kpn_request::{RunRequest, StatsTables};
+use kpn_request::{RunRequest, StatsTables, StreamRequest};
 use std::alloc::AllocError;
 
 /// What a command line asks for.
@@ -34,6 +34,8 @@ pub enum Request<'a> {
     },
     /// `run FILE` with its options.
     Run(RunRequest<'a>),
+    /// `stream FILE` with its options.
+    Stream(StreamRequest<'a>),
     /// `audit FILE TRACE`, with the most steps before an event.
     Audit {
         file: &'a str,

@@ -5,18 +5,19 @@ ghost use Rattle.clap.specs.Words.{kind_of, fault_of, found_of, rows_of, subcomm
 ghost use Rattle.clap.specs.Words.{subcommand_rows_of};
 ghost use Rattle.kpn_command_line.specs.CommandLine.{command_line};
 ghost use Rattle.kpn_command_line.specs.Asked.{IsAsked, IsRefused, IsHelpOfKind, IsRefusalOfKind};
-ghost use Rattle.kpn_command_line.specs.Asked.{AnswersTo, IsUsageIf, IsNoTable, Names, rows_in};
+ghost use Rattle.kpn_command_line.specs.Asked.{AnswersTo, IsUsageIf, IsNoTable, IsNoFormat, Names, rows_in};
 ghost use Rattle.kpn_command_line.specs.Asked.{text_for, texts_for, number_for, is_set, table_name};
+ghost use Rattle.kpn_command_line.specs.Asked.{format_for, format_name};
 
 use crate::command_line::{
-    FILE, FROM, ITEMS, MAX_COMMITS, NAME, ROUNDS, SINK, SOURCE, STEPS, SVG, TABLE, TAKE, TO, TRACE,
-    WORKERS, program,
+    FILE, FORMAT, FROM, ITEMS, MAX_COMMITS, NAME, QUIET, ROUNDS, SINK, SOURCE, STEPS, SVG, TABLE,
+    TAKE, TO, TRACE, WORKERS, program,
 };
 use crate::request::{Request, WordsFault};
 use clap::error::ErrorKind;
 use clap::{ArgMatches, Command, Error};
 use kpn_limits::{MAX_COUNT, USUAL_COUNT};
-use kpn_request::{RunRequest, StatsTables};
+use kpn_request::{ItemFormat, RunRequest, StatsTables, StreamRequest};
 use std::alloc::{AllocError, Global};
 
 /// What the words ask for, or why the program can't do it.
@@ -77,6 +78,7 @@ fn command_request<'a>(
         }),
         "rounds" => rounds_request(alloc, program, given),
         "run" => run_request(alloc, program, given),
+        "stream" => stream_request(alloc, program, given),
         "audit" => Ok(Request::Audit {
             file: required(program, given, FILE)?,
             trace: required(program, given, TRACE)?,
@@ -159,6 +161,51 @@ fn run_request<'a>(
         trace: text_of(run, TRACE),
         workers: number_of(run, WORKERS),
     }))
+}
+
+// What the words ask of `kpn stream`.
+fn stream_request<'a>(
+    alloc: Global,
+    program: &mut Command<'a>,
+    stream: &ArgMatches<'a>,
+) -> Result<Request<'a>, WordsFault>
+    ensures { AnswersTo (codes "stream") (rows_in stream.now) result }
+{
+    Ok(Request::Stream(StreamRequest {
+        file: required(program, stream, FILE)?,
+        sources: texts_of(alloc, stream, SOURCE)?,
+        sinks: texts_of(alloc, stream, SINK)?,
+        format: format_of(program, stream)?,
+        commits: count_of(stream, MAX_COMMITS),
+        take: count_of(stream, TAKE),
+        trace: text_of(stream, TRACE),
+        quiet: is_set(stream, QUIET),
+    }))
+}
+
+// The format that the words ask for.
+fn format_of<'a>(
+    program: &mut Command<'a>,
+    stream: &ArgMatches<'a>,
+) -> Result<ItemFormat, WordsFault>
+    ensures { MatchResult result
+        (λ format. format_for (rows_in stream.now) ≡ format_name format)
+        (IsUsageIf (IsNoFormat (format_for (rows_in stream.now)))) }
+{
+    let Some(format) = text_of(stream, FORMAT) else {
+        return Ok(ItemFormat::Lines);
+    };
+    match format {
+        "lines" => Ok(ItemFormat::Lines),
+        "s16le" => Ok(ItemFormat::S16),
+        "s32le" => Ok(ItemFormat::S32),
+        "s64le" => Ok(ItemFormat::S64),
+        _ => Err(unclear(
+            program,
+            ErrorKind::InvalidValue,
+            "--format takes lines, s16le, s32le or s64le",
+        )),
+    }
 }
 
 // What the words ask of `kpn stats`.

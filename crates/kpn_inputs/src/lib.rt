@@ -7,4 +7,4 @@ mod sources;
 
 pub use description::load_document;
 pub use inputs::{Inputs, RunInputs, load_inputs, load_run_inputs};
-pub use sources::{Ends, FileOption, NamedEnd, options_of};
+pub use sources::{Ends, FileOption, NamedEnd, ends_of, options_of};

@@ -73,7 +73,7 @@ fn option_of(word: &str) -> Option<FileOption<'_>>
 /// The ends of a network that options name, in the order of the options. The first option that
 /// names none, or one that an earlier option names, is refused.
 #[tactic(auto, unfolding(kpn_tokens::specs::Results::and_then))]
-pub(crate) fn ends_of<'a>(
+pub fn ends_of<'a>(
     alloc: Global,
     document: &Document,
     ends: Ends,

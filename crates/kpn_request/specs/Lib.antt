@@ -1,1 +1,2 @@
 pub mod RunRequest
+pub mod StreamRequest

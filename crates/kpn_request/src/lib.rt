@@ -1,8 +1,10 @@
-//! What the words of a command line may ask of a command: a run, and the tables of a trace.
+//! What the words of a command line may ask of a command: a run, a stream, and the tables of a trace.
 #![tactic(auto)]
 
 mod run;
+mod stream;
 mod tables;
 
 pub use run::RunRequest;
+pub use stream::{ItemFormat, StreamRequest};
 pub use tables::StatsTables;

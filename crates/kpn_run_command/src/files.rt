@@ -58,7 +58,7 @@ fn push_trace(
     let Some(name) = trace else {
         return Ok(());
     };
-    let bytes = text_of(alloc, network, history)?;
+    let bytes = trace_of(alloc, network, history)?;
     push_file(alloc, files, name, bytes)
 }
 
@@ -78,8 +78,8 @@ fn push_file(
     Ok(())
 }
 
-// The text of a trace. There is room for each line before the first is made.
-fn text_of(alloc: Global, network: &Network, history: &History) -> Result<Vec<u8>, Refusal>
+/// The text of a trace. There is room for each line before the first is made.
+pub fn trace_of(alloc: Global, network: &Network, history: &History) -> Result<Vec<u8>, Refusal>
     ensures ok { let t = network.now in IfOk result (λ text.
         text.items ≡ trace_text Version.Two t.policy t.growth history.now.events) }
     ensures refused { IfErr result (λ refusal. refusal ≡ Refusal.NoMemory) }

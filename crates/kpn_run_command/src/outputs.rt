@@ -42,15 +42,15 @@ pub(crate) fn prepare<'a, S: Shelf>(
     }
 }
 
-// The names of the outputs of a run, the trace first, and the options for its sinks.
+/// The names of the outputs of a run, the trace first, and the options for its sinks.
 #[derive(Drop)]
-struct Outputs<'a> {
-    names: Vec<&'a str>,
-    sinks: Vec<FileOption<'a>>,
+pub struct Outputs<'a> {
+    pub names: Vec<&'a str>,
+    pub sinks: Vec<FileOption<'a>>,
 }
 
-// The outputs that a run is asked for. It refuses one that is an input or another output.
-fn check_outputs<'a, S: Shelf>(
+/// The outputs that a run is asked for. It refuses one that is an input or another output.
+pub fn check_outputs<'a, S: Shelf>(
     alloc: Global,
     request: &RunRequest<'a>,
     shelf: &S,

@@ -39,8 +39,8 @@ pub fn status_of(outcome: Outcome) -> u8
     }
 }
 
-// The word for an outcome.
-fn word_of(outcome: Outcome) -> &'static str
+/// The word for an outcome.
+pub fn word_of(outcome: Outcome) -> &'static str
     ensures { result.now ≡ outcome_word outcome }
 {
     match outcome {
@@ -126,8 +126,8 @@ fn push_processes(text: &mut String, document: &Document, report: &Report) -> Pu
     }
 }
 
-// The line of each process that ended by a fault.
-fn push_faults(text: &mut String, document: &Document, states: &[State]) -> Pushed
+/// The line of each process that ended by a fault.
+pub fn push_faults(text: &mut String, document: &Document, states: &[State]) -> Pushed
     ensures { Adds result text.old text.new
         (state_lines fault_text document.now.names.instances 0 states.now) }
 {
@@ -148,8 +148,8 @@ fn push_fault(text: &mut String, name: &str, state: State) -> Pushed
     }
 }
 
-// The line of each process that waits.
-fn push_waits(text: &mut String, document: &Document, states: &[State]) -> Pushed
+/// The line of each process that waits.
+pub fn push_waits(text: &mut String, document: &Document, states: &[State]) -> Pushed
     ensures { let names = document.now.names in Adds result text.old text.new
         (state_lines (wait_text names.channels) names.instances 0 states.now) }
 {

@@ -18,7 +18,7 @@ type Looks = BTreeMap<String, Written>;
 
 /// The files that a runtime reaches, by their paths. Nothing is known of what they hold.
 pub struct FileShelf<'a, R: Files<File = File> + AllocGlobal> {
-    rt: &'a R,
+    pub(crate) rt: &'a R,
     ready: Cell<Option<Vec<Target>>>,
     // Since files were changed. Each name is looked at once: outputs are compared in pairs, and may be many.
     looks: Cell<Option<Looks>>,
@@ -109,7 +109,7 @@ impl<R: Files<File = File> + AllocGlobal> Drop for FileShelf<'_, R> {
 }
 
 // Which fault an error of a file is.
-fn fault_of(error: io::Error) -> WriteFault {
+pub(crate) fn fault_of(error: io::Error) -> WriteFault {
     match error.kind() {
         ErrorKind::OutOfMemory => WriteFault::NoMemory,
         _ => WriteFault::Write,

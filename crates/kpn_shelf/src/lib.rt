@@ -12,11 +12,13 @@ use std::alloc::{AllocError, Global};
 mod files;
 mod memory;
 mod place;
+mod ports;
 mod target;
 mod written;
 
 pub use files::FileShelf;
 pub use memory::MemoryShelf;
+pub use ports::Ports;
 
 /// Files by name.
 pub trait Shelf {

@@ -12,7 +12,7 @@ use std::collections::BTreeMap;
 /// Files that are held in memory, which the allocator of the constructor gives.
 #[derive(Drop)]
 pub struct MemoryShelf {
-    alloc: Global,
+    pub(crate) alloc: Global,
     files: BTreeMap<String, Vec<u8>>,
 }
 

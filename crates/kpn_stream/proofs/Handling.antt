@@ -1,5 +1,5 @@
 -- What becomes of what a device answers.
-use Rattle.std.proofs.Common.{◌≡◌, ℕ, zero, suc, ◌+◌, ◌<◌, ◌≤◌, Bool, true, false, cond, ℤ, List, [], ◌∷◌, ◌++◌, length, slice_get, get_or, IfOk, Option, Some, None, Result, Ok, Err, refl, sym, ap, ◌∙◌, subst, inl, inr, append-nil, append_assoc, arith}
+use Rattle.std.proofs.Common.{◌≡◌, ℕ, zero, suc, ◌+◌, ◌<◌, ◌≤◌, Bool, true, false, cond, ℤ, List, [], ◌∷◌, ◌++◌, length, slice_get, get_or, is_some, IfOk, Option, Some, None, Result, Ok, Err, refl, sym, ap, ◌∙◌, subst, inl, inr, append-nil, append_assoc, arith}
 use Rattle.std.specs.List.{filter, range_with_len}
 use Rattle.std.proofs.lemmas.Bool.{cases_lt}
 use Rattle.std.proofs.lemmas.List.{get_or_default}
@@ -111,11 +111,6 @@ pub all_ends : (is_end : ChannelSpec → Bool) (t : Tables) (P : ℕ → Type 0)
 all_ends is_end t P xs i same past holds c below is =
     each_end is_end t P
     (λ j less. subst (λ ys. P (get_or ys j 0)) same (holds j (let long = ap length same in omega arith))) c below is
-
--- the ends stay as long as the network does
-pub ends_stay : (is_end : ChannelSpec → Bool) (xs : List ℕ) (a b : Book) → b.tables ≡ a.tables
-    → xs ≡ end_numbers is_end a.tables → xs ≡ end_numbers is_end b.tables
-ends_stay is_end xs a b same are = are ∙ ap (end_numbers is_end) (sym same)
 
 -- ---- answers
 

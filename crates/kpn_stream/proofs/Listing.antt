@@ -1,9 +1,10 @@
 -- From the answers of the devices to the lists of the sources and the sinks.
-use Rattle.std.proofs.Common.{◌≡◌, ◌≢◌, ℕ, ◌≤◌, Bool, true, false, cond, eqb, ◌||◌, ℤ, List, [], ◌∷◌, ◌++◌, length, length-append, Option, Some, None, Result, Ok, Err, refl, sym, ap, ◌∙◌, subst, inl, inr, append-nil, append_assoc, arith}
+use Rattle.std.proofs.Common.{◌≡◌, ◌≢◌, ℕ, ◌+◌, ◌<◌, ◌≤◌, Bool, true, false, cond, eqb, ◌||◌, ℤ, List, [], ◌∷◌, ◌++◌, length, length-append, Option, Some, None, Result, Ok, Err, refl, sym, ap, ◌∙◌, subst, inl, inr, append-nil, append_assoc, arith}
 use Rattle.std.proofs.lemmas.List.{same_from_push}
 use Rattle.std.proofs.lemmas.Bool.{cases_eq, eq-eqb, ne_eqb, eqb-true, both_ways, false≢true, or_right}
 use Rattle.kpn_lang.specs.Prefix.{IsPrefix}
 use Rattle.kpn_lang.proofs.Prefixes.{IsPrefix-trans, IsPrefix-from_rest, IsPrefix-same, same_from_prefix, prefix_of_push}
+use Rattle.kpn_net.specs.declared.tables.End.TheVariants.{Process}
 use Rattle.kpn_net.specs.Tables.{Tables, channel_at, is_source, is_sink}
 use Rattle.kpn_net.specs.Faults.{IsNetwork}
 use Rattle.kpn_net.specs.Process.{Family}
@@ -11,7 +12,7 @@ use Rattle.kpn_net.specs.Iteration.{iterate, IsBelowLeast, IsLeast}
 use Rattle.kpn_net.proofs.Networks.{sink_there}
 use Rattle.kpn_history.specs.declared.event.Event.{Event}
 use Rattle.kpn_history.specs.declared.event.Event.TheVariants as event
-use Rattle.kpn_history.specs.Channels.{written_in, written_on, read_in, read_on, unread_on, is_closed, is_close_of, is_left}
+use Rattle.kpn_history.specs.Channels.{written_in, written_on, read_in, read_on, unread_on, fed, is_closed, is_close_of, is_left, is_empty}
 use Rattle.kpn_history.specs.Legal.{Legal}
 use Rattle.kpn_history.specs.Complete.{IsComplete, IsFedFrom}
 use Rattle.kpn_history.proofs.AfterEvent.{is_closed-next}

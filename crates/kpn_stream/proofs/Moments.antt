@@ -1,7 +1,8 @@
 -- What holds of a book at one moment: who waits, whether all have stopped, and what lies on the sinks.
-use Rattle.std.proofs.Common.{◌≡◌, ℕ, ◌<◌, Bool, true, false, not, cond, ℤ, List, [], ◌∷◌, ◌++◌, length, drop, slice_get, Option, Some, None, is_some, refl, sym, ap, ◌∙◌, subst, inl, inr, append-nil, append_assoc, length-append, arith}
+use Rattle.std.proofs.Common.{◌≡◌, ℕ, ◌-◌, ◌+◌, ◌<◌, Bool, true, false, not, cond, ℤ, List, [], ◌∷◌, ◌++◌, length, drop, slice_get, get_or, count_by, Option, Some, None, is_some, refl, sym, ap, ◌∙◌, subst, inl, inr, append-nil, append_assoc, length-append, arith}
 use Rattle.std.proofs.lemmas.Bool.{eqb-true, eq-eqb, false≢true, or_left, or_right}
-use Rattle.kpn_net.specs.Tables.{Tables, channel_at, is_sink}
+use Rattle.kpn_net.specs.declared.wait.Wait.TheVariants.{Empty}
+use Rattle.kpn_net.specs.Tables.{Tables, channel_at, is_sink, reader_of}
 use Rattle.kpn_net.proofs.Networks.{reader_of-sink, sink_there}
 use Rattle.kpn_chan.specs.Channel.{ChannelState, unread, next_item}
 use Rattle.kpn_schedule.specs.Schedule.{state_at}
@@ -9,9 +10,9 @@ use Rattle.kpn_schedule.proofs.Tallies.{not_counted}
 use Rattle.kpn_history.specs.declared.event.Event.{Event}
 use Rattle.kpn_history.specs.declared.event.Event.TheVariants as event
 use Rattle.kpn_history.specs.declared.state.State.{State}
-use Rattle.kpn_history.specs.declared.state.State.TheVariants.{Ready, Held}
+use Rattle.kpn_history.specs.declared.state.State.TheVariants.{Ready, Held, WaitsEmpty, WaitsFull, Ended}
 use Rattle.kpn_history.specs.declared.state.Counts.{Counts}
-use Rattle.kpn_history.specs.Channels.{written_in, read_in, read_on, unread_on, is_left, is_leave_of, lives}
+use Rattle.kpn_history.specs.Channels.{written_in, written_on, read_in, read_on, unread_on, is_left, is_leave_of, is_empty, lives}
 use Rattle.kpn_history.specs.Ends.{HaveStopped}
 use Rattle.kpn_history.specs.Views.{is_ready, is_held, is_stopped, AreCounts}
 use Rattle.kpn_history.proofs.AfterEvent.{is_left-next}

@@ -1,5 +1,5 @@
 -- Scaffolding: what the parts of a stream do to its book. Only contracts of private functions use it.
-use Rattle.std.specs.Prelude.{◌≡◌, ℕ, ◌≤◌, Bool, ℤ, List, ◌++◌, Option, Some, None, Result}
+use Rattle.std.specs.Prelude.{◌≡◌, ℕ, ◌≤◌, ◌||◌, Bool, false, ℤ, List, [], ◌∷◌, ◌++◌, Option, Some, None, Result}
 use Rattle.kpn_net.specs.Tables.{is_sink}
 use Rattle.kpn_history.specs.declared.event.Event.{Event}
 use Rattle.kpn_history.specs.declared.event.Event.TheVariants.{Leave}

@@ -50,6 +50,9 @@ returns-in-Run g c = rw c.in-Run.is (refl, (c.run_command.ensures.ok, c.run_comm
 pub returns-in-Some : goal.returns-in-Some
 returns-in-Some g c = (c.in-Run.is, search rules, refl)
 
+pub returns-in-Stream : goal.returns-in-Stream
+returns-in-Stream g c = (c.in-Stream.is, refl)
+
 pub returns-in-Rounds : goal.returns-in-Rounds
 returns-in-Rounds g c =
     rw (c.in-Rounds.is, ← c.deref.ensures.value)

@@ -1,4 +1,4 @@
-use Rattle.std.proofs.Common.{sym, ap, ◌∙◌}
+use Rattle.std.proofs.Common.{◌≡◌, sym, ap, ◌∙◌}
 use Rattle.kpn_net.specs.Tables.{is_source}
 use Rattle.kpn_stream.specs.Ending.{end_numbers}
 use Rattle.kpn_stream.proofs.Going.{serves-refl, serves_on, serves_taken, serves_ending}

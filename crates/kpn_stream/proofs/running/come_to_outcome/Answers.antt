@@ -1,4 +1,4 @@
-use Rattle.std.proofs.Common.{sym, ◌∙◌}
+use Rattle.std.proofs.Common.{◌≡◌, sym, ◌∙◌}
 use Rattle.kpn_stream.proofs.Going.{serves-refl, serves_on, serves_taken, serves_ending}
 use Rattle.kpn_stream.proofs.running.come_to_outcome.Goals as goal
 

@@ -2,9 +2,10 @@ use Rattle.std.proofs.Common.{rules, ◌≡◌, ◌<◌, ◌≤◌, length, take
 use Rattle.std.proofs.lemmas.List.{take_more}
 use Rattle.kpn_net.specs.Tables.{is_sink}
 use Rattle.kpn_stream.specs.Devices.{AreFlushed}
+use Rattle.kpn_stream.specs.Ending.{end_numbers}
 use Rattle.kpn_stream.specs.Streaming.{Serves}
 use Rattle.kpn_stream.proofs.Going.{none_of, serves-refl, serves-trans, flushed_more}
-use Rattle.kpn_stream.proofs.Handling.{ends_stay, listed}
+use Rattle.kpn_stream.proofs.Handling.{listed}
 use Rattle.kpn_stream.proofs.taking.flush_all.Goals as goal
 
 pub sinks-init : goal.sinks-init
@@ -40,8 +41,7 @@ sinks-preserved g c =
           Serves g.K.Sinks.takes g.K.Sinks.flushes c.args.limits.now e c.sinks.book c.flush.new.book c.sinks.sinks
           c.flush.new.sinks)
           on c.in_ok-ended.ensures.serves);
-      ends = ends_stay is_sink c.args.ends.now.sinks.items c.sinks.book c.flush.new.book
-          c.in_ok-ended.ensures.serves.besides.tables c.sinks.invariant.ends;
+      ends = c.sinks.invariant.ends ∙ ap (end_numbers is_sink) (sym c.in_ok-ended.ensures.serves.besides.tables);
       flushed =
           let items = c.args.ends.now.sinks.items in
           let below : c.sinks.i < length items = search rules in

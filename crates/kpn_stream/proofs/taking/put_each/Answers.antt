@@ -1,4 +1,4 @@
-use Rattle.std.proofs.Common.{rules, ◌≡◌, true, Ok, Err, None, sym, ap, ◌∙◌, subst, inl}
+use Rattle.std.proofs.Common.{rules, ◌≡◌, ◌<◌, true, length, Ok, Err, Some, None, sym, ap, ◌∙◌, subst, inl, inr}
 use Rattle.std.proofs.lemmas.Bool.{both_ways}
 use Rattle.std.proofs.lemmas.Result.{IfOk-weaker}
 use Rattle.kpn_net.specs.Tables.{channel_at, is_sink}
@@ -6,7 +6,9 @@ use Rattle.kpn_history.specs.declared.event.Event.TheVariants as event
 use Rattle.kpn_chan.specs.Channel.{next_item}
 use Rattle.kpn_configuration.specs.Configuration.{channel_in}
 use Rattle.kpn_run_state.specs.Appending.{Happens}
+use Rattle.kpn_run_here.proofs.Ends.{sink_there}
 use Rattle.kpn_run_here.proofs.Happening.{happens_tables}
+use Rattle.kpn_stream.specs.Devices.{HasGiven}
 use Rattle.kpn_stream.specs.Ending.{end_numbers}
 use Rattle.kpn_stream.proofs.Going.{serves-refl, serves-trans}
 use Rattle.kpn_stream.proofs.Handling.{serves_item, serves_not, handled_taken}

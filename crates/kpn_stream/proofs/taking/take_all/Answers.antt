@@ -1,10 +1,10 @@
-use Rattle.std.proofs.Common.{rules, ◌≡◌, ◌<◌, ◌≤◌, length, None, sym, ◌∙◌, subst, arith}
+use Rattle.std.proofs.Common.{rules, ◌≡◌, ◌<◌, ◌≤◌, length, None, sym, ap, ◌∙◌, subst, arith}
 use Rattle.kpn_net.specs.Tables.{is_sink}
 use Rattle.kpn_run_here.proofs.Ends.{sink_there}
-use Rattle.kpn_stream.specs.Ending.{IsTaken}
+use Rattle.kpn_stream.specs.Ending.{end_numbers, IsTaken}
 use Rattle.kpn_stream.specs.Streaming.{Serves}
 use Rattle.kpn_stream.proofs.Going.{none_of, serves-refl, serves-trans}
-use Rattle.kpn_stream.proofs.Handling.{ends_stay, listed, one_more_end, all_ends}
+use Rattle.kpn_stream.proofs.Handling.{listed, one_more_end, all_ends}
 use Rattle.kpn_stream.proofs.taking.take_all.Goals as goal
 
 pub sinks-init : goal.sinks-init
@@ -40,8 +40,7 @@ sinks-preserved g c =
           Serves g.K.Sinks.takes g.K.Sinks.flushes c.args.limits.now e c.sinks.book c.take_each.new.book c.sinks.sinks
           c.take_each.new.sinks)
           on c.in_ok-ended.ensures.serves);
-      ends = ends_stay is_sink c.args.ends.now.sinks.items c.sinks.book c.take_each.new.book
-          c.in_ok-ended.ensures.serves.besides.tables c.sinks.invariant.ends;
+      ends = c.sinks.invariant.ends ∙ ap (end_numbers is_sink) (sym c.in_ok-ended.ensures.serves.besides.tables);
       taken =
           one_more_end (IsTaken c.take_each.new.book.history) c.args.ends.now.sinks.items c.sinks.i
           c.index.result.now (search rules) c.index.ensures

@@ -1,0 +1,11 @@
+//! `kpn stream FILE`: runs a network over inputs and outputs, and takes and writes the items as they come.
+#![tactic(auto)]
+
+mod command;
+mod devices;
+mod ending;
+mod places;
+mod refusal;
+mod summary;
+
+pub use command::stream_command;

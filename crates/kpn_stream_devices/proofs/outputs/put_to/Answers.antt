@@ -1,0 +1,9 @@
+-- The item is kept, and all is handed on.
+use Rattle.std.proofs.Common.{◌≡◌, rules}
+use Rattle.kpn_stream_devices.proofs.Devices.{handed, kept_more}
+use Rattle.kpn_stream_devices.proofs.outputs.put_to.Goals as goal
+
+pub returns-clause-taken : goal.returns-clause-taken
+returns-clause-taken g c =
+    handed c.args.format c.args.item _ _ _ c.hand_on.result _ (search rules) (search (kept_more, rules))
+    c.hand_on.ensures.handed_on

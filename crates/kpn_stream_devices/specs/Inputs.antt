@@ -1,0 +1,63 @@
+-- The inputs of a stream, as the devices of its sources.
+use Rattle.std.specs.Prelude.{◌≡◌, ℕ, nat_eq, ℤ, List, position, get_or, slice_set, Option, Some, None, Result, Ok, Err}
+use Rattle.kpn_request.specs.declared.stream.ItemFormat.{ItemFormat}
+use Rattle.kpn_stream.specs.declared.faults.SourceFault.{SourceFault}
+use Rattle.kpn_stream_devices.specs.declared.inputs.Input.{Input}
+use Rattle.kpn_stream_devices.specs.declared.inputs.Inputs.{Inputs}
+use Rattle.kpn_stream_devices.specs.Window.{Gives, IsEndKnown, left_of}
+use Rattle.std.specs.Io.KnownBytes.{Keeps}
+
+-- what a device has left: the file, or else standard input
+abbrev pub device_left : {I F : Type 0} → (left : I → Option (List ℕ)) (left_in : F → Option (List ℕ))
+    → (standard : I) → (file : Option F) → Option (List ℕ)
+device_left left left_in standard None = left standard
+device_left left left_in standard (Some file) = left_in file
+
+-- What one input gives. Given are standard input and the input, each as it was and as it is afterwards.
+pub record InputGives {I F : Type 0} (left : I → Option (List ℕ)) (left_in : F → Option (List ℕ))
+    (format : ItemFormat) (standard : I) (input : Input F) (answer : Result (Option ℤ) SourceFault) (read : I)
+    (after : Input F) : Type 0 where
+  pub channel : after.channel ≡ input.channel
+  -- if the input is known to be over only where its device is at its end, this stays so, and the answer is right
+  pub known : IsEndKnown input.window (device_left left left_in standard input.file)
+      → IsEndKnown after.window (device_left left left_in read after.file)
+  pub given : IsEndKnown input.window (device_left left left_in standard input.file)
+      → Gives format input.window (device_left left left_in standard input.file) answer
+      after.window (device_left left left_in read after.file)
+
+-- which input is that of a source: the first for its channel
+abbrev pub input_of : {F : Type 0} → List (Input F) → (source : ℕ) → Option ℕ
+input_of inputs source = position (λ input. nat_eq input.channel source) inputs
+
+-- What the inputs give for a source. It has an input, and the others stay as they were; or it has none, and nothing
+-- changes.
+pub data InputsGive {I F : Type 0} (left : I → Option (List ℕ)) (left_in : F → Option (List ℕ)) (before : Inputs I F)
+    (source : ℕ) (answer : Result (Option ℤ) SourceFault) (after : Inputs I F) : Type 0 where
+  by_input : (i : ℕ) (input read : Input F) → input_of before.each.items source ≡ Some i →
+      get_or before.each.items i input ≡ input → InputGives left left_in before.format before.standard.now input answer
+      after.standard.now read → after.each.items ≡ slice_set before.each.items i read →
+      after.format ≡ before.format → after.standard.ghost_name ≡ before.standard.ghost_name →
+      InputsGive left left_in before source answer after
+  by_none : input_of before.each.items source ≡ None → answer ≡ Ok None → after ≡ before →
+      InputsGive left left_in before source answer after
+
+-- ---- scaffolding: what reads do before the bytes tell
+
+-- bytes have moved from the device to the window, and no others
+pub record HaveMoved {I F : Type 0} (left : I → Option (List ℕ)) (left_in : F → Option (List ℕ))
+    (standard : I) (input : Input F) (read : I) (after : Input F) : Type 0 where
+  pub channel : after.channel ≡ input.channel
+  pub lines : after.window.lines ≡ input.window.lines
+  pub kept : Keeps (left_of input.window (device_left left left_in standard input.file))
+      (left_of after.window (device_left left left_in read after.file))
+  pub known : IsEndKnown input.window (device_left left left_in standard input.file)
+      → IsEndKnown after.window (device_left left left_in read after.file)
+
+-- a read fails, or there is no memory for what it gave
+pub record FailsToRead {I F : Type 0} (left : I → Option (List ℕ)) (left_in : F → Option (List ℕ))
+    (standard : I) (input : Input F) (read : I) (after : Input F) (fault : SourceFault) : Type 0 where
+  pub channel : after.channel ≡ input.channel
+  pub known : IsEndKnown input.window (device_left left left_in standard input.file)
+      → IsEndKnown after.window (device_left left left_in read after.file)
+  pub given : (format : ItemFormat) → Gives format input.window (device_left left left_in standard input.file)
+      (Err fault) after.window (device_left left left_in read after.file)

@@ -1,0 +1,4 @@
+pub mod Formats
+pub mod Window
+pub mod Inputs
+pub mod Outputs

@@ -1,0 +1,81 @@
+-- The outputs of a stream, as the devices of its sinks.
+use Rattle.std.specs.Prelude.{◌≡◌, ℕ, nat_eq, ℤ, List, [], position, get_or, slice_set, Option, Some, None, Result, Ok, Err, ⊤}
+use Rattle.std.specs.Io.KnownBytes.{append_known, Appends, Keeps}
+use Rattle.kpn_request.specs.declared.stream.ItemFormat.{ItemFormat}
+use Rattle.kpn_stream.specs.declared.faults.SinkFault.{SinkFault}
+use Rattle.kpn_stream.specs.declared.faults.SinkFault.TheVariants.{Gone, NoSample, Write}
+use Rattle.kpn_stream_devices.specs.declared.outputs.Output.{Output}
+use Rattle.kpn_stream_devices.specs.declared.outputs.Outputs.{Outputs}
+use Rattle.kpn_stream_devices.specs.Formats.{HasItem, item_bytes}
+
+-- what a device holds: the file, or else standard output
+abbrev pub device_holds : {O G : Type 0} → (holds : O → Option (List ℕ)) (holds_in : G → Option (List ℕ))
+    → (standard : O) → (file : Option G) → Option (List ℕ)
+device_holds holds holds_in standard None = holds standard
+device_holds holds holds_in standard (Some file) = holds_in file
+
+-- what was put to an output: what its device holds, and what the device has not got yet
+abbrev pub was_put : {O G : Type 0} → (holds : O → Option (List ℕ)) (holds_in : G → Option (List ℕ))
+    → (standard : O) → Output G → Option (List ℕ)
+was_put holds holds_in standard output =
+    append_known (device_holds holds holds_in standard output.file) output.bytes.items
+
+-- What an output does with an item: it takes the item's text; or the format has none, and nothing was taken; or nobody
+-- knows what went out.
+abbrev pub TakesItem : ItemFormat → (item : ℤ) → Result (Unit {0}) SinkFault → (before after : Option (List ℕ)) → Type 0
+TakesItem format item (Ok done) before after = HasItem format item × Appends before after (item_bytes format item)
+TakesItem format item (Err (NoSample other)) before after =
+    (other ≡ item) × (¬ HasItem format item) × Keeps before after
+TakesItem format item (Err Gone) before after = ⊤
+TakesItem format item (Err Write) before after = ⊤
+
+-- a fault of a device, and not of an item
+abbrev pub IsOfDevice : SinkFault → Type 0
+IsOfDevice (NoSample item) = ⊥
+IsOfDevice Gone = ⊤
+IsOfDevice Write = ⊤
+
+-- What an output does when it hands on what it kept: the device gets all of it; or nobody knows what went out.
+abbrev pub HandsOn : Result (Unit {0}) SinkFault → (kept : List ℕ) (before after : Option (List ℕ)) → Type 0
+HandsOn (Ok done) kept before after = (kept ≡ []) × Keeps before after
+HandsOn (Err fault) kept before after = IsOfDevice fault
+
+-- A call for a sink, which has this output. Given are standard output and the output, each as it was and as it is
+-- afterwards.
+abbrev pub OutputRel : (O G : Type 0) → Type 1
+OutputRel O G = (standard : O) → Output G → (written : O) → Output G → Type 0
+
+-- which output is that of a sink: the first for its channel
+abbrev pub output_of : {G : Type 0} → List (Output G) → (sink : ℕ) → Option ℕ
+output_of outputs sink = position (λ output. nat_eq output.channel sink) outputs
+
+-- What the outputs do for a sink. It has an output, and the others stay as they were; or it has none, and nothing
+-- changes.
+pub data OutputsDo {O G : Type 0} (Does : ItemFormat → OutputRel O G) (before : Outputs O G)
+    (sink : ℕ) (answer : Result (Unit {0}) SinkFault) (after : Outputs O G) : Type 0 where
+  by_output : (i : ℕ) (output written : Output G) → output_of before.each.items sink ≡ Some i →
+      get_or before.each.items i output ≡ output → written.channel ≡ output.channel →
+      Does before.format before.standard.now output after.standard.now written →
+      after.each.items ≡ slice_set before.each.items i written → after.format ≡ before.format →
+      after.standard.ghost_name ≡ before.standard.ghost_name → OutputsDo Does before sink answer after
+  by_none : output_of before.each.items sink ≡ None → answer ≡ Ok tt → after ≡ before →
+      OutputsDo Does before sink answer after
+
+module _ {O G : Type 0} (holds : O → Option (List ℕ)) (holds_in : G → Option (List ℕ)) where
+  -- an output takes an item
+  abbrev pub Takes : ℤ → Result (Unit {0}) SinkFault → ItemFormat → OutputRel O G
+  Takes item answer format standard output written after =
+      TakesItem format item answer (was_put holds holds_in standard output) (was_put holds holds_in written after)
+
+  -- an output hands on what it kept
+  abbrev pub Flushes : Result (Unit {0}) SinkFault → ItemFormat → OutputRel O G
+  Flushes answer format standard output written after =
+      HandsOn answer after.bytes.items (was_put holds holds_in standard output) (was_put holds holds_in written after)
+
+  -- the outputs take an item
+  abbrev pub OutputsTake : Outputs O G → ℕ → ℤ → Result (Unit {0}) SinkFault → Outputs O G → Type 0
+  OutputsTake before sink item answer after = OutputsDo (Takes item answer) before sink answer after
+
+  -- the outputs hand on what one kept
+  abbrev pub OutputsFlush : Outputs O G → ℕ → Result (Unit {0}) SinkFault → Outputs O G → Type 0
+  OutputsFlush before sink answer after = OutputsDo (Flushes answer) before sink answer after

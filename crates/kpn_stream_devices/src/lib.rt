@@ -1,0 +1,10 @@
+//! The devices of `kpn stream`: inputs and outputs of items, as lines or as samples.
+#![tactic(auto)]
+
+mod inputs;
+mod outputs;
+mod window;
+
+pub use inputs::{Input, Inputs};
+pub use outputs::{Output, Outputs};
+pub use window::Window;

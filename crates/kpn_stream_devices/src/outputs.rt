@@ -1,0 +1,193 @@
+//! The outputs of a stream, as the devices of its sinks.
+ghost use Rattle.std.specs.Prelude.{◌≡◌, ◌≤◌, ◌↔◌, ◌++◌, ℤ, IsTrue, OnOk, IfErr};
+ghost use Rattle.std.specs.Io.KnownBytes.{Appends};
+ghost use Rattle.kpn_items.specs.ItemFile.{item_line};
+ghost use Rattle.kpn_stream_devices.specs.Formats.{HasItem, item_bytes, sample_bytes};
+ghost use Rattle.kpn_stream_devices.specs.Outputs.{device_holds, output_of, was_put, TakesItem, HandsOn, IsOfDevice};
+
+use byteorder::{ByteOrder, LittleEndian};
+use itoa::Buffer;
+use kpn_request::ItemFormat;
+use kpn_stream::{SinkFault, Sinks};
+use std::alloc::AllocError;
+use std::io;
+use std::io::{ErrorKind, Write};
+
+/// With so many bytes an output hands on what it kept.
+const FULL: usize = 8192;
+
+/// The output of a sink: that of this file, or else standard output. And the bytes that it has not got yet, and how many
+/// items are still wanted, if there is such a number.
+#[derive(Drop)]
+pub struct Output<G: Drop> {
+    pub channel: usize,
+    pub file: Option<G>,
+    pub bytes: Vec<u8>,
+    pub wanted: Option<u64>,
+}
+
+/// The outputs of all sinks.
+#[derive(Drop)]
+pub struct Outputs<'o, O, G: Drop> {
+    pub standard: &'o mut O,
+    pub format: ItemFormat,
+    pub each: Vec<Output<G>>,
+}
+
+impl<O: Write, G: Write + Drop> Sinks for Outputs<'_, O, G> {
+    ghost use Rattle.kpn_stream_devices.specs.Outputs.{OutputsTake, OutputsFlush};
+
+    ghost takes = { OutputsTake O.contents G.contents };
+
+    ghost flushes = { OutputsFlush O.contents G.contents };
+
+    fn put(&mut self, sink: usize, item: i64) -> Result<(), SinkFault> {
+        let Some(i) = output_of(&self.each, sink) else {
+            return Ok(());
+        };
+        let format = self.format;
+        put_to(&mut self.each[i], self.standard, format, item)
+    }
+
+    fn flush(&mut self, sink: usize) -> Result<(), SinkFault> {
+        let Some(i) = output_of(&self.each, sink) else {
+            return Ok(());
+        };
+        hand_on(&mut self.each[i], self.standard)
+    }
+}
+
+/// Which output is that of a sink: the first for its channel.
+fn output_of<G: Drop>(outputs: &[Output<G>], sink: usize) -> Option<usize>
+    ensures { result ≡ output_of outputs.now sink }
+{
+    outputs.iter().position(|output| output.channel == sink)
+}
+
+/// Puts an item to an output.
+fn put_to<O: Write, G: Write + Drop>(
+    output: &mut Output<G>,
+    standard: &mut O,
+    format: ItemFormat,
+    item: i64,
+) -> Result<(), SinkFault>
+    ensures channel { output.new.channel ≡ output.old.channel }
+    ensures taken { TakesItem format item result
+        (was_put O.contents G.contents standard.old output.old)
+        (was_put O.contents G.contents standard.new output.new) }
+{
+    if !has_item(format, item) {
+        return Err(SinkFault::NoSample(item));
+    }
+    if push(&mut output.bytes, format, item).is_err() {
+        return Err(SinkFault::Write);
+    }
+    output.wanted = one_less(output.wanted);
+    if output.bytes.len() < FULL && !is_none_wanted(output.wanted) {
+        return Ok(());
+    }
+    hand_on(output, standard)
+}
+
+fn one_less(wanted: Option<u64>) -> Option<u64> {
+    wanted.map(|items| items.saturating_sub(1))
+}
+
+/// Whether an item was the last: then its sink is left, and nobody hands on what is kept.
+fn is_none_wanted(wanted: Option<u64>) -> bool {
+    matches!(wanted, Some(0))
+}
+
+/// Whether a format has a text for an item.
+fn has_item(format: ItemFormat, item: i64) -> bool
+    ensures { IsTrue result ↔ HasItem format item }
+{
+    match format {
+        ItemFormat::Lines | ItemFormat::S64 => true,
+        ItemFormat::S16 => i64::from(i16::MIN) <= item && item <= i64::from(i16::MAX),
+        ItemFormat::S32 => i64::from(i32::MIN) <= item && item <= i64::from(i32::MAX),
+    }
+}
+
+/// Puts the text of an item behind these bytes.
+fn push(bytes: &mut Vec<u8>, format: ItemFormat, item: i64) -> Result<(), AllocError>
+    ensures { OnOk result (bytes.new.items ≡ bytes.old.items ++ item_bytes format item) }
+{
+    match format {
+        ItemFormat::Lines => push_line(bytes, item),
+        ItemFormat::S16 => push_sample(bytes, item, 2),
+        ItemFormat::S32 => push_sample(bytes, item, 4),
+        ItemFormat::S64 => push_sample(bytes, item, 8),
+    }
+}
+
+fn push_line(bytes: &mut Vec<u8>, item: i64) -> Result<(), AllocError>
+    ensures { OnOk result (bytes.new.items ≡ bytes.old.items ++ item_line item) }
+{
+    let mut buffer = Buffer::new();
+    bytes.extend_from_slice(buffer.format(item).as_bytes())?;
+    bytes.extend_from_slice(b"\n")
+}
+
+fn push_sample(bytes: &mut Vec<u8>, item: i64, width: usize) -> Result<(), AllocError>
+    requires low { 1 ≤ width }
+    requires high { width ≤ 8 }
+    ensures { OnOk result (bytes.new.items ≡ bytes.old.items ++ sample_bytes width item) }
+{
+    let mut sample = [0; 8];
+    LittleEndian::write_int(&mut sample, item, width);
+    bytes.extend_from_slice(&sample[..width])
+}
+
+/// Hands on what an output kept.
+fn hand_on<O: Write, G: Write + Drop>(
+    output: &mut Output<G>,
+    standard: &mut O,
+) -> Result<(), SinkFault>
+    ensures channel { output.new.channel ≡ output.old.channel }
+    ensures handed_on { HandsOn result output.new.bytes.items
+        (was_put O.contents G.contents standard.old output.old)
+        (was_put O.contents G.contents standard.new output.new) }
+{
+    if output.bytes.is_empty() {
+        return Ok(());
+    }
+    let written = write_device(standard, &mut output.file, &output.bytes);
+    output.bytes.clear();
+    written
+}
+
+/// Writes bytes to the file, or else to standard output.
+fn write_device<O: Write, G: Write + Drop>(
+    standard: &mut O,
+    file: &mut Option<G>,
+    bytes: &[u8],
+) -> Result<(), SinkFault>
+    ensures written { OnOk result
+        (Appends (device_holds O.contents G.contents standard.old file.old)
+        (device_holds O.contents G.contents standard.new file.new) bytes.now) }
+    ensures fault { IfErr result IsOfDevice }
+{
+    match file {
+        Some(file) => write_whole(file, bytes),
+        None => write_whole(standard, bytes),
+    }
+}
+
+fn write_whole<W: Write>(writer: &mut W, bytes: &[u8]) -> Result<(), SinkFault>
+    ensures written { OnOk result
+        (Appends (W.contents writer.old) (W.contents writer.new) bytes.now) }
+    ensures fault { IfErr result IsOfDevice }
+{
+    writer.write_all(bytes).map_err(|error| fault_of(&error))?;
+    writer.flush().map_err(|error| fault_of(&error))
+}
+
+fn fault_of(error: &io::Error) -> SinkFault
+    ensures { IsOfDevice result }
+{
+    match error.kind() {
+        ErrorKind::BrokenPipe => SinkFault::Gone,
+        _ => SinkFault::Write,
+    }
+}

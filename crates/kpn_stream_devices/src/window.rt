@@ -1,0 +1,256 @@
+//! The bytes of an input that were read and not yet used, and the items that they spell.
+ghost use Rattle.std.specs.Prelude.{◌≡◌, ◌+◌, ◌<◌, ◌≤◌, ◌++◌, [], true, false, Ok, Err, Some, None, drop, length, vec_len, IfOk, OnOk, OnErr, IfSome, MatchOption, position, ◌==◌};
+ghost use Rattle.std.specs.Str.Lines.{strip_carriage_return};
+ghost use Rattle.kpn_stream_devices.specs.Window.{fresh, line_after, with_unused, with_line, Tells, LineTells, SampleTells};
+
+use byteorder::{ByteOrder, LittleEndian};
+use kpn_items::item_of_line;
+use kpn_request::ItemFormat;
+use kpn_stream::SourceFault;
+use std::alloc::{AllocError, Global};
+use std::marker::Model;
+
+/// What the next read of a source answers.
+pub type Answer = Result<Option<i64>, SourceFault>;
+
+/// A line with so many bytes spells no item: 19 digits, a `-` and a carriage return are 21.
+const LONGEST: usize = 22;
+
+/// A part of an input.
+#[derive(Drop)]
+pub struct Window {
+    bytes: Vec<u8>,
+    // so many of the bytes were used
+    start: usize,
+    is_over: bool,
+    lines: u64,
+}
+
+impl Model for Window {
+    ghost use Rattle.std.specs.Prelude.{drop, ◌≤◌, length};
+    ghost use Rattle.kpn_stream_devices.specs.Window as spec;
+
+    ghost Value = { spec.Window };
+
+    ghost view = { λ w. record {
+      unused = drop w.start w.bytes.items;
+      is_over = w.is_over;
+      lines = w.lines;
+    } };
+
+    ghost invariant = { λ w. w.start ≤ length w.bytes.items };
+}
+
+impl Window {
+    /// A window with no bytes yet. It takes no memory.
+    pub fn new(alloc: Global) -> Window
+        ensures { result ≡ fresh }
+    {
+        Window {
+            bytes: Vec::new(alloc),
+            start: 0,
+            is_over: false,
+            lines: 0,
+        }
+    }
+
+    /// The bytes that were not used yet.
+    fn unused(&self) -> &[u8]
+        ensures { result.now ≡ self.now.unused }
+    {
+        &self.bytes[self.start..]
+    }
+
+    /// Takes what one read gave. If it gave nothing, the input is over. The error is that memory ran out.
+    pub fn add(&mut self, bytes: &[u8]) -> Result<(), AllocError>
+        ensures added { OnOk result (self.new.unused ≡ self.old.unused ++ bytes.now) }
+        ensures lines { self.new.lines ≡ self.old.lines }
+        ensures over { self.new.is_over ≡ true → bytes.now ≡ [] }
+    {
+        if bytes.is_empty() {
+            self.is_over = true;
+            return Ok(());
+        }
+        self.is_over = false;
+        self.forget_used();
+        self.bytes.extend_from_slice(bytes)
+    }
+
+    /// Makes room where used bytes lie.
+    fn forget_used(&mut self)
+        ensures { self.new ≡ self.old }
+    {
+        drop(self.bytes.drain(..self.start));
+        self.start = 0;
+    }
+
+    /// Uses some bytes.
+    fn pass(&mut self, count: usize)
+        requires { count ≤ length self.old.unused }
+        ensures { self.new ≡ with_unused (drop count self.old.unused) self.old }
+    {
+        self.start += count;
+    }
+
+    /// Uses a line of so many bytes, and returns its number.
+    fn pass_line(&mut self, count: usize) -> u64
+        requires { count ≤ length self.old.unused }
+        ensures passed { self.new ≡ with_line (drop count self.old.unused) self.old }
+        ensures line { result ≡ line_after self.old.lines }
+    {
+        self.start += count;
+        let line = self.lines.saturating_add(1);
+        self.lines = line;
+        line
+    }
+
+    /// The answer of the source, if no more bytes are needed to tell.
+    pub fn next(&mut self, format: ItemFormat) -> Option<Answer>
+        ensures told { IfSome result (λ answer. Tells format self.old answer self.new) }
+        ensures needs_more { result ≡ None → self.new ≡ self.old }
+        ensures goes_on { result ≡ None → self.old.is_over ≡ false }
+        ensures over { self.new.is_over ≡ self.old.is_over }
+    {
+        match format {
+            ItemFormat::Lines => self.next_line(),
+            ItemFormat::S16 => self.next_sample(2),
+            ItemFormat::S32 => self.next_sample(4),
+            ItemFormat::S64 => self.next_sample(8),
+        }
+    }
+
+    /// Whether `next` needs no more bytes.
+    pub fn is_at_hand(&self, format: ItemFormat) -> bool {
+        let unused = self.unused();
+        self.is_over
+            || match format {
+                ItemFormat::Lines => line_feed(unused).is_some() || unused.len() >= LONGEST,
+                ItemFormat::S16 => unused.len() >= 2,
+                ItemFormat::S32 => unused.len() >= 4,
+                ItemFormat::S64 => unused.len() >= 8,
+            }
+    }
+
+    fn next_line(&mut self) -> Option<Answer>
+        ensures told { IfSome result (λ answer. LineTells self.old answer self.new) }
+        ensures needs_more { result ≡ None → self.new ≡ self.old }
+        ensures goes_on { result ≡ None → self.old.is_over ≡ false }
+        ensures over { self.new.is_over ≡ self.old.is_over }
+    {
+        match line_feed(self.unused()) {
+            Some(end) => Some(self.line_of(end)),
+            None => self.last_line(),
+        }
+    }
+
+    /// The answer of the line that has a line feed behind so many bytes.
+    fn line_of(&mut self, end: usize) -> Answer
+        requires { position (λ byte. byte == 10) self.old.unused ≡ Some end }
+        ensures told { LineTells self.old result self.new }
+        ensures over { self.new.is_over ≡ self.old.is_over }
+    {
+        let item = item_of_line(without_carriage_return(&self.unused()[..end]));
+        let line = self.pass_line(end + 1);
+        told(item, line)
+    }
+
+    /// The answer of the last line, which lacks its line feed.
+    fn last_line(&mut self) -> Option<Answer>
+        requires { position (λ byte. byte == 10) self.old.unused ≡ None }
+        ensures told { IfSome result (λ answer. LineTells self.old answer self.new) }
+        ensures needs_more { result ≡ None → self.new ≡ self.old }
+        ensures goes_on { result ≡ None → self.old.is_over ≡ false }
+        ensures over { self.new.is_over ≡ self.old.is_over }
+    {
+        let count = self.unused().len();
+        if self.is_over && count == 0 {
+            return Some(Ok(None));
+        }
+        if self.is_over {
+            return Some(self.whole_line(count));
+        }
+        if count < LONGEST {
+            return None;
+        }
+        let line = self.pass_line(count);
+        Some(Err(SourceFault::BadItem(line)))
+    }
+
+    /// The answer of the last line, which all bytes are that the input has left.
+    fn whole_line(&mut self, count: usize) -> Answer
+        requires count { count ≡ length self.old.unused }
+        requires some { 0 < count }
+        requires over { self.old.is_over ≡ true }
+        requires line { position (λ byte. byte == 10) self.old.unused ≡ None }
+        ensures told { LineTells self.old result self.new }
+        ensures over { self.new.is_over ≡ self.old.is_over }
+    {
+        let item = item_of_line(self.unused());
+        let line = self.pass_line(count);
+        told(item, line)
+    }
+
+    /// The answer of a sample of so many bytes.
+    fn next_sample(&mut self, width: usize) -> Option<Answer>
+        requires low { 1 ≤ width }
+        requires high { width ≤ 8 }
+        ensures told { IfSome result (λ answer. SampleTells width self.old answer self.new) }
+        ensures needs_more { result ≡ None → self.new ≡ self.old }
+        ensures goes_on { result ≡ None → self.old.is_over ≡ false }
+        ensures over { self.new.is_over ≡ self.old.is_over }
+    {
+        let unused = self.unused();
+        if unused.len() < width {
+            return self.no_sample(width);
+        }
+        let item = LittleEndian::read_int(unused, width);
+        self.pass(width);
+        Some(given(item))
+    }
+
+    /// The answer if there are too few bytes for a sample.
+    fn no_sample(&self, width: usize) -> Option<Answer>
+        requires { length self.now.unused < width }
+        ensures told { IfSome result (λ answer. SampleTells width self.now answer self.now) }
+        ensures goes_on { result ≡ None → self.now.is_over ≡ false }
+    {
+        if !self.is_over {
+            return None;
+        }
+        if self.unused().is_empty() {
+            return Some(Ok(None));
+        }
+        Some(Err(SourceFault::CutSample))
+    }
+}
+
+/// The answer that there is an item.
+fn given(item: i64) -> Answer
+    ensures { result ≡ Ok (Some item) }
+{
+    Ok(Some(item))
+}
+
+/// The answer of a line, counted from 1, that spells this item, or none.
+fn told(item: Option<i64>, line: u64) -> Answer
+    ensures item { IfSome item (λ item. result ≡ Ok (Some item)) }
+    ensures none { item ≡ None → result ≡ Err (SourceFault.BadItem line) }
+{
+    match item {
+        Some(item) => Ok(Some(item)),
+        None => Err(SourceFault::BadItem(line)),
+    }
+}
+
+fn line_feed(bytes: &[u8]) -> Option<usize>
+    ensures { result ≡ position (λ byte. byte == 10) bytes.now }
+{
+    bytes.iter().position(|&byte| byte == b'\n')
+}
+
+/// A line without the carriage return at its end, if it has one.
+fn without_carriage_return(line: &[u8]) -> &[u8]
+    ensures { result.now ≡ strip_carriage_return line.now }
+{
+    line.strip_suffix(b"\r").unwrap_or(line)
+}
