@@ -6,11 +6,12 @@ of what the text of the network means.
 """
 from . import parts
 from .errors import KpnError, Place
+from .live import Live
 from .network import Network
 from .process import Process, Stream
 from .program import find_program
 from .running import Result, Stats, Wait, run
 from .trace import Event, Trace, read_trace
 
-__all__ = ['Event', 'KpnError', 'Network', 'Place', 'Process', 'Result', 'Stats', 'Stream', 'Trace', 'Wait',
+__all__ = ['Event', 'KpnError', 'Live', 'Network', 'Place', 'Process', 'Result', 'Stats', 'Stream', 'Trace', 'Wait',
            'find_program', 'parts', 'read_trace', 'run']

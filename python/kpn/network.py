@@ -8,6 +8,7 @@ from typing import Any, Dict, Iterable, Iterator, List, Mapping, NamedTuple, Opt
 from . import running
 from .errors import KpnError, Spot
 from .language import LARGEST_CAPACITY, LONGEST_NAME, Description, Reader, is_name, same_place
+from .live import Live
 from .process import MOST_PORTS, Capacities, Instance, Outputs, Process, Stream, forking
 from .program import Program, answer, draw_svg, explain
 
@@ -337,6 +338,11 @@ class Network:
     def run(self, inputs: running.Inputs = None, **options: Any) -> running.Result:
         """Runs the network on these items of its sources, as `kpn.run(net, inputs, ..)` does."""
         return running.run(self, inputs, **options)
+
+    def stream(self, **options: Any) -> Live:
+        """A run that is fed and read while it goes on, by `kpn stream`; its words are those of `kpn.Live`."""
+        self.check_limits()
+        return Live(self.layout(), **options)
 
 
 def capacities_of(process: Process, cap: Capacities) -> Mapping[str, Optional[int]]:
