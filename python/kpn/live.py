@@ -66,6 +66,9 @@ Way = TypeVar('Way', Source, Sink)
 class Live:
     """A run that is fed and read while it goes on: `with net.stream() as live:`. The end of the block stops it.
 
+    The network reads its sources in an order that only its text and the items decide. While it waits for an item of one
+    source, it takes none of another.
+
     What is fed waits here until the network takes it, and what comes out waits here until it is read. So no call waits
     for more than it asks for, whatever the sizes. A call that waits longer than `timeout` seconds raises TimeoutError,
     and loses nothing: the next one goes on. The timeout of `net.stream` holds for calls without one; without that they

@@ -36,7 +36,7 @@ class Documents(unittest.TestCase):
                 exec(code, names)
             print(names['net'].run([1, 2, 3])['sum'])
         self.assertEqual([len(it) for it in plotted], [200, 200])
-        self.assertEqual(out.getvalue(), '[3, 6, 9]\n[1, 3, 6]\n')
+        self.assertEqual(out.getvalue(), '[3, 6, 9]\n[1, 3]\n[6, 10]\n[1, 3, 6]\n')
 
     def test_the_error_of_the_readme(self):
         part = kpn.Process.from_text('process gain(in i; out o; par k) { while 1 { read i x; write o (x * j); } }')
