@@ -15,7 +15,7 @@ import weakref
 from typing import TYPE_CHECKING, Any, Callable, Dict, Iterable, Iterator, List, Mapping, NamedTuple, Optional, Union
 
 from .errors import KpnError
-from .program import Program, call, draw_svg, explain, failure, find_program
+from .program import Program, call, explain, failure, find_program
 from .trace import Trace
 
 if TYPE_CHECKING:
@@ -138,9 +138,16 @@ class Result(collections.abc.Mapping):  # type: ignore[type-arg]
         """The run in ticks, by `kpn timeline`: a text in the Trace Event Format, which Perfetto opens."""
         return self._ask('timeline')
 
+    def svg(self, first: Optional[int] = None, last: Optional[int] = None) -> str:
+        """The run in ticks as a picture, by `kpn timeline --svg`; of a long run only from a first to a last tick."""
+        return self._ask('timeline', '--svg', *words_of(**{'from': first, 'to': last}))
+
     def _repr_svg_(self) -> Optional[str]:
-        """The picture that a notebook shows, if there are a trace and Graphviz."""
-        return draw_svg(self.dot()) if self._trace else None
+        """The picture that a notebook shows, if there is a trace and it is not too long."""
+        try:
+            return self.svg() if self._trace else None
+        except KpnError:
+            return None
 
     def _traced(self) -> str:
         if not self._trace:

@@ -9,6 +9,7 @@ import tempfile
 import types
 import unittest
 import unittest.mock
+import xml.etree.ElementTree
 
 from support import PROGRAM, TOP, kpn
 
@@ -157,10 +158,13 @@ class Traced(unittest.TestCase):
         slices = [it['name'] for it in events if it['ph'] == 'X' and not it['name'].startswith('waits')]
         self.assertEqual(sorted(slices), sorted(f'{it.kind} {it.channel}' for it in result.trace()
                                                 if it.kind in ('get', 'put')))
+        for svg in (result.svg(), result.svg(1, 3), result._repr_svg_()):
+            self.assertTrue(xml.etree.ElementTree.fromstring(svg).tag.endswith('svg'))
 
     def test_without_a_trace(self):
         result = example('two').run()
-        for call in (lambda: result.stats, result.explain, result.dot, result.trace, result.timeline):
+        for call in (lambda: result.stats, result.explain, result.dot, result.trace, result.timeline,
+                     result.svg):
             self.assertRaisesRegex(kpn.KpnError, 'give `trace=True`', call)
         self.assertIsNone(result._repr_svg_())
 
