@@ -50,9 +50,11 @@ fn is_cut<R: Threads + Wait + Clock + Sync>(
 ) -> Result<bool, Fail> {
     let mut out = Vec::new(alloc);
     let (status, err) = stream(rt, alloc, input, &mut out)?;
-    Ok(status == wanted
-        && out.as_slice() == ITEMS.get(..written).unwrap_or(ITEMS)
-        && err.as_slice() == error.as_bytes())
+    Ok(
+        status == wanted
+            && out.as_slice() == ITEMS.get(..written).unwrap_or(ITEMS)
+            && err.as_slice() == error.as_bytes(),
+    )
 }
 
 // The six bytes and the end are seven calls. An item is written once its line feed has come.
