@@ -6,3 +6,4 @@ pub mod Stepping
 pub mod Kept
 pub mod Open
 pub mod Snapshot
+pub mod Detached
