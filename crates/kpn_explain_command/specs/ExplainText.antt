@@ -11,10 +11,14 @@ use Rattle.kpn_places.specs.declared.concerned.Places.{Places}
 use Rattle.kpn_places.specs.Concerned.{places_of}
 use Rattle.kpn_places.specs.Excerpt.{where_text, excerpt}
 use Rattle.kpn_places.specs.Names.{name_at}
+use Rattle.kpn_explain_command.specs.declared.habits.Habit.{Habit}
 use Rattle.kpn_explain_command.specs.declared.sentences.Case.{Case}
-use Rattle.kpn_explain_command.specs.declared.sentences.Case.TheVariants.{Misplaced, EarlyEnd}
+use Rattle.kpn_explain_command.specs.declared.sentences.Case.TheVariants.{Misplaced, EarlyEnd, LargeProgram, LargeNetwork}
 use Rattle.kpn_explain_command.specs.Cases.{case_of}
 use Rattle.kpn_explain_command.specs.Choices.{choices, may_stand}
+use Rattle.kpn_explain_command.specs.Excess.{excess_text}
+use Rattle.kpn_explain_command.specs.Habits.{habit_of}
+use Rattle.kpn_explain_command.specs.Remedies.{remedy}
 use Rattle.kpn_explain_command.specs.Sentences.{is_named, said, advice, other}
 
 -- ---- the first line
@@ -52,8 +56,14 @@ behind front = if may_stand front [] then codes "; nothing may follow the networ
 abbrev pub alternatives : (front : List ℕ) → Case → List ℕ
 alternatives front c = if is_grammar c then behind front else []
 
+-- the limit that is passed, if one is
+abbrev pub passed : Case → List ℕ
+passed (LargeProgram e) = excess_text e
+passed (LargeNetwork e) = excess_text e
+passed rest = []
+
 abbrev pub sentence : (text : List ℕ) (at : ℕ) → Case → List ℕ
-sentence text at c = subject (name_at text at) c ++ said c ++ alternatives (take at text) c
+sentence text at c = subject (name_at text at) c ++ said c ++ passed c ++ alternatives (take at text) c
 
 -- ---- the whole
 
@@ -67,17 +77,27 @@ abbrev pub second_part : (file text : List ℕ) → Option ℕ → Case → List
 second_part file text None c = []
 second_part file text (Some at) c = where_text file text at ++ other c ++ codes "\n" ++ excerpt text at
 
-abbrev pub advice_line : Case → List ℕ
-advice_line c = advice c ++ codes "\n"
+-- what helps, for a way of writing if it is one
+abbrev pub help : Option Habit → Case → List ℕ
+help None c = advice c
+help (Some h) c = remedy h
 
-abbrev pub told_at : (file text : List ℕ) → TextFault → Places → Case → List ℕ
-told_at file text f p c =
-    first_part file text f p.first c ++ second_part file text p.second c ++ advice_line c
+abbrev pub advice_line : Option Habit → Case → List ℕ
+advice_line h c = help h c ++ codes "\n"
+
+abbrev pub told_at : (file text : List ℕ) → TextFault → Places → Case → Option Habit → List ℕ
+told_at file text f p c h =
+    first_part file text f p.first c ++ second_part file text p.second c ++ advice_line h c
+
+-- the text for a fault of this kind
+abbrev pub told_as : (file text : List ℕ) → List Lexeme → TextFault → Places → Case → List ℕ
+told_as file text ls f p c = told_at file text f p c (habit_of text ls p.first c)
 
 -- the text for a fault of a text with these tokens
 abbrev pub told_by : (file text : List ℕ) → List Lexeme → TextFault → List ℕ
 told_by file text ls f =
-    let places = places_of text ls f in told_at file text f places (case_of text ls (name_at text places.first) f)
+    let places = places_of text ls f in
+    told_as file text ls f places (case_of text ls places f)
 
 -- no tokens, if there is a fault among them
 abbrev pub tokens_in : Result (List Lexeme) LexFault → List Lexeme

@@ -1,30 +1,43 @@
 //! Which kind of fault a fault of a description is.
-ghost use Rattle.std.specs.Prelude.{◌≡◌};
+ghost use Rattle.std.specs.Prelude.{◌≡◌, IfOk};
 ghost use Rattle.kpn_explain_command.specs.Cases as spec;
+ghost use Rattle.kpn_explain_command.specs.Excess as excess;
+ghost use Rattle.kpn_explain_command.specs.declared.sentences.Case.TheVariants.{LargeProgram, LargeNetwork};
 
+use crate::excess::{network_excess, process_excess};
 use crate::sentences::Case;
 use kpn_lang::ProgramFault;
 use kpn_limits::MAX_TEXT_BYTES;
 use kpn_net::NetFault;
-use kpn_places::{Spot, is_port, spot_at};
+use kpn_places::{Places, Spot, is_port, name_at, spot_at};
 use kpn_text::TextFault;
 use kpn_tokens::Lexeme;
+use std::alloc::{AllocError, Global};
 
-/// The kind of a fault of a text with these tokens, if its first place has this name.
-pub(crate) fn case_of(text: &[u8], tokens: &[Lexeme<'_>], name: &[u8], fault: TextFault) -> Case
-    ensures { result ≡ spec.case_of text.now tokens.now name.now fault }
+/// The kind of a fault of a text with these tokens and these places.
+pub(crate) fn case_of<'a>(
+    alloc: Global,
+    text: &[u8],
+    tokens: &'a [Lexeme<'a>],
+    places: Places,
+    fault: TextFault,
+) -> Result<Case, AllocError>
+    ensures { IfOk result (λ case. case ≡ spec.case_of text.now tokens.now places fault) }
 {
     match fault {
-        TextFault::TooLong(_) => long_case(text),
-        TextFault::Token(_) => token_case(name),
-        TextFault::Grammar(at) => grammar_case(text, at),
+        TextFault::TooLong(_) => Ok(long_case(text)),
+        TextFault::Token(_) => Ok(token_case(name_at(text, places.first))),
+        TextFault::Grammar(at) => Ok(grammar_case(text, at)),
         TextFault::UnknownName(at) => {
-            unknown_case(spot_at(tokens, at), is_port(text, tokens, at))
+            let is_port = is_port(text, tokens, at);
+            Ok(unknown_case(spot_at(tokens, at), is_port, places.second))
         }
-        TextFault::DoubleName(at) => double_case(spot_at(tokens, at)),
-        TextFault::Program(_, broken) => program_case(broken),
-        TextFault::Net(broken) => net_case(name, broken),
-        TextFault::NoMemory => Case::NoMemory,
+        TextFault::DoubleName(at) => Ok(double_case(spot_at(tokens, at))),
+        TextFault::Program(process, broken) => {
+            program_case(alloc, text, tokens, process, places.first, broken)
+        }
+        TextFault::Net(broken) => net_case(alloc, tokens, name_at(text, places.first), broken),
+        TextFault::NoMemory => Ok(Case::NoMemory),
     }
 }
 
@@ -58,25 +71,35 @@ fn grammar_case(text: &[u8], at: usize) -> Case
     }
 }
 
-fn unknown_case(spot: Spot, is_port: bool) -> Case
-    ensures { result ≡ spec.unknown_case spot is_port }
+fn unknown_case(spot: Spot, is_port: bool, second: Option<usize>) -> Case
+    ensures { result ≡ spec.unknown_case spot is_port second }
 {
     match spot {
         Spot::InPort => Case::UnknownInPort,
         Spot::OutPort => Case::UnknownOutPort,
         Spot::Program => Case::UnknownProcess,
         Spot::Reads | Spot::Writes => Case::UnknownChannel,
-        _ => variable_case(is_port),
+        _ => variable_case(is_port, second),
     }
 }
 
-fn variable_case(is_port: bool) -> Case
-    ensures { result ≡ spec.variable_case is_port }
+fn variable_case(is_port: bool, second: Option<usize>) -> Case
+    ensures { result ≡ spec.variable_case is_port second }
 {
     if is_port {
         Case::PortAsVariable
     } else {
-        Case::UnknownVariable
+        late_case(second)
+    }
+}
+
+// A variable that gets its first value at a second place.
+fn late_case(second: Option<usize>) -> Case
+    ensures { result ≡ spec.late_case second }
+{
+    match second {
+        None => Case::UnknownVariable,
+        Some(_) => Case::LateVariable,
     }
 }
 
@@ -92,15 +115,44 @@ fn double_case(spot: Spot) -> Case
     }
 }
 
-fn program_case(fault: ProgramFault) -> Case
-    ensures { result ≡ spec.program_case fault }
+fn program_case<'a>(
+    alloc: Global,
+    text: &[u8],
+    tokens: &'a [Lexeme<'a>],
+    process: usize,
+    at: usize,
+    fault: ProgramFault,
+) -> Result<Case, AllocError>
+    ensures { IfOk result (λ case.
+        case ≡ spec.program_case text.now tokens.now process at fault) }
 {
     match fault {
-        ProgramFault::TooMany => Case::LargeProgram,
-        ProgramFault::TooDeep => Case::DeepProgram,
-        ProgramFault::NoMemory => Case::NoMemory,
-        _ => Case::BrokenProgram,
+        ProgramFault::TooMany => large_program(alloc, text, tokens, process, at),
+        ProgramFault::TooDeep => Ok(Case::DeepProgram),
+        ProgramFault::NoMemory => Ok(Case::NoMemory),
+        _ => Ok(Case::BrokenProgram),
     }
+}
+
+fn large_program<'a>(
+    alloc: Global,
+    text: &[u8],
+    tokens: &'a [Lexeme<'a>],
+    process: usize,
+    at: usize,
+) -> Result<Case, AllocError>
+    ensures { IfOk result (λ case. case ≡ LargeProgram
+        (excess.process_excess text.now tokens.now process at)) }
+{
+    let excess = process_excess(alloc, text, tokens, process, at)?;
+    Ok(Case::LargeProgram(excess))
+}
+
+fn large_network(alloc: Global, tokens: &[Lexeme<'_>]) -> Result<Case, AllocError>
+    ensures { IfOk result (λ case. case ≡ LargeNetwork (excess.network_excess tokens.now)) }
+{
+    let excess = network_excess(alloc, tokens)?;
+    Ok(Case::LargeNetwork(excess))
 }
 
 fn capacity_case(name: &[u8]) -> Case
@@ -113,18 +165,23 @@ fn capacity_case(name: &[u8]) -> Case
     }
 }
 
-fn net_case(name: &[u8], fault: NetFault) -> Case
-    ensures { result ≡ spec.net_case name.now fault }
+fn net_case(
+    alloc: Global,
+    tokens: &[Lexeme<'_>],
+    name: &[u8],
+    fault: NetFault,
+) -> Result<Case, AllocError>
+    ensures { IfOk result (λ case. case ≡ spec.net_case tokens.now name.now fault) }
 {
     match fault {
-        NetFault::TooMany => Case::LargeNetwork,
-        NetFault::NoSuchProgram(_) | NetFault::NoSuchChannel(_) => Case::BrokenNetwork,
-        NetFault::PortCount(_) => Case::PortCount,
-        NetFault::NoWriter(_) => Case::NoWriter,
-        NetFault::TwoWriters(_) => Case::TwoWriters,
-        NetFault::NoReader(_) => Case::NoReader,
-        NetFault::TwoReaders(_) => Case::TwoReaders,
-        NetFault::Capacity(_) => capacity_case(name),
-        NetFault::NoMemory => Case::NoMemory,
+        NetFault::TooMany => large_network(alloc, tokens),
+        NetFault::NoSuchProgram(_) | NetFault::NoSuchChannel(_) => Ok(Case::BrokenNetwork),
+        NetFault::PortCount(_) => Ok(Case::PortCount),
+        NetFault::NoWriter(_) => Ok(Case::NoWriter),
+        NetFault::TwoWriters(_) => Ok(Case::TwoWriters),
+        NetFault::NoReader(_) => Ok(Case::NoReader),
+        NetFault::TwoReaders(_) => Ok(Case::TwoReaders),
+        NetFault::Capacity(_) => Ok(capacity_case(name)),
+        NetFault::NoMemory => Ok(Case::NoMemory),
     }
 }

@@ -7,8 +7,11 @@ ghost use Rattle.kpn_explain_command.specs.ExplainText as spec;
 
 use crate::cases::case_of;
 use crate::choices::{choices, may_stand};
+use crate::excess::push_excess;
+use crate::habits::{Habit, habit_of};
+use crate::remedies::remedy;
 use crate::sentences::{Case, advice, is_named, other, said};
-use kpn_places::{concerned_places, front, name_at, push_excerpt, push_where};
+use kpn_places::{Places, concerned_places, front, name_at, push_excerpt, push_where};
 use kpn_refusals::Refusal;
 use kpn_text::TextFault;
 use kpn_tokens::{LexFault, Lexeme, lexemes};
@@ -38,22 +41,54 @@ fn tokens_of(alloc: Global, text: &[u8]) -> Result<Vec<Lexeme<'_>>, AllocError>
     }
 }
 
-fn told_by(
+fn told_by<'a>(
     alloc: Global,
     file: &[u8],
     text: &[u8],
-    tokens: &[Lexeme<'_>],
+    tokens: &'a [Lexeme<'a>],
     fault: TextFault,
 ) -> Result<Vec<u8>, AllocError>
     ensures { IfOk result (λ told.
         told.items ≡ spec.told_by file.now text.now tokens.now fault) }
 {
     let places = concerned_places(alloc, text, tokens, fault)?;
-    let case = case_of(text, tokens, name_at(text, places.first), fault);
+    let case = case_of(alloc, text, tokens, places, fault)?;
+    told_as(alloc, file, text, tokens, fault, places, case)
+}
+
+// The text for a fault of this kind.
+fn told_as(
+    alloc: Global,
+    file: &[u8],
+    text: &[u8],
+    tokens: &[Lexeme<'_>],
+    fault: TextFault,
+    places: Places,
+    case: Case,
+) -> Result<Vec<u8>, AllocError>
+    ensures { IfOk result (λ told.
+        told.items ≡ spec.told_as file.now text.now tokens.now fault places case) }
+{
+    let habit = habit_of(alloc, text, tokens, places.first, case)?;
+    told_at(alloc, file, text, fault, places, case, habit)
+}
+
+fn told_at(
+    alloc: Global,
+    file: &[u8],
+    text: &[u8],
+    fault: TextFault,
+    places: Places,
+    case: Case,
+    habit: Option<Habit>,
+) -> Result<Vec<u8>, AllocError>
+    ensures { IfOk result (λ told.
+        told.items ≡ spec.told_at file.now text.now fault places case habit) }
+{
     let mut told = Vec::new(alloc);
     push_first(alloc, &mut told, file, text, fault, places.first, case)?;
     push_second(&mut told, file, text, places.second, case)?;
-    push_advice(&mut told, case)?;
+    push_advice(&mut told, habit, case)?;
     Ok(told)
 }
 
@@ -96,12 +131,22 @@ fn push_second(
     Ok(())
 }
 
-fn push_advice(told: &mut Vec<u8>, case: Case) -> Result<(), AllocError>
-    ensures { OnOk result (told.new.items ≡ told.old.items ++ spec.advice_line case) }
+fn push_advice(told: &mut Vec<u8>, habit: Option<Habit>, case: Case) -> Result<(), AllocError>
+    ensures { OnOk result (told.new.items ≡ told.old.items ++ spec.advice_line habit case) }
 {
-    told.extend_from_slice(advice(case))?;
+    told.extend_from_slice(help(habit, case))?;
     told.extend_from_slice(b"\n")?;
     Ok(())
+}
+
+// What helps, for a way of writing if it is one.
+fn help(habit: Option<Habit>, case: Case) -> &'static [u8]
+    ensures { result.now ≡ spec.help habit case }
+{
+    match habit {
+        Some(habit) => remedy(habit),
+        None => advice(case),
+    }
 }
 
 fn push_sentence(
@@ -115,6 +160,7 @@ fn push_sentence(
 {
     push_subject(told, name_at(text, at), case)?;
     told.extend_from_slice(said(case))?;
+    push_passed(told, case)?;
     push_alternatives(alloc, told, front(text, at), case)?;
     Ok(())
 }
@@ -129,6 +175,16 @@ fn push_subject(told: &mut Vec<u8>, name: &[u8], case: Case) -> Result<(), Alloc
         told.extend_from_slice(b"`")?;
     }
     Ok(())
+}
+
+// The limit that is passed, if one is.
+fn push_passed(told: &mut Vec<u8>, case: Case) -> Result<(), AllocError>
+    ensures { OnOk result (told.new.items ≡ told.old.items ++ spec.passed case) }
+{
+    match case {
+        Case::LargeProgram(excess) | Case::LargeNetwork(excess) => push_excess(told, excess),
+        _ => Ok(()),
+    }
 }
 
 // What may stand behind a text, for a fault of the grammar.

@@ -5,10 +5,14 @@
 mod cases;
 mod choices;
 mod description;
+mod excess;
 mod explained;
+mod habits;
 mod items;
 mod loading;
+mod remedies;
 mod sentences;
+mod stands;
 
 pub use description::explain_command;
 pub use items::explain_items_command;

@@ -2,6 +2,27 @@
 ghost use Rattle.std.specs.Prelude.{◌≡◌};
 ghost use Rattle.kpn_explain_command.specs.Sentences as spec;
 
+/// What a limit counts.
+#[derive(Clone, Copy, Debug, PartialEq, Eq)]
+pub(crate) enum Part {
+    Variables,
+    InPorts,
+    OutPorts,
+    /// Statements, and the numbers, names and operators of expressions.
+    Nodes,
+    Processes,
+    Instances,
+    Channels,
+}
+
+/// A limit that is passed, and how many there are of what it counts.
+#[derive(Clone, Copy, Debug, PartialEq, Eq)]
+pub(crate) struct Excess {
+    pub part: Part,
+    pub count: usize,
+    pub limit: usize,
+}
+
 /// A kind of fault.
 #[derive(Clone, Copy, Debug, PartialEq, Eq)]
 pub(crate) enum Case {
@@ -19,6 +40,8 @@ pub(crate) enum Case {
     EarlyEnd,
     /// A variable is not known.
     UnknownVariable,
+    /// A variable gets its first value further down.
+    LateVariable,
     /// A port stands in place of a variable.
     PortAsVariable,
     /// An in port is not known.
@@ -40,13 +63,13 @@ pub(crate) enum Case {
     /// A channel has the name of another.
     DoubleChannel,
     /// A process is too large.
-    LargeProgram,
+    LargeProgram(Excess),
     /// A process nests too deep.
     DeepProgram,
     /// A process breaks another rule.
     BrokenProgram,
     /// The network has too many parts.
-    LargeNetwork,
+    LargeNetwork(Excess),
     /// An instance does not fit its process.
     PortCount,
     /// A channel has no writer.
@@ -74,12 +97,12 @@ pub(crate) fn is_named(case: Case) -> bool
     match case {
         Case::LongText | Case::LongName | Case::BadNumber => false,
         Case::NoToken | Case::Misplaced | Case::EarlyEnd => false,
-        Case::LargeNetwork | Case::BadLimit | Case::NoMemory => false,
+        Case::LargeNetwork(_) | Case::BadLimit | Case::NoMemory => false,
         _ => true,
     }
 }
 
-/// What is wrong. If the sentence begins with a name, this is what follows it.
+/// What is wrong. If the sentence begins with a name, this is what follows it. A limit that is passed follows this.
 pub(crate) fn said(case: Case) -> &'static [u8]
     ensures { result.now ≡ spec.said case }
 {
@@ -91,6 +114,7 @@ pub(crate) fn said(case: Case) -> &'static [u8]
         Case::Misplaced => b"this may not stand here",
         Case::EarlyEnd => b"the text ends too early",
         Case::UnknownVariable => b" is read before anything is assigned to it",
+        Case::LateVariable => b" is read here, and first gets a value further down",
         Case::PortAsVariable => b" is a port of this process, and no variable",
         Case::UnknownInPort => b" is no in port of this process",
         Case::UnknownOutPort => b" is no out port of this process",
@@ -101,10 +125,10 @@ pub(crate) fn said(case: Case) -> &'static [u8]
         Case::AssignedPort => b" is a port of this process, and no variable",
         Case::DoubleInstance => b" is the name of an earlier instance too",
         Case::DoubleChannel => b" is the name of an earlier channel too",
-        Case::LargeProgram => b" has too many ports, variables or statements",
+        Case::LargeProgram(_) => b"",
         Case::DeepProgram => b" nests blocks or expressions deeper than 32 levels",
         Case::BrokenProgram => b" is no program",
-        Case::LargeNetwork => b"the text has too many processes, instances or channels",
+        Case::LargeNetwork(_) => b"the text",
         Case::PortCount =>
             b" has not as many channels and values as its process has ports and parameters",
         Case::NoWriter => b" has no writer",
@@ -135,6 +159,7 @@ pub(crate) fn advice(case: Case) -> &'static [u8]
             b"Look for a `}` that is missing. The network comes last, behind all processes.",
         Case::UnknownVariable =>
             b"Assign to it first, or make it a parameter. An item comes by `read PORT VARIABLE;`.",
+        Case::LateVariable => b"Give it a value before this place, or make it a parameter.",
         Case::PortAsVariable =>
             b"Write a variable in its place. An item of an in port comes by `read PORT VARIABLE;`.",
         Case::UnknownInPort =>
@@ -149,12 +174,13 @@ pub(crate) fn advice(case: Case) -> &'static [u8]
         Case::AssignedPort => b"Choose another name for the variable.",
         Case::DoubleInstance => b"Give one of the two another name.",
         Case::DoubleChannel => b"Give one of the two another name.",
-        Case::LargeProgram =>
+        Case::LargeProgram(_) =>
             b"At most 16 in ports, 16 out ports, 64 variables, 4096 statements and operands.",
         Case::DeepProgram =>
             b"Set a variable to a part of the expression first, or nest fewer blocks.",
         Case::BrokenProgram => b"Read the process again from its head on.",
-        Case::LargeNetwork => b"There are at most 256 processes, 256 instances and 1024 channels.",
+        Case::LargeNetwork(_) =>
+            b"There are at most 256 processes, 256 instances and 1024 channels.",
         Case::PortCount =>
             b"Name a channel for each port, in order, and a value for each parameter.",
         Case::NoWriter => b"Give it to an instance as an out port, or declare it as a `source`.",
@@ -175,6 +201,7 @@ pub(crate) fn other(case: Case) -> &'static [u8]
     ensures { result.now ≡ spec.other case }
 {
     match case {
+        Case::LateVariable => b"it gets a value here",
         Case::TwoWriters => b"the last instance that writes it",
         Case::TwoReaders => b"the last instance that reads it",
         _ => b"the same name stands here",

@@ -8,7 +8,7 @@ use Rattle.kpn_tokens.specs.declared.tokens.Lexeme.{Lexeme}
 use Rattle.kpn_places.specs.declared.concerned.Places.{Places}
 use Rattle.kpn_places.specs.declared.spots.Spot.{Spot}
 use Rattle.kpn_places.specs.declared.spots.Spot.TheVariants as spot
-use Rattle.kpn_places.specs.Names.{name_at, last_before}
+use Rattle.kpn_places.specs.Names.{name_at, last_before, first_between, first_behind}
 use Rattle.kpn_places.specs.Spots.{starts_of, spot_at}
 
 abbrev pub one_place : (at : ℕ) → Places
@@ -24,7 +24,7 @@ numbered_place ls s number = slice_index_or (starts_of s ls) number (network_pla
 
 -- the table that a name at this spot was to be new in: a variable beside the ports
 abbrev pub table_of : Spot → Spot
-table_of spot.Variable = spot.Port
+table_of spot.Target = spot.Port
 table_of other = other
 
 -- a name, and the one before it that is the same and of the same table
@@ -33,6 +33,22 @@ names_in text ls s at = record { first = at; second = last_before text (name_at 
 
 abbrev pub two_names : (text : List ℕ) → List Lexeme → (at : ℕ) → Places
 two_names text ls at = names_in text ls (table_of (spot_at at ls)) at
+
+-- where the process that has this byte ends: at the next one, or at the word `network`
+abbrev pub process_end : List Lexeme → (at : ℕ) → ℕ
+process_end ls at = first_behind at (network_place ls) (starts_of spot.Process ls)
+
+-- a variable in an expression, and the first place behind it in its process at which it gets a value
+abbrev pub value_behind : (text : List ℕ) → List Lexeme → (at : ℕ) → Places
+value_behind text ls at = record {
+  first = at;
+  second = first_between text (name_at text at) at (process_end ls at) (starts_of spot.Target ls);
+}
+
+-- the same; any other name has one place
+abbrev pub unknown_places : (text : List ℕ) → List Lexeme → (at : ℕ) → Spot → Places
+unknown_places text ls at spot.Variable = value_behind text ls at
+unknown_places text ls at other = one_place at
 
 -- the declaration of a channel, and the last time that its name stands at a spot
 abbrev pub last_use : (text : List ℕ) → List Lexeme → Spot → (declared : ℕ) → Places
@@ -60,7 +76,7 @@ abbrev pub places_of : (text : List ℕ) → List Lexeme → TextFault → Place
 places_of text ls (fault.TooLong at) = one_place at
 places_of text ls (fault.Token at) = one_place at
 places_of text ls (fault.Grammar at) = one_place at
-places_of text ls (fault.UnknownName at) = one_place at
+places_of text ls (fault.UnknownName at) = unknown_places text ls at (spot_at at ls)
 places_of text ls (fault.DoubleName at) = two_names text ls at
 places_of text ls (fault.Program process broken) = one_place (numbered_place ls spot.Process process)
 places_of text ls (fault.Net broken) = net_places text ls broken

@@ -3,3 +3,4 @@ pub mod Excerpt
 pub mod Spots
 pub mod Names
 pub mod Concerned
+pub mod Counts

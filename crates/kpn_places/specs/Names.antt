@@ -1,5 +1,6 @@
 -- Names in a text, by their first bytes.
 use Rattle.std.specs.Prelude.{ℕ, Bool, not, ◌||◌, ◌&&◌, ◌==◌, nat_lt, if◌then◌else◌, List, drop, fold, Option, Some, None, position}
+use Rattle.std.specs.List.{find}
 use Rattle.std.specs.Char.{is_ascii_digit, is_ascii_alphabetic}
 use Rattle.std.specs.Str.{bytes_eq}
 use Rattle.kpn_places.specs.Lines.{up_to}
@@ -24,3 +25,22 @@ later text name bound found start =
 -- the last of these names that is the same and before the bound
 abbrev pub last_before : (text name : List ℕ) (bound : ℕ) → (starts : List ℕ) → Option ℕ
 last_before text name bound starts = fold (later text name bound) None starts
+
+-- the first of these names that is the same and between the bounds
+abbrev pub is_between : (text name : List ℕ) (from to : ℕ) → (start : ℕ) → Bool
+is_between text name from to start =
+    nat_lt from start && nat_lt start to && bytes_eq (name_at text start) name
+
+abbrev pub first_between : (text name : List ℕ) (from to : ℕ) → (starts : List ℕ) → Option ℕ
+first_between text name from to starts = find (is_between text name from to) starts
+
+-- the first byte of these behind another one, or else a byte given
+abbrev pub next_start : (at : ℕ) → (starts : List ℕ) → Option ℕ
+next_start at starts = find (nat_lt at) starts
+
+abbrev pub or_byte : Option ℕ → (otherwise : ℕ) → ℕ
+or_byte None otherwise = otherwise
+or_byte (Some start) otherwise = start
+
+abbrev pub first_behind : (at otherwise : ℕ) → (starts : List ℕ) → ℕ
+first_behind at otherwise starts = or_byte (next_start at starts) otherwise

@@ -1,6 +1,6 @@
 -- Where a token stands in a description that follows the grammar. Processes and the network begin with reserved words
 -- that stand nowhere else, so a walk over the tokens needs no tree.
-use Rattle.std.specs.Prelude.{ℕ, Bool, true, false, ◌||◌, nat_eq, if◌then◌else◌, List, [], ◌∷◌}
+use Rattle.std.specs.Prelude.{ℕ, Bool, true, false, ◌||◌, nat_eq, nat_lt, if◌then◌else◌, List, [], ◌∷◌, fold}
 use Rattle.std.specs.Str.{bytes_eq}
 use Rattle.kpn_tokens.specs.declared.tokens.Keyword.{Keyword}
 use Rattle.kpn_tokens.specs.declared.tokens.Keyword.TheVariants as word
@@ -26,17 +26,22 @@ behind_keyword s word.Sink = spot.Channel
 behind_keyword s word.Limit = spot.Rest
 behind_keyword s word.Policy = spot.Rest
 behind_keyword s word.Grow = spot.Rest
+behind_keyword s word.If = spot.Variable
+behind_keyword s word.Else = spot.Variable
+behind_keyword s word.While = spot.Variable
 behind_keyword s other = s
 
 abbrev pub behind_name : Spot → Spot
 behind_name spot.Process = spot.Port
-behind_name spot.InPort = spot.Variable
+behind_name spot.Target = spot.Variable
+behind_name spot.InPort = spot.Target
 behind_name spot.OutPort = spot.Variable
 behind_name spot.Channel = spot.Rest
 behind_name spot.Instance = spot.Program
 behind_name other = other
 
 abbrev pub behind_semicolon : Spot → Spot
+behind_semicolon spot.Variable = spot.Target
 behind_semicolon spot.Rest = spot.Instance
 behind_semicolon spot.Reads = spot.Writes
 behind_semicolon spot.Writes = spot.Values
@@ -47,8 +52,14 @@ behind_bracket spot.Writes = spot.Rest
 behind_bracket spot.Values = spot.Rest
 behind_bracket other = other
 
+-- a brace in a process: behind it a statement may begin
+abbrev pub behind_brace : Spot → Spot
+behind_brace spot.Port = spot.Target
+behind_brace spot.Variable = spot.Target
+behind_brace other = other
+
 abbrev pub behind_mark : Spot → Mark → Spot
-behind_mark spot.Port mark.LeftBrace = spot.Variable
+behind_mark s mark.LeftBrace = behind_brace s
 behind_mark spot.Program mark.LeftParen = spot.Reads
 behind_mark s mark.Semicolon = behind_semicolon s
 behind_mark s mark.RightParen = behind_bracket s
@@ -67,6 +78,7 @@ abbrev pub is_same : Spot → Spot → Bool
 is_same spot.Outside spot.Outside = true
 is_same spot.Process spot.Process = true
 is_same spot.Port spot.Port = true
+is_same spot.Target spot.Target = true
 is_same spot.Variable spot.Variable = true
 is_same spot.InPort spot.InPort = true
 is_same spot.OutPort spot.OutPort = true
@@ -102,6 +114,13 @@ spot_from at now (l ∷ ls) = if nat_eq l.start at then now else spot_from at (b
 
 abbrev pub spot_at : (at : ℕ) → List Lexeme → Spot
 spot_at at ls = spot_from at spot.Outside ls
+
+-- the first byte of the last token before a byte, or that byte itself if there is none
+abbrev pub later_start : (at found : ℕ) → Lexeme → ℕ
+later_start at found l = if nat_lt l.start at then l.start else found
+
+abbrev pub start_before : (at : ℕ) → List Lexeme → ℕ
+start_before at ls = fold (later_start at) at ls
 
 -- ---- ports
 

@@ -1,8 +1,9 @@
 //! The places in a description that a fault concerns.
 ghost use Rattle.std.specs.Prelude.{◌≡◌, IfOk, slice_index_or};
 ghost use Rattle.kpn_places.specs.Concerned as spec;
+ghost use Rattle.kpn_places.specs.Spots as spots;
 
-use crate::names::{last_before, name_at};
+use crate::names::{first_behind, first_between, last_before, name_at};
 use crate::spots::{Spot, spot_at, starts};
 use kpn_net::NetFault;
 use kpn_text::TextFault;
@@ -27,7 +28,8 @@ pub fn concerned_places(
 {
     match fault {
         TextFault::TooLong(at) | TextFault::Token(at) => Ok(one_place(at)),
-        TextFault::Grammar(at) | TextFault::UnknownName(at) => Ok(one_place(at)),
+        TextFault::Grammar(at) => Ok(one_place(at)),
+        TextFault::UnknownName(at) => unknown_places(alloc, text, tokens, at),
         TextFault::DoubleName(at) => two_names(alloc, text, tokens, at),
         TextFault::Program(process, _) => numbered(alloc, tokens, Spot::Process, process),
         TextFault::Net(broken) => net_places(alloc, text, tokens, broken),
@@ -121,7 +123,7 @@ fn table_of(spot: Spot) -> Spot
     ensures { result ≡ spec.table_of spot }
 {
     match spot {
-        Spot::Variable => Spot::Port,
+        Spot::Target => Spot::Port,
         other => other,
     }
 }
@@ -138,6 +140,49 @@ fn two_names(
     let found = starts(alloc, tokens, table_of(spot_at(tokens, at)))?;
     let second = last_before(text, name_at(text, at), at, &found);
     Ok(Places { first: at, second })
+}
+
+/// Where the process that has this byte ends.
+pub(crate) fn process_end(
+    alloc: Global,
+    tokens: &[Lexeme<'_>],
+    at: usize,
+) -> Result<usize, AllocError>
+    ensures { IfOk result (λ end. end ≡ spec.process_end tokens.now at) }
+{
+    let network = network_place(alloc, tokens)?;
+    let found = starts(alloc, tokens, Spot::Process)?;
+    Ok(first_behind(at, network, &found))
+}
+
+// A variable in an expression, and the first place behind it in its process at which it gets a value.
+fn value_behind(
+    alloc: Global,
+    text: &[u8],
+    tokens: &[Lexeme<'_>],
+    at: usize,
+) -> Result<Places, AllocError>
+    ensures { IfOk result (λ found. found ≡ spec.value_behind text.now tokens.now at) }
+{
+    let end = process_end(alloc, tokens, at)?;
+    let found = starts(alloc, tokens, Spot::Target)?;
+    let second = first_between(text, name_at(text, at), at, end, &found);
+    Ok(Places { first: at, second })
+}
+
+fn unknown_places(
+    alloc: Global,
+    text: &[u8],
+    tokens: &[Lexeme<'_>],
+    at: usize,
+) -> Result<Places, AllocError>
+    ensures { IfOk result (λ found.
+        found ≡ spec.unknown_places text.now tokens.now at (spots.spot_at at tokens.now)) }
+{
+    match spot_at(tokens, at) {
+        Spot::Variable => value_behind(alloc, text, tokens, at),
+        _ => Ok(one_place(at)),
+    }
 }
 
 // The declaration of a channel, and the last time that its name stands at a spot.

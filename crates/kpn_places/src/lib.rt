@@ -3,13 +3,15 @@
 #![tactic(auto)]
 
 mod concerned;
+mod counts;
 mod excerpt;
 mod lines;
 mod names;
 mod spots;
 
 pub use concerned::{Places, concerned_places};
+pub use counts::{count_of, nodes_of};
 pub use excerpt::{push_excerpt, push_where};
-pub use lines::{front, line_start};
+pub use lines::{back, front, line_start};
 pub use names::name_at;
-pub use spots::{Spot, is_port, spot_at};
+pub use spots::{Spot, is_port, spot_at, start_before};

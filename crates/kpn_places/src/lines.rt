@@ -43,7 +43,7 @@ pub fn front(text: &[u8], at: usize) -> &[u8]
 }
 
 /// The bytes of a text from this one on.
-pub(crate) fn back(text: &[u8], at: usize) -> &[u8]
+pub fn back(text: &[u8], at: usize) -> &[u8]
     ensures { result.now ≡ drop at text.now }
 {
     if at < text.len() {

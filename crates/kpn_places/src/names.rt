@@ -58,3 +58,41 @@ pub(crate) fn last_before(text: &[u8], name: &[u8], bound: usize, starts: &[usiz
     }
     found
 }
+
+fn is_between(text: &[u8], name: &[u8], from: usize, to: usize, start: usize) -> bool
+    ensures { result ≡ spec.is_between text.now name.now from to start }
+{
+    from < start && start < to && name_at(text, start) == name
+}
+
+/// The first of the names that begin at these bytes that is this name and stands between the bounds.
+pub(crate) fn first_between(
+    text: &[u8],
+    name: &[u8],
+    from: usize,
+    to: usize,
+    starts: &[usize],
+) -> Option<usize>
+    ensures { result ≡ spec.first_between text.now name.now from to starts.now }
+{
+    starts
+        .iter()
+        .copied()
+        .find(|start| is_between(text, name, from, to, *start))
+}
+
+/// The first of these bytes that stands behind another one, or else the byte given.
+pub(crate) fn first_behind(at: usize, otherwise: usize, starts: &[usize]) -> usize
+    ensures { result ≡ spec.first_behind at otherwise starts.now }
+{
+    match next_start(at, starts) {
+        Some(start) => start,
+        None => otherwise,
+    }
+}
+
+fn next_start(at: usize, starts: &[usize]) -> Option<usize>
+    ensures { result ≡ spec.next_start at starts.now }
+{
+    starts.iter().copied().find(|start| at < *start)
+}

@@ -15,7 +15,9 @@ pub enum Spot {
     Process,
     /// A port or a parameter that is declared.
     Port,
-    /// A variable.
+    /// A variable that gets a value, by an assignment or by `read`. Where a statement may begin is such a place too.
+    Target,
+    /// A variable in an expression.
     Variable,
     /// The in port behind `read`.
     InPort,
@@ -47,6 +49,7 @@ fn behind_keyword(now: Spot, keyword: Keyword) -> Spot
         Keyword::Network => Spot::Instance,
         Keyword::Channel | Keyword::Source | Keyword::Sink => Spot::Channel,
         Keyword::Limit | Keyword::Policy | Keyword::Grow => Spot::Rest,
+        Keyword::If | Keyword::Else | Keyword::While => Spot::Variable,
         _ => now,
     }
 }
@@ -56,7 +59,8 @@ fn behind_name(now: Spot) -> Spot
 {
     match now {
         Spot::Process => Spot::Port,
-        Spot::InPort | Spot::OutPort => Spot::Variable,
+        Spot::InPort => Spot::Target,
+        Spot::Target | Spot::OutPort => Spot::Variable,
         Spot::Channel => Spot::Rest,
         Spot::Instance => Spot::Program,
         other => other,
@@ -67,6 +71,7 @@ fn behind_semicolon(now: Spot) -> Spot
     ensures { result ≡ spec.behind_semicolon now }
 {
     match now {
+        Spot::Variable => Spot::Target,
         Spot::Rest => Spot::Instance,
         Spot::Reads => Spot::Writes,
         Spot::Writes => Spot::Values,
@@ -83,11 +88,21 @@ fn behind_bracket(now: Spot) -> Spot
     }
 }
 
+// Behind a brace in a process a statement may begin.
+fn behind_brace(now: Spot) -> Spot
+    ensures { result ≡ spec.behind_brace now }
+{
+    match now {
+        Spot::Port | Spot::Variable => Spot::Target,
+        other => other,
+    }
+}
+
 fn behind_mark(now: Spot, mark: Mark) -> Spot
     ensures { result ≡ spec.behind_mark now mark }
 {
     match (now, mark) {
-        (Spot::Port, Mark::LeftBrace) => Spot::Variable,
+        (_, Mark::LeftBrace) => behind_brace(now),
         (Spot::Program, Mark::LeftParen) => Spot::Reads,
         (_, Mark::Semicolon) => behind_semicolon(now),
         (_, Mark::RightParen) => behind_bracket(now),
@@ -95,7 +110,8 @@ fn behind_mark(now: Spot, mark: Mark) -> Spot
     }
 }
 
-fn behind(now: Spot, token: &Token<'_>) -> Spot
+/// Where the token behind this one stands.
+pub(crate) fn behind(now: Spot, token: &Token<'_>) -> Spot
     ensures { result ≡ spec.behind now token.now }
 {
     match token {
@@ -154,6 +170,19 @@ pub fn spot_at(tokens: &[Lexeme<'_>], at: usize) -> Spot
         now = behind(now, &lexeme.token);
     }
     Spot::Outside
+}
+
+/// The first byte of the last token before a byte. If there is none, it is that byte.
+pub fn start_before(tokens: &[Lexeme<'_>], at: usize) -> usize
+    ensures { result ≡ spec.start_before at tokens.now }
+{
+    let mut found = at;
+    for lexeme in tokens {
+        if lexeme.start < at {
+            found = lexeme.start;
+        }
+    }
+    found
 }
 
 /// Whether the head of the process in which this byte stands has the name there, as a port or a parameter. If the name
