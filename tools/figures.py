@@ -9,7 +9,7 @@ CHANNEL_HEADING = ('channel put read left most cap_first cap_last growths waits_
                    'cap_shortest').split()
 PROCESS_HEADING = 'process gets puts waits_empty waits_full end'.split()
 HEAD = '''digraph network {
-  rankdir=LR;
+  rankdir=%s;
   node [fontname="sans-serif", shape=box];
   edge [fontname="sans-serif", fontsize=11];
 '''
@@ -34,6 +34,12 @@ def standing(audit, p):
     if wait is None:
         return ''
     return f'waits {audit.network.channels[wait[1]]}' + (' full' if wait[0] == 'full' else '')
+
+
+def parameters(network, p):
+    """The parameters of process p, with their names and values."""
+    program, _, values = network.given[p]
+    return ' '.join(f'{name}={value}' for name, value in zip(network.processes[program][0]['par'], values))
 
 
 # ---- the tables
@@ -101,7 +107,7 @@ def stats_text(network, trace, tsv=None):
 # ---- the drawing
 
 def box(network, audit, p):
-    label, style = f'{network.instances[p]}: {network.given[p][0]}', ''
+    label, style = f'{network.instances[p]}: {network.given[p][0]} {parameters(network, p)}'.rstrip(), ''
     state = standing(audit, p) if audit else ''
     if state:
         colour = {'done': 'grey'}.get(state, 'yellow' if state.startswith('waits') else 'pink')
@@ -129,11 +135,11 @@ def edge(network, audit, c):
     return f'  {writer} -> {reader} [label="{label}"{style}];\n'
 
 
-def drawing(network, trace=None):
+def drawing(network, trace=None, across=False):
     audit = replay(network, trace)[0] if trace else None
     boxes = ''.join(box(network, audit, p) for p in range(len(network.instances)))
     edges = ''.join(outside(network, c) + edge(network, audit, c) for c in range(len(network.channels)))
-    return HEAD + boxes + edges + LEGEND * bool(trace) + '}\n'
+    return HEAD % ('TB' if across else 'LR') + boxes + edges + LEGEND * bool(trace) + '}\n'
 
 
 # ---- what is said of a legal history that is not exact

@@ -15,6 +15,8 @@ use Rattle.clap.specs.Matches.{found_of}
 use Rattle.clap.specs.declared.parser.matches.ArgMatches.{ArgMatches}
 use Rattle.clap.specs.declared.error.kind.ErrorKind.{ErrorKind}
 use Rattle.clap.specs.declared.error.kind.ErrorKind.TheVariants.{DisplayHelp, DisplayVersion, OutOfMemory}
+use Rattle.kpn_request.specs.declared.direction.Direction.{Direction}
+use Rattle.kpn_request.specs.declared.direction.Direction.TheVariants.{LeftToRight, TopToBottom}
 use Rattle.kpn_request.specs.declared.tables.StatsTables.{StatsTables}
 use Rattle.kpn_request.specs.declared.tables.StatsTables.TheVariants.{People, Channels, Processes}
 use Rattle.kpn_command_line.specs.declared.request.Request.{Request}
@@ -72,6 +74,11 @@ table_name People = None
 table_name Channels = Some (codes "channels")
 table_name Processes = Some (codes "processes")
 
+-- a drawing from top to bottom
+abbrev pub is_across : Direction → Bool
+is_across LeftToRight = false
+is_across TopToBottom = true
+
 -- the name of the command that a request is for; help is for none
 abbrev pub command_of : Request → List ℕ
 command_of (Alone name) = codes "alone"
@@ -79,7 +86,7 @@ command_of (Check file) = codes "check"
 command_of (Explain file trace steps) = codes "explain"
 command_of (ExplainItems file) = codes "explain"
 command_of (Print file) = codes "print"
-command_of (Draw file trace) = codes "draw"
+command_of (Draw file trace direction) = codes "draw"
 command_of (Rounds file n sources) = codes "rounds"
 command_of (Run run) = codes "run"
 command_of (Audit file trace steps) = codes "audit"
@@ -104,9 +111,10 @@ Gives given (ExplainItems file) =
     (text_for (codes "FILE") given ≡ Some file.now) × (text_for (codes "TRACE") given ≡ None)
     × (is_set (codes "ITEMS") given ≡ true)
 Gives given (Print file) = text_for (codes "FILE") given ≡ Some file.now
-Gives given (Draw file trace) =
+Gives given (Draw file trace direction) =
     (text_for (codes "FILE") given ≡ Some file.now)
     × (text_for (codes "TRACE") given ≡ option_map (λ name. name.now) trace)
+    × (is_set (codes "ACROSS") given ≡ is_across direction)
 Gives given (Rounds file n sources) =
     (text_for (codes "FILE") given ≡ Some file.now) × (number_for 32 (codes "N") given ≡ Some n)
     × (texts_for (codes "SOURCE") given ≡ map (λ source. source.now) sources.items)

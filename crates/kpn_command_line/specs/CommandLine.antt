@@ -70,6 +70,9 @@ table_option = option (codes "TABLE") (codes "tsv")
 abbrev pub items_flag : Rule
 items_flag = flag (codes "ITEMS") (codes "items")
 
+abbrev pub across_flag : Rule
+across_flag = flag (codes "ACROSS") (codes "across")
+
 -- a command with these words and options
 abbrev pub command : (name : List ℕ) → List Rule → App
 command name rules = on_top (λ shape. record shape { rules = rules }) (new_app name)
@@ -88,7 +91,7 @@ abbrev pub print_words : App
 print_words = command (codes "print") (file_word ∷ [])
 
 abbrev pub draw_words : App
-draw_words = command (codes "draw") (file_word ∷ optional_word (codes "TRACE") ∷ [])
+draw_words = command (codes "draw") (file_word ∷ optional_word (codes "TRACE") ∷ across_flag ∷ [])
 
 abbrev pub rounds_words : App
 rounds_words = command (codes "rounds") (file_word ∷ rounds_word ∷ source_option ∷ [])

@@ -5,7 +5,7 @@ ghost use Rattle.kpn_command_line.specs.CommandLine.{IsArg, IsCommand, command_l
 ghost use Rattle.kpn_command_line.specs.CommandLine.{optional_word, word, option, count, alone_words, check_words};
 ghost use Rattle.kpn_command_line.specs.CommandLine.{explain_words, print_words, draw_words, rounds_words, run_words};
 ghost use Rattle.kpn_command_line.specs.CommandLine.{audit_words, stats_words, timeline_words, file_word, rounds_word, source_option};
-ghost use Rattle.kpn_command_line.specs.CommandLine.{sink_option, workers_option, steps_option, items_flag};
+ghost use Rattle.kpn_command_line.specs.CommandLine.{sink_option, workers_option, steps_option, items_flag, across_flag};
 ghost use Rattle.kpn_command_line.specs.CommandLine.{trace_word, run_inputs, bare_command_line};
 
 use clap::builder::ValueParser;
@@ -40,6 +40,8 @@ pub(crate) const STEPS: &str = "STEPS";
 pub(crate) const TABLE: &str = "TABLE";
 
 pub(crate) const ITEMS: &str = "ITEMS";
+
+pub(crate) const ACROSS: &str = "ACROSS";
 
 // The commands and their words.
 pub(crate) fn program<'a>(alloc: Global) -> Result<Command<'a>, AllocError>
@@ -192,8 +194,10 @@ fn print_words<'a>(alloc: Global) -> Result<Command<'a>, AllocError>
 
 const DRAW_HELP: &str = "\
 Writes a directed graph in the language of Graphviz: `kpn draw FILE | dot -Tsvg` makes a picture. A
-box is a process, with the name of its instance and of its program. An arrow is a channel, from its
-writer to its reader, with its name and capacity. An ellipse is the outside at a source or a sink.
+box is a process, with the name of its instance, of its program, and its parameters. An arrow is a
+channel, from its writer to its reader, with its name and capacity. An ellipse is the outside at a
+source or a sink. What stands side by side in the network is drawn one below the other; with --across it
+is drawn side by side.
 
 With a trace that `kpn run --trace` has stored, the drawing also shows what stands after its events: how
 many items were put on each channel and how many of them are unread, the capacity that a grown channel
@@ -211,7 +215,8 @@ fn draw_words<'a>(alloc: Global) -> Result<Command<'a>, AllocError>
     let trace = "The file of a trace; without it the network is drawn before any run";
     command(alloc, "draw", about, DRAW_HELP)
         .arg(file_word(alloc))?
-        .arg(optional_word(alloc, TRACE, trace))
+        .arg(optional_word(alloc, TRACE, trace))?
+        .arg(across_word(alloc))
 }
 
 const ROUNDS_HELP: &str = "\
@@ -411,6 +416,16 @@ fn items_word<'a>(alloc: Global) -> Arg<'a>
     Arg::new(alloc, ITEMS)
         .long("items")
         .help("Reads FILE as a file of items, as sources have; then there is no TRACE")
+        .action(ArgAction::SetTrue)
+}
+
+// The `--across` flag.
+fn across_word<'a>(alloc: Global) -> Arg<'a>
+    ensures { IsArg across_flag result }
+{
+    Arg::new(alloc, ACROSS)
+        .long("across")
+        .help("Draws from top to bottom, and not from left to right: for a wide network")
         .action(ArgAction::SetTrue)
 }
 
