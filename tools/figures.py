@@ -7,7 +7,7 @@ import ticks
 
 CHANNEL_HEADING = ('channel put read left most cap_first cap_last growths waits_empty waits_full complete '
                    'cap_shortest').split()
-PROCESS_HEADING = 'process gets puts waits_empty waits_full end'.split()
+PROCESS_HEADING = 'process gets puts waits_empty waits_full end parameters'.split()
 HEAD = '''digraph network {
   rankdir=%s;
   node [fontname="sans-serif", shape=box];
@@ -61,7 +61,7 @@ def channel_row(audit, history, most, free, c):
 
 def process_row(audit, history, p):
     events = [count(history, word, 1, p) for word in ('get', 'put', 'wait-empty', 'wait-full')]
-    return [audit.network.instances[p], *events, standing(audit, p) or '-']
+    return [audit.network.instances[p], *events, standing(audit, p) or '-', parameters(audit.network, p) or '-']
 
 
 def advice(audit, bounded, free, c):

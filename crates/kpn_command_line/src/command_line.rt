@@ -328,7 +328,7 @@ Of each channel: the items that were put and read, those that are left unread, t
 unread, the capacity at first and at last, how often it grew, how often its reader came to wait for an
 item and its writer for room, whether it is complete, and the capacity that a run without capacities
 makes use of. Of each process: the items that it got and put, how often it came to
-wait for an item and for room, and how it ended or what it waits for.
+wait for an item and for room, how it ended or what it waits for, and its parameters.
 
 With --tsv one of the tables is written for other programs: a line of names, then a line for each
 channel or process, with a tab between two entries. A trace that is not legal is answered as by

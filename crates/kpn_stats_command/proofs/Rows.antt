@@ -54,14 +54,14 @@ joined old a b so_far more was added = added ∙ ap (λ x. x ++ b) was ∙ appen
 pub tables_told : {A : Type 0} (d : Document) (audit : Audit A) (channels : List ChannelFigures)
     (processes : List ProcessFigures) (times : Times) (old t1 t2 t3 t4 new : List ℕ) (first second : List Row)
     → first ≡ channel_rows d audit channels times → t1 ≡ old ++ aligned_table 11 first → t2 ≡ t1 ++ codes "\n"
-    → second ≡ process_rows d audit processes → t3 ≡ t2 ++ aligned_table 5 second → t4 ≡ t3 ++ codes "\n"
+    → second ≡ process_rows d audit processes → t3 ≡ t2 ++ aligned_table 6 second → t4 ≡ t3 ++ codes "\n"
     → new ≡ t4 ++ advice d audit channels times → new ≡ old ++ tables_text d audit channels processes times
 tables_told d audit channels processes times old t1 t2 t3 t4 new first second rows e1 e2 more e3 e4 e5 =
     let a = aligned_table 11 (channel_rows d audit channels times) in
-    let b = aligned_table 5 (process_rows d audit processes) in
+    let b = aligned_table 6 (process_rows d audit processes) in
     let s1 : t1 ≡ old ++ a = e1 ∙ ap (λ r. old ++ aligned_table 11 r) rows in
     let s2 = joined old a (codes "\n") t1 t2 s1 e2 in
-    let s3 = joined old (a ++ codes "\n") b t2 t3 s2 (e3 ∙ ap (λ r. t2 ++ aligned_table 5 r) more) in
+    let s3 = joined old (a ++ codes "\n") b t2 t3 s2 (e3 ∙ ap (λ r. t2 ++ aligned_table 6 r) more) in
     let s4 = joined old (a ++ codes "\n" ++ b) (codes "\n") t3 t4 s3 e4 in
     joined old (a ++ codes "\n" ++ b ++ codes "\n") (advice d audit channels times) t4 new s4 e5
 

@@ -1,5 +1,5 @@
 -- The text that `kpn stats` writes of a legal history: what each cell shows, and the advice on capacities.
-use Rattle.std.specs.Prelude.{ℕ, Bool, true, false, ◌-◌, ◌*◌, ◌/◌, ◌%◌, min, nat_eq, nat_le, if◌then◌else◌, List, [], ◌∷◌, ◌++◌, length, map, codes, Option, Some, None, slice_index_or}
+use Rattle.std.specs.Prelude.{ℕ, Bool, true, false, ◌-◌, ◌*◌, ◌/◌, ◌%◌, min, nat_eq, nat_le, if◌then◌else◌, List, [], ◌∷◌, ◌++◌, length, drop, map, codes, Option, Some, None, slice_index_or}
 use Rattle.std.specs.List.{range_with_len}
 use Rattle.std.specs.Fmt.{decimal}
 use Rattle.kpn_net.specs.declared.wait.Wait.{Wait}
@@ -11,6 +11,7 @@ use Rattle.kpn_history.specs.declared.event.How.{How}
 use Rattle.kpn_trace_text.specs.EventLine.{how_word}
 use Rattle.kpn_audit.specs.declared.findings.Audit.{Audit}
 use Rattle.kpn_pieces.specs.ListText.{lines_from}
+use Rattle.kpn_summary.specs.Parameters.{parameters_text}
 use Rattle.kpn_stats_command.specs.declared.figures.ChannelFigures.{ChannelFigures}
 use Rattle.kpn_stats_command.specs.declared.figures.ProcessFigures.{ProcessFigures}
 use Rattle.kpn_stats_command.specs.declared.figures.Figures.{Figures}
@@ -82,7 +83,8 @@ channel_rows d audit figures times =
 abbrev pub process_heading : Row
 process_heading =
     row_of (codes "process")
-    (codes "gets" ∷ codes "puts" ∷ codes "waits_empty" ∷ codes "waits_full" ∷ codes "end" ∷ [])
+    (codes "gets" ∷ codes "puts" ∷ codes "waits_empty" ∷ codes "waits_full" ∷ codes "end"
+    ∷ codes "parameters" ∷ [])
 
 -- how a process ended, or else what it waits for
 abbrev pub end_cell : (channels : List (List ℕ)) → Option How → Wait → List ℕ
@@ -94,12 +96,21 @@ end_cell channels None (Full c) = codes "waits " ++ name_at channels c ++ codes 
 abbrev pub process_numbers : ProcessFigures → List (Option ℕ)
 process_numbers f = Some f.gets ∷ Some f.puts ∷ Some f.waits_empty ∷ Some f.waits_full ∷ []
 
+-- what is counted of a process, and how it ended
+abbrev pub process_cells : {A : Type 0} → Document → Audit A → List ProcessFigures → (p : ℕ) → List (List ℕ)
+process_cells d audit figures p =
+    map number_cell (process_numbers (slice_index_or figures p no_process))
+    ++ end_cell d.names.channels (slice_index_or audit.ends p None) (slice_index_or audit.waits p Nobody) ∷ []
+
+-- parameters, of which each stands behind a space, or `-` if there are none
+abbrev pub parameters_cell : (text : List ℕ) → List ℕ
+parameters_cell text = if nat_eq (length text) 0 then codes "-" else drop 1 text
+
 -- the row of the process with the number p
 abbrev pub process_row : {A : Type 0} → Document → Audit A → List ProcessFigures → (p : ℕ) → Row
 process_row d audit figures p =
     row_of (name_at d.names.instances p)
-    (map number_cell (process_numbers (slice_index_or figures p no_process))
-    ++ end_cell d.names.channels (slice_index_or audit.ends p None) (slice_index_or audit.waits p Nobody) ∷ [])
+    (process_cells d audit figures p ++ parameters_cell (parameters_text d p) ∷ [])
 
 abbrev pub process_rows : {A : Type 0} → Document → Audit A → List ProcessFigures → List Row
 process_rows d audit figures =
@@ -154,7 +165,7 @@ advice d audit figures times =
 abbrev pub tables_text : {A : Type 0} → Document → Audit A → List ChannelFigures → List ProcessFigures → Times → List ℕ
 tables_text d audit channels processes times =
     aligned_table 11 (channel_rows d audit channels times) ++ codes "\n"
-    ++ aligned_table 5 (process_rows d audit processes) ++ codes "\n" ++ advice d audit channels times
+    ++ aligned_table 6 (process_rows d audit processes) ++ codes "\n" ++ advice d audit channels times
 
 -- the same behind the head
 abbrev pub people_text : {A : Type 0} → Document → Audit A → List ChannelFigures → List ProcessFigures → Times → List ℕ

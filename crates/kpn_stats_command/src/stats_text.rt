@@ -3,9 +3,10 @@ ghost use Rattle.std.specs.Fmt.{decimal};
 ghost use Rattle.std.specs.Prelude.{◌≡◌, ◌++◌, ◌<◌, codes, length, map, slice_index_or, None, IfOk, OnOk, string_bytes};
 ghost use Rattle.kpn_pieces.specs.Added.{Adds};
 ghost use Rattle.kpn_stats_command.specs.Layout.{tabbed_table};
+ghost use Rattle.kpn_summary.specs.Parameters.{parameters_text};
 ghost use Rattle.kpn_ticks.specs.Held.{capacity_needed};
 ghost use Rattle.kpn_ticks.specs.Shown.{shown};
-ghost use Rattle.kpn_stats_command.specs.StatsText.{hundredths, parallelism, head_text, tables_text, counted_cells, shortest_capacity, advised, advice_for, stats_text, people_text, number_cell, channel_heading, channel_row, channel_rows, complete_cell, process_heading, process_row, process_rows, end_cell, advice, advice_line, row_of};
+ghost use Rattle.kpn_stats_command.specs.StatsText.{hundredths, parallelism, head_text, tables_text, counted_cells, shortest_capacity, advised, advice_for, stats_text, people_text, number_cell, channel_heading, channel_row, channel_rows, complete_cell, process_heading, process_cells, parameters_cell, process_row, process_rows, end_cell, advice, advice_line, row_of};
 
 use crate::figures::{ChannelFigures, Figures, ProcessFigures};
 use crate::table::{Row, push_aligned, push_tabbed};
@@ -16,6 +17,7 @@ use kpn_lang::Sequence;
 use kpn_net::Wait;
 use kpn_pieces::Pushed;
 use kpn_request::StatsTables;
+use kpn_summary::push_parameters;
 use kpn_text::Document;
 use kpn_trace_text::how_word;
 use std::alloc::{AllocError, Global};
@@ -198,7 +200,7 @@ fn push_tables(
     push_aligned(alloc, text, 11, &rows)?;
     text.push(b'\n')?;
     let rows = process_rows(alloc, document, audit, processes)?;
-    push_aligned(alloc, text, 5, &rows)?;
+    push_aligned(alloc, text, 6, &rows)?;
     text.push(b'\n')?;
     let advice = advice_of(alloc, document, audit, channels, times)?;
     text.extend_from_slice(advice.as_bytes())?;
@@ -359,7 +361,14 @@ fn process_rows(
 fn process_heading(alloc: Global) -> Result<Row, AllocError>
     ensures { IfOk result (λ row. row ≡ process_heading) }
 {
-    let words = ["gets", "puts", "waits_empty", "waits_full", "end"];
+    let words = [
+        "gets",
+        "puts",
+        "waits_empty",
+        "waits_full",
+        "end",
+        "parameters",
+    ];
     row_of(alloc, "process", word_cells(alloc, &words)?)
 }
 
@@ -370,8 +379,27 @@ fn process_row(
     figures: &[ProcessFigures],
     p: usize,
 ) -> Result<Row, AllocError>
-    requires { p < length figures.now }
+    requires process { p < length document.now.tables.instances }
+    requires processes { length figures.now ≡ length document.now.tables.instances }
     ensures { IfOk result (λ row. row ≡ process_row document.now audit.now figures.now p) }
+{
+    let mut cells = process_cells(alloc, document, audit, figures, p)?;
+    let parameters = parameters_of(alloc, document, p)?;
+    cells.push(parameters)?;
+    row_of(alloc, document.instance_name(p), cells)
+}
+
+// What is counted of a process, and how it ended.
+fn process_cells(
+    alloc: Global,
+    document: &Document,
+    audit: &Audit,
+    figures: &[ProcessFigures],
+    p: usize,
+) -> Result<Vec<Sequence<u8>>, AllocError>
+    requires { p < length figures.now }
+    ensures { IfOk result (λ cells.
+        cells.items ≡ process_cells document.now audit.now figures.now p) }
 {
     let f = figures[p];
     let numbers = [
@@ -390,7 +418,27 @@ fn process_row(
     let mut cells = number_cells(alloc, &numbers)?;
     let end = end_cell(alloc, document, end, wait)?;
     cells.push(end)?;
-    row_of(alloc, document.instance_name(p), cells)
+    Ok(cells)
+}
+
+// The parameters of a process.
+fn parameters_of(alloc: Global, document: &Document, p: usize) -> Result<Sequence<u8>, AllocError>
+    requires { p < length document.now.tables.instances }
+    ensures { IfOk result (λ cell. cell ≡ parameters_cell (parameters_text document.now p)) }
+{
+    let mut text = Vec::new(alloc);
+    push_parameters(&mut text, document, p)?;
+    parameters_cell(alloc, &text)
+}
+
+fn parameters_cell(alloc: Global, text: &[u8]) -> Result<Sequence<u8>, AllocError>
+    ensures { IfOk result (λ cell. cell ≡ parameters_cell text.now) }
+{
+    if text.len() == 0 {
+        text_cell(alloc, "-")
+    } else {
+        Ok(Sequence::from_vec(Vec::from_slice(alloc, &text[1..])?))
+    }
 }
 
 // How a process ended, or else what it waits for.
