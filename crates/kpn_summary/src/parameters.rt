@@ -21,7 +21,7 @@ fn push_values(text: &mut Vec<u8>, document: &Document, process: usize, values: 
         ++ lines_from (named_value document.now process) 0 values.now) }
 {
     for (k, value) in values.iter().enumerate() {
-        push_value(text, document, process, k, *value)?;
+        push_value(text, document, process, k, value)?;
     }
     Ok(())
 }
@@ -32,17 +32,17 @@ fn push_value(
     document: &Document,
     process: usize,
     k: usize,
-    value: i64,
+    value: &i64,
 ) -> Pushed
     ensures { OnOk result (text.new.items
-        ≡ text.old.items ++ named_value document.now process k value) }
+        ≡ text.old.items ++ named_value document.now process k value.now) }
 {
     push_parameter(text, document.variable_name(process, k), value)
 }
 
-fn push_parameter(text: &mut Vec<u8>, name: &[u8], value: i64) -> Pushed
-    ensures { OnOk result (text.new.items ≡ text.old.items ++ parameter_text name.now value) }
+fn push_parameter(text: &mut Vec<u8>, name: &[u8], value: &i64) -> Pushed
+    ensures { OnOk result (text.new.items ≡ text.old.items ++ parameter_text name.now value.now) }
 {
     push_between(text, b" ", name, b"=")?;
-    push_item(text, b"", value, b"")
+    push_item(text, b"", *value, b"")
 }
