@@ -4,6 +4,7 @@ program than the proved one: it takes no event after another, but follows what e
 import collections
 import json
 import typing
+import xml.etree.ElementTree
 
 
 class Place(typing.NamedTuple):
@@ -163,3 +164,111 @@ def check_timeline(text):
         if event['ph'] == 'X':
             assert event['ts'] >= ends[event['tid']] and event['dur'] > 0, event
             ends[event['tid']] = event['ts'] + event['dur']
+
+
+# ---- the picture
+
+MOST_SLICES = 2000
+STYLE = """<style>
+text{font:12px sans-serif;fill:#222}
+.name{text-anchor:end}
+.mark{font-size:10px;text-anchor:middle;fill:#555}
+.row{fill:#f4f4f4}
+.tick{stroke:#ddd}
+.get{fill:#56b4e9}
+.put{fill:#0072b2}
+.empty{fill:#d9d9d9}
+.full{fill:#d55e00}
+.grow{fill:#222}
+rect.get,rect.put,rect.empty,rect.full{stroke:#fff;stroke-width:.5}
+text.get,text.put,text.empty,text.full{font-size:9px;text-anchor:middle;fill:#222}
+text.put,text.full{fill:#fff}
+</style>
+<rect width="100%" height="100%" fill="#fff"/>
+"""
+LEGEND = """<rect class="get" width="16" height="16"/><text x="22" y="12">get</text>
+<rect class="put" x="60" width="16" height="16"/><text x="82" y="12">put</text>
+<rect class="empty" x="120" width="16" height="16"/><text x="142" y="12">waits for an item</text>
+<rect class="full" x="256" width="16" height="16"/><text x="278" y="12">waits for room</text>
+<path class="grow" d="M384 4l5 8h-10z"/><text x="396" y="12">channel grows</text>
+</g>
+</svg>
+"""
+# up to so many ticks, how wide one is, and how many are between two numbers of the axis
+SCALES = (24, 44, 1), (50, 20, 5), (100, 10, 10), (300, 5, 20)
+
+
+class TooMany(Exception):
+    """The picture would have more slices than it may have."""
+
+
+class Picture:
+    def __init__(self, network, trace, first, last):
+        self.network, self.timing = network, Timing(network, trace)
+        self.front, self.back = first - 1, min(last, self.timing.length)
+        self.ticks = max(self.back - self.front, 0)
+        found = [(wide, step) for most, wide, step in SCALES if self.ticks <= most]
+        self.wide, self.step = found[0] if found else (2, 50)
+        self.left = 24 + 7 * max(map(len, network.instances), default=0)
+        self.bottom = 40 + 32 * len(network.instances)
+        self.count, self.parts = 0, []
+        for event in self.slices(trace.history):
+            self.draw(*event)
+        if max(self.count, self.ticks) > MOST_SLICES:
+            raise TooMany
+
+    def slices(self, history):
+        """What is drawn, in the order of the history: kind, process, channel, from when to when, and what it says."""
+        latest, numbers = collections.Counter(), iter(range(len(self.timing.places)))
+        for event in history:
+            if event[0] == 'grow':
+                yield 'grow', event[1], event[2], latest[event[1]], latest[event[1]], ''
+            elif event[0] in ('get', 'put'):
+                k = next(numbers)
+                place, tick = self.timing.places[k], self.timing.ticks[k]
+                p, c, before = place.process, place.channel, latest[place.process]
+                name = self.network.channels[c]
+                kind, what = ('empty', 'an item') if event[0] == 'get' else ('full', 'room')
+                yield kind, p, c, before, tick - 1, f'waits for {what} on {name}, ticks {before + 1} to {tick - 1}'
+                yield event[0], p, c, tick - 1, tick, f'{event[0]} {name}: item {place.value}, tick {tick}'
+                latest[p] = tick
+
+    def at(self, when):
+        return self.left + self.wide * (when - self.front)
+
+    def draw(self, kind, p, c, begin, end, title):
+        name, y = self.network.channels[c], 40 + 32 * p
+        if kind == 'grow':
+            if self.front <= begin <= self.back:
+                self.parts.append(f'<path class="grow" d="M{self.at(begin)} {y + 1}l5 8h-10z">'
+                                  f'<title>{name} grows</title></path>\n')
+            return
+        begin, end = max(begin, self.front), min(end, self.back)
+        if begin >= end:
+            return
+        self.count += 1
+        x, wide = self.at(begin), self.wide * (end - begin)
+        self.parts.append(f'<rect class="{kind}" x="{x}" y="{y + 6}" width="{wide}" height="20">'
+                          f'<title>{title}</title></rect>\n')
+        if 5 * len(name) + 4 <= wide:
+            self.parts.append(f'<text class="{kind}" x="{x + wide // 2}" y="{y + 19}">{name}</text>\n')
+
+    def text(self):
+        wide, high = max(self.at(self.front + self.ticks) + 24, 500), self.bottom + 48
+        head = (f'<svg xmlns="http://www.w3.org/2000/svg" width="{wide}" height="{high}" '
+                f'viewBox="0 0 {wide} {high}">\n')
+        rows = [f'<rect class="row" x="{self.left}" y="{40 + 32 * p + 2}" width="{self.wide * self.ticks}" height="28"/>\n'
+                f'<text class="name" x="{self.left - 8}" y="{40 + 32 * p + 20}">{name}</text>\n'
+                for p, name in enumerate(self.network.instances)]
+        marks = [f'<path class="tick" d="M{self.at(when)} 36V{self.bottom}"/>\n'
+                 f'<text class="mark" x="{self.at(when)}" y="32">{when}</text>\n'
+                 for when in range(self.front, self.front + self.ticks + 1) if when % self.step == 0]
+        caption = f'<text x="12" y="16">ticks {self.front + 1} to {self.back} of {self.timing.length}</text>\n'
+        legend = f'<g transform="translate(12,{self.bottom + 20})">\n'
+        return head + STYLE + caption + ''.join([*rows, *marks, *self.parts]) + legend + LEGEND
+
+
+def picture_text(network, trace, first=1, last=10 ** 9):
+    text = Picture(network, trace, first, last).text()
+    xml.etree.ElementTree.fromstring(text)
+    return text

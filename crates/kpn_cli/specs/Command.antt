@@ -21,10 +21,11 @@ use Rattle.kpn_explain_trace.specs.Answers as traces
 use Rattle.kpn_draw_command.specs.Answers.{IsDrawn, IsRefusalOfDrawing}
 use Rattle.kpn_stats_command.specs.Answers.{AreStats}
 use Rattle.kpn_timeline_command.specs.Answers.{IsTimeline}
+use Rattle.kpn_timeline_command.specs.PictureAnswers.{IsPictured, IsRefusalOfPicture}
 use Rattle.kpn_command_line.specs.Asked.{AreUnclear, IsAsked}
 use Rattle.kpn_command_line.specs.declared.request.Request.{Request}
 use Rattle.kpn_command_line.specs.declared.request.Request.TheVariants.{Alone, Check, Explain, ExplainItems}
-use Rattle.kpn_command_line.specs.declared.request.Request.TheVariants.{Print, Draw, Rounds, Run, Audit, Stats, Timeline, Help}
+use Rattle.kpn_command_line.specs.declared.request.Request.TheVariants.{Print, Draw, Rounds, Run, Audit, Stats, Timeline, Picture, Help}
 use Rattle.kpn_command_line.specs.declared.request.WordsFault.{WordsFault}
 use Rattle.kpn_command_line.specs.declared.request.WordsFault.TheVariants.{Usage, NoMemory as Unread}
 use Rattle.kpn_cli.specs.declared.here.Progress.{Progress}
@@ -80,6 +81,9 @@ IsAnswer may_give may_alias remaining (Stats file trace steps tables) input read
 IsAnswer may_give may_alias remaining (Timeline file trace steps) input read answer =
     (read ≡ input) × Answers (Tells (IsTimeline may_give file.now trace.now steps))
     (IsRefusalOfAudit may_give file.now trace.now) answer
+IsAnswer may_give may_alias remaining (Picture file trace steps first last) input read answer =
+    (read ≡ input) × Answers (Tells (IsPictured may_give file.now trace.now steps first last))
+    (IsRefusalOfPicture may_give file.now trace.now steps first last) answer
 IsAnswer may_give may_alias remaining (Help text) input read answer =
     (read ≡ input) × Answers (Succeeds (λ text. ⊤)) (λ refusal. refusal ≡ NoMemory) answer
 

@@ -17,7 +17,7 @@ use kpn_request::RunRequest;
 use kpn_run_command::run_command;
 use kpn_shelf::Shelf;
 use kpn_stats_command::stats_command;
-use kpn_timeline_command::timeline_command;
+use kpn_timeline_command::{picture_command, timeline_command};
 use std::alloc::Global;
 use std::io::Read;
 
@@ -67,6 +67,15 @@ pub fn answer_here<'a, S: Shelf, I: Read>(
         Request::Timeline { file, trace, steps } => {
             Progress::Answered(timeline_command(alloc, file, trace, steps, shelf))
         }
+        Request::Picture {
+            file,
+            trace,
+            steps,
+            first,
+            last,
+        } => Progress::Answered(picture_command(
+            alloc, file, trace, steps, first, last, shelf,
+        )),
         Request::Stats {
             file,
             trace,

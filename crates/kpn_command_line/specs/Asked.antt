@@ -20,7 +20,7 @@ use Rattle.kpn_request.specs.declared.tables.StatsTables.TheVariants.{People, Ch
 use Rattle.kpn_command_line.specs.declared.request.Request.{Request}
 use Rattle.kpn_command_line.specs.declared.request.Request.TheVariants.{Alone, Check, Explain, ExplainItems}
 use Rattle.kpn_command_line.specs.declared.request.Request.TheVariants.{Print, Draw, Rounds, Run}
-use Rattle.kpn_command_line.specs.declared.request.Request.TheVariants.{Audit, Stats, Timeline, Help}
+use Rattle.kpn_command_line.specs.declared.request.Request.TheVariants.{Audit, Stats, Timeline, Picture, Help}
 use Rattle.kpn_command_line.specs.declared.request.WordsFault.{WordsFault}
 use Rattle.kpn_command_line.specs.declared.request.WordsFault.TheVariants.{Usage, NoMemory}
 use Rattle.kpn_command_line.specs.CommandLine.{command_line}
@@ -85,6 +85,7 @@ command_of (Run run) = codes "run"
 command_of (Audit file trace steps) = codes "audit"
 command_of (Stats file trace steps tables) = codes "stats"
 command_of (Timeline file trace steps) = codes "timeline"
+command_of (Picture file trace steps first last) = codes "timeline"
 command_of (Help text) = []
 
 -- the most steps before an event: 10,000,000 without `--steps`
@@ -92,7 +93,8 @@ abbrev pub steps_for : (given : List Row) → ℕ
 steps_for given = unwrap_or (number_for 64 (codes "STEPS") given) 10000000
 
 -- What the words give to its command is what the request has. There are 10,000,000 commits without `--max-commits`, and
--- the tables for people without `--tsv`.
+-- the tables for people without `--tsv`. A picture begins with tick 1 without `--from`, and ends with tick 1,000,000,000
+-- without `--to`.
 abbrev pub Gives : (given : List Row) → Request → Type 0
 Gives given (Alone name) = text_for (codes "NAME") given ≡ Some name.now
 Gives given (Check file) = text_for (codes "FILE") given ≡ Some file.now
@@ -124,7 +126,13 @@ Gives given (Stats file trace steps tables) =
     × (steps_for given ≡ steps) × (text_for (codes "TABLE") given ≡ table_name tables)
 Gives given (Timeline file trace steps) =
     (text_for (codes "FILE") given ≡ Some file.now) × (text_for (codes "TRACE") given ≡ Some trace.now)
-    × (steps_for given ≡ steps)
+    × (steps_for given ≡ steps) × (is_set (codes "SVG") given ≡ false)
+    × (number_for 64 (codes "FROM") given ≡ None) × (number_for 64 (codes "TO") given ≡ None)
+Gives given (Picture file trace steps first last) =
+    (text_for (codes "FILE") given ≡ Some file.now) × (text_for (codes "TRACE") given ≡ Some trace.now)
+    × (steps_for given ≡ steps) × (is_set (codes "SVG") given ≡ true)
+    × (unwrap_or (number_for 64 (codes "FROM") given) 1 ≡ first)
+    × (unwrap_or (number_for 64 (codes "TO") given) 1000000000 ≡ last)
 Gives given (Help text) = ⊥
 
 -- the request is what the words ask for

@@ -70,6 +70,15 @@ table_option = option (codes "TABLE") (codes "tsv")
 abbrev pub items_flag : Rule
 items_flag = flag (codes "ITEMS") (codes "items")
 
+abbrev pub svg_flag : Rule
+svg_flag = flag (codes "SVG") (codes "svg")
+
+abbrev pub from_option : Rule
+from_option = count (codes "FROM") (codes "from")
+
+abbrev pub to_option : Rule
+to_option = count (codes "TO") (codes "to")
+
 -- a command with these words and options
 abbrev pub command : (name : List ℕ) → List Rule → App
 command name rules = on_top (λ shape. record shape { rules = rules }) (new_app name)
@@ -105,7 +114,9 @@ abbrev pub stats_words : App
 stats_words = command (codes "stats") (file_word ∷ trace_word ∷ steps_option ∷ table_option ∷ [])
 
 abbrev pub timeline_words : App
-timeline_words = command (codes "timeline") (file_word ∷ trace_word ∷ steps_option ∷ [])
+timeline_words =
+    command (codes "timeline")
+    (file_word ∷ trace_word ∷ steps_option ∷ svg_flag ∷ from_option ∷ to_option ∷ [])
 
 -- the words of all commands, in the order in which help lists these
 abbrev pub all_words : List App

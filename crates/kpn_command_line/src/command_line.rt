@@ -5,7 +5,7 @@ ghost use Rattle.kpn_command_line.specs.CommandLine.{IsArg, IsCommand, command_l
 ghost use Rattle.kpn_command_line.specs.CommandLine.{optional_word, word, option, count, alone_words, check_words};
 ghost use Rattle.kpn_command_line.specs.CommandLine.{explain_words, print_words, draw_words, rounds_words, run_words};
 ghost use Rattle.kpn_command_line.specs.CommandLine.{audit_words, stats_words, timeline_words, file_word, rounds_word, source_option};
-ghost use Rattle.kpn_command_line.specs.CommandLine.{sink_option, workers_option, steps_option, items_flag};
+ghost use Rattle.kpn_command_line.specs.CommandLine.{sink_option, workers_option, steps_option, items_flag, svg_flag, from_option, to_option};
 ghost use Rattle.kpn_command_line.specs.CommandLine.{trace_word, run_inputs, bare_command_line};
 
 use clap::builder::ValueParser;
@@ -40,6 +40,12 @@ pub(crate) const STEPS: &str = "STEPS";
 pub(crate) const TABLE: &str = "TABLE";
 
 pub(crate) const ITEMS: &str = "ITEMS";
+
+pub(crate) const SVG: &str = "SVG";
+
+pub(crate) const FROM: &str = "FROM";
+
+pub(crate) const TO: &str = "TO";
 
 // The commands and their words.
 pub(crate) fn program<'a>(alloc: Global) -> Result<Command<'a>, AllocError>
@@ -352,6 +358,10 @@ is written is JSON in the Trace Event Format, for https://ui.perfetto.dev and ch
 microsecond there is a tick. A process is a track, with a slice for each get, put and wait. A channel is
 a counter of its unread items. A trace that is not legal is answered as by `kpn audit`.
 
+With --svg it writes one picture that any browser shows: the processes below one another, the ticks from
+left to right, a box for each get, put and wait, and a mark where a channel grows. --from and --to choose
+the ticks, so that the picture has at most 2000 ticks, and at most 2000 gets, puts and waits.
+
 Statuses: 0 for a timeline, 1 for an illegal trace, for a refused file and for a device that fails, 2
 for words that are not understood, 5 for a trace that would take more steps: then give --steps a larger
 number; 6 for want of memory.";
@@ -364,7 +374,10 @@ fn timeline_words<'a>(alloc: Global) -> Result<Command<'a>, AllocError>
     command(alloc, "timeline", about, TIMELINE_HELP)
         .arg(file_word(alloc))?
         .arg(trace_word(alloc))?
-        .arg(steps_word(alloc))
+        .arg(steps_word(alloc))?
+        .arg(svg_word(alloc))?
+        .arg(from_word(alloc))?
+        .arg(to_word(alloc))
 }
 
 // The word for the number of rounds.
@@ -411,6 +424,32 @@ fn items_word<'a>(alloc: Global) -> Arg<'a>
         .long("items")
         .help("Reads FILE as a file of items, as sources have; then there is no TRACE")
         .action(ArgAction::SetTrue)
+}
+
+// The `--svg` flag.
+fn svg_word<'a>(alloc: Global) -> Arg<'a>
+    ensures { IsArg svg_flag result }
+{
+    Arg::new(alloc, SVG)
+        .long("svg")
+        .help("Writes a picture in place of JSON")
+        .action(ArgAction::SetTrue)
+}
+
+// The `--from` option.
+fn from_word<'a>(alloc: Global) -> Arg<'a>
+    ensures { IsArg from_option result }
+{
+    let help = "The first tick of the picture: 1 to 1000000000, and 1 without it";
+    count(alloc, FROM, "from", "T", help)
+}
+
+// The `--to` option.
+fn to_word<'a>(alloc: Global) -> Arg<'a>
+    ensures { IsArg to_option result }
+{
+    let help = "The last tick of the picture: 1 to 1000000000, and 1000000000 without it";
+    count(alloc, TO, "to", "T", help)
 }
 
 // The word for the file of a description.

@@ -53,6 +53,14 @@ pub enum Request<'a> {
         trace: &'a str,
         steps: u64,
     },
+    /// `timeline FILE TRACE --svg`, with the most steps before an event, and the first and the last tick of the picture.
+    Picture {
+        file: &'a str,
+        trace: &'a str,
+        steps: u64,
+        first: u64,
+        last: u64,
+    },
     /// `--help`, `help` or `--version`, with the text that answers it.
     Help(Error),
 }

@@ -9,13 +9,13 @@ ghost use Rattle.kpn_command_line.specs.Asked.{AnswersTo, IsUsageIf, IsNoTable, 
 ghost use Rattle.kpn_command_line.specs.Asked.{text_for, texts_for, number_for, is_set, table_name};
 
 use crate::command_line::{
-    FILE, ITEMS, MAX_COMMITS, NAME, ROUNDS, SINK, SOURCE, STEPS, TABLE, TAKE, TRACE, WORKERS,
-    program,
+    FILE, FROM, ITEMS, MAX_COMMITS, NAME, ROUNDS, SINK, SOURCE, STEPS, SVG, TABLE, TAKE, TO, TRACE,
+    WORKERS, program,
 };
 use crate::request::{Request, WordsFault};
 use clap::error::ErrorKind;
 use clap::{ArgMatches, Command, Error};
-use kpn_limits::USUAL_COUNT;
+use kpn_limits::{MAX_COUNT, USUAL_COUNT};
 use kpn_request::{RunRequest, StatsTables};
 use std::alloc::{AllocError, Global};
 
@@ -83,11 +83,7 @@ fn command_request<'a>(
             steps: count_or_usual(given, STEPS),
         }),
         "stats" => stats_request(program, given),
-        "timeline" => Ok(Request::Timeline {
-            file: required(program, given, FILE)?,
-            trace: required(program, given, TRACE)?,
-            steps: count_or_usual(given, STEPS),
-        }),
+        "timeline" => timeline_request(program, given),
         _ => Err(without_command(program)),
     }
 }
@@ -178,6 +174,37 @@ fn stats_request<'a>(
         steps: count_or_usual(stats, STEPS),
         tables: tables_of(program, stats)?,
     })
+}
+
+// What the words ask of `kpn timeline`. Only a picture has a first and a last tick.
+fn timeline_request<'a>(
+    program: &mut Command<'a>,
+    timeline: &ArgMatches<'a>,
+) -> Result<Request<'a>, WordsFault>
+    ensures { AnswersTo (codes "timeline") (rows_in timeline.now) result }
+{
+    let file = required(program, timeline, FILE)?;
+    let trace = required(program, timeline, TRACE)?;
+    let steps = count_or_usual(timeline, STEPS);
+    let first = count_of(timeline, FROM);
+    let last = count_of(timeline, TO);
+    if is_set(timeline, SVG) {
+        return Ok(Request::Picture {
+            file,
+            trace,
+            steps,
+            first: first.unwrap_or(1),
+            last: last.unwrap_or(MAX_COUNT),
+        });
+    }
+    if first.is_none() && last.is_none() {
+        return Ok(Request::Timeline { file, trace, steps });
+    }
+    Err(unclear(
+        program,
+        ErrorKind::MissingRequiredArgument,
+        "--from and --to need --svg",
+    ))
 }
 
 // The tables that the words ask for.

@@ -8,7 +8,7 @@ use Rattle.kpn_text.specs.declared.fault.TextFault.{TextFault}
 use Rattle.kpn_text.specs.declared.fault.TextFault.TheVariants as text
 use Rattle.kpn_trace_text.specs.declared.fault.TraceFault.TheVariants as trace
 use Rattle.kpn_refusals.specs.declared.refusal.Refusal.{Refusal}
-use Rattle.kpn_refusals.specs.declared.refusal.Refusal.TheVariants.{NotText, UnknownProcess, SourceWord, TraceWord, SinkWord, Input, Description, Names, Output, Trace, NoMemoryToAudit, PolicyDiffers, Threads, Abandoned, Foreign, NoMemory}
+use Rattle.kpn_refusals.specs.declared.refusal.Refusal.TheVariants.{NotText, UnknownProcess, SourceWord, TraceWord, SinkWord, PictureWords, Input, Description, Names, Output, Trace, NoMemoryToAudit, PolicyDiffers, Threads, Abandoned, Foreign, NoMemory}
 use Rattle.kpn_refusals.specs.FaultLine.{fault_line, input_fault_line, output_fault_line, text_fault_line, name_fault_line, trace_fault_line}
 
 -- the line, without its line feed
@@ -18,6 +18,8 @@ refusal_line UnknownProcess = codes "kpn: usage: copy, double or sum"
 refusal_line SourceWord = codes "kpn: usage: --source NAME=FILE"
 refusal_line TraceWord = codes "kpn: usage: --trace OUT, a file that is no input and no other output"
 refusal_line SinkWord = codes "kpn: usage: --sink NAME=OUT, a file that is no input and no other output"
+refusal_line PictureWords =
+    codes "kpn: usage: --from T and --to T, with at most 2000 gets, puts and waits between them"
 refusal_line (Input fault) = input_fault_line fault
 refusal_line (Description fault) = text_fault_line fault
 refusal_line (Names fault) = name_fault_line fault
@@ -45,6 +47,7 @@ status_of UnknownProcess = 2
 status_of SourceWord = 2
 status_of TraceWord = 2
 status_of SinkWord = 2
+status_of PictureWords = 2
 status_of (Input item.NoMemory) = 6
 status_of (Description fault) = if wants_memory fault then 6 else 1
 status_of (Trace trace.NoMemory) = 6

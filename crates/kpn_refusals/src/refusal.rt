@@ -28,6 +28,8 @@ pub enum Refusal {
     TraceWord,
     /// A word behind `--sink` has no `=`, or names a file that is an input or another output.
     SinkWord,
+    /// A picture of a run would have more than 2,000 ticks, or more than 2,000 gets, puts and waits.
+    PictureWords,
     /// An input or a file could not be read, or spells no items, or memory was refused while it was
     /// read.
     Input(ItemFault),
@@ -98,6 +100,12 @@ impl fmt::Display for Refusal {
                     "kpn: usage: --sink NAME=OUT, a file that is no input and no other output"
                 )
             }
+            Refusal::PictureWords => {
+                write!(
+                    f,
+                    "kpn: usage: --from T and --to T, with at most 2000 gets, puts and waits between them"
+                )
+            }
             Refusal::Input(fault) => write!(f, "{}", FaultLine::of_input(fault)),
             Refusal::Description(fault) => write!(f, "{}", FaultLine::of_text(*fault)),
             Refusal::Names(fault) => write!(f, "{}", FaultLine::of_name(*fault)),
@@ -124,6 +132,7 @@ impl Refusal {
         match self {
             Refusal::NotText | Refusal::UnknownProcess => 2,
             Refusal::SourceWord | Refusal::TraceWord | Refusal::SinkWord => 2,
+            Refusal::PictureWords => 2,
             Refusal::Input(ItemFault::BadItem(_) | ItemFault::Read) => 1,
             Refusal::Description(fault) if !is_want_of_memory(*fault) => 1,
             Refusal::Trace(TraceFault::BadHead | TraceFault::BadEvent(_)) => 1,

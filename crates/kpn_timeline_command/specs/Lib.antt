@@ -1,2 +1,5 @@
 pub mod TimelineText
 pub mod Answers
+pub mod PictureText
+pub mod Drawable
+pub mod PictureAnswers

@@ -1,9 +1,15 @@
 //! `kpn timeline FILE TRACE`: when the gets and puts of a run take place, for programs that draw traces.
 #![tactic(auto)]
 
+mod boxes;
 mod command;
 mod counters;
+mod frame;
+mod picture;
+mod picture_command;
+mod scale;
 mod slices;
 mod timeline;
 
 pub use command::timeline_command;
+pub use picture_command::picture_command;

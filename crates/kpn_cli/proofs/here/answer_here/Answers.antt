@@ -38,6 +38,9 @@ returns-in-Audit g c = rw c.in-Audit.is (refl, (c.audit_command.ensures.ok, c.au
 pub returns-in-Timeline : goal.returns-in-Timeline
 returns-in-Timeline g c = rw c.in-Timeline.is (refl, (c.timeline_command.ensures.ok, c.timeline_command.ensures.refused))
 
+pub returns-in-Picture : goal.returns-in-Picture
+returns-in-Picture g c = rw c.in-Picture.is (refl, (c.picture_command.ensures.ok, c.picture_command.ensures.refused))
+
 pub returns : goal.returns
 returns g c = rw c.in-Stats.is (refl, (c.stats_command.ensures.ok, c.stats_command.ensures.refused))
 

@@ -1,0 +1,110 @@
+//! The picture of a run in time.
+ghost use Rattle.std.specs.Prelude.{◌≡◌, ◌+◌, ◌<◌, ◌≤◌, ◌^◌, ◌++◌, true, length, option_map, IfOk, OnOk};
+ghost use Rattle.kpn_pieces.specs.Added.{Adds};
+ghost use Rattle.kpn_ticks.specs.Ticks.{start, clocks_after};
+ghost use Rattle.kpn_ticks.specs.Shown.{shown};
+ghost use Rattle.kpn_timeline_command.specs.PictureText.{all_event_boxes, all_box_count, picture_at};
+ghost use Rattle.kpn_timeline_command.specs.Drawable.{IsDrawable};
+ghost use Rattle.kpn_timeline_command.specs.PictureAnswers.{IsPictureOrTooLarge};
+
+use crate::boxes::{box_count, push_event};
+use crate::frame::{push_grid, push_head, push_legend};
+use crate::scale::Scale;
+use kpn_history::Event;
+use kpn_net::Network;
+use kpn_pieces::Pushed;
+use kpn_text::Document;
+use kpn_ticks::{Clocks, clocks_after};
+use std::alloc::{AllocError, Global};
+
+/// The most ticks and the most boxes of a picture.
+const MOST: usize = 2_000;
+
+/// The picture of ticks `first` to `last` of these events of the network, which has the names of the document; none if
+/// it would have more than 2,000 ticks or boxes.
+pub(crate) fn picture_of(
+    alloc: Global,
+    document: &Document,
+    network: &Network,
+    first: usize,
+    last: usize,
+    events: &[Event],
+) -> Result<Option<Vec<u8>>, AllocError>
+    ensures { IfOk result (λ text. IsPictureOrTooLarge document.now network.now first last
+        events.now (option_map (λ t. t.items) text)) }
+{
+    let length = clocks_after(alloc, network, true, events)?.last();
+    let scale = Scale::new(document, network.instances(), first, last, length);
+    if scale.ticks() > MOST {
+        return Ok(None);
+    }
+    if count_boxes(alloc, network, scale, events)? > MOST {
+        return Ok(None);
+    }
+    let text = text_of(alloc, document, network, scale, length, events)?;
+    Ok(Some(text))
+}
+
+// How many boxes are drawn of these events.
+fn count_boxes(
+    alloc: Global,
+    network: &Network,
+    scale: Scale,
+    events: &[Event],
+) -> Result<usize, AllocError>
+    requires { IsDrawable scale }
+    ensures { IfOk result (λ count. count
+        ≡ all_box_count network.now scale (start network.now true) events.now) }
+{
+    let mut clocks = Clocks::new(alloc, network, true)?;
+    let mut count = 0;
+    for k in 0..events.len() {
+        count += box_count(network, scale, &clocks, events[k]);
+        clocks.count(network, events[k])?;
+    }
+    Ok(count)
+}
+
+// The picture at this scale of events that take so many ticks.
+fn text_of(
+    alloc: Global,
+    document: &Document,
+    network: &Network,
+    scale: Scale,
+    length: usize,
+    events: &[Event],
+) -> Result<Vec<u8>, AllocError>
+    requires drawable { IsDrawable scale }
+    requires fits { scale.front + 1 < 2 ^ 64 }
+    requires length { length ≡ (clocks_after network.now true events.now).last }
+    ensures { IfOk result (λ text. text.items
+        ≡ picture_at document.now network.now scale events.now) }
+{
+    let mut text = String::new(alloc);
+    push_head(&mut text, scale, network.instances(), length)?;
+    push_grid(&mut text, document, scale, network.instances())?;
+    push_events(alloc, &mut text, document, network, scale, events)?;
+    push_legend(&mut text, network.instances())?;
+    Ok(text.into_bytes())
+}
+
+// What is drawn of each event.
+fn push_events(
+    alloc: Global,
+    text: &mut String,
+    document: &Document,
+    network: &Network,
+    scale: Scale,
+    events: &[Event],
+) -> Pushed
+    requires { IsDrawable scale }
+    ensures { Adds result text.old text.new (all_event_boxes document.now.names.channels
+        network.now scale (start network.now true) events.now) }
+{
+    let mut clocks = Clocks::new(alloc, network, true)?;
+    for k in 0..events.len() {
+        push_event(text, document, network, scale, &clocks, events[k])?;
+        clocks.count(network, events[k])?;
+    }
+    Ok(())
+}
