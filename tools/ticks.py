@@ -272,3 +272,11 @@ def picture_text(network, trace, first=1, last=10 ** 9):
     text = Picture(network, trace, first, last).text()
     xml.etree.ElementTree.fromstring(text)
     return text
+
+
+def picture_answer(network, trace, first=1, last=10 ** 9):
+    """The picture, or the line that refuses a larger one."""
+    try:
+        return picture_text(network, trace, first, last)
+    except TooMany:
+        return f'kpn: usage: --from T and --to T, with at most {MOST_SLICES} gets, puts and waits between them\n'

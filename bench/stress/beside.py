@@ -2,8 +2,8 @@
 """Random networks under each policy and each growth. The program runs and audits them beside tools/histories.py.
 
 Report, trace and audit of the run on one thread have to be the same. So have the audits of its history with one change,
-and of a run by workers, which has to be legal. Of each legal history the tables, the timeline and the explanation have
-to be the same, and the tables say which channels are complete. Then the network runs once more by workers, with other
+and of a run by workers, which has to be legal. Of each legal history the tables, the timeline, a picture and the
+explanation have to be the same, and the tables say which channels are complete. Then the network runs once more by workers, with other
 capacities, and perhaps under the other policy and the other growth: what a sink gets there begins what it has where it
 is complete. It is no part of the gate. Words: for how many seconds, by default 60; where the random numbers begin, else
 by chance; and the program, if another one than that of `kpn`.
@@ -80,8 +80,15 @@ class Beside:
         if wanted.startswith('legal'):
             self.same(f'{what}: tables', figures.stats_text(network, trace), self.call('stats', 'net', 'audited'))
             self.same(f'{what}: timeline', ticks.timeline_text(network, trace), self.call('timeline', 'net', 'audited'))
+            self.same(f'{what}: picture', *self.pictures(network, trace))
             self.same(f'{what}: explanation', figures.explained(network, trace), self.call('explain', 'net', 'audited'))
         return wanted
+
+    def pictures(self, network, trace):
+        """The picture of some ticks, or of all, by both."""
+        first, last = self.chance.choice([(1, 10 ** 9), sorted(self.chance.randint(1, 60) for _ in range(2))])
+        found = self.call('timeline', 'net', 'audited', '--svg', '--from', str(first), '--to', str(last))
+        return ticks.picture_answer(network, trace, first, last), found
 
     def sinks(self, history):
         """What is written on each sink, and whether it is complete, behind a history of the network in the folder."""

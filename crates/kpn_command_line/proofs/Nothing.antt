@@ -11,7 +11,7 @@ use Rattle.clap.specs.Faults.{fault_of}
 use Rattle.clap.specs.Walk.{Row}
 use Rattle.clap.specs.declared.error.kind.ErrorKind.TheVariants.{DisplayHelp, DisplayVersion}
 use Rattle.kpn_command_line.specs.declared.request.Request.{Request}
-use Rattle.kpn_command_line.specs.declared.request.Request.TheVariants.{Explain, ExplainItems, Rounds, Stats, Timeline, Picture, Help}
+use Rattle.kpn_command_line.specs.declared.request.Request.TheVariants.{Explain, ExplainItems, Rounds, Stats, Help}
 use Rattle.kpn_command_line.specs.declared.request.WordsFault.{WordsFault}
 use Rattle.kpn_command_line.specs.declared.request.WordsFault.TheVariants.{Usage, NoMemory}
 use Rattle.kpn_command_line.specs.CommandLine.{all_words, command_line}
@@ -101,11 +101,3 @@ module _ (given : List Row) where
   no_items_with_trace it set some (Explain file trace steps) is = true≢false (sym set ∙ is.1.3)
   no_items_with_trace it set some (ExplainItems file) is = some_not_none _ _ is.1.1 some
   no_items_with_trace it set some other is = differ (codes "explain") (command_of other) refl refl is.0
-
-  -- without the flag there is no picture, and so no tick to choose
-  pub no_ticks_without_svg : is_set (codes "SVG") given ≡ false
-      → ((number_for 64 (codes "FROM") given ≡ None) → (number_for 64 (codes "TO") given ≡ None) → ⊥)
-      → (request : Request) → IsOf (codes "timeline") given request → ⊥
-  no_ticks_without_svg unset some (Timeline file trace steps) is = some is.1.4 is.1.5
-  no_ticks_without_svg unset some (Picture file trace steps first last) is = true≢false (sym is.1.3 ∙ unset)
-  no_ticks_without_svg unset some other is = differ (codes "timeline") (command_of other) refl refl is.0

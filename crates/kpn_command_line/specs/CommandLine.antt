@@ -160,3 +160,7 @@ bare_command_line = record {
 -- the words of `run` for the network, its sources and sinks, and its workers
 abbrev pub run_inputs : App
 run_inputs = command (codes "run") (file_word ∷ source_option ∷ sink_option ∷ workers_option ∷ [])
+
+-- the words of `timeline` for the network and its trace
+abbrev pub timeline_inputs : App
+timeline_inputs = command (codes "timeline") (file_word ∷ trace_word ∷ steps_option ∷ [])

@@ -6,7 +6,7 @@ ghost use Rattle.kpn_command_line.specs.CommandLine.{optional_word, word, option
 ghost use Rattle.kpn_command_line.specs.CommandLine.{explain_words, print_words, draw_words, rounds_words, run_words};
 ghost use Rattle.kpn_command_line.specs.CommandLine.{audit_words, stats_words, timeline_words, file_word, rounds_word, source_option};
 ghost use Rattle.kpn_command_line.specs.CommandLine.{sink_option, workers_option, steps_option, items_flag, svg_flag, from_option, to_option};
-ghost use Rattle.kpn_command_line.specs.CommandLine.{trace_word, run_inputs, bare_command_line};
+ghost use Rattle.kpn_command_line.specs.CommandLine.{trace_word, run_inputs, timeline_inputs, bare_command_line};
 
 use clap::builder::ValueParser;
 use clap::{Arg, ArgAction, Command};
@@ -370,14 +370,21 @@ number; 6 for want of memory.";
 fn timeline_words<'a>(alloc: Global) -> Result<Command<'a>, AllocError>
     ensures { IfOk result (IsCommand timeline_words) }
 {
+    timeline_inputs(alloc)?
+        .arg(svg_word(alloc))?
+        .arg(from_word(alloc))?
+        .arg(to_word(alloc))
+}
+
+// The words of `kpn timeline` for the network and its trace.
+fn timeline_inputs<'a>(alloc: Global) -> Result<Command<'a>, AllocError>
+    ensures { IfOk result (IsCommand timeline_inputs) }
+{
     let about = "Shows when the gets and puts of a run take place, from its trace";
     command(alloc, "timeline", about, TIMELINE_HELP)
         .arg(file_word(alloc))?
         .arg(trace_word(alloc))?
-        .arg(steps_word(alloc))?
-        .arg(svg_word(alloc))?
-        .arg(from_word(alloc))?
-        .arg(to_word(alloc))
+        .arg(steps_word(alloc))
 }
 
 // The word for the number of rounds.

@@ -2,6 +2,7 @@
 -- to right. A box is a get or put of one tick, or a wait, and a mark is the growth of a channel. All places are in pixels
 -- from the upper left corner. Names need no escape, since they are letters, digits and `_`.
 use Rattle.std.specs.Prelude.{ℕ, zero, suc, ◌+◌, ◌-◌, ◌*◌, ◌/◌, ◌%◌, min, max, true, nat_lt, nat_le, nat_eq, ◌&&◌, if◌then◌else◌, ℤ, List, [], ◌∷◌, ◌++◌, length, codes}
+use Rattle.std.specs.List.{concat}
 use Rattle.std.specs.Fmt.{decimal, signed_decimal}
 use Rattle.kpn_net.specs.Tables.{Tables}
 use Rattle.kpn_history.specs.declared.event.Event.{Event}
@@ -54,60 +55,71 @@ row_of p = 40 + 32 * p
 
 -- ---- boxes
 
--- a box of this kind in the row of process p, up to its title
-abbrev pub box_front : (kind : List ℕ) (p x wide : ℕ) → List ℕ
-box_front kind p x wide =
-    codes "<rect class=\"" ++ kind ++ codes "\" x=\"" ++ decimal x ++ codes "\" y=\"" ++ decimal (row_of p + 6)
-    ++ codes "\" width=\"" ++ decimal wide ++ codes "\" height=\"20\"><title>"
+-- a box of this kind, up to its title
+abbrev pub box_front : (kind : List ℕ) (x y wide : ℕ) → List ℕ
+box_front kind x y wide =
+    concat
+    (codes "<rect class=\"" ∷ kind ∷ codes "\" x=\"" ∷ decimal x ∷ codes "\" y=\"" ∷ decimal y
+    ∷ codes "\" width=\"" ∷ decimal wide ∷ codes "\" height=\"20\"><title>" ∷ [])
 
 abbrev pub item_title : (word name : List ℕ) → ℤ → (tick : ℕ) → List ℕ
 item_title word name item tick =
-    word ++ codes " " ++ name ++ codes ": item " ++ signed_decimal item ++ codes ", tick " ++ decimal tick
-    ++ codes "</title></rect>\n"
+    concat
+    (word ∷ codes " " ∷ name ∷ codes ": item " ∷ signed_decimal item ∷ codes ", tick " ∷ decimal tick
+    ∷ codes "</title></rect>\n" ∷ [])
 
 abbrev pub wait_title : (what name : List ℕ) → (first last : ℕ) → List ℕ
 wait_title what name first last =
-    codes "waits for " ++ what ++ codes " on " ++ name ++ codes ", ticks " ++ decimal first ++ codes " to "
-    ++ decimal last ++ codes "</title></rect>\n"
+    concat
+    (codes "waits for " ∷ what ∷ codes " on " ∷ name ∷ codes ", ticks " ∷ decimal first ∷ codes " to " ∷ decimal last
+    ∷ codes "</title></rect>\n" ∷ [])
 
-abbrev pub name_text : (kind : List ℕ) (p middle : ℕ) (name : List ℕ) → List ℕ
-name_text kind p middle name =
-    codes "<text class=\"" ++ kind ++ codes "\" x=\"" ++ decimal middle ++ codes "\" y=\"" ++ decimal (row_of p + 19)
-    ++ codes "\">" ++ name ++ codes "</text>\n"
+abbrev pub name_text : (kind : List ℕ) (middle y : ℕ) (name : List ℕ) → List ℕ
+name_text kind middle y name =
+    concat
+    (codes "<text class=\"" ∷ kind ∷ codes "\" x=\"" ∷ decimal middle ∷ codes "\" y=\"" ∷ decimal y ∷ codes "\">"
+    ∷ name ∷ codes "</text>\n" ∷ [])
 
 -- the name of the channel in a box that is wide enough
-abbrev pub box_name : (kind : List ℕ) (p x wide : ℕ) (name : List ℕ) → List ℕ
-box_name kind p x wide name =
-    if nat_le (length name) ((wide - 4) / 5) then name_text kind p (x + wide / 2) name else []
+abbrev pub box_name : (kind : List ℕ) (x y wide : ℕ) (name : List ℕ) → List ℕ
+box_name kind x y wide name =
+    if nat_le (length name) ((wide - 4) / 5) then name_text kind (x + wide / 2) y name else []
 
--- a box with a title from the end of tick `begin` to that of tick `end`, if something of it is shown
-abbrev pub box : Scale → (kind : List ℕ) (p begin end : ℕ) (name title : List ℕ) → List ℕ
-box s kind p begin end name title =
-    let x = place_of s begin in
-    let wide = place_of s end - x in
-    if nat_eq wide 0 then [] else box_front kind p x wide ++ title ++ box_name kind p x wide name
+-- a box of this kind in a row that begins here, with a title and the name of its channel
+abbrev pub whole_box : (kind : List ℕ) (x row wide : ℕ) (title name : List ℕ) → List ℕ
+whole_box kind x row wide title name =
+    box_front kind x (row + 6) wide ++ title ++ box_name kind x (row + 19) wide name
+
+-- the same from the end of tick `begin` to that of tick `end`, if something of it is shown
+abbrev pub box : Scale → (kind : List ℕ) (p begin end : ℕ) (title name : List ℕ) → List ℕ
+box s kind p begin end title name =
+    let wide = place_of s end - place_of s begin in
+    if nat_eq wide 0 then [] else whole_box kind (place_of s begin) (row_of p) wide title name
 
 -- a get or put of process p in this tick
 abbrev pub item_box : Scale → (p tick : ℕ) (word name : List ℕ) → ℤ → List ℕ
-item_box s p tick word name item = box s word p (tick - 1) tick name (item_title word name item tick)
+item_box s p tick word name item = box s word p (tick - 1) tick (item_title word name item tick) name
 
 -- a wait of process p from behind its latest tick to before this one
 abbrev pub wait_box : Scale → (p latest tick : ℕ) (kind what name : List ℕ) → List ℕ
 wait_box s p latest tick kind what name =
-    box s kind p latest (tick - 1) name (wait_title what name (latest + 1) (tick - 1))
+    box s kind p latest (tick - 1) (wait_title what name (latest + 1) (tick - 1)) name
 
 -- a get or put, and the wait before it
 abbrev pub move_boxes : Scale → (p latest tick : ℕ) (word kind what name : List ℕ) → ℤ → List ℕ
 move_boxes s p latest tick word kind what name item =
     wait_box s p latest tick kind what name ++ item_box s p tick word name item
 
--- the growth of a channel, for which process p waits
+abbrev pub growth_text : (x y : ℕ) (name : List ℕ) → List ℕ
+growth_text x y name =
+    concat
+    (codes "<path class=\"grow\" d=\"M" ∷ decimal x ∷ codes " " ∷ decimal y ∷ codes "l5 8h-10z\"><title>" ∷ name
+    ∷ codes " grows</title></path>\n" ∷ [])
+
+-- the growth of a channel, for which process p waits, if it is shown
 abbrev pub growth_mark : Scale → (p latest : ℕ) (name : List ℕ) → List ℕ
 growth_mark s p latest name =
-    if nat_le s.front latest && nat_le latest s.back
-    then codes "<path class=\"grow\" d=\"M" ++ decimal (place_of s latest) ++ codes " " ++ decimal (row_of p + 1)
-        ++ codes "l5 8h-10z\"><title>" ++ name ++ codes " grows</title></path>\n"
-    else []
+    if nat_le s.front latest && nat_le latest s.back then growth_text (place_of s latest) (row_of p + 1) name else []
 
 -- what is drawn of an event
 abbrev pub event_boxes : (names : List (List ℕ)) → Tables → Scale → Clocks → Event → List ℕ
@@ -148,26 +160,31 @@ all_box_count t s clocks (event ∷ events) =
 
 -- ---- the rows and the axis
 
+abbrev pub row_band : (x y wide : ℕ) → List ℕ
+row_band x y wide =
+    concat
+    (codes "<rect class=\"row\" x=\"" ∷ decimal x ∷ codes "\" y=\"" ∷ decimal y ∷ codes "\" width=\"" ∷ decimal wide
+    ∷ codes "\" height=\"28\"/>\n" ∷ [])
+
+abbrev pub row_name : (x y : ℕ) (name : List ℕ) → List ℕ
+row_name x y name =
+    concat
+    (codes "<text class=\"name\" x=\"" ∷ decimal x ∷ codes "\" y=\"" ∷ decimal y ∷ codes "\">" ∷ name
+    ∷ codes "</text>\n" ∷ [])
+
 -- the row of process p, with its name
-abbrev pub row_band : Scale → (p : ℕ) → List ℕ
-row_band s p =
-    codes "<rect class=\"row\" x=\"" ++ decimal s.left ++ codes "\" y=\"" ++ decimal (row_of p + 2)
-    ++ codes "\" width=\"" ++ decimal (place_of s s.back - s.left) ++ codes "\" height=\"28\"/>\n"
-
-abbrev pub row_name : Scale → (p : ℕ) (name : List ℕ) → List ℕ
-row_name s p name =
-    codes "<text class=\"name\" x=\"" ++ decimal (s.left - 8) ++ codes "\" y=\"" ++ decimal (row_of p + 20)
-    ++ codes "\">" ++ name ++ codes "</text>\n"
-
 abbrev pub row : (names : List (List ℕ)) → Scale → (p : ℕ) → List ℕ
-row names s p = row_band s p ++ row_name s p (name_at names p)
+row names s p =
+    row_band s.left (row_of p + 2) (place_of s s.back - s.left)
+    ++ row_name (s.left - 8) (row_of p + 20) (name_at names p)
 
 -- a line at the end of a tick, which stands here, down to the last row, with the number of the tick
 abbrev pub tick_line : (x bottom tick : ℕ) → List ℕ
 tick_line x bottom tick =
-    codes "<path class=\"tick\" d=\"M" ++ decimal x ++ codes " 36V" ++ decimal bottom
-    ++ codes "\"/>\n<text class=\"mark\" x=\"" ++ decimal x ++ codes "\" y=\"32\">" ++ decimal tick
-    ++ codes "</text>\n"
+    concat
+    (codes "<path class=\"tick\" d=\"M" ∷ decimal x ∷ codes " 36V" ∷ decimal bottom
+    ∷ codes "\"/>\n<text class=\"mark\" x=\"" ∷ decimal x ∷ codes "\" y=\"32\">" ∷ decimal tick
+    ∷ codes "</text>\n" ∷ [])
 
 -- the same if the axis has the number of the tick
 abbrev pub axis_line : Scale → (processes tick : ℕ) → List ℕ
@@ -178,8 +195,9 @@ axis_line s processes tick =
 
 abbrev pub size_text : (wide high : ℕ) → List ℕ
 size_text wide high =
-    codes "<svg xmlns=\"http://www.w3.org/2000/svg\" width=\"" ++ decimal wide ++ codes "\" height=\"" ++ decimal high
-    ++ codes "\" viewBox=\"0 0 " ++ decimal wide ++ codes " " ++ decimal high ++ codes "\">\n"
+    concat
+    (codes "<svg xmlns=\"http://www.w3.org/2000/svg\" width=\"" ∷ decimal wide ∷ codes "\" height=\"" ∷ decimal high
+    ∷ codes "\" viewBox=\"0 0 " ∷ decimal wide ∷ codes " " ∷ decimal high ∷ codes "\">\n" ∷ [])
 
 -- colours that colour-blind people tell apart
 abbrev pub style_text : List ℕ
@@ -188,21 +206,26 @@ style_text =
 
 abbrev pub caption_text : (first last length : ℕ) → List ℕ
 caption_text first last length =
-    codes "<text x=\"12\" y=\"16\">ticks " ++ decimal first ++ codes " to " ++ decimal last ++ codes " of "
-    ++ decimal length ++ codes "</text>\n"
+    concat
+    (codes "<text x=\"12\" y=\"16\">ticks " ∷ decimal first ∷ codes " to " ∷ decimal last ∷ codes " of "
+    ∷ decimal length ∷ codes "</text>\n" ∷ [])
 
 abbrev pub head_text : Scale → (processes length : ℕ) → List ℕ
 head_text s processes length =
     size_text (max (place_of s s.back + 24) 500) (row_of processes + 48) ++ style_text
     ++ caption_text (s.front + 1) s.back length
 
-abbrev pub legend_front : (processes : ℕ) → List ℕ
-legend_front processes = codes "<g transform=\"translate(12," ++ decimal (row_of processes + 20) ++ codes ")\">\n"
+abbrev pub legend_front : (y : ℕ) → List ℕ
+legend_front y = concat (codes "<g transform=\"translate(12," ∷ decimal y ∷ codes ")\">\n" ∷ [])
 
 -- what the colours mean, and the end of the picture
 abbrev pub legend_text : List ℕ
 legend_text =
     codes "<rect class=\"get\" width=\"16\" height=\"16\"/><text x=\"22\" y=\"12\">get</text>\n<rect class=\"put\" x=\"60\" width=\"16\" height=\"16\"/><text x=\"82\" y=\"12\">put</text>\n<rect class=\"empty\" x=\"120\" width=\"16\" height=\"16\"/><text x=\"142\" y=\"12\">waits for an item</text>\n<rect class=\"full\" x=\"256\" width=\"16\" height=\"16\"/><text x=\"278\" y=\"12\">waits for room</text>\n<path class=\"grow\" d=\"M384 4l5 8h-10z\"/><text x=\"396\" y=\"12\">channel grows</text>\n</g>\n</svg>\n"
+
+-- the same below the rows of the processes
+abbrev pub legend : (processes : ℕ) → List ℕ
+legend processes = legend_front (row_of processes + 20) ++ legend_text
 
 -- ---- the whole
 
@@ -222,7 +245,7 @@ picture_at d t s events =
     head_text s (length t.instances) (clocks_after t true events).last
     ++ grid_text d.names.instances s (length t.instances)
     ++ all_event_boxes d.names.channels t s (start t true) events
-    ++ (legend_front (length t.instances) ++ legend_text)
+    ++ legend (length t.instances)
 
 -- the picture of ticks `first` to `last` of these events of the network
 abbrev pub picture : Document → Tables → (first last : ℕ) → List Event → List ℕ

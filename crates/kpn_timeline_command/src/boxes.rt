@@ -2,7 +2,7 @@
 ghost use Rattle.std.specs.Prelude.{◌≡◌, ◌+◌, ◌*◌, ◌<◌, ◌≤◌, ◌^◌, ◌-◌, ◌++◌, ℕ, codes};
 ghost use Rattle.kpn_pieces.specs.Added.{Adds};
 ghost use Rattle.kpn_ticks.specs.Shown.{shown, AreClocks};
-ghost use Rattle.kpn_timeline_command.specs.PictureText.{row_of, box_front, item_title, wait_title, name_text, box_name, item_box, wait_box, move_boxes, growth_mark, event_boxes, shown_between, move_count, box_count};
+ghost use Rattle.kpn_timeline_command.specs.PictureText.{row_of, box_front, item_title, wait_title, name_text, box_name, whole_box, item_box, wait_box, move_boxes, growth_text, growth_mark, event_boxes, shown_between, move_count, box_count};
 ghost use Rattle.kpn_timeline_command.specs.Drawable.{IsDrawable};
 
 use crate::scale::Scale;
@@ -32,17 +32,45 @@ pub(crate) fn push_event(
             let tick = clocks.get_tick(p.into(), c.into());
             let latest = clocks.latest_of(p.into());
             let name = document.channel_name(c.into());
-            push_move(text, scale, p.into(), latest, tick, "get", "empty", "an item", name, item)
+            push_move(
+                text,
+                scale,
+                p.into(),
+                latest,
+                tick,
+                "get",
+                "empty",
+                "an item",
+                name,
+                item,
+            )
         }
         Event::Put(p, c, item) => {
             let tick = clocks.put_tick(network, p.into(), c.into());
             let latest = clocks.latest_of(p.into());
             let name = document.channel_name(c.into());
-            push_move(text, scale, p.into(), latest, tick, "put", "full", "room", name, item)
+            push_move(
+                text,
+                scale,
+                p.into(),
+                latest,
+                tick,
+                "put",
+                "full",
+                "room",
+                name,
+                item,
+            )
         }
         Event::Grow(p, c, _) => {
             let latest = clocks.latest_of(p.into());
-            push_growth(text, scale, p.into(), latest, document.channel_name(c.into()))
+            push_growth(
+                text,
+                scale,
+                p.into(),
+                latest,
+                document.channel_name(c.into()),
+            )
         }
         _ => Ok(()),
     }
@@ -133,11 +161,10 @@ fn push_wait(
     let x = scale.place_of(latest);
     let wide = scale.place_of(end).saturating_sub(x);
     if wide == 0 {
-        return Ok(());
+        Ok(())
+    } else {
+        push_wait_box(text, x, row_of(p), wide, kind, what, name, latest + 1, end)
     }
-    push_front(text, kind, p, x, wide)?;
-    push_wait_title(text, what, name, latest + 1, end)?;
-    push_name(text, kind, p, x, wide, name)
 }
 
 // A get or put, if it is shown.
@@ -157,19 +184,59 @@ fn push_item(
     let x = scale.place_of(tick.saturating_sub(1));
     let wide = scale.place_of(tick).saturating_sub(x);
     if wide == 0 {
-        return Ok(());
+        Ok(())
+    } else {
+        push_item_box(text, x, row_of(p), wide, word, name, item, tick)
     }
-    push_front(text, word, p, x, wide)?;
+}
+
+// A wait in these ticks, in a row that begins here.
+fn push_wait_box(
+    text: &mut String,
+    x: usize,
+    row: usize,
+    wide: usize,
+    kind: &str,
+    what: &str,
+    name: &str,
+    first: usize,
+    last: usize,
+) -> Pushed
+    requires { x + row + wide < 2 ^ 32 }
+    ensures { Adds result text.old text.new (whole_box kind.now x row wide
+        (wait_title what.now name.now first last) name.now) }
+{
+    push_front(text, kind, x, row + 6, wide)?;
+    push_wait_title(text, what, name, first, last)?;
+    push_name(text, kind, x, row + 19, wide, name)?;
+    Ok(())
+}
+
+// A get or put in this tick, in a row that begins here.
+fn push_item_box(
+    text: &mut String,
+    x: usize,
+    row: usize,
+    wide: usize,
+    word: &str,
+    name: &str,
+    item: i64,
+    tick: usize,
+) -> Pushed
+    requires { x + row + wide < 2 ^ 32 }
+    ensures { Adds result text.old text.new (whole_box word.now x row wide
+        (item_title word.now name.now item tick) name.now) }
+{
+    push_front(text, word, x, row + 6, wide)?;
     push_item_title(text, word, name, item, tick)?;
-    push_name(text, word, p, x, wide, name)
+    push_name(text, word, x, row + 19, wide, name)?;
+    Ok(())
 }
 
 // A box up to its title.
-fn push_front(text: &mut String, kind: &str, p: usize, x: usize, wide: usize) -> Pushed
-    requires { p < 2 ^ 16 }
-    ensures { Adds result text.old text.new (box_front kind.now p x wide) }
+fn push_front(text: &mut String, kind: &str, x: usize, y: usize, wide: usize) -> Pushed
+    ensures { Adds result text.old text.new (box_front kind.now x y wide) }
 {
-    let y = row_of(p) + 6;
     write!(
         text,
         "<rect class=\"{kind}\" x=\"{x}\" y=\"{y}\" width=\"{wide}\" height=\"20\"><title>"
@@ -179,34 +246,40 @@ fn push_front(text: &mut String, kind: &str, p: usize, x: usize, wide: usize) ->
 fn push_item_title(text: &mut String, word: &str, name: &str, item: i64, tick: usize) -> Pushed
     ensures { Adds result text.old text.new (item_title word.now name.now item tick) }
 {
-    write!(text, "{word} {name}: item {item}, tick {tick}</title></rect>\n")
+    write!(
+        text,
+        "{word} {name}: item {item}, tick {tick}</title></rect>\n"
+    )
 }
 
 fn push_wait_title(text: &mut String, what: &str, name: &str, first: usize, last: usize) -> Pushed
     ensures { Adds result text.old text.new (wait_title what.now name.now first last) }
 {
-    write!(text, "waits for {what} on {name}, ticks {first} to {last}</title></rect>\n")
+    write!(
+        text,
+        "waits for {what} on {name}, ticks {first} to {last}</title></rect>\n"
+    )
 }
 
 // The name of the channel, if the box is wide enough.
-fn push_name(text: &mut String, kind: &str, p: usize, x: usize, wide: usize, name: &str) -> Pushed
-    requires row { p < 2 ^ 16 }
-    requires fits { x + wide < 2 ^ 64 }
-    ensures { Adds result text.old text.new (box_name kind.now p x wide name.now) }
+fn push_name(text: &mut String, kind: &str, x: usize, y: usize, wide: usize, name: &str) -> Pushed
+    requires { x + wide < 2 ^ 64 }
+    ensures { Adds result text.old text.new (box_name kind.now x y wide name.now) }
 {
     if name.len() <= wide.saturating_sub(4) / 5 {
-        push_name_text(text, kind, p, x + wide / 2, name)
+        push_name_text(text, kind, x + wide / 2, y, name)
     } else {
         Ok(())
     }
 }
 
-fn push_name_text(text: &mut String, kind: &str, p: usize, middle: usize, name: &str) -> Pushed
-    requires { p < 2 ^ 16 }
-    ensures { Adds result text.old text.new (name_text kind.now p middle name.now) }
+fn push_name_text(text: &mut String, kind: &str, middle: usize, y: usize, name: &str) -> Pushed
+    ensures { Adds result text.old text.new (name_text kind.now middle y name.now) }
 {
-    let y = row_of(p) + 19;
-    write!(text, "<text class=\"{kind}\" x=\"{middle}\" y=\"{y}\">{name}</text>\n")
+    write!(
+        text,
+        "<text class=\"{kind}\" x=\"{middle}\" y=\"{y}\">{name}</text>\n"
+    )
 }
 
 // The growth of a channel, if its tick is shown.
@@ -216,12 +289,19 @@ fn push_growth(text: &mut String, scale: Scale, p: usize, latest: usize, name: &
     ensures { Adds result text.old text.new (growth_mark scale p latest name.now) }
 {
     if scale.front <= latest && latest <= scale.back {
-        let x = scale.place_of(latest);
-        let y = row_of(p) + 1;
-        write!(text, "<path class=\"grow\" d=\"M{x} {y}l5 8h-10z\"><title>{name} grows</title></path>\n")
+        push_growth_text(text, scale.place_of(latest), row_of(p) + 1, name)
     } else {
         Ok(())
     }
+}
+
+fn push_growth_text(text: &mut String, x: usize, y: usize, name: &str) -> Pushed
+    ensures { Adds result text.old text.new (growth_text x y name.now) }
+{
+    write!(
+        text,
+        "<path class=\"grow\" d=\"M{x} {y}l5 8h-10z\"><title>{name} grows</title></path>\n"
+    )
 }
 
 /// Where the row of process `p` begins.

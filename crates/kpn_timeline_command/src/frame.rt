@@ -1,7 +1,6 @@
 //! What stands around the boxes of a picture: its size and style, the rows, the axis, and what the colours mean.
 ghost use Rattle.std.specs.Prelude.{◌≡◌, ◌+◌, ◌-◌, ◌<◌, ◌≤◌, ◌^◌, ◌++◌, codes, max};
 ghost use Rattle.kpn_pieces.specs.Added.{Adds};
-ghost use Rattle.kpn_names.specs.Names.{name_at};
 ghost use Rattle.kpn_timeline_command.specs.TimelineText.{each_below};
 ghost use Rattle.kpn_timeline_command.specs.PictureText.{row_of, place_of, row_band, row_name, row, tick_line, axis_line, size_text, style_text, caption_text, head_text, legend_front, legend_text, grid_text};
 ghost use Rattle.kpn_timeline_command.specs.PictureText as spec;
@@ -79,42 +78,39 @@ fn push_rows(text: &mut String, document: &Document, scale: Scale, processes: us
         (each_below processes (spec.row document.now.names.instances scale)) }
 {
     for p in 0..processes {
-        push_row(text, scale, p, document.instance_name(p))?;
+        push_row(text, document, scale, p)?;
     }
     Ok(())
 }
 
-fn push_row(text: &mut String, scale: Scale, p: usize, name: &str) -> Pushed
+fn push_row(text: &mut String, document: &Document, scale: Scale, p: usize) -> Pushed
     requires drawable { IsDrawable scale }
     requires row { p < 2 ^ 16 }
-    ensures { Adds result text.old text.new (row_band scale p ++ row_name scale p name.now) }
+    ensures { Adds result text.old text.new (spec.row document.now.names.instances scale p) }
 {
-    push_row_band(text, scale, p)?;
-    push_row_name(text, scale, p, name)?;
+    let wide = scale.place_of(scale.back).saturating_sub(scale.left);
+    push_row_band(text, scale.left, row_of(p) + 2, wide)?;
+    let name = document.instance_name(p);
+    push_row_name(text, scale.left.saturating_sub(8), row_of(p) + 20, name)?;
     Ok(())
 }
 
-fn push_row_band(text: &mut String, scale: Scale, p: usize) -> Pushed
-    requires drawable { IsDrawable scale }
-    requires row { p < 2 ^ 16 }
-    ensures { Adds result text.old text.new (row_band scale p) }
+fn push_row_band(text: &mut String, x: usize, y: usize, wide: usize) -> Pushed
+    ensures { Adds result text.old text.new (row_band x y wide) }
 {
-    let x = scale.left;
-    let y = row_of(p) + 2;
-    let wide = scale.place_of(scale.back).saturating_sub(scale.left);
     write!(
         text,
         "<rect class=\"row\" x=\"{x}\" y=\"{y}\" width=\"{wide}\" height=\"28\"/>\n"
     )
 }
 
-fn push_row_name(text: &mut String, scale: Scale, p: usize, name: &str) -> Pushed
-    requires { p < 2 ^ 16 }
-    ensures { Adds result text.old text.new (row_name scale p name.now) }
+fn push_row_name(text: &mut String, x: usize, y: usize, name: &str) -> Pushed
+    ensures { Adds result text.old text.new (row_name x y name.now) }
 {
-    let x = scale.left.saturating_sub(8);
-    let y = row_of(p) + 20;
-    write!(text, "<text class=\"name\" x=\"{x}\" y=\"{y}\">{name}</text>\n")
+    write!(
+        text,
+        "<text class=\"name\" x=\"{x}\" y=\"{y}\">{name}</text>\n"
+    )
 }
 
 // The numbers above the rows.
@@ -156,18 +152,16 @@ fn push_tick_line(text: &mut String, x: usize, bottom: usize, tick: usize) -> Pu
 /// What the colours mean, and the end of the picture.
 pub(crate) fn push_legend(text: &mut String, processes: usize) -> Pushed
     requires { processes < 2 ^ 16 }
-    ensures { Adds result text.old text.new (legend_front processes ++ legend_text) }
+    ensures { Adds result text.old text.new (spec.legend processes) }
 {
-    push_legend_front(text, processes)?;
+    push_legend_front(text, row_of(processes) + 20)?;
     text.push_str(legend_text())?;
     Ok(())
 }
 
-fn push_legend_front(text: &mut String, processes: usize) -> Pushed
-    requires { processes < 2 ^ 16 }
-    ensures { Adds result text.old text.new (legend_front processes) }
+fn push_legend_front(text: &mut String, y: usize) -> Pushed
+    ensures { Adds result text.old text.new (legend_front y) }
 {
-    let y = row_of(processes) + 20;
     write!(text, "<g transform=\"translate(12,{y})\">\n")
 }
 

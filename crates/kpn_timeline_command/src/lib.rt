@@ -6,10 +6,10 @@ mod command;
 mod counters;
 mod frame;
 mod picture;
-mod picture_command;
 mod scale;
 mod slices;
+mod svg_command;
 mod timeline;
 
 pub use command::timeline_command;
-pub use picture_command::picture_command;
+pub use svg_command::picture_command;
