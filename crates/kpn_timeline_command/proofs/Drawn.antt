@@ -1,7 +1,8 @@
--- A picture of few ticks has only small numbers.
-use Rattle.std.proofs.Common.{ℕ, ◌≤◌, Bool, true, false, if◌then◌else◌, List, min, arith}
+-- A picture of few ticks has only small numbers. And what is drawn of a box, whose places are known.
+use Rattle.std.proofs.Common.{◌≡◌, ℕ, ℤ, ◌-◌, ◌≤◌, Bool, true, false, nat_eq, if◌then◌else◌, List, [], min, arith, refl, sym, ap, ap₂, subst, ◌∙◌}
 use Rattle.std.proofs.Math.Nat.{min-le_right}
-use Rattle.kpn_timeline_command.specs.PictureText.{tick_width, longest_below, scale_for, ticks_in}
+use Rattle.kpn_timeline_command.specs.declared.scale.Scale.{Scale}
+use Rattle.kpn_timeline_command.specs.PictureText.{tick_width, longest_below, scale_for, ticks_in, place_of, row_of, whole_box, box, move_boxes}
 use Rattle.kpn_timeline_command.specs.Drawable.{IsDrawable}
 
 either : (b : Bool) (x y most : ℕ) → x ≤ most → y ≤ most → (if b then x else y) ≤ most
@@ -19,3 +20,28 @@ pub is_drawable : (names : List (List ℕ)) (processes first last length : ℕ)
 is_drawable names processes first last length few =
     let short = min-le_right (longest_below names processes) 32 in
     record { ticks = few; left = omega (arith, short); wide = width_is_small _ }
+
+otherwise : (b : Bool) (xs ys : List ℕ) → b ≡ false → ys ≡ if b then xs else ys
+otherwise true xs ys none = absurd cc
+otherwise false xs ys none = refl
+
+pub boxed : (s : Scale) (kind : List ℕ) (p begin end x row wide far : ℕ) (title name : List ℕ)
+    → x ≡ place_of s begin → row ≡ row_of p → far ≡ place_of s end → wide ≡ far - x → nat_eq wide 0 ≡ false
+    → whole_box kind x row wide title name ≡ box s kind p begin end title name
+boxed s kind p begin end x row wide far title name left top right is some =
+    let between : wide ≡ place_of s end - place_of s begin = is ∙ ap₂ (λ (m n : ℕ). m - n) right left in
+    ap (λ n. whole_box kind n row wide title name) left
+    ∙ ap (λ n. whole_box kind (place_of s begin) n wide title name) top
+    ∙ ap (λ n. whole_box kind (place_of s begin) (row_of p) n title name) between
+    ∙ otherwise (nat_eq (place_of s end - place_of s begin) 0) []
+    (whole_box kind (place_of s begin) (row_of p) (place_of s end - place_of s begin) title name)
+    (subst (λ n. nat_eq n 0 ≡ false) between some)
+
+pub moved : (Added : List ℕ → Type 0) (s : Scale) (p latest l tick m : ℕ) (word kind what name n : List ℕ) (item v : ℤ)
+    → latest ≡ l → tick ≡ m → name ≡ n → item ≡ v
+    → Added (move_boxes s p latest tick word kind what name item) → Added (move_boxes s p l m word kind what n v)
+moved Added s p latest l tick m word kind what name n item v one two three four added =
+    subst (λ x. Added (move_boxes s p x m word kind what n v)) one
+    (subst (λ x. Added (move_boxes s p latest x word kind what n v)) two
+    (subst (λ x. Added (move_boxes s p latest tick word kind what x v)) three
+    (subst (λ (x : ℤ). Added (move_boxes s p latest tick word kind what name x)) four added)))

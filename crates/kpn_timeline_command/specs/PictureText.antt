@@ -239,17 +239,16 @@ abbrev pub scale_of : Document → Tables → (first last : ℕ) → List Event 
 scale_of d t first last events =
     scale_for d.names.instances (length t.instances) first last (clocks_after t true events).last
 
--- the picture at a scale
-abbrev pub picture_at : Document → Tables → Scale → List Event → List ℕ
-picture_at d t s events =
-    head_text s (length t.instances) (clocks_after t true events).last
-    ++ grid_text d.names.instances s (length t.instances)
-    ++ all_event_boxes d.names.channels t s (start t true) events
-    ++ legend (length t.instances)
+-- the picture at a scale, with so many processes and of a run of this length
+abbrev pub picture_with : Document → Tables → Scale → (processes length : ℕ) → List Event → List ℕ
+picture_with d t s processes length events =
+    head_text s processes length ++ grid_text d.names.instances s processes
+    ++ all_event_boxes d.names.channels t s (start t true) events ++ legend processes
 
 -- the picture of ticks `first` to `last` of these events of the network
 abbrev pub picture : Document → Tables → (first last : ℕ) → List Event → List ℕ
-picture d t first last events = picture_at d t (scale_of d t first last events) events
+picture d t first last events =
+    picture_with d t (scale_of d t first last events) (length t.instances) (clocks_after t true events).last events
 
 -- how many ticks or boxes it has, whichever are more
 abbrev pub picture_size : Document → Tables → (first last : ℕ) → List Event → ℕ

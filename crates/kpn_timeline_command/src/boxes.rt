@@ -1,6 +1,9 @@
 //! What a picture shows of an event.
 ghost use Rattle.std.specs.Prelude.{◌≡◌, ◌+◌, ◌*◌, ◌<◌, ◌≤◌, ◌^◌, ◌-◌, ◌++◌, ℕ, codes};
 ghost use Rattle.kpn_pieces.specs.Added.{Adds};
+ghost use Rattle.kpn_net.specs.Tables.{Tables};
+ghost use Rattle.kpn_names.specs.Names.{name_at};
+ghost use Rattle.kpn_ticks.specs.Ticks.{latest_of, get_tick, put_tick};
 ghost use Rattle.kpn_ticks.specs.Shown.{shown, AreClocks};
 ghost use Rattle.kpn_timeline_command.specs.PictureText.{row_of, box_front, item_title, wait_title, name_text, box_name, whole_box, item_box, wait_box, move_boxes, growth_text, growth_mark, event_boxes, shown_between, move_count, box_count};
 ghost use Rattle.kpn_timeline_command.specs.Drawable.{IsDrawable};
@@ -29,51 +32,78 @@ pub(crate) fn push_event(
 {
     match event {
         Event::Get(p, c, item) => {
-            let tick = clocks.get_tick(p.into(), c.into());
-            let latest = clocks.latest_of(p.into());
-            let name = document.channel_name(c.into());
-            push_move(
-                text,
-                scale,
-                p.into(),
-                latest,
-                tick,
-                "get",
-                "empty",
-                "an item",
-                name,
-                item,
-            )
+            push_get(text, document, scale, clocks, p.into(), c.into(), item)
         }
-        Event::Put(p, c, item) => {
-            let tick = clocks.put_tick(network, p.into(), c.into());
-            let latest = clocks.latest_of(p.into());
-            let name = document.channel_name(c.into());
-            push_move(
-                text,
-                scale,
-                p.into(),
-                latest,
-                tick,
-                "put",
-                "full",
-                "room",
-                name,
-                item,
-            )
-        }
+        Event::Put(p, c, item) => push_put(
+            text,
+            document,
+            network,
+            scale,
+            clocks,
+            p.into(),
+            c.into(),
+            item,
+        ),
         Event::Grow(p, c, _) => {
             let latest = clocks.latest_of(p.into());
-            push_growth(
-                text,
-                scale,
-                p.into(),
-                latest,
-                document.channel_name(c.into()),
-            )
+            let name = document.channel_name(c.into());
+            push_growth(text, scale, p.into(), latest, name)
         }
         _ => Ok(()),
     }
+}
+
+fn push_get(
+    text: &mut String,
+    document: &Document,
+    scale: Scale,
+    clocks: &Clocks,
+    p: usize,
+    c: usize,
+    item: i64,
+) -> Pushed
+    requires drawable { IsDrawable scale }
+    requires clocks { (t : Tables) × AreClocks t (shown clocks.now) }
+    requires fits { (shown clocks.now).last + 1 < 2 ^ 64 }
+    requires row { p < 2 ^ 16 }
+    ensures { let s = shown clocks.now in
+        Adds result text.old text.new (move_boxes scale p (latest_of s p) (get_tick s p c)
+        (codes "get") (codes "empty") (codes "an item")
+        (name_at document.now.names.channels c) item) }
+{
+    let tick = clocks.get_tick(p, c);
+    let latest = clocks.latest_of(p);
+    let name = document.channel_name(c);
+    push_move(
+        text, scale, p, latest, tick, "get", "empty", "an item", name, item,
+    )
+}
+
+fn push_put(
+    text: &mut String,
+    document: &Document,
+    network: &Network,
+    scale: Scale,
+    clocks: &Clocks,
+    p: usize,
+    c: usize,
+    item: i64,
+) -> Pushed
+    requires drawable { IsDrawable scale }
+    requires clocks { AreClocks network.now (shown clocks.now) }
+    requires fits { (shown clocks.now).last + 1 < 2 ^ 64 }
+    requires row { p < 2 ^ 16 }
+    ensures { let s = shown clocks.now in
+        Adds result text.old text.new (move_boxes scale p (latest_of s p)
+        (put_tick network.now s p c) (codes "put") (codes "full") (codes "room")
+        (name_at document.now.names.channels c) item) }
+{
+    let tick = clocks.put_tick(network, p, c);
+    let latest = clocks.latest_of(p);
+    let name = document.channel_name(c);
+    push_move(
+        text, scale, p, latest, tick, "put", "full", "room", name, item,
+    )
 }
 
 /// How many boxes are drawn of the next event.

@@ -21,7 +21,8 @@ pub(crate) fn push_head(text: &mut String, scale: Scale, processes: usize, lengt
     let wide = (scale.place_of(scale.back) + 24).max(500);
     push_size(text, wide, row_of(processes) + 48)?;
     text.push_str(style_text())?;
-    push_caption(text, scale.front + 1, scale.back, length)
+    push_caption(text, scale.front + 1, scale.back, length)?;
+    Ok(())
 }
 
 fn push_size(text: &mut String, wide: usize, high: usize) -> Pushed

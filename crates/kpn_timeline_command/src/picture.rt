@@ -1,9 +1,8 @@
 //! The picture of a run in time.
 ghost use Rattle.std.specs.Prelude.{◌≡◌, ◌+◌, ◌<◌, ◌≤◌, ◌^◌, ◌++◌, true, length, option_map, IfOk, OnOk};
 ghost use Rattle.kpn_pieces.specs.Added.{Adds};
-ghost use Rattle.kpn_ticks.specs.Ticks.{start, clocks_after};
-ghost use Rattle.kpn_ticks.specs.Shown.{shown};
-ghost use Rattle.kpn_timeline_command.specs.PictureText.{all_event_boxes, all_box_count, picture_at};
+ghost use Rattle.kpn_ticks.specs.Ticks.{start};
+ghost use Rattle.kpn_timeline_command.specs.PictureText.{all_event_boxes, all_box_count, picture_with};
 ghost use Rattle.kpn_timeline_command.specs.Drawable.{IsDrawable};
 ghost use Rattle.kpn_timeline_command.specs.PictureAnswers.{IsPictureOrTooLarge};
 
@@ -33,15 +32,18 @@ pub(crate) fn picture_of(
     ensures { IfOk result (λ text. IsPictureOrTooLarge document.now network.now first last
         events.now (option_map (λ t. t.items) text)) }
 {
+    network.known();
     let length = clocks_after(alloc, network, true, events)?.last();
-    let scale = Scale::new(document, network.instances(), first, last, length);
+    let processes = network.instances();
+    let scale = Scale::new(document, processes, first, last, length);
     if scale.ticks() > MOST {
         return Ok(None);
     }
-    if count_boxes(alloc, network, scale, events)? > MOST {
+    let boxes = count_boxes(alloc, network, scale, events)?;
+    if boxes > MOST {
         return Ok(None);
     }
-    let text = text_of(alloc, document, network, scale, length, events)?;
+    let text = text_of(alloc, document, network, scale, processes, length, events)?;
     Ok(Some(text))
 }
 
@@ -71,20 +73,21 @@ fn text_of(
     document: &Document,
     network: &Network,
     scale: Scale,
+    processes: usize,
     length: usize,
     events: &[Event],
 ) -> Result<Vec<u8>, AllocError>
     requires drawable { IsDrawable scale }
+    requires rows { processes < 2 ^ 16 }
     requires fits { scale.front + 1 < 2 ^ 64 }
-    requires length { length ≡ (clocks_after network.now true events.now).last }
-    ensures { IfOk result (λ text. text.items
-        ≡ picture_at document.now network.now scale events.now) }
+    ensures { IfOk result (λ text. text.items ≡ picture_with document.now network.now scale
+        processes length events.now) }
 {
     let mut text = String::new(alloc);
-    push_head(&mut text, scale, network.instances(), length)?;
-    push_grid(&mut text, document, scale, network.instances())?;
+    push_head(&mut text, scale, processes, length)?;
+    push_grid(&mut text, document, scale, processes)?;
     push_events(alloc, &mut text, document, network, scale, events)?;
-    push_legend(&mut text, network.instances())?;
+    push_legend(&mut text, processes)?;
     Ok(text.into_bytes())
 }
 
