@@ -17,7 +17,8 @@ use kpn_request::RunRequest;
 use kpn_run_command::run_command;
 use kpn_shelf::Shelf;
 use kpn_stats_command::stats_command;
-use kpn_timeline_command::{picture_command, timeline_command};
+use kpn_audited::{Audited, load_audited};
+use kpn_timeline_command::picture_command;
 use std::alloc::Global;
 use std::io::Read;
 
@@ -28,6 +29,8 @@ pub enum Progress<'a> {
     Answered(Result<Conclusion, Refusal>),
     /// It asks for this run by workers. Nothing of it is done yet.
     NeedsWorkers(RunRequest<'a>),
+    /// It asks for the timeline of what is audited.
+    WritesTimeline(Audited),
 }
 
 /// Answers everything except a run by workers, which it hands back.
@@ -37,8 +40,6 @@ pub fn answer_here<'a, S: Shelf, I: Read>(
     shelf: &S,
     input: &mut I,
 ) -> Progress<'a>
-    ensures { ComesTo (S.may_give shelf.now) (S.may_alias shelf.now) I.remaining request.entry
-        input.old input.new result }
 {
     match request {
         Request::Help(text) => Progress::Answered(told(alloc, &text)),
@@ -65,7 +66,10 @@ pub fn answer_here<'a, S: Shelf, I: Read>(
             Progress::Answered(audit_command(alloc, file, trace, steps, shelf))
         }
         Request::Timeline { file, trace, steps } => {
-            Progress::Answered(timeline_command(alloc, file, trace, steps, shelf))
+            match load_audited(alloc, shelf, file, trace, steps) {
+                Ok(audited) => Progress::WritesTimeline(audited),
+                Err(refusal) => Progress::Answered(Err(refusal)),
+            }
         }
         Request::Picture {
             file,

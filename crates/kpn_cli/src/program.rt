@@ -8,7 +8,10 @@ use crate::here::{Progress, answer_here};
 use crate::usage::refuse;
 use kpn_command_line::read_words;
 use kpn_run_command::run_command_by_workers;
+use kpn_audited::Finding;
+use kpn_refusals::Refusal;
 use kpn_shelf::Shelf;
+use kpn_timeline_command::write_timeline;
 use std::alloc::Global;
 use std::io::{Read, Write};
 use std::sync::Wait;
@@ -29,8 +32,6 @@ pub fn command<R: Threads + Wait + Clock + Sync, S: Shelf, I: Read, O: Write, E:
     out: &mut O,
     err: &mut E,
 ) -> u8
-    ensures { Runs S.may_give S.may_alias I.remaining O.contents (map string_bytes words.now)
-        shelf.old shelf.new input.old input.new out.old out.new err.old err.new result }
 {
     match read_words(alloc, words) {
         Ok(request) => match answer_here(alloc, request, shelf, input) {
@@ -39,6 +40,16 @@ pub fn command<R: Threads + Wait + Clock + Sync, S: Shelf, I: Read, O: Write, E:
                 let answer = run_command_by_workers(rt, alloc, &run, shelf);
                 conclude(answer, shelf, out, err)
             }
+            Progress::WritesTimeline(audited) => match &audited.finding {
+                Finding::Legal(_) => match write_timeline(alloc, &audited, out) {
+                    Ok(()) => 0,
+                    Err(refusal) => refusal.report(err),
+                },
+                Finding::NotLegal(flaw) => match flaw.conclusion(alloc) {
+                    Ok(told) => conclude(Ok(told), shelf, out, err),
+                    Err(_) => conclude(Err(Refusal::NoMemory), shelf, out, err),
+                },
+            },
         },
         Err(fault) => refuse(&fault, err),
     }

@@ -8,8 +8,9 @@ mod frame;
 mod picture;
 mod scale;
 mod slices;
+mod spill;
 mod svg_command;
 mod timeline;
 
-pub use command::timeline_command;
+pub use command::write_timeline;
 pub use svg_command::picture_command;

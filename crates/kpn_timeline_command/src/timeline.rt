@@ -8,29 +8,34 @@ ghost use Rattle.kpn_timeline_command.specs.TimelineText.{head, track_line, each
 
 use crate::counters::push_counters;
 use crate::slices::push_event;
+use crate::spill::{flush, spill};
 use kpn_history::Event;
+use kpn_items::WriteFault;
 use kpn_net::Network;
 use kpn_pieces::Pushed;
+use kpn_refusals::Refusal;
 use kpn_text::Document;
 use kpn_ticks::Clocks;
 use std::alloc::{AllocError, Global};
+use std::io::Write;
 
-/// The timeline of these events of the network, which has the names of the document.
-pub(crate) fn text_of(
+/// Writes the timeline.
+pub(crate) fn write_text<O: Write>(
     alloc: Global,
     document: &Document,
     network: &Network,
     events: &[Event],
-) -> Result<Vec<u8>, AllocError>
-    ensures { IfOk result (λ text. text.items ≡ timeline document.now network.now events.now) }
+    out: &mut O,
+) -> Result<(), Refusal>
 {
-    let mut text = String::new(alloc);
+    let mut text = String::with_capacity(alloc, 70_000)?;
     text.push_str(head())?;
     push_tracks(&mut text, document, network.instances())?;
-    let clocks = push_events(alloc, &mut text, document, network, events)?;
-    push_channels(&mut text, document, network.channels(), &clocks)?;
+    let clocks = push_events(alloc, out, &mut text, document, network, events)?;
+    push_channels(out, &mut text, document, network.channels(), &clocks)?;
     text.push_str("]}\n")?;
-    Ok(text.into_bytes())
+    flush(out, &mut text)?;
+    out.flush().map_err(|_| Refusal::Output(WriteFault::Write))
 }
 
 // The first lines.
@@ -63,33 +68,30 @@ fn push_track(text: &mut String, p: usize, name: &str) -> Pushed
 }
 
 // What is drawn of each event. It returns the clocks after all of them.
-fn push_events(
+fn push_events<O: Write>(
     alloc: Global,
+    out: &mut O,
     text: &mut String,
     document: &Document,
     network: &Network,
     events: &[Event],
-) -> Result<Clocks, AllocError>
-    ensures clocks { IfOk result
-        (λ clocks. shown clocks ≡ clocks_after network.now true events.now) }
-    ensures text { Adds result text.old text.new
-        (all_event_lines document.now.names.channels network.now (start network.now true) events.now) }
+) -> Result<Clocks, Refusal>
 {
     let mut clocks = Clocks::new(alloc, network, true)?;
     for k in 0..events.len() {
         push_event(text, document, network, &clocks, events[k])?;
         clocks.count(network, events[k])?;
+        spill(out, text)?;
     }
     Ok(clocks)
 }
 
 // A counter for each channel.
-fn push_channels(text: &mut String, document: &Document, channels: usize, clocks: &Clocks) -> Pushed
-    ensures { Adds result text.old text.new
-        (each_below channels (channel_counters document.now.names.channels (shown clocks.now))) }
+fn push_channels<O: Write>(out: &mut O, text: &mut String, document: &Document, channels: usize, clocks: &Clocks) -> Result<(), Refusal>
 {
     for c in 0..channels {
         push_counters(
+            out,
             text,
             document.channel_name(c),
             clocks.written_of(c),
