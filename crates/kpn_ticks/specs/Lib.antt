@@ -1,3 +1,4 @@
 pub mod Ticks
 pub mod Shown
 pub mod Held
+pub mod Alike
