@@ -35,6 +35,8 @@ struct Sensor {
 impl Sources for Sensor {
     ghost gives = { λ _ _ _ _. ⊤ };
 
+    ghost at_hand = { λ _ _. ⊤ };
+
     fn next(&mut self, _source: usize) -> Result<Option<i64>, SourceFault> {
         if self.readings >= 10 {
             return Ok(None);

@@ -1,7 +1,7 @@
 -- What a stream keeps while it goes on.
-use Rattle.std.proofs.Common.{◌≡◌, ℕ, ◌+◌, ◌<◌, ◌≤◌, ◌||◌, Bool, true, false, ℤ, List, [], ◌∷◌, ◌++◌, Option, Some, None, Result, refl, sym, ap, ◌∙◌, subst, inl, inr, append-nil, append_assoc, arith}
+use Rattle.std.proofs.Common.{◌≡◌, ℕ, ◌+◌, ◌<◌, ◌≤◌, ◌||◌, Bool, true, false, ℤ, List, [], ◌∷◌, ◌++◌, Option, Some, None, is_some, Result, refl, sym, ap, ◌∙◌, subst, inl, inr, append-nil, append_assoc, arith}
 use Rattle.std.proofs.lemmas.Bool.{false≢true}
-use Rattle.kpn_net.specs.Tables.{Tables}
+use Rattle.kpn_net.specs.Tables.{Tables, channel_at, is_sink}
 use Rattle.kpn_step.specs.declared.stop.Stop.{Stop}
 use Rattle.kpn_history.specs.declared.event.Event.{Event}
 use Rattle.kpn_history.specs.declared.event.Event.TheVariants as event
@@ -19,8 +19,9 @@ use Rattle.kpn_run_here.proofs.Stepped.{step_tables, step_history, step_commits}
 use Rattle.kpn_stream.specs.declared.faults.SourceFault.{SourceFault}
 use Rattle.kpn_stream.specs.declared.faults.SinkFault.{SinkFault}
 use Rattle.kpn_stream.specs.declared.ending.Ending.{Ending}
-use Rattle.kpn_stream.specs.Devices.{is_of_source, is_of_sink, Fed, by_others, Served, meanwhile}
-use Rattle.kpn_stream.specs.Streaming.{is_of_outside, NoneIs, HappensBesides, MayEndWell, IsStepped, Serves, Reads, GoesOn}
+use Rattle.kpn_stream.specs.Ending.{end_numbers, AreTaken, failed_sink}
+use Rattle.kpn_stream.specs.Devices.{is_of_outside, NoneIs, is_of_source, is_of_sink, Fed, by_others, ServedSince, none_yet, meanwhile, took, took_not, flushed, flushed_not, left, had_enough, IsFlushed, AreFlushed, answered, Called, by_process, by_sinks, read_at_once, waited_for}
+use Rattle.kpn_stream.specs.Streaming.{HappensBesides, MayEndWell, IsStepped, Serves, Reads, GoesOn}
 
 -- ---- events of other kinds
 
@@ -104,14 +105,18 @@ or_false : (b : Bool) → (b || false) ≡ b
 or_false true = refl
 or_false false = refl
 
+-- an event of others closes no source
+pub closed_same : (H : List Event) (e : Event) (c : ℕ) → is_of_source e ≡ false
+    → is_closed (H ++ e ∷ []) c ≡ is_closed H c
+closed_same H e c other =
+    is_closed-next H e c ∙ ap (λ b. is_closed H c || b) (no_close e c other) ∙ or_false (is_closed H c)
+
 closed_along : (es H : List Event) (c : ℕ) → NoneIs is_of_source es → is_closed (H ++ es) c ≡ is_closed H c
 closed_along [] H c none = ap (λ X. is_closed X c) (append-nil H)
 closed_along (e ∷ es) H c none =
     ap (λ X. is_closed X c) (sym (append_assoc H (e ∷ []) es))
     ∙ closed_along es (H ++ e ∷ []) c none.1
-    ∙ is_closed-next H e c
-    ∙ ap (λ b. is_closed H c || b) (no_close e c none.0)
-    ∙ or_false (is_closed H c)
+    ∙ closed_same H e c none.0
 
 pub open_besides : (a b : Book) (c : ℕ) → HappensBesides is_of_source a b → is_closed a.history c ≡ false
     → is_closed b.history c ≡ false
@@ -122,55 +127,99 @@ open_besides a b c is was =
 
 module _ {S : Type 0} (gives : S → ℕ → Result (Option ℤ) SourceFault → S → Type 0) (first : S)
     (failed : Option (ℕ × SourceFault)) (now : S) where
-  fed_along : (es H : List Event) → NoneIs is_of_source es → Fed gives first H failed now
-      → Fed gives first (H ++ es) failed now
-  fed_along [] H none fed = subst (λ X. Fed gives first X failed now) (sym (append-nil H)) fed
-  fed_along (e ∷ es) H none fed =
-      subst (λ X. Fed gives first X failed now) (append_assoc H (e ∷ []) es)
-      (fed_along es (H ++ e ∷ []) none.1 (by_others H e failed now fed none.0))
+  fed_along : (t : Tables) (es H : List Event) → NoneIs is_of_source es → Fed t gives first H failed now
+      → Fed t gives first (H ++ es) failed now
+  fed_along t [] H none fed = subst (λ X. Fed t gives first X failed now) (sym (append-nil H)) fed
+  fed_along t (e ∷ es) H none fed =
+      subst (λ X. Fed t gives first X failed now) (append_assoc H (e ∷ []) es)
+      (fed_along t es (H ++ e ∷ []) none.1 (by_others H e failed now fed none.0))
+
+  -- the network stays
+  fed_still : (before after : Book) (H : List Event) → after.tables ≡ before.tables → after.history ≡ H
+      → Fed before.tables gives first H failed now → Fed after.tables gives first after.history failed now
+  fed_still before after H same is fed =
+      subst (λ t. Fed t gives first after.history failed now) (sym same)
+      (subst (λ X. Fed before.tables gives first X failed now) (sym is) fed)
 
   pub fed_besides : (before after : Book) → HappensBesides is_of_source before after
-      → Fed gives first before.history failed now → Fed gives first after.history failed now
+      → Fed before.tables gives first before.history failed now
+      → Fed after.tables gives first after.history failed now
   fed_besides before after is fed =
-      subst (λ X. Fed gives first X failed now) (sym is.history)
-      (fed_along is.events before.history is.none fed)
+      fed_still before after (before.history ++ is.events) is.tables is.history
+      (fed_along before.tables is.events before.history is.none fed)
 
   pub fed_happens : (e : Event) (before after : Book) → Happens e before after
-      → Fed gives first (before.history ++ e ∷ []) failed now → Fed gives first after.history failed now
+      → Fed before.tables gives first (before.history ++ e ∷ []) failed now
+      → Fed after.tables gives first after.history failed now
   fed_happens e before after is fed =
-      subst (λ X. Fed gives first X failed now)
-      (append_assoc before.history (e ∷ []) is.growth ∙ sym (happens_history e before after is))
-      (fed_along is.growth (before.history ++ e ∷ [])
+      fed_still before after ((before.history ++ e ∷ []) ++ is.growth) (happens_tables e before after is)
+      (happens_history e before after is ∙ sym (append_assoc before.history (e ∷ []) is.growth))
+      (fed_along before.tables is.growth (before.history ++ e ∷ [])
       (growth_none is_of_source (λ p d n. refl) before.tables (before.history ++ e ∷ []) is.growth is.owed) fed)
 
 -- ---- the devices of the sinks
 
 module _ {K : Type 0} (takes : K → ℕ → ℤ → Result (Unit {0}) SinkFault → K → Type 0)
-    (flushes : K → ℕ → Result (Unit {0}) SinkFault → K → Type 0) (wanted : Option ℕ) (first : K)
-    (failed : Option (ℕ × SinkFault)) (now : K) where
-  served_along : (es H : List Event) → NoneIs is_of_sink es → Served takes flushes wanted first H failed now
-      → Served takes flushes wanted first (H ++ es) failed now
-  served_along [] H none served =
-      subst (λ X. Served takes flushes wanted first X failed now) (sym (append-nil H)) served
-  served_along (e ∷ es) H none served =
-      subst (λ X. Served takes flushes wanted first X failed now) (append_assoc H (e ∷ []) es)
-      (served_along es (H ++ e ∷ []) none.1 (meanwhile H e failed now served none.0))
+    (flushes : K → ℕ → Result (Unit {0}) SinkFault → K → Type 0) (wanted : Option ℕ) (start : List Event) (first : K)
+  where
+    module _ (failed : Option (ℕ × SinkFault)) (now : K) where
+      served_along : (es H : List Event) → NoneIs is_of_sink es → ServedSince takes flushes wanted start first H failed now
+          → ServedSince takes flushes wanted start first (H ++ es) failed now
+      served_along [] H none served =
+          subst (λ X. ServedSince takes flushes wanted start first X failed now) (sym (append-nil H)) served
+      served_along (e ∷ es) H none served =
+          subst (λ X. ServedSince takes flushes wanted start first X failed now) (append_assoc H (e ∷ []) es)
+          (served_along es (H ++ e ∷ []) none.1 (meanwhile H e failed now served none.0))
 
-  pub served_besides : (before after : Book) → HappensBesides is_of_sink before after
-      → Served takes flushes wanted first before.history failed now
-      → Served takes flushes wanted first after.history failed now
-  served_besides before after is served =
-      subst (λ X. Served takes flushes wanted first X failed now) (sym is.history)
-      (served_along is.events before.history is.none served)
+      pub served_besides : (before after : Book) → HappensBesides is_of_sink before after
+          → ServedSince takes flushes wanted start first before.history failed now
+          → ServedSince takes flushes wanted start first after.history failed now
+      served_besides before after is served =
+          subst (λ X. ServedSince takes flushes wanted start first X failed now) (sym is.history)
+          (served_along is.events before.history is.none served)
 
-  pub served_happens : (e : Event) (before after : Book) → Happens e before after
-      → Served takes flushes wanted first (before.history ++ e ∷ []) failed now
-      → Served takes flushes wanted first after.history failed now
-  served_happens e before after is served =
-      subst (λ X. Served takes flushes wanted first X failed now)
-      (append_assoc before.history (e ∷ []) is.growth ∙ sym (happens_history e before after is))
-      (served_along is.growth (before.history ++ e ∷ [])
-      (growth_none is_of_sink (λ p d n. refl) before.tables (before.history ++ e ∷ []) is.growth is.owed) served)
+      pub served_happens : (e : Event) (before after : Book) → Happens e before after
+          → ServedSince takes flushes wanted start first (before.history ++ e ∷ []) failed now
+          → ServedSince takes flushes wanted start first after.history failed now
+      served_happens e before after is served =
+          subst (λ X. ServedSince takes flushes wanted start first X failed now)
+          (append_assoc before.history (e ∷ []) is.growth ∙ sym (happens_history e before after is))
+          (served_along is.growth (before.history ++ e ∷ [])
+          (growth_none is_of_sink (λ p d n. refl) before.tables (before.history ++ e ∷ []) is.growth is.owed) served)
+
+    pub served-trans : (H : List Event) (j : K) → ServedSince takes flushes wanted start first H None j
+        → {G : List Event} {failed : Option (ℕ × SinkFault)} {k : K}
+        → ServedSince takes flushes wanted H j G failed k → ServedSince takes flushes wanted start first G failed k
+    served-trans H j one none_yet = one
+    served-trans H j one (meanwhile G e failed now two other) =
+        meanwhile G e failed now (served-trans H j one two) other
+    served-trans H j one (took G c v before now two few answer) =
+        took G c v before now (served-trans H j one two) few answer
+    served-trans H j one (took_not G c v fault before now two few answer) =
+        took_not G c v fault before now (served-trans H j one two) few answer
+    served-trans H j one (flushed G c before now two answer) =
+        flushed G c before now (served-trans H j one two) answer
+    served-trans H j one (flushed_not G c fault before now two answer) =
+        flushed_not G c fault before now (served-trans H j one two) answer
+    served-trans H j one (left G c now two) = left G c now (served-trans H j one two)
+    served-trans H j one (had_enough G c before now two enough answer) =
+        had_enough G c before now (served-trans H j one two) enough answer
+
+-- ---- all calls
+
+module _ {S K : Type 0} (gives : S → ℕ → Result (Option ℤ) SourceFault → S → Type 0) (at_hand : S → ℕ → Type 0)
+    (takes : K → ℕ → ℤ → Result (Unit {0}) SinkFault → K → Type 0)
+    (flushes : K → ℕ → Result (Unit {0}) SinkFault → K → Type 0) (wanted : Option ℕ) (sinks : List ℕ) (s : S) (k : K)
+    (r : S) (j : K) where
+  pub called_along : (es H : List Event) → NoneIs is_of_outside es
+      → Called gives at_hand takes flushes wanted sinks s k H r j
+      → Called gives at_hand takes flushes wanted sinks s k (H ++ es) r j
+  called_along [] H none called =
+      subst (λ X. Called gives at_hand takes flushes wanted sinks s k X r j) (sym (append-nil H)) called
+  called_along (e ∷ es) H none called =
+      subst (λ X. Called gives at_hand takes flushes wanted sinks s k X r j) (append_assoc H (e ∷ []) es)
+      (called_along es (H ++ e ∷ []) none.1
+      (by_process H e r j called none.0))
 
 -- ---- a step
 
@@ -232,14 +281,19 @@ stepped limits quota answer before after few is = record {
 
 -- ---- one after the other
 
+pub none_of : {T : Type 0} (o : Option T) → is_some o ≡ false → o ≡ None
+none_of (Some x) is = absurd cc
+none_of None is = refl
+
 module _ {K : Type 0} (takes : K → ℕ → ℤ → Result (Unit {0}) SinkFault → K → Type 0)
     (flushes : K → ℕ → Result (Unit {0}) SinkFault → K → Type 0) (limits : Limits) where
   pub serves-refl : (b : Book) (k : K) → Serves takes flushes limits None b b k k
   serves-refl b k = record {
     besides = besides-refl is_of_source b;
     commits = refl;
-    sinks_go_on = λ first served. served;
+    sinks_go_on = none_yet;
     no_source = refl;
+    stay_taken = λ c taken. taken;
     ending = tt;
   }
 
@@ -248,8 +302,9 @@ module _ {K : Type 0} (takes : K → ℕ → ℤ → Result (Unit {0}) SinkFault
   serves-trans ended a b c i j k one two = record {
     besides = besides-trans is_of_source a b c one.besides two.besides;
     commits = two.commits ∙ one.commits;
-    sinks_go_on = λ first served. two.sinks_go_on first (one.sinks_go_on first served);
+    sinks_go_on = served-trans takes flushes limits.take a.history i b.history j one.sinks_go_on two.sinks_go_on;
     no_source = two.no_source;
+    stay_taken = λ c taken. two.stay_taken c (one.stay_taken c taken);
     ending = two.ending;
   }
 
@@ -259,76 +314,159 @@ module _ {K : Type 0} (takes : K → ℕ → ℤ → Result (Unit {0}) SinkFault
   serves_ending ended a b i j one ends = record {
     besides = one.besides;
     commits = one.commits;
-    sinks_go_on = λ first served.
-        subst (λ f. Served takes flushes limits.take first b.history f j) (sym ends.no_sink)
-        (one.sinks_go_on first served);
+    sinks_go_on =
+        subst (λ f. ServedSince takes flushes limits.take a.history i b.history f j) (sym ends.no_sink)
+        one.sinks_go_on;
     no_source = ends.no_source;
+    stay_taken = one.stay_taken;
     ending = ends.ending;
   }
 
-module _ {S K : Type 0} (gives : S → ℕ → Result (Option ℤ) SourceFault → S → Type 0)
+  -- what was taken stays taken
+  pub serves_taken : (ended : Option Ending) (a b : Book) (i j : K) → Serves takes flushes limits ended a b i j
+      → AreTaken a.tables a.history → AreTaken b.tables b.history
+  serves_taken ended a b i j is taken c sink =
+      is.stay_taken c (taken c (subst (λ t. is_sink (channel_at t c) ≡ true) is.besides.tables sink))
+
+  -- the stream goes on
+  pub serves_on : (ended : Option Ending) (a b : Book) (i j : K) → is_some ended ≡ false
+      → Serves takes flushes limits ended a b i j → Serves takes flushes limits None a b i j
+  serves_on ended a b i j on is = subst (λ e. Serves takes flushes limits e a b i j) (none_of ended on) is
+
+module _ {S K : Type 0} (gives : S → ℕ → Result (Option ℤ) SourceFault → S → Type 0) (at_hand : S → ℕ → Type 0)
     (takes : K → ℕ → ℤ → Result (Unit {0}) SinkFault → K → Type 0)
     (flushes : K → ℕ → Result (Unit {0}) SinkFault → K → Type 0) (limits : Limits) where
-  pub goes_on-refl : (b : Book) (s : S) (k : K) → GoesOn gives takes flushes limits None b b s s k k
+  pub goes_on-refl : (b : Book) (s : S) (k : K) → GoesOn gives at_hand takes flushes limits None b b s s k k
   goes_on-refl b s k = record {
     tables = refl;
     commits = λ below. below;
     sources_go_on = λ first fed. fed;
-    sinks_go_on = λ first served. served;
+    sinks_go_on = none_yet;
+    calls_go_on = λ channels are s k called. called;
     ending = tt;
   }
 
   pub goes_on-trans : (ended : Option Ending) (a b c : Book) (r s u : S) (i j k : K)
-      → GoesOn gives takes flushes limits None a b r s i j → GoesOn gives takes flushes limits ended b c s u j k
-      → GoesOn gives takes flushes limits ended a c r u i k
+      → GoesOn gives at_hand takes flushes limits None a b r s i j
+      → GoesOn gives at_hand takes flushes limits ended b c s u j k
+      → GoesOn gives at_hand takes flushes limits ended a c r u i k
   goes_on-trans ended a b c r s u i j k one two = record {
     tables = two.tables ∙ one.tables;
     commits = λ below. two.commits (one.commits below);
     sources_go_on = λ first fed. two.sources_go_on first (one.sources_go_on first fed);
-    sinks_go_on = λ first served. two.sinks_go_on first (one.sinks_go_on first served);
+    sinks_go_on = served-trans takes flushes limits.take a.history i b.history j one.sinks_go_on two.sinks_go_on;
+    calls_go_on = λ channels are s k called.
+        two.calls_go_on channels (are ∙ ap (end_numbers is_sink) (sym one.tables)) s k
+        (one.calls_go_on channels are s k called);
     ending = two.ending;
   }
 
   pub serves_goes_on : (ended : Option Ending) (a b : Book) (s : S) (i j : K)
-      → Serves takes flushes limits ended a b i j → GoesOn gives takes flushes limits ended a b s s i j
+      → Serves takes flushes limits ended a b i j → GoesOn gives at_hand takes flushes limits ended a b s s i j
   serves_goes_on ended a b s i j is = record {
     tables = is.besides.tables;
     commits = λ below. let same = is.commits in omega arith;
     sources_go_on = λ first fed.
-        subst (λ f. Fed gives first b.history f s) (sym is.no_source)
+        subst (λ f. Fed b.tables gives first b.history f s) (sym is.no_source)
         (fed_besides gives first None s a b is.besides fed);
     sinks_go_on = is.sinks_go_on;
+    calls_go_on = λ channels are r k called.
+        by_sinks a.history b.history (failed_sink ended) s i j called is.sinks_go_on;
     ending = is.ending;
   }
 
-  pub reads_goes_on : (ended : Option Ending) (a b : Book) (r s : S) (k : K)
-      → Reads gives ended a b r s → GoesOn gives takes flushes limits ended a b r s k k
-  reads_goes_on ended a b r s k is = record {
-    tables = is.besides.tables;
-    commits = λ below. let same = is.commits in omega arith;
-    sources_go_on = is.sources_go_on;
-    sinks_go_on = λ first served.
-        subst (λ f. Served takes flushes limits.take first b.history f k) (sym is.no_sink)
-        (served_besides takes flushes limits.take first None k a b is.besides served);
-    ending = is.ending limits;
-  }
-
   pub steps_go_on : (a b : Book) (s : S) (k : K) → IsStepped limits a b
-      → GoesOn gives takes flushes limits None a b s s k k
+      → GoesOn gives at_hand takes flushes limits None a b s s k k
   steps_go_on a b s k is = record {
     tables = is.besides.tables;
     commits = is.commits;
     sources_go_on = λ first fed. fed_besides gives first None s a b (besides_sources a b is.besides) fed;
-    sinks_go_on = λ first served.
-        served_besides takes flushes limits.take first None k a b (besides_sinks a b is.besides) served;
+    sinks_go_on =
+        served_besides takes flushes limits.take a.history k None k a b (besides_sinks a b is.besides) none_yet;
+    calls_go_on = λ channels are r j called.
+        subst (λ X. Called gives at_hand takes flushes limits.take channels r j X s k) (sym is.besides.history)
+        (called_along gives at_hand takes flushes limits.take channels r j s k is.besides.events a.history
+        is.besides.none called);
     ending = tt;
   }
 
+  -- nothing happens to sinks while a source is read
+  sinks_wait : (c : ℕ) (ended : Option Ending) (a b : Book) (r s : S) (k : K) → Reads gives c ended a b r s
+      → ServedSince takes flushes limits.take a.history k b.history (failed_sink ended) k
+  sinks_wait c ended a b r s k is =
+      subst (λ f. ServedSince takes flushes limits.take a.history k b.history f k) (sym is.no_sink)
+      (served_besides takes flushes limits.take a.history k None k a b is.besides none_yet)
+
+  -- after the answer of a source
+  called_then : (c : ℕ) (ended : Option Ending) (a b : Book) (r s : S) (k : K) → Reads gives c ended a b r s
+      → (channels : List ℕ) (u : S) (j : K) → ((answer : Result (Option ℤ) SourceFault) → gives r c answer s
+      → Called gives at_hand takes flushes limits.take channels u j (a.history ++ answered c answer) s k)
+      → Called gives at_hand takes flushes limits.take channels u j b.history s k
+  called_then c ended a b r s k is channels u j called =
+      subst (λ X. Called gives at_hand takes flushes limits.take channels u j X s k) (sym is.then)
+      (called_along gives at_hand takes flushes limits.take channels u j s k is.growth
+      (a.history ++ answered c is.answer) is.grown (called is.answer is.answers))
+
+  -- a source is read whose item is at hand
+  pub reads_at_once : (c : ℕ) (ended : Option Ending) (a b : Book) (r s : S) (k : K) → at_hand r c
+      → Reads gives c ended a b r s → GoesOn gives at_hand takes flushes limits ended a b r s k k
+  reads_at_once c ended a b r s k hand is = record {
+    tables = is.besides.tables;
+    commits = λ below. let same = is.commits in omega arith;
+    sources_go_on = is.sources_go_on;
+    sinks_go_on = sinks_wait c ended a b r s k is;
+    calls_go_on = λ channels are u j called.
+        called_then c ended a b r s k is channels u j
+        (λ answer gave. read_at_once a.history c answer r s k called hand gave);
+    ending = is.ending limits;
+  }
+
+  -- a source is read once the devices of the sinks have handed on what they kept
+  pub reads_flushed : (c : ℕ) (ended : Option Ending) (a b d : Book) (r s : S) (i j : K)
+      → Serves takes flushes limits None a b i j
+      → AreFlushed flushes (end_numbers is_sink a.tables) a.history i b.history j → Reads gives c ended b d r s
+      → GoesOn gives at_hand takes flushes limits ended a d r s i j
+  reads_flushed c ended a b d r s i j serves handed_on is = record {
+    tables = is.besides.tables ∙ serves.besides.tables;
+    commits = λ below. let same = is.commits in let as_before = serves.commits in omega arith;
+    sources_go_on = λ first fed.
+        is.sources_go_on first (fed_besides gives first None r a b serves.besides fed);
+    sinks_go_on =
+        served-trans takes flushes limits.take a.history i b.history j serves.sinks_go_on
+        (sinks_wait c ended b d r s j is);
+    calls_go_on = λ channels are u k called.
+        called_then c ended b d r s j is channels u k
+        (λ answer gave.
+        waited_for a.history b.history c answer r s i j called
+        (subst (λ xs. AreFlushed flushes xs a.history i b.history j) (sym are) handed_on) gave);
+    ending = is.ending limits;
+  }
+
   -- the processes make steps, and the sinks are served
-  pub takes_then : (ended : Option Ending) (a b c d : Book) (s : S) (i j k : K)
-      → Serves takes flushes limits None a b i j → IsStepped limits b c → Serves takes flushes limits ended c d j k
-      → GoesOn gives takes flushes limits ended a d s s i k
-  takes_then ended a b c d s i j k one two three =
-      goes_on-trans ended a c d s s s i j k
-      (goes_on-trans None a b c s s s i j j (serves_goes_on None a b s i j one) (steps_go_on b c s j two))
+  pub taken_then : (ended : Option Ending) (a b c : Book) (s : S) (i j : K) → IsStepped limits a b
+      → Serves takes flushes limits ended b c i j → GoesOn gives at_hand takes flushes limits ended a c s s i j
+  taken_then ended a b c s i j one two =
+      goes_on-trans ended a b c s s s i i j (steps_go_on a b s i one) (serves_goes_on ended b c s i j two)
+
+  -- and the run may have come to an outcome
+  pub outcome_then : (ended : Option Ending) (a b c d : Book) (s : S) (i j k : K) → IsStepped limits a b
+      → Serves takes flushes limits None b c i j → Serves takes flushes limits ended c d j k
+      → GoesOn gives at_hand takes flushes limits ended a d s s i k
+  outcome_then ended a b c d s i j k one two three =
+      goes_on-trans ended a c d s s s i j k (taken_then None a b c s i j one two)
       (serves_goes_on ended c d s j k three)
+
+-- ---- all sinks are flushed
+
+pub flushed_more : {K : Type 0} (flushes : K → ℕ → Result (Unit {0}) SinkFault → K → Type 0) (xs : List ℕ) (c : ℕ)
+    (H G later : List Event) (k j now : K) → AreFlushed flushes xs H k G j → IsFlushed flushes c G j later now
+    → AreFlushed flushes (xs ++ c ∷ []) H k later now
+flushed_more flushes [] c H G later k j now so_far is = (
+  later,
+  now,
+  subst (λ X. IsFlushed flushes c X k later now) so_far.0
+      (subst (λ x. IsFlushed flushes c G x later now) so_far.1 is),
+  (refl, refl),
+)
+flushed_more flushes (x ∷ xs) c H G later k j now so_far is =
+    (so_far.0, so_far.1, so_far.2, flushed_more flushes xs c so_far.0 G later so_far.1 j now so_far.3 is)

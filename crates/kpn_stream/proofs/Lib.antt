@@ -1,2 +1,5 @@
 pub mod Going
 pub mod Handling
+pub mod Listing
+pub mod Moments
+pub mod Rows

@@ -4,8 +4,10 @@ use Rattle.std.specs.List.{filter}
 use Rattle.kpn_net.specs.declared.tables.ChannelSpec.{ChannelSpec}
 use Rattle.kpn_net.specs.Tables.{Tables, channel_at, is_source, is_sink}
 use Rattle.kpn_net.specs.Faults.{channel_numbers}
+use Rattle.kpn_history.specs.declared.event.Event.{Event}
 use Rattle.kpn_history.specs.Views.{is_ready}
-use Rattle.kpn_history.specs.Channels.{is_closed}
+use Rattle.kpn_history.specs.Channels.{is_closed, is_empty, is_left}
+use Rattle.kpn_history.specs.Ends.{HaveStopped, IsSettled}
 use Rattle.kpn_configuration.specs.Configuration.{channel_in}
 use Rattle.kpn_configuration.specs.Woken.{waiting_reader}
 use Rattle.kpn_run_state.specs.Book.{Book}
@@ -25,14 +27,30 @@ abbrev pub IsUnwanted : Book → (c : ℕ) → Type 0
 IsUnwanted b c =
     (is_closed b.history c ≡ true) ⊎ (is_some (waiting_reader b.tables b.configuration.waits c) ≡ false)
 
--- no process is ready, and no process waits for an item of an open source
+-- no process is ready, and each has ended or waits, but none for an item of an open source. The run has not stopped,
+-- since some source is open
 pub record IsResting (b : Book) : Type 0 where
   pub nobody_ready : count_by is_ready b.schedule.states ≡ 0
   pub unwanted : (c : ℕ) → is_source (channel_at b.tables c) ≡ true → IsUnwanted b c
+  pub stopped : HaveStopped b.tables b.history
+  pub unsettled : ¬ IsSettled b.tables b.history
 
 -- each sink was left
 abbrev pub AreLeft : Book → Type 0
 AreLeft b = (c : ℕ) → is_sink (channel_at b.tables c) ≡ true → (channel_in b.configuration c).is_retired ≡ true
+
+-- nothing is unread on this sink, or it was left
+abbrev pub IsTaken : List Event → (c : ℕ) → Type 0
+IsTaken H c = (is_empty H c ≡ true) ⊎ (is_left H c ≡ true)
+
+-- all that came to the sinks was taken
+abbrev pub AreTaken : Tables → List Event → Type 0
+AreTaken t H = (c : ℕ) → is_sink (channel_at t c) ≡ true → IsTaken H c
+
+-- a stream leaves nothing unread on a sink that was not left, unless the device of a sink has failed
+abbrev pub LeavesNothing : Ending → Book → Type 0
+LeavesNothing (SinkFailed c fault) b = Unit {0}
+LeavesNothing ending b = AreTaken b.tables b.history
 
 -- what an ending says of the book
 abbrev pub IsEnding : Limits → Ending → Book → Type 0

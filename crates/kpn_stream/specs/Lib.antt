@@ -1,3 +1,4 @@
 pub mod Devices
 pub mod Ending
+pub mod Lists
 pub mod Streaming

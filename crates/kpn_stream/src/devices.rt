@@ -1,5 +1,5 @@
 //! What stands at the sources and at the sinks of a network while it runs.
-ghost use Rattle.std.specs.Prelude.{ℕ, ℤ, Option as Maybe, Result as Answer};
+ghost use Rattle.std.specs.Prelude.{ℕ, ℤ, IsTrue, Option as Maybe, Result as Answer};
 ghost use Rattle.kpn_stream.specs.declared.faults.SourceFault.{SourceFault as Refusal};
 ghost use Rattle.kpn_stream.specs.declared.faults.SinkFault.{SinkFault as Failure};
 
@@ -16,8 +16,12 @@ pub trait Sources {
     fn next(&mut self, source: usize) -> Result<Option<i64>, SourceFault>
         ensures { gives self.old source result self.new };
 
+    /// When the answer for a source is at hand: `next` does not wait for its device then.
+    ghost at_hand: { Self → ℕ → Type 0 };
+
     /// Whether `next` would answer for this source without waiting for its device.
-    fn is_at_hand(&self, source: usize) -> bool;
+    fn is_at_hand(&self, source: usize) -> bool
+        ensures { IsTrue result → at_hand self.now source };
 }
 
 /// The devices of the sinks. A sink goes by the number of its channel.

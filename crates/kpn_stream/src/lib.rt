@@ -6,6 +6,7 @@ mod devices;
 mod ending;
 mod ends;
 mod faults;
+pub mod laws;
 mod reading;
 mod running;
 mod stepping;

@@ -1,15 +1,18 @@
 //! A source is read.
-ghost use Rattle.std.specs.Prelude.{◌≡◌, ◌<◌, ℕ, true, false, None, length, IfOk, IfSome, IfNone, IsTrue};
+ghost use Rattle.std.specs.Prelude.{◌≡◌, ◌<◌, ℕ, true, false, length, IfOk, IfSome, IfNone, IsTrue};
 ghost use Rattle.kpn_net.specs.Tables.{channel_at, is_source, is_sink};
 ghost use Rattle.kpn_history.specs.declared.event.Event.TheVariants as event;
 ghost use Rattle.kpn_history.specs.Channels.{is_closed};
+ghost use Rattle.kpn_history.specs.Legal.{MayFeed};
 ghost use Rattle.kpn_run_state.specs.Appending.{Happens};
-ghost use Rattle.kpn_stream.specs.Ending.{end_numbers, IsUnwanted};
-ghost use Rattle.kpn_stream.specs.Streaming.{GoesOn, IsRestingIf, Reads, Serves};
+ghost use Rattle.kpn_stream.specs.Devices.{IsAwaited, IsStuck, MayRead};
+ghost use Rattle.kpn_stream.specs.Ending.{end_numbers, IsUnwanted, AreTaken};
+ghost use Rattle.kpn_stream.specs.Streaming.{GoesOn, MayEndWell, Reads, Serves};
 
 use crate::devices::{Sinks, Sources};
 use crate::ending::Ending;
 use crate::ends::Ends;
+use crate::running::ending_of;
 use crate::stepping::is_idle;
 use crate::taking::flush_all;
 use kpn_net::Policy;
@@ -28,37 +31,42 @@ pub(crate) fn read_one<S: Sources, K: Sinks>(
 ) -> Result<Option<Ending>, AllocError>
     requires sources { ends.now.sources.items ≡ end_numbers is_source book.old.tables }
     requires sinks { ends.now.sinks.items ≡ end_numbers is_sink book.old.tables }
-    ensures { IfOk result (λ ended. GoesOn S.gives K.takes K.flushes limits.now ended
+    requires taken { AreTaken book.old.tables book.old.history }
+    ensures { IfOk result (λ ended. GoesOn S.gives S.at_hand K.takes K.flushes limits.now ended
         book.old book.new sources.old sources.new sinks.old sinks.new) }
 {
-    let is_idle = is_idle(book);
-    let Some(c) = source_due(book, ends, is_idle) else {
+    let Some(c) = source_due(book, ends) else {
         return rest(book, ends, sinks, limits);
     };
-    let ended = flush_unless_at_hand(book, ends, sources, sinks, limits, c)?;
+    if sources.is_at_hand(c) {
+        return read(book, sources, c);
+    }
+    wait_for_one(book, ends, sources, sinks, limits)
+}
+
+/// Reads the source that is due once the devices of the sinks have handed on all that they kept. A sink that was left
+/// then may have woken a process, which goes first.
+fn wait_for_one<S: Sources, K: Sinks>(
+    book: &mut Book<'_>,
+    ends: &Ends,
+    sources: &mut S,
+    sinks: &mut K,
+    limits: &Limits,
+) -> Result<Option<Ending>, AllocError>
+    requires sources { ends.now.sources.items ≡ end_numbers is_source book.old.tables }
+    requires sinks { ends.now.sinks.items ≡ end_numbers is_sink book.old.tables }
+    requires taken { AreTaken book.old.tables book.old.history }
+    ensures { IfOk result (λ ended. GoesOn S.gives S.at_hand K.takes K.flushes limits.now ended
+        book.old book.new sources.old sources.new sinks.old sinks.new) }
+{
+    let ended = flush_all(book, ends, sinks, limits)?;
     if ended.is_some() {
         return Ok(ended);
     }
-    read(book, sources, c)
-}
-
-/// If a read of source `c` has to wait, lets the devices of the sinks hand on all that they kept.
-fn flush_unless_at_hand<S: Sources, K: Sinks>(
-    book: &mut Book<'_>,
-    ends: &Ends,
-    sources: &S,
-    sinks: &mut K,
-    limits: &Limits,
-    c: usize,
-) -> Result<Option<Ending>, AllocError>
-    requires { ends.now.sinks.items ≡ end_numbers is_sink book.old.tables }
-    ensures { IfOk result (λ ended. Serves K.takes K.flushes limits.now ended book.old book.new
-        sinks.old sinks.new) }
-{
-    if sources.is_at_hand(c) {
+    let Some(c) = source_due(book, ends) else {
         return Ok(None);
-    }
-    flush_all(book, ends, sinks, limits)
+    };
+    read(book, sources, c)
 }
 
 /// No source is due. If no process is ready either, the stream comes to rest.
@@ -70,6 +78,7 @@ fn rest<K: Sinks>(
 ) -> Result<Option<Ending>, AllocError>
     requires sources { ends.now.sources.items ≡ end_numbers is_source book.old.tables }
     requires sinks { ends.now.sinks.items ≡ end_numbers is_sink book.old.tables }
+    requires taken { AreTaken book.old.tables book.old.history }
     ensures { IfOk result (λ ended. Serves K.takes K.flushes limits.now ended book.old book.new
         sinks.old sinks.new) }
 {
@@ -80,14 +89,19 @@ fn rest<K: Sinks>(
     if ended.is_some() {
         return Ok(ended);
     }
-    Ok(ending_if_resting(book, ends))
+    Ok(ending_at_rest(book, ends, limits))
 }
 
-/// The ending of a stream that rests.
-fn ending_if_resting(book: &Book<'_>, ends: &Ends) -> Option<Ending>
-    requires { ends.now.sources.items ≡ end_numbers is_source book.now.tables }
-    ensures { IsRestingIf result book.now }
+/// The ending of a stream that rests: its outcome if it has one.
+fn ending_at_rest(book: &Book<'_>, ends: &Ends, limits: &Limits) -> Option<Ending>
+    requires sources { ends.now.sources.items ≡ end_numbers is_source book.now.tables }
+    requires taken { AreTaken book.now.tables book.now.history }
+    ensures { MayEndWell limits.now result book.now }
 {
+    let over = ending_of(book, limits);
+    if over.is_some() {
+        return over;
+    }
     if !is_idle(book) {
         return None;
     }
@@ -103,9 +117,10 @@ fn read<S: Sources>(
     sources: &mut S,
     c: usize,
 ) -> Result<Option<Ending>, AllocError>
-    requires { is_closed book.old.history c ≡ false }
+    requires may_read { MayRead book.old.tables book.old.history c }
+    requires taken { AreTaken book.old.tables book.old.history }
     ensures { IfOk result (λ ended.
-        Reads S.gives ended book.old book.new sources.old sources.new) }
+        Reads S.gives c ended book.old book.new sources.old sources.new) }
 {
     match sources.next(c) {
         Ok(Some(item)) => feed(book, c, item),
@@ -139,23 +154,38 @@ fn close(book: &mut Book<'_>, c: usize) -> Result<Option<Ending>, AllocError>
     }
 }
 
-/// The source that is due: the least open one for whose item a process waits. If there is none and no process is
-/// ready, under the policy `all` the least open one: a growth may wait for the end of all inputs.
-fn source_due(book: &Book<'_>, ends: &Ends, is_idle: bool) -> Option<usize>
+/// The source that is due: the least open one for whose item a process waits. If there is none and nothing can go on,
+/// it is the least open one.
+fn source_due(book: &Book<'_>, ends: &Ends) -> Option<usize>
     requires { ends.now.sources.items ≡ end_numbers is_source book.now.tables }
-    ensures { IfSome result (λ c. is_closed book.now.history c ≡ false) }
+    ensures { IfSome result (λ c. MayRead book.now.tables book.now.history c) }
 {
     let awaited = least_open(book, ends, true);
-    if awaited.is_some() || !is_idle || book.network().policy() == Policy::Cycles {
+    if awaited.is_some() {
         return awaited;
     }
+    if !is_stuck(book) {
+        return None;
+    }
     least_open(book, ends, false)
+}
+
+/// Whether no process can go on, under the policy `all`: a growth may wait for the end of all inputs.
+fn is_stuck(book: &Book<'_>) -> bool
+    ensures { IsTrue result → IsStuck book.now.tables book.now.history }
+{
+    match book.network().policy() {
+        Policy::All => is_idle(book),
+        Policy::Cycles => false,
+    }
 }
 
 /// The least open source, of those for whose item a process waits or of all.
 fn least_open(book: &Book<'_>, ends: &Ends, awaited_only: bool) -> Option<usize>
     requires { ends.now.sources.items ≡ end_numbers is_source book.now.tables }
-    ensures open { IfSome result (λ c. is_closed book.now.history c ≡ false) }
+    ensures open { IfSome result (λ c. MayFeed book.now.tables book.now.history c) }
+    ensures awaited { awaited_only ≡ true
+        → IfSome result (λ c. IsAwaited book.now.tables book.now.history c) }
     ensures none { IfNone result ((c : ℕ) → is_source (channel_at book.now.tables c) ≡ true
         → IsUnwanted book.now c) }
 {
@@ -172,10 +202,22 @@ fn least_open(book: &Book<'_>, ends: &Ends, awaited_only: bool) -> Option<usize>
 fn is_due(book: &Book<'_>, c: usize, awaited_only: bool) -> bool
     requires { c < length book.now.tables.channels }
     ensures open { IsTrue result → is_closed book.now.history c ≡ false }
+    ensures awaited { IsTrue result → awaited_only ≡ true
+        → IsAwaited book.now.tables book.now.history c }
     ensures not_due { result ≡ false → IsUnwanted book.now c }
 {
     if book.is_closed(c) {
         return false;
     }
-    !awaited_only || book.is_awaited(c)
+    !awaited_only || is_awaited(book, c)
+}
+
+/// Whether a process waits for an item of a channel.
+fn is_awaited(book: &Book<'_>, c: usize) -> bool
+    requires { c < length book.now.tables.channels }
+    ensures awaited { IsTrue result → IsAwaited book.now.tables book.now.history c }
+    ensures unwanted { result ≡ false → IsUnwanted book.now c }
+{
+    book.known();
+    book.is_awaited(c)
 }

@@ -1,5 +1,6 @@
 //! The processes make steps.
 ghost use Rattle.std.specs.Prelude.{◌≡◌, count_by, IfOk, IsTrue};
+ghost use Rattle.kpn_history.specs.Ends.{HaveStopped};
 ghost use Rattle.kpn_history.specs.Views.{is_ready};
 ghost use Rattle.kpn_stream.specs.Streaming.{IsStepped};
 
@@ -31,9 +32,15 @@ fn step_first(book: &mut Book<'_>, limits: &Limits) -> Result<bool, AllocError>
     Ok(answer.is_some())
 }
 
-/// Whether no process is ready.
+/// Whether each process has ended or waits.
 pub(crate) fn is_idle(book: &Book<'_>) -> bool
-    ensures { IsTrue result → count_by is_ready book.now.schedule.states ≡ 0 }
+    ensures nobody_ready { IsTrue result → count_by is_ready book.now.schedule.states ≡ 0 }
+    ensures stopped { IsTrue result → HaveStopped book.now.tables book.now.history }
 {
-    book.counts().ready == 0
+    book.known();
+    let counts = book.counts();
+    if counts.held > 0 {
+        return false;
+    }
+    counts.ready == 0
 }

@@ -1,12 +1,12 @@
 //! The sinks get what came for them.
-ghost use Rattle.std.specs.Prelude.{◌≡◌, ◌<◌, ℤ, true, false, length, Some, None, IfOk, IsTrue};
+ghost use Rattle.std.specs.Prelude.{◌≡◌, ◌↔◌, ◌⊎◌, ◌<◌, ℤ, true, false, length, Some, None, IfOk, IsTrue};
 ghost use Rattle.kpn_net.specs.Tables.{channel_at, is_sink};
 ghost use Rattle.kpn_chan.specs.Channel.{next_item};
 ghost use Rattle.kpn_history.specs.declared.event.Event.TheVariants as event;
-ghost use Rattle.kpn_history.specs.Channels.{read_on};
 ghost use Rattle.kpn_configuration.specs.Configuration.{channel_in};
 ghost use Rattle.kpn_run_state.specs.Appending.{Happens};
-ghost use Rattle.kpn_stream.specs.Ending.{end_numbers, AreLeft};
+ghost use Rattle.kpn_stream.specs.Devices.{HasGiven, IsFlushed, AreFlushed};
+ghost use Rattle.kpn_stream.specs.Ending.{end_numbers, AreLeft, IsTaken, AreTaken};
 ghost use Rattle.kpn_stream.specs.Streaming.{IsHandled, IsLeaving, MayEndWell, Serves};
 
 use crate::devices::Sinks;
@@ -25,8 +25,10 @@ pub(crate) fn take_all<K: Sinks>(
     limits: &Limits,
 ) -> Result<Option<Ending>, AllocError>
     requires { ends.now.sinks.items ≡ end_numbers is_sink book.old.tables }
-    ensures { IfOk result (λ ended. Serves K.takes K.flushes limits.now ended book.old book.new
+    ensures serves { IfOk result (λ ended. Serves K.takes K.flushes limits.now ended book.old book.new
         sinks.old sinks.new) }
+    ensures taken { IfOk result (λ ended.
+        ended ≡ None → AreTaken book.new.tables book.new.history) }
 {
     'sinks: for i in 0..ends.sinks.len() {
         let ended = take_each(book, ends, sinks, limits, ends.sinks[i])?;
@@ -47,22 +49,72 @@ fn take_each<K: Sinks>(
 ) -> Result<Option<Ending>, AllocError>
     requires ends { ends.now.sinks.items ≡ end_numbers is_sink book.old.tables }
     requires sink { is_sink (channel_at book.old.tables c) ≡ true }
-    ensures { IfOk result (λ ended. Serves K.takes K.flushes limits.now ended book.old book.new
+    ensures serves { IfOk result (λ ended. Serves K.takes K.flushes limits.now ended book.old book.new
         sinks.old sinks.new) }
+    ensures taken { IfOk result (λ ended. ended ≡ None → IsTaken book.new.history c) }
 {
-    'items: for _item in 0..book.unread_count(c) {
-        let Some(item) = book.next_item(c) else {
+    let ended = put_each(book, ends, sinks, limits, c)?;
+    if ended.is_some() {
+        return Ok(ended);
+    }
+    if !has_given(book, c, limits.take) {
+        return Ok(None);
+    }
+    finish(book, ends, sinks, limits, c)
+}
+
+/// Hands what is unread on sink `c` to its device, up to as many items as are wanted.
+fn put_each<K: Sinks>(
+    book: &mut Book<'_>,
+    ends: &Ends,
+    sinks: &mut K,
+    limits: &Limits,
+    c: usize,
+) -> Result<Option<Ending>, AllocError>
+    requires ends { ends.now.sinks.items ≡ end_numbers is_sink book.old.tables }
+    requires sink { is_sink (channel_at book.old.tables c) ≡ true }
+    ensures serves { IfOk result (λ ended. Serves K.takes K.flushes limits.now ended book.old book.new
+        sinks.old sinks.new) }
+    ensures all { IfOk result (λ ended. ended ≡ None
+        → (IsTaken book.new.history c ⊎ HasGiven limits.now.take book.new.history c)) }
+{
+    'items: while let Some(item) = book.next_item(c) {
+        book.known();
+        if has_given(book, c, limits.take) {
             return Ok(None);
-        };
+        }
         if let Err(fault) = sinks.put(c, item) {
             return handle(book, ends, limits, c, fault);
         }
         take(book, c)?;
-        if has_given(book, c, limits.take) && !book.is_left(c) {
-            return leave(book, ends, limits, c);
-        }
     }
+    book.known();
     Ok(None)
+}
+
+/// Sink `c` has given the items that are wanted of it: its device hands on all of them, and it is left.
+fn finish<K: Sinks>(
+    book: &mut Book<'_>,
+    ends: &Ends,
+    sinks: &mut K,
+    limits: &Limits,
+    c: usize,
+) -> Result<Option<Ending>, AllocError>
+    requires ends { ends.now.sinks.items ≡ end_numbers is_sink book.old.tables }
+    requires sink { is_sink (channel_at book.old.tables c) ≡ true }
+    requires given { HasGiven limits.now.take book.old.history c }
+    ensures serves { IfOk result (λ ended. Serves K.takes K.flushes limits.now ended book.old book.new
+        sinks.old sinks.new) }
+    ensures taken { IfOk result (λ ended. ended ≡ None → IsTaken book.new.history c) }
+{
+    book.known();
+    if book.is_left(c) {
+        return Ok(None);
+    }
+    match sinks.flush(c) {
+        Ok(()) => leave(book, ends, limits, c),
+        Err(fault) => handle(book, ends, limits, c, fault),
+    }
 }
 
 /// Takes the next item of a sink.
@@ -79,7 +131,7 @@ fn take(book: &mut Book<'_>, c: usize) -> Result<(), AllocError>
 /// Whether a sink has given exactly as many items as are wanted.
 fn has_given(book: &Book<'_>, c: usize, wanted: Option<u64>) -> bool
     requires { c < length book.now.tables.channels }
-    ensures { IsTrue result → wanted ≡ Some (length (read_on book.now.history c)) }
+    ensures { IsTrue result ↔ HasGiven wanted book.now.history c }
 {
     match wanted {
         Some(items) => book.read_count(c) as u64 == items,
@@ -127,6 +179,7 @@ fn ending_if_left(book: &Book<'_>, ends: &Ends, limits: &Limits) -> Option<Endin
     requires { ends.now.sinks.items ≡ end_numbers is_sink book.now.tables }
     ensures { MayEndWell limits.now result book.now }
 {
+    book.known();
     if !are_left(book, ends) {
         return None;
     }
@@ -157,8 +210,10 @@ pub(crate) fn flush_all<K: Sinks>(
     limits: &Limits,
 ) -> Result<Option<Ending>, AllocError>
     requires { ends.now.sinks.items ≡ end_numbers is_sink book.old.tables }
-    ensures { IfOk result (λ ended. Serves K.takes K.flushes limits.now ended book.old book.new
+    ensures serves { IfOk result (λ ended. Serves K.takes K.flushes limits.now ended book.old book.new
         sinks.old sinks.new) }
+    ensures flushed { IfOk result (λ ended. ended ≡ None → AreFlushed K.flushes
+        ends.now.sinks.items book.old.history sinks.old book.new.history sinks.new) }
 {
     'sinks: for i in 0..ends.sinks.len() {
         let ended = flush(book, ends, sinks, limits, ends.sinks[i])?;
@@ -178,9 +233,12 @@ fn flush<K: Sinks>(
 ) -> Result<Option<Ending>, AllocError>
     requires ends { ends.now.sinks.items ≡ end_numbers is_sink book.old.tables }
     requires sink { is_sink (channel_at book.old.tables c) ≡ true }
-    ensures { IfOk result (λ ended. Serves K.takes K.flushes limits.now ended book.old book.new
+    ensures serves { IfOk result (λ ended. Serves K.takes K.flushes limits.now ended book.old book.new
         sinks.old sinks.new) }
+    ensures flushed { IfOk result (λ ended. ended ≡ None → IsFlushed K.flushes
+        c book.old.history sinks.old book.new.history sinks.new) }
 {
+    book.known();
     if book.is_left(c) {
         return Ok(None);
     }

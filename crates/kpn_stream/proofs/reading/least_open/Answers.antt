@@ -25,3 +25,13 @@ returns-clause-none c = λ d is.
     let past : length items ≤ c.sources.i = search rules in
     all_ends is_source c.args.book.now.tables (IsUnwanted c.args.book.now) items c.sources.i c.requires past
     c.sources.invariant d (source_there c.args.book.now.tables d is) is
+
+pub returns-then-is_due-clause-open : goal.returns-then-is_due-clause-open
+returns-then-is_due-clause-open c =
+    let items = c.args.ends.now.sources.items in
+    let below : c.sources.i < length items = search rules in
+    record {
+      source = (listed is_source c.args.book.now.tables items c.sources.i c.index-c.result.now c.requires below
+          c.index-c.ensures).0;
+      not_closed = c.is_due.ensures.open c.if-is_due.true;
+    }

@@ -1,43 +1,46 @@
 use Rattle.std.proofs.Common.{Some, None, sym, ap, ◌∙◌, subst}
+use Rattle.std.proofs.lemmas.Result.{IfOk-weaker}
 use Rattle.kpn_net.specs.Tables.{is_source, is_sink}
 use Rattle.kpn_stream.specs.Ending.{end_numbers}
-use Rattle.kpn_stream.specs.Streaming.{GoesOn}
-use Rattle.kpn_stream.proofs.Going.{goes_on-refl, goes_on-trans}
+use Rattle.kpn_stream.specs.Streaming.{Serves}
+use Rattle.kpn_stream.proofs.Going.{serves_goes_on, goes_on-trans}
+use Rattle.kpn_stream.proofs.Moments.{taken_at_start}
 use Rattle.kpn_stream.proofs.running.run.Goals as goal
 
-pub turns-init : goal.turns-init
-turns-init g c = record {
-  goes_on =
-      goes_on-refl g.S.Sources.gives g.K.Sinks.takes g.K.Sinks.flushes c.args.limits.now c.args.book.now
-      c.args.sources.now c.args.sinks.now;
-  sources = c.requires.sources;
-  sinks = c.requires.sinks;
-}
+pub come_to_outcome-requires-clause-taken : goal.come_to_outcome-requires-clause-taken
+come_to_outcome-requires-clause-taken g c = taken_at_start c.args.book.now c.requires.start
 
 pub returns-in-Some : goal.returns-in-Some
 returns-in-Some g c =
-    goes_on-trans g.S.Sources.gives g.K.Sinks.takes g.K.Sinks.flushes c.args.limits.now (Some c.in-Some.ending)
-    c.args.book.now c.turns.book c.turn.new.book c.args.sources.now c.turns.sources c.turn.new.sources
-    c.args.sinks.now c.turns.sinks c.turn.new.sinks c.turns.invariant.goes_on
+    serves_goes_on g.S.Sources.gives g.S.Sources.at_hand g.K.Sinks.takes g.K.Sinks.flushes c.args.limits.now (Some c.in-Some.ending)
+    c.args.book.now c.come_to_outcome.new.book c.args.sources.now c.args.sinks.now c.come_to_outcome.new.sinks
     (subst
     (λ e.
-    GoesOn g.S.Sources.gives g.K.Sinks.takes g.K.Sinks.flushes c.args.limits.now e c.turns.book c.turn.new.book
-    c.turns.sources c.turn.new.sources c.turns.sinks c.turn.new.sinks)
-    c.in-Some.is c.in_ok-ended.ensures)
+    Serves g.K.Sinks.takes g.K.Sinks.flushes c.args.limits.now e c.args.book.now c.come_to_outcome.new.book
+    c.args.sinks.now c.come_to_outcome.new.sinks)
+    c.in-Some.is c.in_ok-over.ensures)
 
-pub turns-preserved : goal.turns-preserved
-turns-preserved g c =
-    let one =
-    subst
+pub make_turns-requires-clause-sources : goal.make_turns-requires-clause-sources
+make_turns-requires-clause-sources g c =
+    c.requires.sources ∙ ap (end_numbers is_source) (sym c.in_ok-over.ensures.besides.tables)
+
+pub make_turns-requires-clause-sinks : goal.make_turns-requires-clause-sinks
+make_turns-requires-clause-sinks g c =
+    c.requires.sinks ∙ ap (end_numbers is_sink) (sym c.in_ok-over.ensures.besides.tables)
+
+pub returns : goal.returns
+returns g c =
+    IfOk-weaker c.make_turns.result _ _
+    (λ ending is.
+    goes_on-trans g.S.Sources.gives g.S.Sources.at_hand g.K.Sinks.takes g.K.Sinks.flushes c.args.limits.now (Some ending)
+    c.args.book.now c.come_to_outcome.new.book c.make_turns.new.book c.args.sources.now c.args.sources.now
+    c.make_turns.new.sources c.args.sinks.now c.come_to_outcome.new.sinks c.make_turns.new.sinks
+    (serves_goes_on g.S.Sources.gives g.S.Sources.at_hand g.K.Sinks.takes g.K.Sinks.flushes c.args.limits.now None c.args.book.now
+    c.come_to_outcome.new.book c.args.sources.now c.args.sinks.now c.come_to_outcome.new.sinks
+    (subst
     (λ e.
-    GoesOn g.S.Sources.gives g.K.Sinks.takes g.K.Sinks.flushes c.args.limits.now e c.turns.book c.turn.new.book
-    c.turns.sources c.turn.new.sources c.turns.sinks c.turn.new.sinks)
-    c.in_default.is c.in_ok-ended.ensures in
-    record {
-      goes_on =
-          goes_on-trans g.S.Sources.gives g.K.Sinks.takes g.K.Sinks.flushes c.args.limits.now None c.args.book.now
-          c.turns.book c.turn.new.book c.args.sources.now c.turns.sources c.turn.new.sources c.args.sinks.now
-          c.turns.sinks c.turn.new.sinks c.turns.invariant.goes_on one;
-      sources = c.turns.invariant.sources ∙ ap (end_numbers is_source) (sym one.tables);
-      sinks = c.turns.invariant.sinks ∙ ap (end_numbers is_sink) (sym one.tables);
-    }
+    Serves g.K.Sinks.takes g.K.Sinks.flushes c.args.limits.now e c.args.book.now c.come_to_outcome.new.book
+    c.args.sinks.now c.come_to_outcome.new.sinks)
+    c.in_default.is c.in_ok-over.ensures))
+    is)
+    c.make_turns.ensures

@@ -1,10 +1,18 @@
-use Rattle.std.proofs.Common.{rules, ◌≡◌, ◌<◌, length, None, sym, ap, ◌∙◌, subst}
+use Rattle.std.proofs.Common.{rules, ◌≡◌, ◌<◌, ◌≤◌, length, take, take_all, [], ◌∷◌, ◌++◌, None, refl, sym, ap, ◌∙◌, subst}
+use Rattle.std.proofs.lemmas.List.{take_more}
 use Rattle.kpn_net.specs.Tables.{is_sink}
-use Rattle.kpn_stream.specs.Ending.{end_numbers}
+use Rattle.kpn_stream.specs.Devices.{AreFlushed}
 use Rattle.kpn_stream.specs.Streaming.{Serves}
-use Rattle.kpn_stream.proofs.Going.{serves-trans}
-use Rattle.kpn_stream.proofs.Handling.{listed, none_of}
+use Rattle.kpn_stream.proofs.Going.{none_of, serves-refl, serves-trans, flushed_more}
+use Rattle.kpn_stream.proofs.Handling.{ends_stay, listed}
 use Rattle.kpn_stream.proofs.taking.flush_all.Goals as goal
+
+pub sinks-init : goal.sinks-init
+sinks-init g c = record {
+  serves = serves-refl g.K.Sinks.takes g.K.Sinks.flushes c.args.limits.now c.args.book.now c.args.sinks.now;
+  flushed = (refl, refl);
+  ends = c.requires;
+}
 
 pub flush-requires-clause-sink : goal.flush-requires-clause-sink
 flush-requires-clause-sink g c =
@@ -13,10 +21,11 @@ flush-requires-clause-sink g c =
     (listed is_sink c.sinks.book.tables items c.sinks.i c.index.result.now c.sinks.invariant.ends below
     c.index.ensures).0
 
-pub returns-then-is_some : goal.returns-then-is_some
-returns-then-is_some g c =
+pub returns-then-is_some-clause-serves : goal.returns-then-is_some-clause-serves
+returns-then-is_some-clause-serves g c =
     serves-trans g.K.Sinks.takes g.K.Sinks.flushes c.args.limits.now c.in_ok-ended.ended c.args.book.now c.sinks.book
-    c.flush.new.book c.args.sinks.now c.sinks.sinks c.flush.new.sinks c.sinks.invariant.serves c.in_ok-ended.ensures
+    c.flush.new.book c.args.sinks.now c.sinks.sinks c.flush.new.sinks c.sinks.invariant.serves
+    c.in_ok-ended.ensures.serves
 
 pub sinks-preserved : goal.sinks-preserved
 sinks-preserved g c =
@@ -30,6 +39,28 @@ sinks-preserved g c =
           (λ e.
           Serves g.K.Sinks.takes g.K.Sinks.flushes c.args.limits.now e c.sinks.book c.flush.new.book c.sinks.sinks
           c.flush.new.sinks)
-          on c.in_ok-ended.ensures);
-      ends = c.sinks.invariant.ends ∙ ap (end_numbers is_sink) (sym c.in_ok-ended.ensures.besides.tables);
+          on c.in_ok-ended.ensures.serves);
+      ends = ends_stay is_sink c.args.ends.now.sinks.items c.sinks.book c.flush.new.book
+          c.in_ok-ended.ensures.serves.besides.tables c.sinks.invariant.ends;
+      flushed =
+          let items = c.args.ends.now.sinks.items in
+          let below : c.sinks.i < length items = search rules in
+          subst
+          (λ xs.
+          AreFlushed g.K.Sinks.flushes xs c.args.book.now.history c.args.sinks.now c.flush.new.book.history
+          c.flush.new.sinks)
+          (ap (λ x. take c.sinks.i items ++ x ∷ []) c.index.ensures
+          ∙ sym (take_more items c.sinks.i c.index.result.now below))
+          (flushed_more g.K.Sinks.flushes (take c.sinks.i items) c.index.result.now c.args.book.now.history
+          c.sinks.book.history c.flush.new.book.history c.args.sinks.now c.sinks.sinks c.flush.new.sinks
+          c.sinks.invariant.flushed (c.in_ok-ended.ensures.flushed on));
     }
+
+pub returns-clause-flushed : goal.returns-clause-flushed
+returns-clause-flushed g c = λ _.
+    let items = c.args.ends.now.sinks.items in
+    let past : length items ≤ c.sinks.i = search rules in
+    subst
+    (λ xs.
+    AreFlushed g.K.Sinks.flushes xs c.args.book.now.history c.args.sinks.now c.sinks.book.history c.sinks.sinks)
+    (take_all c.sinks.i items past) c.sinks.invariant.flushed

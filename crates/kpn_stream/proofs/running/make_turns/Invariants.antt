@@ -2,11 +2,11 @@ use Rattle.std.proofs.Common.{◌≡◌, None}
 use Rattle.kpn_net.specs.Tables.{is_source, is_sink}
 use Rattle.kpn_stream.specs.Ending.{end_numbers}
 use Rattle.kpn_stream.specs.Streaming.{GoesOn}
-use Rattle.kpn_stream.proofs.running.run.Given as goal
+use Rattle.kpn_stream.proofs.running.make_turns.Given as goal
 
 abbrev pub invariant-turns : goal.invariant-turns
 invariant-turns g l = record {
-  goes_on : GoesOn g.S.Sources.gives g.K.Sinks.takes g.K.Sinks.flushes l.limits None
+  goes_on : GoesOn g.S.Sources.gives g.S.Sources.at_hand g.K.Sinks.takes g.K.Sinks.flushes l.limits None
       l.initial.book
       l.book
       l.initial.sources

@@ -1,8 +1,9 @@
-use Rattle.std.proofs.Common.{◌≡◌, true, None}
+use Rattle.std.proofs.Common.{◌≡◌, length, true, None}
 use Rattle.kpn_net.specs.Tables.{channel_at, is_sink}
+use Rattle.kpn_history.specs.Channels.{unread_on}
 use Rattle.kpn_stream.specs.Ending.{end_numbers}
 use Rattle.kpn_stream.specs.Streaming.{Serves}
-use Rattle.kpn_stream.proofs.taking.take_each.Given as goal
+use Rattle.kpn_stream.proofs.taking.put_each.Given as goal
 
 abbrev pub invariant-items : goal.invariant-items
 invariant-items g l = record {
@@ -10,3 +11,6 @@ invariant-items g l = record {
   ends : l.ends.sinks.items ≡ end_numbers is_sink l.book.tables;
   sink : is_sink (channel_at l.book.tables l.c) ≡ true;
 }
+
+abbrev pub decreases-items : goal.decreases-items
+decreases-items g l = length (unread_on l.book.history l.c)

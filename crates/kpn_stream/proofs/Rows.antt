@@ -1,0 +1,96 @@
+-- Worked rows: what the definitions say of a source whose device is a list in memory, and of a process that copies it.
+use Rattle.std.proofs.Common.{◌≡◌, ◌≢◌, ℕ, false, cond, eqb, ℤ, pos, List, [], ◌∷◌, Option, Some, None, Result, Ok, Err, refl, sym, ap, ◌∙◌, subst, inl, inr, arith}
+use Rattle.std.proofs.lemmas.Bool.{ne_eqb}
+use Rattle.kpn_net.specs.declared.tables.ChannelSpec.TheVariants as channel
+use Rattle.kpn_net.specs.declared.tables.Policy.TheVariants.{Cycles, All}
+use Rattle.kpn_net.specs.declared.tables.Growth.TheVariants.{One}
+use Rattle.kpn_net.specs.declared.wait.Wait.TheVariants.{Nobody, Empty}
+use Rattle.kpn_net.specs.Tables.{Tables}
+use Rattle.kpn_history.specs.declared.event.Event.TheVariants.{WaitEmpty, Feed, Close}
+use Rattle.kpn_stream.specs.declared.faults.SourceFault.{SourceFault}
+use Rattle.kpn_stream.specs.Devices.{MayRead, Fed, at_first, by_others, by_item, by_end}
+use Rattle.kpn_stream.specs.Lists.{GivesList, GiveInTurn}
+use Rattle.kpn_stream.proofs.Listing.{fed_when_due, gives_ahead}
+
+-- process 0 reads source 0 and writes sink 1
+abbrev copies : Tables
+copies = record {
+  programs = [];
+  instances = record { program = 0; ins = 0 ∷ []; outs = 1 ∷ []; pars = [] } ∷ [];
+  channels = channel.Source ∷ channel.Sink 1 ∷ [];
+  limit = 1;
+  policy = Cycles;
+  growth = One;
+}
+
+-- the device of source 0 gives the items of its list, and then the end
+abbrev Pops : List ℤ → ℕ → Result (Option ℤ) SourceFault → List ℤ → Type 0
+Pops (v ∷ rest) c (Ok (Some w)) now = (c ≡ 0) × (w ≡ v) × (now ≡ rest)
+Pops [] c (Ok None) now = (c ≡ 0) × (now ≡ [])
+Pops list c answer now = ⊥
+
+-- process 0 waits for an item of source 0
+may_read : MayRead copies (WaitEmpty 0 0 ∷ []) 0
+may_read = record {
+  may_feed = record { source = refl; not_closed = refl };
+  needed = inl (record { reader = 0; there = omega arith; waits = refl });
+}
+
+-- a process waits, and the item is read
+read_when_awaited : Fed copies Pops (pos 7 ∷ []) (WaitEmpty 0 0 ∷ Feed 0 (pos 7) ∷ []) None []
+read_when_awaited =
+    by_item (WaitEmpty 0 0 ∷ []) 0 (pos 7) (pos 7 ∷ []) []
+    (by_others [] (WaitEmpty 0 0) None (pos 7 ∷ []) at_first refl) may_read (refl, refl, refl)
+
+-- a process waits, and the end is told
+closed_when_awaited : Fed copies Pops [] (WaitEmpty 0 0 ∷ Close 0 ∷ []) None []
+closed_when_awaited =
+    by_end (WaitEmpty 0 0 ∷ []) 0 [] [] (by_others [] (WaitEmpty 0 0) None [] at_first refl) may_read (refl, refl)
+
+-- nobody waits yet: the item is not read, although it is there
+not_read_ahead : Fed copies Pops (pos 7 ∷ []) (Feed 0 (pos 7) ∷ []) None [] → ⊥
+not_read_ahead fed =
+    let may = fed_when_due Pops (pos 7 ∷ []) copies fed [] 0 (pos 7) (refl, tt) in
+    elim may.needed [
+      | inl awaited ↦ let clash : Nobody ≡ Empty 0 = awaited.waits in cc
+      | inr stuck ↦ let clash : Cycles ≡ All = stuck.policy in cc
+    ]
+
+-- the device gives its list
+on_source : List ℤ → ℕ → List ℤ
+on_source list c = cond (eqb c 0) list []
+
+pops_in_turn : GiveInTurn Pops on_source
+unfolding on_source
+pops_in_turn = record { item = item; end = end; fault = fault; others = others }
+  where
+    item : (s now : List ℤ) (c : ℕ) (v : ℤ) → Pops s c (Ok (Some v)) now
+        → cond (eqb c 0) s [] ≡ v ∷ cond (eqb c 0) now []
+    item [] now c v gives = absurd gives
+    item (w ∷ rest) now c v gives =
+        subst (λ x. cond (eqb x 0) (w ∷ rest) [] ≡ v ∷ cond (eqb x 0) now []) (sym gives.0)
+        (let a = gives.1 in let b = gives.2 in cc)
+
+    end : (s now : List ℤ) (c : ℕ) → Pops s c (Ok None) now → cond (eqb c 0) s [] ≡ []
+    end [] now c gives = subst (λ x. cond {A = List ℤ} (eqb x 0) [] [] ≡ []) (sym gives.0) refl
+    end (w ∷ rest) now c gives = absurd gives
+
+    fault : (s now : List ℤ) (c : ℕ) (why : SourceFault) → Pops s c (Err why) now
+        → cond (eqb c 0) now [] ≡ cond (eqb c 0) s []
+    fault [] now c why gives = absurd gives
+    fault (w ∷ rest) now c why gives = absurd gives
+
+    number : (s now : List ℤ) (d : ℕ) (answer : Result (Option ℤ) SourceFault) → Pops s d answer now → d ≡ 0
+    number (v ∷ rest) now d (Ok (Some w)) gives = gives.0
+    number [] now d (Ok None) gives = gives.0
+    number list now d answer gives = absurd gives
+
+    others : (s now : List ℤ) (c d : ℕ) (answer : Result (Option ℤ) SourceFault) → Pops s d answer now → d ≢ c
+        → cond (eqb c 0) now [] ≡ cond (eqb c 0) s []
+    others s now c d answer gives other =
+        let away : eqb c 0 ≡ false = ne_eqb c 0 (λ e. other (number s now d answer gives ∙ sym e)) in
+        ap (λ b. cond b now []) away ∙ sym (ap (λ b. cond b s []) away)
+
+gives_its_list : GivesList Pops (pos 7 ∷ pos 8 ∷ []) 0 (pos 7 ∷ pos 8 ∷ [])
+unfolding on_source
+gives_its_list = gives_ahead Pops on_source pops_in_turn (pos 7 ∷ pos 8 ∷ []) 0

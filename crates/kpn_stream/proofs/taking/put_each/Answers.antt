@@ -1,0 +1,70 @@
+use Rattle.std.proofs.Common.{rules, ◌≡◌, true, Ok, Err, None, sym, ap, ◌∙◌, subst, inl}
+use Rattle.std.proofs.lemmas.Bool.{both_ways}
+use Rattle.std.proofs.lemmas.Result.{IfOk-weaker}
+use Rattle.kpn_net.specs.Tables.{channel_at, is_sink}
+use Rattle.kpn_history.specs.declared.event.Event.TheVariants as event
+use Rattle.kpn_chan.specs.Channel.{next_item}
+use Rattle.kpn_configuration.specs.Configuration.{channel_in}
+use Rattle.kpn_run_state.specs.Appending.{Happens}
+use Rattle.kpn_run_here.proofs.Happening.{happens_tables}
+use Rattle.kpn_stream.specs.Ending.{end_numbers}
+use Rattle.kpn_stream.proofs.Going.{serves-refl, serves-trans}
+use Rattle.kpn_stream.proofs.Handling.{serves_item, serves_not, handled_taken}
+use Rattle.kpn_stream.proofs.Moments.{taken_if_none, some_unread, less_unread}
+use Rattle.kpn_stream.proofs.taking.put_each.Goals as goal
+
+pub items-init : goal.items-init
+items-init g c = record {
+  serves = serves-refl g.K.Sinks.takes g.K.Sinks.flushes c.args.limits.now c.args.book.now c.args.sinks.now;
+  ends = c.requires.ends;
+  sink = c.requires.sink;
+}
+
+pub returns-in-Err-clause-serves : goal.returns-in-Err-clause-serves
+returns-in-Err-clause-serves g c =
+    let answer : g.K.Sinks.takes c.items.sinks c.args.c c.in-Some.item (Err c.in-Err.fault) c.put.new.self =
+    search rules in
+    IfOk-weaker c.handle.result _ _
+    (λ ended is.
+    serves-trans g.K.Sinks.takes g.K.Sinks.flushes c.args.limits.now ended c.args.book.now c.items.book
+    c.handle.new.book c.args.sinks.now c.items.sinks c.put.new.self c.items.invariant.serves
+    (serves_not g.K.Sinks.takes g.K.Sinks.flushes c.args.limits.now c.args.c c.in-Some.item c.in-Err.fault ended
+    c.items.book c.handle.new.book c.items.sinks c.put.new.self
+    (λ given. both_ways c.has_given.result c.if-has_given.false (c.has_given.ensures.1 given)) answer is))
+    c.handle.ensures
+
+pub returns-in-Err-clause-all : goal.returns-in-Err-clause-all
+returns-in-Err-clause-all g c =
+    IfOk-weaker c.handle.result _ _
+    (λ ended is on.
+    inl (handled_taken c.args.limits.now c.args.c c.in-Err.fault ended c.items.book c.handle.new.book is on))
+    c.handle.ensures
+
+pub items-preserved : goal.items-preserved
+items-preserved g c =
+    let answer : g.K.Sinks.takes c.items.sinks c.args.c c.in-Some.item (Ok tt) c.put.new.self = search rules in
+    let took : Happens (event.Take c.args.c c.in-Some.item) c.items.book c.take.new.book =
+    c.in_ok-take.ensures c.in-Some.item (sym c.in-Some.ensures) in
+    let same = happens_tables (event.Take c.args.c c.in-Some.item) c.items.book c.take.new.book took in
+    record {
+      serves =
+          serves-trans g.K.Sinks.takes g.K.Sinks.flushes c.args.limits.now None c.args.book.now c.items.book
+          c.take.new.book c.args.sinks.now c.items.sinks c.put.new.self c.items.invariant.serves
+          (serves_item g.K.Sinks.takes g.K.Sinks.flushes c.args.limits.now c.args.c c.in-Some.item c.items.book
+          c.take.new.book c.items.sinks c.put.new.self
+          (λ given. both_ways c.has_given.result c.if-has_given.false (c.has_given.ensures.1 given)) answer took);
+      ends = c.items.invariant.ends ∙ ap (end_numbers is_sink) (sym same);
+      sink = subst (λ t. is_sink (channel_at t c.args.c) ≡ true) (sym same) c.items.invariant.sink;
+    }
+
+pub items-smaller : goal.items-smaller
+items-smaller g c =
+    let took : Happens (event.Take c.args.c c.in-Some.item) c.items.book c.take.new.book =
+    c.in_ok-take.ensures c.in-Some.item (sym c.in-Some.ensures) in
+    less_unread c.args.c c.in-Some.item c.items.book c.take.new.book took
+    (some_unread c.items.book c.known.ensures c.args.c c.in-Some.item c.items.invariant.sink (sym c.in-Some.ensures))
+
+pub returns-clause-all : goal.returns-clause-all
+returns-clause-all g c = λ _.
+    let none : next_item (channel_in c.items.book.configuration c.args.c) ≡ None = search rules in
+    inl (taken_if_none c.items.book c.known-2.ensures c.args.c c.items.invariant.sink none)
