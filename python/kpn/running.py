@@ -236,7 +236,7 @@ def file_of(folder: str, name: str, items: Items) -> str:
 def lines_of(name: str, items: Iterable[int]) -> bytes:
     """The lines that an item file has for these items of a source."""
     try:
-        values = array.array('q', iter(items.tolist() if hasattr(items, 'tolist') else items))
+        values = array.array('q', list(items.tolist() if hasattr(items, 'tolist') else items))
     except TypeError:
         raise TypeError(f'the items of the source `{name}` have to be whole numbers') from None
     except OverflowError:
