@@ -17,7 +17,7 @@ EXAMPLES = TOP / 'examples'
 # The pictures of docs/pictures/: the example, and the words of a run whose trace is drawn too.
 PICTURES = {
     'kahn': ('kahn.kpn', None),
-    'fibonacci': ('fibonacci.kpn', None),
+    'mean': ('mean.kpn', None),
     'moving_average_after_its_run': ('moving_average.kpn', ('--source', f'signal={EXAMPLES / "signal"}')),
 }
 # those of a run in time, which need no Graphviz
