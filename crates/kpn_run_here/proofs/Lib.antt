@@ -10,3 +10,4 @@ pub mod InARow
 pub mod Told
 pub mod Turning
 pub mod Completing
+mod Release

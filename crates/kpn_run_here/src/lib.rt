@@ -8,6 +8,7 @@ mod feeding;
 mod here;
 pub mod laws;
 mod outcome;
+mod releasing;
 mod report;
 mod stepping;
 mod stopping;
@@ -15,6 +16,7 @@ mod telling;
 
 pub use here::run_here;
 pub use outcome::{Limits, Outcome};
+pub use releasing::put_back_held;
 pub use report::Report;
 pub use stopping::outcome_of;
 pub use telling::report_of;

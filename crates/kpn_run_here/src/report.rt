@@ -4,7 +4,7 @@ use kpn_history::{History, View};
 use kpn_lang::Sequence;
 
 /// A run that has stopped, as its caller gets it.
-#[derive(Debug, Drop)]
+#[derive(Drop)]
 pub struct Report {
     pub outcome: Outcome,
     /// The channels and the states of the processes.

@@ -1,5 +1,4 @@
 mod Feeding
-mod Release
 mod Emptying
 mod Concluding
 mod Recorded

@@ -2,15 +2,14 @@
 //! written.
 ghost use Rattle.std.specs.Prelude.{◌≡◌, length, IfOk};
 ghost use Rattle.kpn_net.specs.Iteration.{sources};
-ghost use Rattle.kpn_run_state.specs.Book.{held_count};
 ghost use Rattle.kpn_run_here.specs.Reports.{AreSupplied, IsReport, events_of};
-ghost use Rattle.kpn_workers.specs.Ending.{KeepsHeld, Releases};
+ghost use Rattle.kpn_workers.specs.Ending.{KeepsHeld};
 
 use crate::fault::RunFault;
 use crate::fed::{are_closed, were_fed};
 use kpn_desk::Refused;
 use kpn_lang::Sequence;
-use kpn_run_here::{Limits, Report, outcome_of, report_of};
+use kpn_run_here::{Limits, Report, outcome_of, put_back_held, report_of};
 use kpn_run_state::Book;
 use std::alloc::Global;
 
@@ -52,26 +51,6 @@ pub(crate) fn conclude(
         return Err(RunFault::Foreign);
     }
     Ok(report)
-}
-
-/// Puts back each process that is held.
-fn put_back_held(book: &mut Book<'_>)
-    ensures tables { book.new.tables ≡ book.old.tables }
-    ensures none { held_count book.new ≡ 0 }
-{
-    'processes: for p in 0..book.network().instances() {
-        release(book, p);
-    }
-    book.known();
-}
-
-/// Puts back process `p`, if it is held.
-#[tactic(auto, using(crate::proofs::Release::released, crate::proofs::Release::not_held))]
-fn release(book: &mut Book<'_>, p: usize)
-    ensures { Releases p book.old book.new }
-{
-    // if it is not held, this is refused, and nothing changes
-    let _ = book.put_back(p);
 }
 
 /// Takes all that is unread from the sinks.

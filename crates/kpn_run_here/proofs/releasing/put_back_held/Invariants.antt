@@ -1,6 +1,6 @@
 use Rattle.std.proofs.Common.{◌≡◌}
-use Rattle.kpn_workers.specs.Ending.{IsNoneHeldBelow}
-use Rattle.kpn_workers.proofs.ending.put_back_held.Given as goal
+use Rattle.kpn_run_here.specs.Releasing.{IsNoneHeldBelow}
+use Rattle.kpn_run_here.proofs.releasing.put_back_held.Given as goal
 
 abbrev pub invariant-processes : goal.invariant-processes
 invariant-processes l = record {

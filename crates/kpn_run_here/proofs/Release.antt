@@ -9,7 +9,7 @@ use Rattle.kpn_history.specs.Views.{is_held}
 use Rattle.kpn_schedule.specs.Schedule.{state_at}
 use Rattle.kpn_run_state.specs.Book.{Book, IsHeld, held_count, put_back}
 use Rattle.kpn_run_state.specs.Kept.{IsBook}
-use Rattle.kpn_workers.specs.Ending.{Releases, IsNoneHeldBelow}
+use Rattle.kpn_run_here.specs.Releasing.{Releases, IsNoneHeldBelow}
 
 -- ---- one process
 

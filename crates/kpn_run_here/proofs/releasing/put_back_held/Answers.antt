@@ -1,7 +1,7 @@
 use Rattle.std.proofs.Common.{◌≡◌, length, ap, subst, arith}
-use Rattle.kpn_workers.specs.Ending.{IsNoneHeldBelow}
-use Rattle.kpn_workers.proofs.Release.{none_left}
-use Rattle.kpn_workers.proofs.ending.put_back_held.Goals as goal
+use Rattle.kpn_run_here.specs.Releasing.{IsNoneHeldBelow}
+use Rattle.kpn_run_here.proofs.Release.{none_left}
+use Rattle.kpn_run_here.proofs.releasing.put_back_held.Goals as goal
 
 pub returns-clause-none : goal.returns-clause-none
 returns-clause-none c =
