@@ -8,7 +8,7 @@ use kpn_text::TextFault;
 use std::alloc::{AllocError, Global};
 
 /// A process with one in port and one out port that goes on as long as items come.
-#[derive(Clone, Copy, Debug, PartialEq, Eq)]
+#[derive(Clone, Copy, PartialEq, Eq)]
 pub enum BuiltIn {
     /// Puts each item: `while 1 { read i x; write o x; }`.
     Copy,

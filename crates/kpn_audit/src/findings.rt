@@ -10,7 +10,7 @@ use std::alloc::{AllocError, Allocator, Global};
 use thiserror::Error;
 
 /// What stands after a legal history. Each list has an entry for each channel, or for each process, in order of number.
-#[derive(Debug, Drop)]
+#[derive(Drop)]
 pub struct Audit<A: Allocator = Global> {
     /// All items that were written on the channel, in order.
     pub journals: Sequence<Journal<A>, A>,

@@ -3,7 +3,7 @@
 use kpn_configuration::OwedGrowth;
 
 /// What is found of the event that comes next.
-#[derive(Clone, Copy, Debug, PartialEq, Eq)]
+#[derive(Clone, Copy, PartialEq, Eq)]
 pub enum Judged {
     /// It may follow, and the configuration is the one after it. This growth is owed then.
     Follows(Option<OwedGrowth>),

@@ -3,7 +3,7 @@
 use kpn_history::How;
 
 /// What stands before an event of a trace.
-#[derive(Clone, Copy, Debug)]
+#[derive(Clone, Copy)]
 pub enum Scene {
     /// This growth is owed, so it has to come first.
     Owes(GrowthOwed),
@@ -18,7 +18,7 @@ pub enum Scene {
 }
 
 /// A growth that is owed: the channel, a process that waits, and the new capacity.
-#[derive(Clone, Copy, Debug)]
+#[derive(Clone, Copy)]
 pub struct GrowthOwed {
     pub process: usize,
     pub channel: usize,
@@ -26,7 +26,7 @@ pub struct GrowthOwed {
 }
 
 /// What a process is doing.
-#[derive(Clone, Copy, Debug)]
+#[derive(Clone, Copy)]
 pub enum Doing {
     /// It has ended in this way.
     Ended(How),
@@ -45,7 +45,7 @@ pub enum Doing {
 }
 
 /// How a channel stands to the outside.
-#[derive(Clone, Copy, Debug)]
+#[derive(Clone, Copy)]
 pub enum Side {
     /// It is no source.
     NoSource,

@@ -2,7 +2,7 @@
 #![tactic(auto)]
 
 /// A file to store.
-#[derive(Debug, Drop)]
+#[derive(Drop)]
 pub struct OutputFile {
     pub name: String,
     pub bytes: Vec<u8>,
@@ -10,7 +10,7 @@ pub struct OutputFile {
 
 /// The text that a command writes, the status that the program then ends with, and the files that it stores before, in
 /// this order.
-#[derive(Debug, Drop)]
+#[derive(Drop)]
 pub struct Conclusion {
     pub text: Vec<u8>,
     pub status: u8,

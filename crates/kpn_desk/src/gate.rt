@@ -29,7 +29,7 @@ pub trait Gate: Sync {
 }
 
 /// The commit gate that lets every commit through.
-#[derive(Clone, Copy, Debug, PartialEq, Eq)]
+#[derive(Clone, Copy, PartialEq, Eq)]
 pub struct CommitsAll;
 
 impl Gate for CommitsAll {

@@ -8,7 +8,7 @@ use kpn_history::{How, State};
 use kpn_net::{Network, Wait};
 
 /// What went over a channel in a history.
-#[derive(Clone, Copy, Debug)]
+#[derive(Clone, Copy)]
 pub(crate) struct Flow {
     /// How many items were put on it.
     pub put: usize,

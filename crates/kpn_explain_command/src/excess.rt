@@ -16,7 +16,7 @@ use kpn_tokens::Lexeme;
 use std::alloc::{AllocError, Global};
 
 /// How many ports and variables a process has.
-#[derive(Clone, Copy, Debug)]
+#[derive(Clone, Copy)]
 pub(crate) struct Sizes {
     pub ins: usize,
     pub outs: usize,

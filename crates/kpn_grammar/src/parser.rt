@@ -13,7 +13,7 @@ use kpn_lang::Op;
 use kpn_tokens::{Keyword, Lexeme, Mark, Number, Token};
 
 /// What a fault needs besides the tokens.
-#[derive(Clone, Copy, Debug)]
+#[derive(Clone, Copy)]
 pub(crate) struct Scope {
     /// The length of the text in bytes: the place of a fault if the text ends too early.
     pub end: usize,
@@ -22,7 +22,7 @@ pub(crate) struct Scope {
 }
 
 /// The tokens of a text.
-#[derive(Clone, Copy, Debug)]
+#[derive(Clone, Copy)]
 pub(crate) struct Source<'a> {
     pub tokens: &'a [Lexeme<'a>],
     pub scope: Scope,

@@ -8,7 +8,7 @@ use kpn_net::{Growth, Policy};
 use kpn_tokens::{Name, Number};
 
 /// A name as written.
-#[derive(Debug, Drop)]
+#[derive(Drop)]
 pub struct Identifier<'a> {
     /// Its bytes, which remain in the text.
     pub bytes: &'a [u8],
@@ -28,7 +28,7 @@ impl<'a> Identifier<'a> {
 }
 
 /// An expression.
-#[derive(Debug, Drop)]
+#[derive(Drop)]
 pub enum Expression<'a> {
     Number(Number),
     Name(Identifier<'a>),
@@ -41,7 +41,7 @@ pub enum Expression<'a> {
 }
 
 /// A statement.
-#[derive(Debug, Drop)]
+#[derive(Drop)]
 pub enum Statement<'a> {
     /// `target = value;`
     Assign(Identifier<'a>, Expression<'a>),
@@ -62,7 +62,7 @@ pub type Block<'a> = Vec<Statement<'a>>;
 pub type Names<'a> = Vec<Identifier<'a>>;
 
 /// The ports and parameters in the head of a process, each in order.
-#[derive(Debug, Drop)]
+#[derive(Drop)]
 pub struct HeadParts<'a> {
     pub ins: Names<'a>,
     pub outs: Names<'a>,
@@ -70,7 +70,7 @@ pub struct HeadParts<'a> {
 }
 
 /// A process: `process name(in ins; out outs; par pars) { body }`.
-#[derive(Debug, Drop)]
+#[derive(Drop)]
 pub struct Process<'a> {
     pub name: Identifier<'a>,
     pub parts: HeadParts<'a>,
@@ -78,7 +78,7 @@ pub struct Process<'a> {
 }
 
 /// The value of a parameter as written.
-#[derive(Clone, Copy, Debug, PartialEq, Eq)]
+#[derive(Clone, Copy, PartialEq, Eq)]
 pub enum Literal {
     Plain(Number),
     /// A number behind a minus.
@@ -86,7 +86,7 @@ pub enum Literal {
 }
 
 /// An instance of a process: `name = program(ins; outs; values);`.
-#[derive(Debug, Drop)]
+#[derive(Drop)]
 pub struct Instance<'a> {
     pub name: Identifier<'a>,
     pub program: Identifier<'a>,
@@ -98,7 +98,7 @@ pub struct Instance<'a> {
 }
 
 /// An item of a network.
-#[derive(Debug, Drop)]
+#[derive(Drop)]
 pub enum Item<'a> {
     /// `channel name cap capacity;`
     Channel(Identifier<'a>, Number),
@@ -110,7 +110,7 @@ pub enum Item<'a> {
 }
 
 /// The network: its limit, its policy and its growth, each if it is written, and its items in order.
-#[derive(Debug, Drop)]
+#[derive(Drop)]
 pub struct Network<'a> {
     pub limit: Option<Number>,
     pub policy: Option<Policy>,
@@ -119,7 +119,7 @@ pub struct Network<'a> {
 }
 
 /// A description: its processes, numbered from 0 in order, and its network.
-#[derive(Debug, Drop)]
+#[derive(Drop)]
 pub struct Description<'a> {
     pub processes: Vec<Process<'a>>,
     pub network: Network<'a>,

@@ -15,7 +15,7 @@ use kpn_text::Document;
 use std::alloc::{AllocError, Global};
 
 /// The ends of a network that options name.
-#[derive(Clone, Copy, Debug)]
+#[derive(Clone, Copy)]
 pub enum Ends {
     /// The sources, by `--source`.
     Sources,
@@ -24,7 +24,7 @@ pub enum Ends {
 }
 
 /// An option: the name of an end of a network, and the name of a file.
-#[derive(Clone, Copy, Debug)]
+#[derive(Clone, Copy)]
 pub struct FileOption<'a> {
     pub name: &'a str,
     pub file: &'a str,
@@ -32,7 +32,7 @@ pub struct FileOption<'a> {
 
 /// An end of a network by its number among the sources or among the sinks, which both stand in order of their
 /// channels, and the name of the file that an option gives it.
-#[derive(Clone, Copy, Debug)]
+#[derive(Clone, Copy)]
 pub struct NamedEnd<'a> {
     pub number: usize,
     pub file: &'a str,

@@ -20,7 +20,7 @@ use std::alloc::Global;
 /// What a description names, by number: the parts of its programs, the tables of its network as `kpn_net::Network::new`
 /// takes them, and the names. Each table of names is in the order of declaration, and belongs to the list of the same
 /// things.
-#[derive(Debug, Drop)]
+#[derive(Drop)]
 pub struct Named<'a> {
     /// The names of the processes.
     pub processes: NameTable<'a>,

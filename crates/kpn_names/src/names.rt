@@ -19,7 +19,7 @@ use std::hash::{Hash, Hasher};
 use std::marker::Model;
 
 /// A name as a key of a table.
-#[derive(Debug, Drop)]
+#[derive(Drop)]
 struct Word<'a> {
     bytes: &'a [u8],
 }
@@ -57,7 +57,7 @@ impl<'a> Hash for Word<'a> {
 }
 
 /// A table of names, which borrows their bytes. No name is in it twice.
-#[derive(Debug, Drop)]
+#[derive(Drop)]
 pub struct NameTable<'a> {
     words: IndexSet<Word<'a>>,
 }

@@ -3,7 +3,7 @@
 use kpn_lang::Sequence;
 
 /// The names of a process, each table by number.
-#[derive(Debug, Drop)]
+#[derive(Drop)]
 pub struct ProcessNames {
     pub name: Sequence<u8>,
     /// The in ports.
@@ -15,7 +15,7 @@ pub struct ProcessNames {
 }
 
 /// The names of a network, each table by number.
-#[derive(Debug, Drop)]
+#[derive(Drop)]
 pub struct NetworkNames {
     /// The processes, each with the names in it.
     pub processes: Sequence<ProcessNames>,

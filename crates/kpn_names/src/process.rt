@@ -16,7 +16,7 @@ use std::alloc::Global;
 
 /// What a program is made of, as `kpn_lang::Program::new` takes it, and the names of its ports and
 /// variables.
-#[derive(Debug, Drop)]
+#[derive(Drop)]
 pub struct ProgramParts<'a> {
     /// The names of the in ports, the out ports and the variables, each by number.
     pub scope: Scope<'a>,

@@ -12,7 +12,7 @@ use kpn_grammar::{Identifier, Process};
 use std::alloc::Global;
 
 /// The names of a process. No two of them are the same.
-#[derive(Debug, Drop)]
+#[derive(Drop)]
 pub struct Scope<'a> {
     /// The in ports, in order.
     pub ins: NameTable<'a>,
@@ -23,7 +23,7 @@ pub struct Scope<'a> {
 }
 
 /// A part of the head of a process.
-#[derive(Clone, Copy, Debug)]
+#[derive(Clone, Copy)]
 pub(crate) enum Part {
     In,
     Out,

@@ -11,7 +11,7 @@ use kpn_trace_text::TraceFault;
 use std::fmt;
 
 /// A fault as the program reports it: `kpn: NUMBER NAME`, and ` at PLACE` if it has a place.
-#[derive(Clone, Copy, Debug)]
+#[derive(Clone, Copy)]
 pub(crate) struct FaultLine {
     /// The number of the fault.
     pub number: u8,

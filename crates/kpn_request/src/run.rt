@@ -3,7 +3,7 @@
 use std::marker::Model;
 
 /// What `kpn run` is asked for. Contracts see the bytes of its words.
-#[derive(Debug, Drop)]
+#[derive(Drop)]
 pub struct RunRequest<'a> {
     /// The file of the description.
     pub file: &'a str,

@@ -3,7 +3,7 @@
 use std::marker::Model;
 
 /// How items are written in the inputs and outputs of a stream.
-#[derive(Clone, Copy, Debug, PartialEq, Eq)]
+#[derive(Clone, Copy, PartialEq, Eq)]
 pub enum ItemFormat {
     /// Item files: one item in each line.
     Lines,
@@ -16,7 +16,7 @@ pub enum ItemFormat {
 }
 
 /// What `kpn stream` is asked for. Contracts see the bytes of its words.
-#[derive(Debug, Drop)]
+#[derive(Drop)]
 pub struct StreamRequest<'a> {
     /// The file of the description.
     pub file: &'a str,

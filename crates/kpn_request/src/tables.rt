@@ -1,7 +1,7 @@
 //! The tables that `kpn stats` writes.
 
 /// Which tables `kpn stats` writes of a run.
-#[derive(Clone, Copy, Debug, PartialEq, Eq)]
+#[derive(Clone, Copy, PartialEq, Eq)]
 pub enum StatsTables {
     /// Those for people: of the channels, of the processes, and what they say of the capacities.
     People,

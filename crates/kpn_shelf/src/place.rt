@@ -32,7 +32,7 @@ pub(super) fn beside(
 }
 
 /// A file by its device and its inode.
-#[derive(Clone, Copy, Debug, PartialEq, Eq)]
+#[derive(Clone, Copy, PartialEq, Eq)]
 pub(super) struct Node {
     device: u64,
     inode: u64,

@@ -8,7 +8,7 @@ use kpn_net::Network;
 use std::alloc::{AllocError, Global};
 
 /// The figures of a channel.
-#[derive(Clone, Copy, Debug)]
+#[derive(Clone, Copy)]
 pub(crate) struct ChannelFigures {
     /// Items that were put on it or fed to it.
     pub(crate) put: usize,
@@ -25,7 +25,7 @@ pub(crate) struct ChannelFigures {
 }
 
 /// The figures of a process.
-#[derive(Clone, Copy, Debug)]
+#[derive(Clone, Copy)]
 pub(crate) struct ProcessFigures {
     /// Items that it got.
     pub(crate) gets: usize,
@@ -38,7 +38,7 @@ pub(crate) struct ProcessFigures {
 }
 
 /// The figures of a history: of each channel and of each process, in order of number.
-#[derive(Debug, Drop)]
+#[derive(Drop)]
 pub(crate) struct Figures {
     pub(crate) channels: Sequence<ChannelFigures>,
     pub(crate) processes: Sequence<ProcessFigures>,

@@ -9,7 +9,7 @@ use kpn_pieces::Pushed;
 use std::alloc::{AllocError, Global};
 
 /// A row of a table: its name and its further cells.
-#[derive(Debug, Drop)]
+#[derive(Drop)]
 pub(crate) struct Row {
     pub(crate) name: Sequence<u8>,
     pub(crate) cells: Sequence<Sequence<u8>>,

@@ -9,7 +9,7 @@ use kpn_ticks::{Clocks, clocks_of};
 use std::alloc::{AllocError, Global};
 
 /// The clocks after a history, and how much happens in it.
-#[derive(Debug, Drop)]
+#[derive(Drop)]
 pub(crate) struct Times {
     /// With the capacities of the network.
     pub(crate) bounded: Clocks,

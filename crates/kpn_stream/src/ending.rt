@@ -21,7 +21,7 @@ pub enum Ending {
 }
 
 /// A stream that has ended.
-#[derive(Debug, Drop)]
+#[derive(Drop)]
 pub struct Streamed<'n> {
     pub ending: Ending,
     /// The book of its run.

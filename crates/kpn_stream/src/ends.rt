@@ -7,7 +7,7 @@ use kpn_net::Network;
 use std::alloc::{AllocError, Global};
 
 /// The numbers of the sources and of the sinks, each in order.
-#[derive(Debug, Drop)]
+#[derive(Drop)]
 pub(crate) struct Ends {
     pub(crate) sources: Vec<usize>,
     pub(crate) sinks: Vec<usize>,

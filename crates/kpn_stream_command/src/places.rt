@@ -16,7 +16,7 @@ use std::alloc::{AllocError, Global};
 pub(crate) const STANDARD: &str = "-";
 
 /// An end of a network by the number of its channel, and the name of its input or output.
-#[derive(Clone, Copy, Debug)]
+#[derive(Clone, Copy)]
 pub(crate) struct Place<'a> {
     pub(crate) channel: usize,
     pub(crate) name: &'a str,

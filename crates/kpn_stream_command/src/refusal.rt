@@ -13,7 +13,7 @@ use std::io;
 use std::io::Write;
 
 /// Why a stream is not begun, or not concluded.
-#[derive(Debug, Drop)]
+#[derive(Drop)]
 pub(crate) enum StreamRefusal {
     /// For a cause that other commands have too.
     Common(Refusal),

@@ -18,7 +18,7 @@ use kpn_text::Document;
 use std::alloc::{AllocError, Global};
 
 /// What is told of a sink.
-#[derive(Clone, Copy, Debug)]
+#[derive(Clone, Copy)]
 pub(crate) struct SinkEnd {
     pub(crate) channel: usize,
     pub(crate) items: usize,

@@ -16,7 +16,7 @@ use std::str;
 
 /// A network with the names of its processes, instances and channels. Some text spells it: only
 /// [`read_network`](crate::read_network) makes one.
-#[derive(Debug, Drop)]
+#[derive(Drop)]
 pub struct Document {
     network: Network,
     names: NetworkNames,

@@ -11,7 +11,7 @@ use kpn_net::{End, Network};
 use std::alloc::{AllocError, Global};
 
 /// What is known of time after some events of a network.
-#[derive(Debug, Drop)]
+#[derive(Drop)]
 pub struct Clocks {
     latest: Vec<usize>,
     written: Vec<Sequence<usize>>,

@@ -6,7 +6,7 @@ ghost use Rattle.kpn_timeline_command.specs.Drawable.{IsDrawable};
 use kpn_text::Document;
 
 /// Which ticks a picture shows, and where they stand in it, in pixels.
-#[derive(Clone, Copy, Debug)]
+#[derive(Clone, Copy)]
 pub(crate) struct Scale {
     /// The tick before the first one.
     pub front: usize,

@@ -37,7 +37,7 @@ impl<T: Drop> From<AllocFailed<T>> for LexFault {
 }
 
 /// The kinds of bytes that runs are made of.
-#[derive(Clone, Copy, Debug)]
+#[derive(Clone, Copy)]
 enum Class {
     /// What may be in a comment: all but a line feed.
     Comment,

@@ -16,7 +16,7 @@ pub const MAX_NUMBER: u64 = i64::MAX as u64;
 /// [`MAX_NAME_BYTES`](kpn_limits::MAX_NAME_BYTES) long, and no reserved word. It borrows its bytes from the text, and
 /// contracts see those bytes. If [`crate::lexemes`] made it, they are such a name by the law
 /// [`crate::read_tokens_are_spelled`].
-#[derive(Debug, Drop)]
+#[derive(Drop)]
 pub struct Name<'a> {
     bytes: &'a [u8],
 }
@@ -60,7 +60,7 @@ impl<'a> Eq for Name<'a> {
 }
 
 /// A number: 0 to [`MAX_NUMBER`]. Contracts see it as a natural number.
-#[derive(Clone, Copy, Debug, PartialEq, Eq)]
+#[derive(Clone, Copy, PartialEq, Eq)]
 pub struct Number {
     value: u64,
 }
@@ -95,7 +95,7 @@ impl Number {
 }
 
 /// A mark: the punctuation and the operators.
-#[derive(Clone, Copy, Debug, PartialEq, Eq)]
+#[derive(Clone, Copy, PartialEq, Eq)]
 pub enum Mark {
     LeftParen,
     RightParen,
@@ -190,7 +190,7 @@ impl Mark {
 }
 
 /// A reserved word.
-#[derive(Clone, Copy, Debug, PartialEq, Eq)]
+#[derive(Clone, Copy, PartialEq, Eq)]
 pub enum Keyword {
     Process,
     In,
@@ -271,7 +271,7 @@ impl Keyword {
 }
 
 /// A token of the text.
-#[derive(Debug, PartialEq, Eq, Drop)]
+#[derive(PartialEq, Eq, Drop)]
 pub enum Token<'a> {
     Name(Name<'a>),
     Number(Number),
@@ -280,7 +280,7 @@ pub enum Token<'a> {
 }
 
 /// A token and the byte at which it begins.
-#[derive(Debug, PartialEq, Eq, Drop)]
+#[derive(PartialEq, Eq, Drop)]
 pub struct Lexeme<'a> {
     pub token: Token<'a>,
     pub start: usize,

@@ -6,7 +6,7 @@ ghost use Rattle.kpn_trace_text.specs.EventLine.{kind_word, kind_named, how_word
 use kpn_history::How;
 
 /// The kind of an event: the first word of its line.
-#[derive(Clone, Copy, Debug, PartialEq, Eq)]
+#[derive(Clone, Copy, PartialEq, Eq)]
 pub enum Kind {
     Get,
     Put,

@@ -23,7 +23,7 @@ use kpn_net::{End, Network, Policy, Wait};
 use std::alloc::Allocator;
 
 /// A growth that is owed: the channel, and a process that waits.
-#[derive(Clone, Copy, Debug, PartialEq, Eq)]
+#[derive(Clone, Copy, PartialEq, Eq)]
 pub struct OwedGrowth {
     pub process: usize,
     pub channel: usize,
@@ -31,7 +31,7 @@ pub struct OwedGrowth {
 
 /// The new capacity of a channel, and the process that its growth wakes: the writer, if it waited on the channel as
 /// full.
-#[derive(Clone, Copy, Debug, PartialEq, Eq)]
+#[derive(Clone, Copy, PartialEq, Eq)]
 pub struct Grown {
     pub capacity: u32,
     pub woken: Option<usize>,

@@ -26,7 +26,7 @@ use kpn_net::{Network, Wait};
 use std::alloc::Allocator;
 
 /// What was read from a channel, and the process that this wakes: its writer, if it waited on it as full.
-#[derive(Clone, Copy, Debug, PartialEq, Eq)]
+#[derive(Clone, Copy, PartialEq, Eq)]
 pub struct Got {
     pub item: i64,
     pub woken: Option<usize>,
