@@ -18,6 +18,7 @@ pub mod StopGrowth
 pub mod Starting
 pub mod Talking
 pub mod Woken
+pub mod Marking
 pub mod Waking
 pub mod Verdicts
 pub mod Determined

@@ -14,13 +14,13 @@ use Rattle.kpn_configuration.specs.Woken.{is_wait, waiting_at, free_now, woken_a
 
 -- ---- one wait
 
-is_that : (wait w : Wait) → is_wait wait w ≡ true → w ≡ wait
+pub is_that : (wait w : Wait) → is_wait wait w ≡ true → w ≡ wait
 is_that Nobody Nobody is = refl
 is_that (Empty c) (Empty d) is = ap Empty (sym (eqb-true c d is))
 is_that (Full c) (Full d) is = ap Full (sym (eqb-true c d is))
 is_that wait w is = absurd (false≢true is)
 
-is_itself : (wait : Wait) → is_wait wait wait ≡ true
+pub is_itself : (wait : Wait) → is_wait wait wait ≡ true
 is_itself Nobody = refl
 is_itself (Empty c) = eq-eqb c c refl
 is_itself (Full c) = eq-eqb c c refl

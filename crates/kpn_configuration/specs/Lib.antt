@@ -9,3 +9,4 @@ pub mod Settled
 pub mod Owed
 pub mod Stopped
 pub mod Determined
+pub mod Marks

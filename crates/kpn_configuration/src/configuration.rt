@@ -7,7 +7,6 @@ ghost use Rattle.kpn_net.specs.Tables.{Tables};
 ghost use Rattle.kpn_history.specs.declared.event.Event.{Event};
 
 use kpn_chan::{Channel, Journal};
-use kpn_cycle::Waits;
 use kpn_history::How;
 use kpn_lang::Sequence;
 use kpn_net::Wait;
@@ -17,14 +16,15 @@ use std::marker::Model;
 
 mod complete;
 mod growth;
+mod marked_waits;
 mod outside;
 mod processes;
 mod start;
 mod steps;
 mod verdicts;
-mod wakes;
 
 pub use growth::{Grown, OwedGrowth};
+use marked_waits::MarkedWaits;
 pub use processes::Got;
 
 /// The states of the processes of a network and the contents of its channels at one moment of a run.
@@ -37,7 +37,7 @@ pub struct Configuration<A: Allocator = Global> {
     closed: Vec<bool, A>,
     // the capacities once more, in the form that the walk along the waits reads; the invariant keeps them equal
     capacities: Vec<u32, A>,
-    waits: Waits<A>,
+    waits: MarkedWaits<A>,
     ends: Vec<Option<How>, A>,
     frames: Vec<Frame, A>,
 }

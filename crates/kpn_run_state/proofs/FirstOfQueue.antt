@@ -23,7 +23,7 @@ use Rattle.kpn_run_state.specs.Commits.{IsAnswer, IsOwnAdvance, ready_if_paused,
 use Rattle.kpn_run_state.specs.Kept.{IsKept, IsBook}
 use Rattle.kpn_run_state.specs.Stepping.{StepsNext}
 use Rattle.kpn_run_state.specs.InARow.{PutsOnNoSink, puts_on, StepsInRow, no_step, one_step_more, RunsOn}
-use Rattle.kpn_run_state.specs.Open.{first_claimed, IsSound, if_sink, sink_of, sink_by, HandlesFirst, IsTurn}
+use Rattle.kpn_run_state.specs.Open.{first_claimed, IsSound, if_sink, sink_of, sink_by, grows_if_owed, HandlesFirst, IsTurn}
 use Rattle.kpn_run_state.proofs.Counting.{held_more}
 use Rattle.kpn_run_state.proofs.Appended.{claimed_is_held, tables_stay, history_then, commits_stay, base_tables, base_history, base_commits}
 use Rattle.kpn_run_state.proofs.Following.{recorded}
@@ -62,6 +62,13 @@ module _ (b : Book) (kept : IsKept b) (p : ℕ) (holds : HoldsFirst p b.schedule
   kept_first = kept_claimed b kept p (first_claimed p b) claimed (λ is. omega (arith, is, more))
 
 -- ---- on which sink it has put an item
+
+-- one that has to wait has put an item on no sink
+pub waits_on_no_sink : (t : Tables) (c p : ℕ) (b a : Book) (answer : Done) → grows_if_owed p answer b a
+    → sink_of t c answer ≡ None
+waits_on_no_sink t c p b a done.Blocked grows = refl
+waits_on_no_sink t c p b a (done.Grew d) grows = refl
+waits_on_no_sink t c p b a other grows = absurd grows
 
 none_by : (t : Tables) (p : ℕ) (answer : Done) → ((c : ℕ) → sink_of t c answer ≡ None) → (s : Stop)
     → sink_by t p s answer ≡ None

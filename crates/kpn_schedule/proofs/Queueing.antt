@@ -272,6 +272,29 @@ module _ (states : List State) (queue : List ℕ) (p : ℕ)
   rotated after same =
       ap (scheduled states) same ∙ ap (λ xs. scheduled xs (drop 1 queue ++ p ∷ [])) (sym states_back)
 
+  pub first_is_there : p < length states
+  first_is_there = first_there states p (drop 1 queue) apart
+
+  pub first_is_ready : get_or states p Ready ≡ Ready
+  first_is_ready = first_ready states p (drop 1 queue) apart
+
+  -- it leaves the queue for another state
+  pub IsSchedule-left : (state : State) → is_ready state ≡ false
+      → IsSchedule (record { states = set states p state; queue = drop 1 queue })
+  IsSchedule-left state neither =
+      let there = first_is_there in
+      let still : p < length (set states p Held) = omega (arith, there, length-set states p Held) in
+      subst (λ xs. IsSchedule (record { states = xs; queue = drop 1 queue })) (set-set states p Held state)
+      (IsSchedule-set (set states p Held) (drop 1 queue) (IsSchedule-held states p (drop 1 queue) apart) p still
+      (ap is_ready (get_or-set_same states p Held Ready there)) state neither)
+
   -- no more are in the queue than there are processes
   pub few_wait : length queue ≤ length states
   few_wait = let long = is.count in let most = count_by-le-length is_ready states in omega (arith, long, most)
+
+pub left_first : (states : List State) (queue : List ℕ) (p : ℕ) (state : State) (states_after : List State)
+    (after : List ℕ) → states_after ≡ set states p state → after ≡ drop 1 queue
+    → scheduled states_after after ≡ with_state p state (first_held p (scheduled states queue))
+left_first states queue p state states_after after changed same =
+    ap (λ xs. scheduled xs after) (changed ∙ sym (set-set states p Held state))
+    ∙ ap (scheduled (set (set states p Held) p state)) same

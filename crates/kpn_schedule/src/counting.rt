@@ -17,6 +17,7 @@ pub(crate) struct Tally {
 }
 
 /// Counts one more process in this state.
+#[inline(always)]
 pub(crate) fn enter(tally: &mut Tally, state: State)
     requires { count_in state tally.old + 1 < 2 ^ 64 }
     ensures { tally.new ≡ one_more state tally.old }
@@ -30,6 +31,7 @@ pub(crate) fn enter(tally: &mut Tally, state: State)
 }
 
 /// Counts one process fewer in this state.
+#[inline(always)]
 pub(crate) fn leave(tally: &mut Tally, state: State)
     requires { 0 < count_in state tally.old }
     ensures { tally.new ≡ one_less state tally.old }

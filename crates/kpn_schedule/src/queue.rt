@@ -52,6 +52,15 @@ impl<A: Allocator> Queue<A> {
         Some(p)
     }
 
+    /// Takes the first number, which is there.
+    pub(crate) fn drop_first(&mut self)
+        requires { self.old.taken < length self.old.numbers.items }
+        ensures numbers { waiting self.new ≡ drop 1 (waiting self.old) }
+        ensures queue { (room : ℕ) → IsQueue room self.old → IsQueue room self.new }
+    {
+        self.taken += 1;
+    }
+
     /// Puts a number behind the others. There are fewer than there is room for.
     pub(crate) fn put(&mut self, p: usize)
         requires { (room : ℕ) × IsQueue room self.old × (length (waiting self.old) < room) }

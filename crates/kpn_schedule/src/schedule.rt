@@ -126,9 +126,8 @@ impl<A: Allocator> Schedule<A> {
         requires state { is_ready (state_at self.old.states p) ≡ false }
         ensures { self.new ≡ made_ready p self.old }
     {
-        // As if it were held first: the first call counts it, the second queues it.
-        self.set(p, State::Held);
-        self.put_back(p);
+        let from = self.states[p];
+        self.wake(p, from);
     }
 
     /// Makes process `p`, which is held, ready, at the tail of the queue.
@@ -137,11 +136,36 @@ impl<A: Allocator> Schedule<A> {
         requires held { state_at self.old.states p ≡ State.Held }
         ensures { self.new ≡ made_ready p self.old }
     {
-        self.states[p] = State::Ready;
+        self.wake(p, State::Held);
+    }
+
+    /// Makes process `p`, which is in this state, ready, at the tail of the queue. The caller knows the state, so it is
+    /// not looked up.
+    #[inline(always)]
+    pub fn wake(&mut self, p: usize, from: State)
+        requires process { p < length self.old.states }
+        requires state { state_at self.old.states p ≡ from }
+        requires waits { is_ready from ≡ false }
+        ensures { self.new ≡ made_ready p self.old }
+    {
+        change(&mut self.states, &mut self.tally, p, from, State::Ready);
         self.queue.put(p);
     }
 
-    /// Moves process `p`, which is the first of the queue, to its tail, as if it were held and put back. No state changes.
+    /// Puts process `p`, which is the first of the queue, into this state, which is not ready, as if it were held
+    /// before.
+    #[inline(always)]
+    pub fn set_first(&mut self, p: usize, state: State)
+        requires first { slice_get self.old.queue 0 ≡ Some p }
+        requires new { is_ready state ≡ false }
+        ensures { self.new ≡ with_state p state (first_held p self.old) }
+    {
+        change(&mut self.states, &mut self.tally, p, State::Ready, state);
+        self.queue.drop_first();
+    }
+
+    /// Moves process `p`, which is the first of the queue, to its tail, as if it were held and put back. No state
+    /// changes.
     pub fn rotate(&mut self, p: usize)
         requires { slice_get self.old.queue 0 ≡ Some p }
         ensures { self.new ≡ made_ready p (first_held p self.old) }
@@ -156,7 +180,8 @@ impl<A: Allocator> Schedule<A> {
         requires new { is_ready state ≡ false }
         ensures { self.new ≡ with_state p state self.old }
     {
-        change(&mut self.states, &mut self.tally, p, state);
+        let from = self.states[p];
+        change(&mut self.states, &mut self.tally, p, from, state);
     }
 
     /// A copy of the states, in order of number. The error is that memory ran out.
@@ -182,13 +207,22 @@ fn all_ready<A: Allocator>(alloc: A, processes: usize) -> Result<Vec<State, A>, 
     Ok(vec![in alloc; State::Ready; processes]?)
 }
 
-fn change<A: Allocator>(states: &mut Vec<State, A>, tally: &mut Tally, p: usize, state: State)
+/// Process `p` goes from one state to another.
+#[inline(always)]
+fn change<A: Allocator>(
+    states: &mut Vec<State, A>,
+    tally: &mut Tally,
+    p: usize,
+    from: State,
+    to: State,
+)
     requires process { p < length states.old.items }
+    requires from { state_at states.old.items p ≡ from }
     requires tally { IsTally states.old.items tally.old }
-    ensures states { states.new.items ≡ slice_set states.old.items p state }
+    ensures states { states.new.items ≡ slice_set states.old.items p to }
     ensures tally { IsTally states.new.items tally.new }
 {
-    leave(tally, states[p]);
-    enter(tally, state);
-    states[p] = state;
+    leave(tally, from);
+    enter(tally, to);
+    states[p] = to;
 }

@@ -17,9 +17,8 @@ ghost use Rattle.kpn_net.specs.Tables.{larger_capacity};
 ghost use Rattle.kpn_configuration.specs.Woken.{waiting_writer};
 
 use super::Configuration;
-use super::wakes::wake;
 use kpn_cycle::{Found, cycle_through, smallest_waited};
-use kpn_net::{End, Network, Policy, Wait};
+use kpn_net::{End, Network, Policy};
 use std::alloc::Allocator;
 
 /// A growth that is owed: the channel, and a process that waits.
@@ -96,7 +95,7 @@ impl<A: Allocator> Configuration<A> {
             FindsSmallest (cap_in (capacities self.now)) waited result }
         ensures channel { IfSome result (λ c. c < length self.now.channels) }
     {
-        smallest_waited(network, &self.waits, self.capacities.as_slice())
+        smallest_waited(network, self.waits.table(), self.capacities.as_slice())
     }
 
     /// What a walk along the waits from process `p` finds.
@@ -106,7 +105,10 @@ impl<A: Allocator> Configuration<A> {
         ensures exact { Finds network.now self.now.waits (cap_in (capacities self.now)) p result }
         ensures channel { (c : ℕ) → result ≡ Found.Full c → c < length self.now.channels }
     {
-        cycle_through(network, &self.waits, self.capacities.as_slice(), p)
+        if !self.waits.may_await(network, p) {
+            return Found::NoCycle;
+        }
+        cycle_through(network, self.waits.table(), self.capacities.as_slice(), p)
     }
 
     /// The channel that a search found, if its capacity is below the limit.
@@ -141,7 +143,7 @@ impl<A: Allocator> Configuration<A> {
     {
         network.known();
         let cap = self.larger_capacity(network, d);
-        let woken = wake(&mut self.waits, network.writer_of(d), Wait::Full(d));
+        let woken = self.waits.wake_writer(network, d);
         self.enlarge(d, cap);
         Grown {
             capacity: cap,

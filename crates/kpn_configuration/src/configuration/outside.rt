@@ -12,8 +12,7 @@ ghost use Rattle.kpn_configuration.specs.Woken.{waiting_writer, waiting_reader};
 
 use super::Configuration;
 use super::processes::Got;
-use super::wakes::wake;
-use kpn_net::{Network, Wait};
+use kpn_net::Network;
 use std::alloc::Allocator;
 
 impl<A: Allocator> Configuration<A> {
@@ -34,7 +33,7 @@ impl<A: Allocator> Configuration<A> {
         network.known();
         let channel = &mut self.channels[c];
         channel.put(item);
-        wake(&mut self.waits, network.reader_of(c), Wait::Empty(c))
+        self.waits.wake_reader(network, c)
     }
 
     /// The outside closes a source that is not closed.
@@ -71,7 +70,7 @@ impl<A: Allocator> Configuration<A> {
         let Some(item) = channel.get() else {
             unreachable!();
         };
-        let woken = wake(&mut self.waits, network.writer_of(c), Wait::Full(c));
+        let woken = self.waits.wake_writer(network, c);
         Got { item, woken }
     }
 
@@ -91,6 +90,6 @@ impl<A: Allocator> Configuration<A> {
         network.known();
         let channel = &mut self.channels[c];
         channel.retire();
-        wake(&mut self.waits, network.writer_of(c), Wait::Full(c))
+        self.waits.wake_writer(network, c)
     }
 }

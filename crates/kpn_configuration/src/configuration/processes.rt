@@ -18,11 +18,10 @@ ghost use Rattle.kpn_configuration.specs.Woken.{waiting_writer, waiting_reader};
 ghost use Rattle.kpn_configuration.specs.EndSoFar.{EndSoFar};
 
 use super::Configuration;
-use super::wakes::wake;
 use arrayvec::ArrayVec;
 use kpn_history::How;
 use kpn_limits::MAX_PORTS;
-use kpn_net::{Network, Wait};
+use kpn_net::Network;
 use std::alloc::Allocator;
 
 /// What was read from a channel, and the process that this wakes: its writer, if it waited on it as full.
@@ -34,6 +33,7 @@ pub struct Got {
 
 impl<A: Allocator> Configuration<A> {
     /// Process `p`, which is at a read from channel `c`, gets the next item of the channel.
+    #[inline(always)]
     pub fn get(&mut self, network: &Network, p: usize, c: usize) -> Got
         requires shape { IsConfiguration network.now self.old }
         requires process { p < length network.now.instances }
@@ -56,7 +56,7 @@ impl<A: Allocator> Configuration<A> {
         };
         let frame = &mut self.frames[p];
         frame.pass_read(network.program(p), item);
-        let woken = wake(&mut self.waits, network.writer_of(c), Wait::Full(c));
+        let woken = self.waits.wake_writer(network, c);
         Got { item, woken }
     }
 
@@ -81,7 +81,7 @@ impl<A: Allocator> Configuration<A> {
         channel.put(item);
         let frame = &mut self.frames[p];
         frame.pass_write(network.program(p));
-        wake(&mut self.waits, network.reader_of(c), Wait::Empty(c))
+        self.waits.wake_reader(network, c)
     }
 
     /// Process `p`, which is at a read from channel `c`, waits on it as empty. Nothing is unread there.
@@ -97,7 +97,7 @@ impl<A: Allocator> Configuration<A> {
             → IsRun network.now (H ++ event.WaitEmpty p c ∷ []) self.new }
     {
         network.known();
-        self.waits.set(p, Wait::Empty(c));
+        self.waits.wait_on_empty(p, c);
     }
 
     /// Process `p`, which is at a write to channel `c`, waits on it as full. The channel is full, and an item is
@@ -115,7 +115,7 @@ impl<A: Allocator> Configuration<A> {
             → IsRun network.now (H ++ event.WaitFull p c ∷ []) self.new }
     {
         network.known();
-        self.waits.set(p, Wait::Full(c));
+        self.waits.wait_on_full(p, c);
     }
 
     /// Process `p`, which is at this end, has ended. Each channel that it reads is retired, in order of port. It
@@ -158,7 +158,7 @@ impl<A: Allocator> Configuration<A> {
     {
         let channel = &mut self.channels[c];
         channel.retire();
-        let told = wake(&mut self.waits, network.writer_of(c), Wait::Full(c));
+        let told = self.waits.wake_writer(network, c);
         add(woken, told);
     }
 }

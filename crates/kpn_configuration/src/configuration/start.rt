@@ -8,8 +8,8 @@ ghost use Rattle.kpn_configuration.specs.Configuration.{no_frame, frame_in};
 ghost use Rattle.kpn_configuration.specs.Run.{IsRun};
 
 use super::Configuration;
+use super::marked_waits::MarkedWaits;
 use kpn_chan::Channel;
-use kpn_cycle::Waits;
 use kpn_history::How;
 use kpn_net::Network;
 use kpn_step::Frame;
@@ -28,7 +28,7 @@ impl<A: Allocator + Copy> Configuration<A> {
         let channels = channels_at_start(alloc, network)?;
         let capacities = capacities_at_start(alloc, network)?;
         let closed = none_closed(alloc, network.channels())?;
-        let waits = Waits::new(alloc, network.instances())?;
+        let waits = MarkedWaits::new(alloc, network.instances(), network.channels())?;
         let ends = none_ended(alloc, network.instances())?;
         let frames = frames_at_start(alloc, network)?;
         Ok(Configuration {

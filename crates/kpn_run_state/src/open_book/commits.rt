@@ -168,12 +168,13 @@ impl<'n, A: Allocator> OpenBook<'n, A> {
 
     /// Makes the growth that is owed after a wait of process `p`, if one is: for a cycle through `p`, or else for a
     /// stop.
-    fn grow_if_owed(&mut self, p: usize) -> Done
+    pub(super) fn grow_if_owed(&mut self, p: usize) -> Done
         requires room { 0 < self.old.history.room }
         requires step { IsInStep (book_of self.old) }
         requires process { p < length self.old.network.now.instances }
         requires waits { EndsWithWait self.old.history.events p }
-        ensures { GrowsIfOwed p result (book_of self.old) (book_of self.new) }
+        ensures grows { GrowsIfOwed p result (book_of self.old) (book_of self.new) }
+        ensures room { self.old.history.room ≤ self.new.history.room + 1 }
     {
         let network = self.network;
         network.known();
@@ -194,7 +195,8 @@ impl<'n, A: Allocator> OpenBook<'n, A> {
         requires room { 0 < self.old.history.room }
         requires step { IsInStep (book_of self.old) }
         requires no_cycle { OwesNoCycleGrowth self.old.network.now self.old.history.events }
-        ensures { GrowsAtStop result (book_of self.old) (book_of self.new) }
+        ensures grows { GrowsAtStop result (book_of self.old) (book_of self.new) }
+        ensures room { self.old.history.room ≤ self.new.history.room + 1 }
     {
         self.network.known();
         if !self.schedule.is_idle() {
@@ -210,7 +212,8 @@ impl<'n, A: Allocator> OpenBook<'n, A> {
         requires room { 0 < self.old.history.room }
         requires step { IsInStep (book_of self.old) }
         requires no_cycle { OwesNoCycleGrowth self.old.network.now self.old.history.events }
-        ensures { GrowsAtStop result (book_of self.old) (book_of self.new) }
+        ensures grows { GrowsAtStop result (book_of self.old) (book_of self.new) }
+        ensures room { self.old.history.room ≤ self.new.history.room + 1 }
     {
         let network = self.network;
         network.known();
@@ -227,8 +230,9 @@ impl<'n, A: Allocator> OpenBook<'n, A> {
         requires process { p < length self.old.network.now.instances }
         requires awaited { IsAwaitedBelowLimit self.old.network.now self.old.configuration d }
         requires owed { OwesGrowth self.old.network.now self.old.history.events p d }
-        ensures { let t = self.old.network.now in let H = self.old.history.events in
+        ensures follows { let t = self.old.network.now in let H = self.old.history.events in
             Follows (growth_after t H p d) (book_of self.old) (book_of self.new) }
+        ensures room { self.old.history.room ≤ self.new.history.room + 1 }
     {
         let network = self.network;
         network.known();
@@ -244,7 +248,8 @@ impl<'n, A: Allocator> OpenBook<'n, A> {
         requires sound { IsSound (book_of self.old) }
         requires held { IsHeld (book_of self.old) p }
         requires stands { Stands self.old.network.now self.old.configuration p (stop_of how) }
-        ensures { Answered p (λ (s : Place). s ≡ stop_of how) result (book_of self.old) (book_of self.new) }
+        ensures answered { Answered p (λ (s : Place). s ≡ stop_of how) result (book_of self.old) (book_of self.new) }
+        ensures room { self.old.history.room ≤ self.new.history.room + 2 }
     {
         self.end(p, how);
         let _grown = self.grow_at_stop();

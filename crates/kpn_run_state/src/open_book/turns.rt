@@ -1,6 +1,8 @@
 //! Turns in a row: the first process of the queue makes steps and is committed, again and again. A process that gets or
 //! puts an item stays ready, so its state is not written: the queue is rotated.
-ghost use Rattle.std.specs.Prelude.{◌≡◌, ◌<◌, ◌≤◌, ◌+◌, ◌^◌, ℕ, length, slice_get, Some, IfOk, OnErr, IsTrue};
+ghost use Rattle.std.specs.Prelude.{◌≡◌, ◌<◌, ◌≤◌, ◌+◌, ◌*◌, ◌^◌, ℕ, [], true, length, slice_get, Some, None, IfOk, OnErr, IsTrue};
+ghost use Rattle.kpn_chan.specs.Channel.{is_full, unread};
+ghost use Rattle.kpn_history.specs.declared.event.Event.TheVariants as event;
 ghost use Rattle.kpn_net.specs.Tables.{program_of};
 ghost use Rattle.kpn_step.specs.declared.stop.Stop.{Stop as Place};
 ghost use Rattle.kpn_step.specs.Frame.{Frame};
@@ -12,12 +14,12 @@ ghost use Rattle.kpn_run_state.specs.Book.{held_count};
 ghost use Rattle.kpn_run_state.specs.Commits.{IsReadFrom, IsWriteTo};
 ghost use Rattle.kpn_run_state.specs.Kept.{IsKept};
 ghost use Rattle.kpn_run_state.specs.InARow.{RunsOn};
-ghost use Rattle.kpn_run_state.specs.Open.{book_of, first_claimed, IsSound, Answered, if_sink, sink_of, AnsweredFirst, HandlesFirst, IsTurn};
+ghost use Rattle.kpn_run_state.specs.Open.{book_of, first_claimed, IsSound, Answered, if_sink, Follows, AnsweredFirst, HandlesFirst, IsTurn};
 
 use super::commits::{how_of, in_channel, out_channel};
 use super::{OpenBook, number, wake};
 use crate::answers::Done;
-use kpn_history::{Event, How};
+use kpn_history::{Event, How, State};
 use kpn_net::Network;
 use kpn_step::Stop;
 use std::alloc::{AllocError, Allocator};
@@ -35,15 +37,20 @@ impl<'n, A: Allocator> OpenBook<'n, A> {
             RunsOn quota most sink (book_of self.old) (book_of self.new)) }
         ensures kept { IsKept (book_of self.new) }
     {
-        'turns: for _turn in 0..most {
+        let mut made = 0;
+        'rows: while made < most {
             self.history.reserve(2)?;
-            let Some(p) = self.schedule.next() else {
-                return Ok(None);
-            };
-            let sink = self.turn(p, quota)?;
-            if sink.is_some() {
-                return Ok(sink);
+            let more = turns_for(self.history.room(), most - made);
+            'turns: for _turn in 0..more {
+                let Some(p) = self.schedule.next() else {
+                    return Ok(None);
+                };
+                let sink = self.turn(p, quota)?;
+                if sink.is_some() {
+                    return Ok(sink);
+                }
             }
+            made += more;
         }
         Ok(None)
     }
@@ -60,6 +67,7 @@ impl<'n, A: Allocator> OpenBook<'n, A> {
         requires room { 2 ≤ self.old.history.room }
         ensures turn { IfOk result (λ sink. IsTurn quota sink (book_of self.old) (book_of self.new)) }
         ensures kept { IsKept (book_of self.new) }
+        ensures room { self.old.history.room ≤ self.new.history.room + 2 }
     {
         let network = self.network;
         network.known();
@@ -85,6 +93,7 @@ impl<'n, A: Allocator> OpenBook<'n, A> {
         ensures handles { IfOk result (λ sink.
             HandlesFirst p stop sink (first_claimed p (book_of self.old)) (book_of self.new)) }
         ensures as_before { OnErr result (book_of self.new ≡ book_of self.old) }
+        ensures room { self.old.history.room ≤ self.new.history.room + 2 }
     {
         let network = self.network;
         network.known();
@@ -122,13 +131,14 @@ impl<'n, A: Allocator> OpenBook<'n, A> {
         requires sound { IsSound (first_claimed p (book_of self.old)) }
         requires room { 2 ≤ self.old.history.room }
         requires reads { ReadsFrom self.old.network.now self.old.configuration p c }
-        ensures { let t = self.old.network.now in (answer : Done) × Answered p
+        ensures answered { let t = self.old.network.now in (answer : Done) × Answered p
             (λ s. IsReadFrom t p s c) answer (first_claimed p (book_of self.old)) (book_of self.new) }
+        ensures room { self.old.history.room ≤ self.new.history.room + 2 }
     {
         let network = self.network;
         network.known();
         if !self.configuration.has_item(c) {
-            self.read_held(p, c);
+            self.read_later(p, c);
             return;
         }
         let got = self.configuration.get(network, p, c);
@@ -147,13 +157,15 @@ impl<'n, A: Allocator> OpenBook<'n, A> {
         requires room { 2 ≤ self.old.history.room }
         requires writes { WritesTo self.old.network.now self.old.configuration p c item }
         requires reserved { IsTrue (channel_in self.old.configuration c).is_reserved }
-        ensures { let t = self.old.network.now in AnsweredFirst p (λ s. IsWriteTo t p s c item)
+        ensures answered { let t = self.old.network.now in AnsweredFirst p (λ s. IsWriteTo t p s c item)
             result (first_claimed p (book_of self.old)) (book_of self.new) }
+        ensures room { self.old.history.room ≤ self.new.history.room + 2 }
     {
         let network = self.network;
         network.known();
         if self.configuration.channel(c).is_full() {
-            return self.write_held(p, c, item);
+            self.write_later(p, c, item);
+            return None;
         }
         let woken = self.configuration.put(network, p, c, item);
         self.history.push(Event::Put(number(p), number(c), item));
@@ -162,38 +174,39 @@ impl<'n, A: Allocator> OpenBook<'n, A> {
         if_sink(network, c)
     }
 
-    // The next three hold the process, by a write of its state, and commit it as a process that is held.
+    // The next three are rare, and the first two write the state of the process once: it goes from ready to its wait.
 
     #[cold]
     #[inline(never)]
-    fn read_held(&mut self, p: usize, c: usize)
+    fn read_later(&mut self, p: usize, c: usize)
         requires first { HoldsFirst p self.old.schedule (first_held p self.old.schedule) }
         requires sound { IsSound (first_claimed p (book_of self.old)) }
         requires room { 2 ≤ self.old.history.room }
         requires reads { ReadsFrom self.old.network.now self.old.configuration p c }
-        ensures { let t = self.old.network.now in (answer : Done) × Answered p
+        requires ready { unread (channel_in self.old.configuration c) ≡ [] }
+        ensures answered { let t = self.old.network.now in (answer : Done) × Answered p
             (λ s. IsReadFrom t p s c) answer (first_claimed p (book_of self.old)) (book_of self.new) }
+        ensures room { self.old.history.room ≤ self.new.history.room + 2 }
     {
-        self.schedule.hold_next();
-        self.read(p, c);
+        self.first_waits_on_empty(p, c);
+        self.grow_if_owed(p);
     }
 
     #[cold]
     #[inline(never)]
-    fn write_held(&mut self, p: usize, c: usize, item: i64) -> Option<usize>
+    fn write_later(&mut self, p: usize, c: usize, item: i64)
         requires first { HoldsFirst p self.old.schedule (first_held p self.old.schedule) }
         requires sound { IsSound (first_claimed p (book_of self.old)) }
         requires room { 2 ≤ self.old.history.room }
         requires writes { WritesTo self.old.network.now self.old.configuration p c item }
+        requires ready { is_full (channel_in self.old.configuration c) ≡ true }
         requires reserved { IsTrue (channel_in self.old.configuration c).is_reserved }
-        ensures { let t = self.old.network.now in AnsweredFirst p (λ s. IsWriteTo t p s c item)
-            result (first_claimed p (book_of self.old)) (book_of self.new) }
+        ensures answered { let t = self.old.network.now in AnsweredFirst p (λ s. IsWriteTo t p s c item)
+            None (first_claimed p (book_of self.old)) (book_of self.new) }
+        ensures room { self.old.history.room ≤ self.new.history.room + 2 }
     {
-        let network = self.network;
-        network.known();
-        self.schedule.hold_next();
-        let done = self.write(p, c, item);
-        sink_of(network, c, done)
+        self.first_waits_on_full(p, c, item);
+        self.grow_if_owed(p);
     }
 
     #[cold]
@@ -203,12 +216,62 @@ impl<'n, A: Allocator> OpenBook<'n, A> {
         requires sound { IsSound (first_claimed p (book_of self.old)) }
         requires room { 2 ≤ self.old.history.room }
         requires stands { Stands self.old.network.now self.old.configuration p (stop_of how) }
-        ensures { (answer : Done) × Answered p (λ (s : Place). s ≡ stop_of how)
+        ensures answered { (answer : Done) × Answered p (λ (s : Place). s ≡ stop_of how)
             answer (first_claimed p (book_of self.old)) (book_of self.new) }
+        ensures room { self.old.history.room ≤ self.new.history.room + 2 }
     {
         self.schedule.hold_next();
         self.finish(p, how);
     }
+
+    fn first_waits_on_empty(&mut self, p: usize, c: usize)
+        requires first { HoldsFirst p self.old.schedule (first_held p self.old.schedule) }
+        requires sound { IsSound (first_claimed p (book_of self.old)) }
+        requires room { 0 < self.old.history.room }
+        requires reads { ReadsFrom self.old.network.now self.old.configuration p c }
+        requires ready { unread (channel_in self.old.configuration c) ≡ [] }
+        ensures follows { Follows (event.WaitEmpty p c)
+            (first_claimed p (book_of self.old)) (book_of self.new) }
+        ensures room { self.old.history.room ≤ self.new.history.room + 1 }
+    {
+        let network = self.network;
+        network.known();
+        self.configuration.wait_on_empty(network, p, c);
+        self.history.push(Event::WaitEmpty(number(p), number(c)));
+        self.schedule.set_first(p, State::WaitsEmpty(c));
+    }
+
+    fn first_waits_on_full(&mut self, p: usize, c: usize, item: i64)
+        requires first { HoldsFirst p self.old.schedule (first_held p self.old.schedule) }
+        requires sound { IsSound (first_claimed p (book_of self.old)) }
+        requires room { 0 < self.old.history.room }
+        requires writes { WritesTo self.old.network.now self.old.configuration p c item }
+        requires ready { is_full (channel_in self.old.configuration c) ≡ true }
+        requires reserved { IsTrue (channel_in self.old.configuration c).is_reserved }
+        ensures follows { Follows (event.WaitFull p c)
+            (first_claimed p (book_of self.old)) (book_of self.new) }
+        ensures room { self.old.history.room ≤ self.new.history.room + 1 }
+    {
+        // Only the contract names the item.
+        let _item = item;
+        let network = self.network;
+        network.known();
+        self.configuration.wait_on_full(network, p, c);
+        self.history.push(Event::WaitFull(number(p), number(c)));
+        self.schedule.set_first(p, State::WaitsFull(c));
+    }
+}
+
+/// How many turns there is room for, of those that are left. A turn makes at most two events.
+fn turns_for(room: usize, left: u64) -> u64
+    requires room { 2 ≤ room }
+    requires left { 0 < left }
+    ensures some { 0 < result }
+    ensures within { result ≤ left }
+    ensures fits { 2 * result ≤ room }
+{
+    let turns = room as u64 / 2;
+    if turns < left { turns } else { left }
 }
 
 /// The channel, if it is a sink.
@@ -217,15 +280,4 @@ fn if_sink(network: &Network, c: usize) -> Option<usize>
     ensures { result ≡ if_sink network.now c }
 {
     if network.is_sink(c) { Some(c) } else { None }
-}
-
-/// The channel, if it is a sink and a commit with this result has put an item there.
-fn sink_of(network: &Network, c: usize, done: Done) -> Option<usize>
-    requires { c < length network.now.channels }
-    ensures { result ≡ sink_of network.now c done }
-{
-    match done {
-        Done::Put => if_sink(network, c),
-        _ => None,
-    }
 }

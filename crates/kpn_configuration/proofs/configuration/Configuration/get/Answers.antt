@@ -1,6 +1,7 @@
-use Rattle.std.proofs.Common.{to_z, of_z, None, Some, false, IsTrue, SFits, w64, rules, sym, ap, ◌∙◌, subst, arith, slice_set}
+use Rattle.std.proofs.Common.{to_z, of_z, None, Some, false, IsTrue, SFits, w64, rules, refl, sym, ap, ◌∙◌, subst, arith, slice_set}
 use Rattle.std.proofs.lemmas.Int.{to_z-of_z}
 use Rattle.kpn_net.specs.declared.wait.Wait.TheVariants.{Full}
+use Rattle.kpn_net.specs.Tables.{writer_of}
 use Rattle.kpn_net.specs.Waits.{AreWaits}
 use Rattle.kpn_step.specs.Stops.{IsGiven}
 use Rattle.kpn_chan.specs.Channel.{opened, next_item, after_get}
@@ -12,14 +13,12 @@ use Rattle.kpn_configuration.proofs.Due.{Legal-got}
 use Rattle.kpn_configuration.proofs.Mirror.{mirror_kept}
 use Rattle.kpn_configuration.proofs.Ports.{reads_below}
 use Rattle.kpn_configuration.proofs.Running.{IsRun-next}
-use Rattle.kpn_configuration.proofs.Woken.{below, woken_same, told_same}
+use Rattle.kpn_configuration.proofs.Woken.{woken_same, told_same}
 use Rattle.kpn_configuration.proofs.configuration.Configuration.get.Goals as goal
 
-pub wake-woken-requires : goal.wake-woken-requires
-wake-woken-requires g c =
-    below c.args.network.now c.self.inside.waits
-    (subst (λ s. AreWaits c.args.network.now s.waits) (sym c.self.view_is) c.requires.shape.waits) (Full c.args.c)
-    c.writer_of.result c.writer_of.ensures
+pub wake_writer-woken-requires-clause-waits : goal.wake_writer-woken-requires-clause-waits
+wake_writer-woken-requires-clause-waits g c =
+    subst (λ s. AreWaits c.args.network.now s.waits) (sym c.self.view_is) c.requires.shape.waits
 
 pub invariant_of-self : goal.invariant_of-self
 invariant_of-self g c =
@@ -57,24 +56,26 @@ returns g c =
     c.pass_read.ensures.passed) in
     let same = ap (λ x. x.waits) c.self.view_is in
     let woke =
-    woken_same (is_wait (Full c.args.c)) c.writer_of.result _ c.self.inside.waits s.waits c.wake-woken.new.waits
-    c.wake-woken.ensures.after
-    c.writer_of.ensures same in
+    woken_same (is_wait (Full c.args.c)) (writer_of t c.args.c) _
+    c.self.inside.waits s.waits c.wake_writer-woken.new.self
+    c.wake_writer-woken.ensures.after
+    refl same in
     let made =
-    Made-got t s c.requires.shape c.args.c item ch there c.wake-woken.new.waits _ read keep woke c.args.p to
+    Made-got t s c.requires.shape c.args.c item ch there c.wake_writer-woken.new.self _ read keep woke c.args.p to
     c.requires.process c.requires.free c.requires.reads given
     (ap
     (λ (x : Configuration).
     record x {
       channels = slice_set x.channels c.args.c ch;
-      waits = c.wake-woken.new.waits;
+      waits = c.wake_writer-woken.new.self;
       frames = slice_set x.frames c.args.p to;
     }) c.self.view_is) in
     record {
       item = next;
       woken =
-          told_same (is_wait (Full c.args.c)) c.writer_of.result _ c.self.inside.waits s.waits c.wake-woken.result
-          c.wake-woken.ensures.who c.writer_of.ensures same;
+          told_same (is_wait (Full c.args.c)) (writer_of t c.args.c) _
+          c.self.inside.waits s.waits c.wake_writer-woken.result
+          c.wake_writer-woken.ensures.who refl same;
       changes = made.changes;
       shape = made.shape;
       run = λ H run owes. IsRun-next t c.known.ensures H (Get c.args.p c.args.c item) s _ run

@@ -1,23 +1,22 @@
-use Rattle.std.proofs.Common.{◌<◌, length, IsTrue, sym, ap, ◌∙◌, subst, arith, slice_set}
+use Rattle.std.proofs.Common.{◌<◌, length, IsTrue, refl, sym, ap, ◌∙◌, subst, arith, slice_set}
 use Rattle.kpn_net.specs.declared.wait.Wait.TheVariants.{Full}
+use Rattle.kpn_net.specs.Tables.{writer_of}
 use Rattle.kpn_net.specs.Waits.{AreWaits}
 use Rattle.kpn_chan.specs.Channel.{MayGrowTo, grown_to}
 use Rattle.kpn_configuration.specs.Configuration.{Configuration, channel_in}
 use Rattle.kpn_configuration.specs.Woken.{is_wait}
 use Rattle.kpn_configuration.proofs.Growing.{owed_below, owed_may_grow, owed_is_reserved, Made-grown, larger_by_history, Legal-grown}
 use Rattle.kpn_configuration.proofs.Running.{IsRun-next}
-use Rattle.kpn_configuration.proofs.Woken.{below, woken_same, told_same}
+use Rattle.kpn_configuration.proofs.Woken.{woken_same, told_same}
 use Rattle.kpn_configuration.proofs.configuration.Configuration.grow.Goals as goal
 
-pub writer_of-requires : goal.writer_of-requires
-writer_of-requires g c =
+pub wake_writer-woken-requires-clause-channel : goal.wake_writer-woken-requires-clause-channel
+wake_writer-woken-requires-clause-channel g c =
     owed_below c.args.network.now c.known.ensures c.args.self.now c.requires.shape c.args.p c.args.d c.requires.awaited
 
-pub wake-woken-requires : goal.wake-woken-requires
-wake-woken-requires g c =
-    below c.args.network.now c.self.inside.waits
-    (subst (λ s. AreWaits c.args.network.now s.waits) (sym c.self.view_is) c.requires.shape.waits) (Full c.args.d)
-    c.writer_of.result c.writer_of.ensures
+pub wake_writer-woken-requires-clause-waits : goal.wake_writer-woken-requires-clause-waits
+wake_writer-woken-requires-clause-waits g c =
+    subst (λ s. AreWaits c.args.network.now s.waits) (sym c.self.view_is) c.requires.shape.waits
 
 pub larger_capacity-cap-requires-clause-channel : goal.larger_capacity-cap-requires-clause-channel
 larger_capacity-cap-requires-clause-channel g c =
@@ -55,25 +54,26 @@ returns g c =
     let reserved = (channel_in after c.args.d).is_reserved in
     let same = ap (λ x. x.waits) c.self.view_is in
     let woke =
-    woken_same (is_wait (Full c.args.d)) c.writer_of.result _ c.self.inside.waits s.waits c.wake-woken.new.waits
-    c.wake-woken.ensures.after
-    c.writer_of.ensures same in
+    woken_same (is_wait (Full c.args.d)) (writer_of t c.args.d) _
+    c.self.inside.waits s.waits c.wake_writer-woken.new.self
+    c.wake_writer-woken.ensures.after
+    refl same in
     let made =
     Made-grown t c.known.ensures s c.requires.shape c.args.p c.args.d c.requires.awaited reserved
-    c.enlarge.ensures.reserved c.wake-woken.new.waits woke after
+    c.enlarge.ensures.reserved c.wake_writer-woken.new.self woke after
     (c.enlarge.ensures.after
     ∙ ap
     (λ (x : Configuration).
     record x {
       channels = slice_set x.channels c.args.d
           (grown_to c.larger_capacity-cap.result reserved (channel_in x c.args.d));
-      waits = c.wake-woken.new.waits;
+      waits = c.wake_writer-woken.new.self;
     }) c.self.view_is
     ∙ ap
     (λ cap.
     record s {
       channels = slice_set s.channels c.args.d (grown_to cap reserved (channel_in s c.args.d));
-      waits = c.wake-woken.new.waits;
+      waits = c.wake_writer-woken.new.self;
     }) c.larger_capacity-cap.ensures)
     c.larger_capacity-cap.result in
     record {
@@ -81,8 +81,9 @@ returns g c =
       told = λ H run. c.larger_capacity-cap.ensures
           ∙ larger_by_history t c.known.ensures s c.requires.shape c.args.p c.args.d c.requires.awaited H run;
       woken =
-          told_same (is_wait (Full c.args.d)) c.writer_of.result _ c.self.inside.waits s.waits c.wake-woken.result
-          c.wake-woken.ensures.who c.writer_of.ensures same;
+          told_same (is_wait (Full c.args.d)) (writer_of t c.args.d) _
+          c.self.inside.waits s.waits c.wake_writer-woken.result
+          c.wake_writer-woken.ensures.who refl same;
       changes = made.changes;
       shape = made.shape;
       run = λ H run owes. IsRun-next t c.known.ensures H _ s after run

@@ -1,5 +1,6 @@
-use Rattle.std.proofs.Common.{None, false, IsTrue, sym, ap, ◌∙◌, subst, arith, slice_set}
+use Rattle.std.proofs.Common.{None, false, IsTrue, refl, sym, ap, ◌∙◌, subst, arith, slice_set}
 use Rattle.kpn_net.specs.declared.wait.Wait.TheVariants.{Full}
+use Rattle.kpn_net.specs.Tables.{writer_of}
 use Rattle.kpn_net.specs.Waits.{AreWaits}
 use Rattle.kpn_net.proofs.Networks.{reader_of-sink}
 use Rattle.kpn_chan.specs.Channel.{opened, retired}
@@ -9,14 +10,12 @@ use Rattle.kpn_configuration.proofs.Calls.{element, Made-left}
 use Rattle.kpn_configuration.proofs.Due.{Legal-left}
 use Rattle.kpn_configuration.proofs.Mirror.{mirror_kept}
 use Rattle.kpn_configuration.proofs.Running.{IsRun-next}
-use Rattle.kpn_configuration.proofs.Woken.{below, woken_same, told_same}
+use Rattle.kpn_configuration.proofs.Woken.{woken_same, told_same}
 use Rattle.kpn_configuration.proofs.configuration.Configuration.leave.Goals as goal
 
-pub wake-requires : goal.wake-requires
-wake-requires g c =
-    below c.args.network.now c.self.inside.waits
-    (subst (λ s. AreWaits c.args.network.now s.waits) (sym c.self.view_is) c.requires.shape.waits) (Full c.args.c)
-    c.writer_of.result c.writer_of.ensures
+pub wake_writer-requires-clause-waits : goal.wake_writer-requires-clause-waits
+wake_writer-requires-clause-waits g c =
+    subst (λ s. AreWaits c.args.network.now s.waits) (sym c.self.view_is) c.requires.shape.waits
 
 pub invariant_of-self : goal.invariant_of-self
 invariant_of-self g c =
@@ -37,18 +36,19 @@ returns g c =
     let keep = subst (λ x. IsTrue x.is_reserved → IsTrue ch.is_reserved) value c.retire.ensures.reserved in
     let same = ap (λ x. x.waits) c.self.view_is in
     let woke =
-    woken_same (is_wait (Full c.args.c)) c.writer_of.result _ c.self.inside.waits s.waits c.wake.new.waits
-    c.wake.ensures.after
-    c.writer_of.ensures same in
+    woken_same (is_wait (Full c.args.c)) (writer_of t c.args.c) _ c.self.inside.waits s.waits c.wake_writer.new.self
+    c.wake_writer.ensures.after
+    refl same in
     let made =
     Made-left t s c.requires.shape c.args.c ch c.requires.channel (reader_of-sink t c.args.c c.requires.sink) left keep
-    c.wake.new.waits woke _
-    (ap (λ (x : Configuration). record x { channels = slice_set x.channels c.args.c ch; waits = c.wake.new.waits })
+    c.wake_writer.new.self woke _
+    (ap (λ (x : Configuration).
+    record x { channels = slice_set x.channels c.args.c ch; waits = c.wake_writer.new.self })
     c.self.view_is) in
     record {
       woken =
-          told_same (is_wait (Full c.args.c)) c.writer_of.result _ c.self.inside.waits s.waits c.wake.result
-          c.wake.ensures.who c.writer_of.ensures same;
+          told_same (is_wait (Full c.args.c)) (writer_of t c.args.c) _ c.self.inside.waits s.waits c.wake_writer.result
+          c.wake_writer.ensures.who refl same;
       changes = made.changes;
       shape = made.shape;
       run = λ H run owes. IsRun-next t c.known.ensures H _ s _ run

@@ -1,6 +1,7 @@
-use Rattle.std.proofs.Common.{◌≡◌, to_z, of_z, ap, ◌∙◌, sym, subst, w64, arith, None, false, slice_set}
+use Rattle.std.proofs.Common.{◌≡◌, to_z, of_z, ap, ◌∙◌, refl, sym, subst, w64, arith, None, false, slice_set}
 use Rattle.std.proofs.lemmas.Int.{to_z-of_z}
 use Rattle.kpn_net.specs.declared.wait.Wait.TheVariants.{Empty}
+use Rattle.kpn_net.specs.Tables.{reader_of}
 use Rattle.kpn_net.specs.Waits.{AreWaits}
 use Rattle.kpn_step.specs.Frame.{passed}
 use Rattle.kpn_chan.specs.Channel.{opened, after_put}
@@ -11,14 +12,12 @@ use Rattle.kpn_configuration.proofs.Due.{Legal-put}
 use Rattle.kpn_configuration.proofs.Mirror.{mirror_kept}
 use Rattle.kpn_configuration.proofs.Ports.{writes_below, writes_own}
 use Rattle.kpn_configuration.proofs.Running.{IsRun-next}
-use Rattle.kpn_configuration.proofs.Woken.{below, woken_same, told_same}
+use Rattle.kpn_configuration.proofs.Woken.{woken_same, told_same}
 use Rattle.kpn_configuration.proofs.configuration.Configuration.put.Goals as goal
 
-pub wake-requires : goal.wake-requires
-wake-requires g c =
-    below c.args.network.now c.self.inside.waits
-    (subst (λ s. AreWaits c.args.network.now s.waits) (sym c.self.view_is) c.requires.shape.waits) (Empty c.args.c)
-    c.reader_of.result c.reader_of.ensures
+pub wake_reader-requires-clause-waits : goal.wake_reader-requires-clause-waits
+wake_reader-requires-clause-waits g c =
+    subst (λ s. AreWaits c.args.network.now s.waits) (sym c.self.view_is) c.requires.shape.waits
 
 pub invariant_of-self : goal.invariant_of-self
 invariant_of-self g c =
@@ -47,30 +46,31 @@ returns g c =
     (c.put.ensures ∙ ap (λ x. after_put (to_z w64 (of_z w64 c.args.item)) ch.is_reserved x) value) in
     let same = ap (λ x. x.waits) c.self.view_is in
     let woke =
-    woken_same (is_wait (Empty c.args.c)) c.reader_of.result _ c.self.inside.waits s.waits c.wake.new.waits
-    c.wake.ensures.after
-    c.reader_of.ensures same in
+    woken_same (is_wait (Empty c.args.c)) (reader_of t c.args.c) _ c.self.inside.waits s.waits c.wake_reader.new.self
+    c.wake_reader.ensures.after
+    refl same in
     let made =
-    Made-put t s c.requires.shape c.args.c c.args.item ch there c.wake.new.waits _ put woke c.args.p c.requires.process
+    Made-put t s c.requires.shape c.args.c c.args.item ch there c.wake_reader.new.self _ put woke c.args.p
+    c.requires.process
     c.requires.free c.requires.writes own
     (ap
     (λ (x : Configuration).
     record x {
       channels = slice_set x.channels c.args.c ch;
-      waits = c.wake.new.waits;
+      waits = c.wake_reader.new.self;
       frames = slice_set x.frames c.args.p c.pass_write.new.self;
     }) c.self.view_is
     ∙ ap
     (λ f.
     record s {
       channels = slice_set s.channels c.args.c ch;
-      waits = c.wake.new.waits;
+      waits = c.wake_reader.new.self;
       frames = slice_set s.frames c.args.p f;
     }) (c.pass_write.ensures.passed ∙ ap passed frame)) in
     record {
       woken =
-          told_same (is_wait (Empty c.args.c)) c.reader_of.result _ c.self.inside.waits s.waits c.wake.result
-          c.wake.ensures.who c.reader_of.ensures same;
+          told_same (is_wait (Empty c.args.c)) (reader_of t c.args.c) _ c.self.inside.waits s.waits c.wake_reader.result
+          c.wake_reader.ensures.who refl same;
       changes = made.changes;
       shape = made.shape;
       run = λ H run owes. IsRun-next t c.known.ensures H _ s _ run

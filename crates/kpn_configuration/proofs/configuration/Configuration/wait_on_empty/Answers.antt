@@ -15,9 +15,9 @@ returns g c =
     let own = reads_own t c.known.ensures s c.args.p c.requires.process c.args.c c.requires.reads in
     let made =
     Made-wait_empty t s c.requires.shape c.args.p c.args.c c.requires.process own _
-    (ap (λ x. with_waits c.set.new.self x) c.self.view_is
+    (ap (λ x. with_waits c.wait_on_empty.new.self x) c.self.view_is
     ∙ ap (λ ws. with_waits ws s)
-    (c.set.ensures ∙ ap (λ x. slice_set x.waits c.args.p (Empty c.args.c)) c.self.view_is)) in
+    (c.wait_on_empty.ensures ∙ ap (λ x. slice_set x.waits c.args.p (Empty c.args.c)) c.self.view_is)) in
     record {
       changes = made.changes;
       shape = made.shape;

@@ -17,9 +17,9 @@ returns g c =
     c.requires.writes.1 in
     let made =
     Made-wait_full t s c.requires.shape c.args.p c.args.c c.requires.process own c.requires.reserved _
-    (ap (λ x. with_waits c.set.new.self x) c.self.view_is
+    (ap (λ x. with_waits c.wait_on_full.new.self x) c.self.view_is
     ∙ ap (λ ws. with_waits ws s)
-    (c.set.ensures ∙ ap (λ x. slice_set x.waits c.args.p (Full c.args.c)) c.self.view_is)) in
+    (c.wait_on_full.ensures ∙ ap (λ x. slice_set x.waits c.args.p (Full c.args.c)) c.self.view_is)) in
     record {
       changes = made.changes;
       shape = made.shape;

@@ -27,7 +27,7 @@ invariant_of-self-2 g c =
     kept_grown b (book_of c.close.new.self) _ (event.Close c.args.source) c.grow_at_stop-grown.result c.self.invariant
     (follows_reserved b c.reserve.new.self.events c.in_ok-reserve.ensures.events (event.Close c.args.source)
     (book_of c.close.new.self)
-    c.close.ensures.follows) refl c.grow_at_stop-grown.ensures
+    c.close.ensures.follows) refl c.grow_at_stop-grown.ensures.grows
 
 pub returns-clause-done : goal.returns-clause-done
 returns-clause-done g c =
@@ -40,4 +40,4 @@ returns-clause-done g c =
     (happens (event.Close c.args.source) b (book_of c.close.new.self) a c.grow_at_stop-grown.result
     (follows_reserved b c.reserve.new.self.events c.in_ok-reserve.ensures.events (event.Close c.args.source)
     (book_of c.close.new.self)
-    c.close.ensures.follows) c.grow_at_stop-grown.ensures))
+    c.close.ensures.follows) c.grow_at_stop-grown.ensures.grows))

@@ -27,7 +27,7 @@ invariant_of-self-2 g c =
     kept_grown b (book_of c.leave.new.self) _ (event.Leave c.args.sink) c.grow_at_stop-grown.result c.self.invariant
     (follows_reserved b c.reserve.new.self.events c.in_ok-reserve.ensures.events (event.Leave c.args.sink)
     (book_of c.leave.new.self)
-    c.leave.ensures.follows) refl c.grow_at_stop-grown.ensures
+    c.leave.ensures.follows) refl c.grow_at_stop-grown.ensures.grows
 
 pub returns-clause-done : goal.returns-clause-done
 returns-clause-done g c =
@@ -40,4 +40,4 @@ returns-clause-done g c =
     (happens (event.Leave c.args.sink) b (book_of c.leave.new.self) a c.grow_at_stop-grown.result
     (follows_reserved b c.reserve.new.self.events c.in_ok-reserve.ensures.events (event.Leave c.args.sink)
     (book_of c.leave.new.self)
-    c.leave.ensures.follows) c.grow_at_stop-grown.ensures))
+    c.leave.ensures.follows) c.grow_at_stop-grown.ensures.grows))

@@ -45,7 +45,7 @@ invariant_of-self-2 g c =
     c.grow_at_stop-grown.result c.self.invariant
     (follows_reserved b c.reserve.new.self.events c.in_ok-reserve.ensures.events
     (event.Take c.args.sink c.take-item.result) (book_of c.take-item.new.self)
-    c.take-item.ensures.follows) refl c.grow_at_stop-grown.ensures
+    c.take-item.ensures.follows) refl c.grow_at_stop-grown.ensures.grows
 
 pub returns-clause-done : goal.returns-clause-done
 returns-clause-done g c =
@@ -60,4 +60,4 @@ returns-clause-done g c =
     (taken b a c.args.sink c.take-item.result sink not_left c.take-item.ensures.item
     (happens e b (book_of c.take-item.new.self) a c.grow_at_stop-grown.result
     (follows_reserved b c.reserve.new.self.events c.in_ok-reserve.ensures.events e (book_of c.take-item.new.self)
-    c.take-item.ensures.follows) c.grow_at_stop-grown.ensures)))
+    c.take-item.ensures.follows) c.grow_at_stop-grown.ensures.grows)))

@@ -9,7 +9,7 @@ grow_at_stop-grown-requires-clause-no_cycle g c =
     no_cycle_then (event.Ended c.args.p c.args.how) (book_of c.args.self.now) (book_of c.end.new.self)
     c.end.ensures.follows refl
 
-pub returns : goal.returns
-returns g c =
+pub returns-clause-answered : goal.returns-clause-answered
+returns-clause-answered g c =
     answered_ended (book_of c.args.self.now) (book_of c.end.new.self) (book_of c.grow_at_stop-grown.new.self) c.args.p
-    c.args.how c.grow_at_stop-grown.result c.end.ensures.follows c.grow_at_stop-grown.ensures
+    c.args.how c.grow_at_stop-grown.result c.end.ensures.follows c.grow_at_stop-grown.ensures.grows

@@ -24,13 +24,13 @@ finish-requires-clause-held g c =
     subst (λ s. IsHeld (recorded b b.history b.configuration s) c.args.p) (sym same)
     (held_first b c.args.p c.requires.first)
 
-pub returns : goal.returns
-returns g c =
+pub returns-clause-answered : goal.returns-clause-answered
+returns-clause-answered g c =
     let b = book_of c.args.self.now in
     let same =
     held_is_first b.schedule c.hold_next.new.self c.args.p c.requires.first c.hold_next.result c.hold_next.ensures.held
     c.hold_next.ensures.none in (
       c.finish.result,
       subst (λ s. Answered c.args.p (λ (z : Stop). z ≡ stop_of c.args.how) c.finish.result
-          (recorded b b.history b.configuration s) (book_of c.finish.new.self)) same c.finish.ensures,
+          (recorded b b.history b.configuration s) (book_of c.finish.new.self)) same c.finish.ensures.answered,
     )

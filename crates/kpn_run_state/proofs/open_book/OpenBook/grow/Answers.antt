@@ -27,8 +27,8 @@ wake-requires g c =
     (own_none b) tt b.schedule
     (option_to_list c.grow-grown.result.woken) refl (ap option_to_list c.grow-grown.ensures.woken)
 
-pub returns : goal.returns
-returns g c =
+pub returns-clause-follows : goal.returns-clause-follows
+returns-clause-follows g c =
     let b = book_of c.args.self.now in
     let n = c.grow-grown.result.capacity in
     told b _ c.args.p c.args.d n _ (c.grow-grown.ensures.told b.history c.requires.step.run)

@@ -5,8 +5,8 @@ use Rattle.kpn_run_state.proofs.Answering.{none_at_stop}
 use Rattle.kpn_run_state.proofs.Seen.{not_settled}
 use Rattle.kpn_run_state.proofs.open_book.OpenBook.grow_at_stop.Goals as goal
 
-pub returns-then-not-is_idle : goal.returns-then-not-is_idle
-returns-then-not-is_idle g c =
+pub returns-then-not-is_idle-clause-grows : goal.returns-then-not-is_idle-clause-grows
+returns-then-not-is_idle-clause-grows g c =
     let b = book_of c.args.self.now in
     let busy : c.is_idle.result ≡ false = search rules in
     none_at_stop b c.requires.step c.requires.no_cycle

@@ -7,9 +7,9 @@ grow_at_stop-requires-clause-no_cycle g c =
     owes_none (book_of c.args.self.now) c.known.ensures c.requires.step c.args.p c.requires.waits c.owed.result
     c.owed.ensures.channel c.in_default.is
 
-pub returns : goal.returns
-returns g c =
+pub returns-clause-grows : goal.returns-clause-grows
+returns-clause-grows g c =
     let b = book_of c.args.self.now in
     has_grown b (book_of c.grow.new.self) c.known.ensures c.args.p c.args.p c.in-Some.d
     (owes_found b c.known.ensures c.requires.step c.args.p c.requires.waits c.owed.result c.owed.ensures.channel
-    c.in-Some.d c.in-Some.is) c.grow.ensures
+    c.in-Some.d c.in-Some.is) c.grow.ensures.follows

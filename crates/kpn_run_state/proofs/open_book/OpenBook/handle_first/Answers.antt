@@ -70,7 +70,7 @@ write_first-requires-clause-reserved g c =
 pub returns-in-WantRead-clause-handles : goal.returns-in-WantRead-clause-handles
 returns-in-WantRead-clause-handles g c =
     let b = book_of c.args.self.now in
-    let answer = c.read_first.ensures.0 in
+    let answer = c.read_first.ensures.answered.0 in
     record {
       reserved = first_claimed c.args.p b;
       but = inl refl;
@@ -83,7 +83,7 @@ returns-in-WantRead-clause-handles g c =
               port = c.in-WantRead.port;
               asks = is ∙ c.in-WantRead.is;
               channel = c.in_channel-c.ensures;
-            }) c.read_first.ensures.1;
+            }) c.read_first.ensures.answered.1;
         sink_is = λ s is. sym (ap (λ z. sink_by b.tables c.args.p z answer) (is ∙ c.in-WantRead.is));
       };
     }
@@ -108,7 +108,7 @@ returns-in_ok-reserve_one-in-WantWrite-clause-handles g c =
     let made : AnsweredFirst c.args.p (λ s. IsWriteTo b.tables c.args.p s d c.in-WantWrite.item) c.write_first.result
     reserved (book_of c.write_first.new.self) =
     subst (λ v. AnsweredFirst c.args.p (λ s. IsWriteTo b.tables c.args.p s d v) c.write_first.result reserved
-    (book_of c.write_first.new.self)) (to_z-of_z w64 c.in-WantWrite.item fits) c.write_first.ensures in
+    (book_of c.write_first.new.self)) (to_z-of_z w64 c.in-WantWrite.item fits) c.write_first.ensures.answered in
     let asks : (s : Stop) → s ≡ c.args.stop → IsWriteTo b.tables c.args.p s d c.in-WantWrite.item =
     λ s is. record {
       port = c.in-WantWrite.port;
@@ -134,7 +134,7 @@ returns-in_ok-reserve_one-in-WantWrite-clause-handles g c =
 pub returns-in-Done-clause-handles : goal.returns-in-Done-clause-handles
 returns-in-Done-clause-handles g c =
     let b = book_of c.args.self.now in
-    let answer = c.finish_held.ensures.0 in
+    let answer = c.finish_held.ensures.answered.0 in
     record {
       reserved = first_claimed c.args.p b;
       but = inl refl;
@@ -143,7 +143,7 @@ returns-in-Done-clause-handles g c =
         answered =
             asked_otherwise c.args.p (λ (s : Stop). s ≡ stop.Done) (λ s. s ≡ c.args.stop) answer
             (first_claimed c.args.p b) (book_of c.finish_held.new.self) (λ s is. is ∙ c.in-Done.is)
-            c.finish_held.ensures.1;
+            c.finish_held.ensures.answered.1;
         sink_is = λ s is. sym (ap (λ z. sink_by b.tables c.args.p z answer) (is ∙ c.in-Done.is));
       };
     }
@@ -151,7 +151,7 @@ returns-in-Done-clause-handles g c =
 pub returns-in-Faulted-clause-handles : goal.returns-in-Faulted-clause-handles
 returns-in-Faulted-clause-handles g c =
     let b = book_of c.args.self.now in
-    let answer = c.finish_held-in-Faulted.ensures.0 in
+    let answer = c.finish_held-in-Faulted.ensures.answered.0 in
     record {
       reserved = first_claimed c.args.p b;
       but = inl refl;
@@ -160,7 +160,7 @@ returns-in-Faulted-clause-handles g c =
         answered =
             asked_otherwise c.args.p (λ (s : Stop). s ≡ stop_of c.how_of.result) (λ s. s ≡ c.args.stop) answer
             (first_claimed c.args.p b) (book_of c.finish_held-in-Faulted.new.self)
-            (λ s is. is ∙ c.in-Faulted.is ∙ sym c.how_of.ensures) c.finish_held-in-Faulted.ensures.1;
+            (λ s is. is ∙ c.in-Faulted.is ∙ sym c.how_of.ensures) c.finish_held-in-Faulted.ensures.answered.1;
         sink_is = λ s is. sym (ap (λ z. sink_by b.tables c.args.p z answer) (is ∙ c.in-Faulted.is));
       };
     }

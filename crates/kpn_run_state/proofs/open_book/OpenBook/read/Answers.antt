@@ -64,7 +64,7 @@ returns-then-not-has_item g c =
     answered_wait b (book_of c.wait_on_empty.new.self) c.args.p (event.WaitEmpty c.args.p c.args.c) refl
     (λ s. IsReadFrom b.tables c.args.p s c.args.c)
     (λ s asks. inl (record { channel = c.args.c; asks = asks; empty = empty; is = refl }))
-    c.wait_on_empty.ensures.follows c.grow_if_owed.result (book_of c.grow_if_owed.new.self) c.grow_if_owed.ensures
+    c.wait_on_empty.ensures.follows c.grow_if_owed.result (book_of c.grow_if_owed.new.self) c.grow_if_owed.ensures.grows
 
 pub number-requires : goal.number-requires
 number-requires g c =

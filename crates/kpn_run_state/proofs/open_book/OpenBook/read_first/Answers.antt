@@ -1,9 +1,10 @@
-use Rattle.std.proofs.Common.{ap, ◌∙◌, arith, w64, SFits, to_z, of_z, rules, slice_get}
+use Rattle.std.proofs.Common.{◌≡◌, false, sym, ap, ◌∙◌, arith, w64, SFits, to_z, of_z, rules, slice_get}
 use Rattle.std.proofs.lemmas.Int.{to_z-of_z}
 use Rattle.std.specs.Option.{option_to_list}
 use Rattle.kpn_history.specs.declared.event.Event.TheVariants as event
 use Rattle.kpn_configuration.proofs.Ports.{reads_below}
 use Rattle.kpn_configuration.proofs.Due.{Legal-due}
+use Rattle.kpn_configuration.proofs.Exact.{gets_or_waits}
 use Rattle.kpn_run_state.specs.declared.answers.Done.TheVariants as done
 use Rattle.kpn_run_state.specs.Open.{book_of, first_claimed}
 use Rattle.kpn_run_state.proofs.Following.{own_held, held_is_there, held_is_free, may_be_woken, followed, recorded, process_fits, channel_fits}
@@ -19,6 +20,16 @@ has_item-requires g c =
     let below = reads_below o.tables c.known.ensures o.configuration c.args.p there c.args.c c.requires.reads in
     let long = c.requires.sound.in_step.run.shape.channels in
     omega (arith, below, long)
+
+pub read_later-requires-clause-ready : goal.read_later-requires-clause-ready
+read_later-requires-clause-ready g c =
+    let o = first_claimed c.args.p (book_of c.args.self.now) in
+    let held = held_first (book_of c.args.self.now) c.args.p c.requires.first in
+    let step = c.requires.sound.in_step in
+    let no : c.has_item.result ≡ false = search rules in
+    gets_or_waits o.tables c.known.ensures o.history o.configuration step.run c.args.p c.args.c
+    (held_is_there o step c.args.p held) (held_is_free o step c.args.p held) c.requires.reads
+    (sym c.has_item.ensures ∙ no)
 
 pub get-got-requires-clause-free : goal.get-got-requires-clause-free
 get-got-requires-clause-free g c =
@@ -50,8 +61,8 @@ wake-requires g c =
     (own_held o c.args.p held) tt c.rotate.new.self (option_to_list c.get-got.result.woken)
     c.rotate.ensures (ap option_to_list c.get-got.ensures.woken)
 
-pub returns : goal.returns
-returns g c =
+pub returns-clause-answered : goal.returns-clause-answered
+returns-clause-answered g c =
     let o = first_claimed c.args.p (book_of c.args.self.now) in
     let held = held_first (book_of c.args.self.now) c.args.p c.requires.first in
     let e = event.Get c.args.p c.args.c c.get-got.result.item in

@@ -52,7 +52,7 @@ returns-then-is_full g c =
     answered_wait b (book_of c.wait_on_full.new.self) c.args.p (event.WaitFull c.args.p c.args.c) refl
     (λ s. IsWriteTo b.tables c.args.p s c.args.c c.args.item)
     (λ s asks. inr (record { channel = c.args.c; item = c.args.item; asks = asks; full = full; is = refl }))
-    c.wait_on_full.ensures.follows c.grow_if_owed.result (book_of c.grow_if_owed.new.self) c.grow_if_owed.ensures
+    c.wait_on_full.ensures.follows c.grow_if_owed.result (book_of c.grow_if_owed.new.self) c.grow_if_owed.ensures.grows
 
 pub number-requires : goal.number-requires
 number-requires g c =

@@ -1,4 +1,4 @@
-use Rattle.std.proofs.Common.{◌≡◌, false, sym, ap, subst, ◌∙◌, arith, w64, SFits, to_z, of_z, rules, slice_get}
+use Rattle.std.proofs.Common.{◌≡◌, None, false, sym, ap, subst, ◌∙◌, arith, w64, SFits, to_z, of_z, rules, slice_get}
 use Rattle.std.proofs.lemmas.Int.{to_z-of_z}
 use Rattle.std.specs.Option.{option_to_list}
 use Rattle.kpn_chan.specs.Channel.{is_full}
@@ -25,12 +25,13 @@ channel-requires g c =
     let long = c.requires.sound.in_step.run.shape.channels in
     omega (arith, below, long)
 
-pub returns-then-is_full : goal.returns-then-is_full
-returns-then-is_full g c =
+pub returns-then-is_full-clause-answered : goal.returns-then-is_full-clause-answered
+returns-then-is_full-clause-answered g c =
     let b = book_of c.args.self.now in
     let fits : SFits w64 c.args.item = search rules in
-    subst (λ v. AnsweredFirst c.args.p (λ s. IsWriteTo b.tables c.args.p s c.args.c v) c.write_held.result
-    (first_claimed c.args.p b) (book_of c.write_held.new.self)) (to_z-of_z w64 c.args.item fits) c.write_held.ensures
+    subst (λ v. AnsweredFirst c.args.p (λ s. IsWriteTo b.tables c.args.p s c.args.c v) None
+    (first_claimed c.args.p b) (book_of c.write_later.new.self)) (to_z-of_z w64 c.args.item fits)
+    c.write_later.ensures.answered
 
 pub put-woken-requires-clause-free : goal.put-woken-requires-clause-free
 put-woken-requires-clause-free g c =
@@ -69,8 +70,8 @@ if_sink-requires g c =
     let there = held_is_there o c.requires.sound.in_step c.args.p held in
     writes_below o.tables c.known.ensures o.configuration c.args.p there c.args.c c.args.item c.requires.writes
 
-pub returns : goal.returns
-returns g c =
+pub returns-clause-answered : goal.returns-clause-answered
+returns-clause-answered g c =
     let o = first_claimed c.args.p (book_of c.args.self.now) in
     let held = held_first (book_of c.args.self.now) c.args.p c.requires.first in
     let e = event.Put c.args.p c.args.c c.args.item in
