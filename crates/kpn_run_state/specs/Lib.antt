@@ -7,3 +7,4 @@ pub mod InARow
 pub mod Kept
 pub mod Open
 pub mod Snapshot
+pub mod Detached

@@ -22,6 +22,7 @@ use std::alloc::{AllocError, Allocator, Global};
 use std::marker::Model;
 
 mod complete;
+mod detaching;
 mod outside;
 mod processes;
 mod waiting;

@@ -5,6 +5,7 @@
 mod answers;
 mod book;
 mod claim;
+mod detached;
 pub mod laws;
 mod open_book;
 mod view;
@@ -12,4 +13,5 @@ mod view;
 pub use answers::{Done, Refused};
 pub use book::Book;
 pub use claim::Claim;
+pub use detached::Detached;
 pub use kpn_history::{Counts, Event, History, How, State, Verdict, View};
