@@ -16,18 +16,11 @@ impl<'n> Book<'n> {
     {
         self.known();
         let Book { parts } = self;
-        let OpenBook {
-            network: _,
-            configuration,
-            history,
-            schedule,
-            commits,
-        } = parts;
         Detached {
-            configuration,
-            history,
-            schedule,
-            commits,
+            configuration: parts.configuration,
+            history: parts.history,
+            schedule: parts.schedule,
+            commits: parts.commits,
         }
     }
 
@@ -36,19 +29,13 @@ impl<'n> Book<'n> {
         requires { IsBook (book_on network.now detached) }
         ensures { result ≡ book_on network.now detached }
     {
-        let Detached {
-            configuration,
-            history,
-            schedule,
-            commits,
-        } = detached;
         Book {
             parts: OpenBook {
                 network,
-                configuration,
-                history,
-                schedule,
-                commits,
+                configuration: detached.configuration,
+                history: detached.history,
+                schedule: detached.schedule,
+                commits: detached.commits,
             },
         }
     }
