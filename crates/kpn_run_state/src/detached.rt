@@ -4,7 +4,7 @@ use kpn_history::History;
 use kpn_schedule::Schedule;
 
 /// A book that was detached from its network. It borrows nothing, so one value can own it together with the network.
-#[derive(Debug, Drop)]
+#[derive(Drop)]
 pub struct Detached {
     pub(crate) configuration: Configuration,
     pub(crate) history: History,
