@@ -12,10 +12,11 @@ use Rattle.kpn_run_state.specs.declared.answers.Done.TheVariants as done
 use Rattle.kpn_run_state.specs.Book.{Book, standing_at}
 use Rattle.kpn_run_state.specs.Appending.{IsGrowthOwed, Happens}
 use Rattle.kpn_run_state.specs.Commits.{HasToWait, IsAnswer}
-use Rattle.kpn_run_state.specs.Stepping.{IsStep}
+use Rattle.kpn_run_state.specs.Stepping.{StepsNext}
+use Rattle.kpn_run_state.specs.InARow.{StepsInRow, no_step, one_step_more, ends_row, RunsOn}
 use Rattle.kpn_run_here.specs.declared.outcome.Limits.{Limits}
 use Rattle.kpn_run_here.proofs.Happening.{happens_tables, happens_history}
-use Rattle.kpn_run_here.proofs.Stepped.{step_tables, step_history, step_commits}
+use Rattle.kpn_run_here.proofs.Stepped.{step_tables, step_history}
 use Rattle.kpn_stream.specs.declared.faults.SourceFault.{SourceFault}
 use Rattle.kpn_stream.specs.declared.faults.SinkFault.{SinkFault}
 use Rattle.kpn_stream.specs.declared.ending.Ending.{Ending}
@@ -243,11 +244,9 @@ commit_none b p s done.Ended es ended =
     )
 commit_none b p s done.Paused es paused = subst (NoneIs is_of_outside) (sym paused.appends) tt
 
-step_besides : (quota : ℕ) (answer : Option Done) (before after : Book) → IsStep quota answer before after
+step_besides : (quota : ℕ) (answer : Done) (before after : Book) → StepsNext quota answer before after
     → HappensBesides is_of_outside before after
-step_besides quota None before after none =
-    subst (HappensBesides is_of_outside before) (sym none.1) (besides-refl is_of_outside before)
-step_besides quota (Some answer) before after steps = record {
+step_besides quota answer before after steps = record {
   tables = step_tables quota answer before after steps;
   events = steps.commits.handles.events;
   history = step_history quota answer before after steps;
@@ -256,11 +255,18 @@ step_besides quota (Some answer) before after steps = record {
       steps.commits.handles.events steps.commits.handles.answers;
 }
 
-step_commits_more : (quota : ℕ) (answer : Option Done) (before after : Book) → IsStep quota answer before after
-    → after.commits ≤ before.commits + 1
-step_commits_more quota None before after none = let same = ap (λ b. b.commits) none.1 in omega arith
-step_commits_more quota (Some answer) before after steps =
-    let more = step_commits quota answer before after steps in omega arith
+row_besides : (quota : ℕ) (first : Book) {n : ℕ} {b : Book} → StepsInRow quota first n b
+    → HappensBesides is_of_outside first b
+row_besides quota first no_step = besides-refl is_of_outside first
+row_besides quota first (one_step_more before after row step) =
+    besides-trans is_of_outside first before after (row_besides quota first row)
+    (step_besides quota step.answer before after step.steps)
+
+last_besides : (quota : ℕ) (sink : Option ℕ) (last after : Book) → ends_row quota sink last after
+    → HappensBesides is_of_outside last after
+last_besides quota (Some c) last after step = step_besides quota step.answer last after step.steps
+last_besides quota None last after same =
+    subst (HappensBesides is_of_outside last) (sym same) (besides-refl is_of_outside last)
 
 pub stepped-refl : (limits : Limits) (b : Book) → IsStepped limits b b
 stepped-refl limits b = record { besides = besides-refl is_of_outside b; commits = λ below. below }
@@ -272,11 +278,14 @@ stepped-trans limits a b c one two = record {
   commits = λ below. two.commits (one.commits below);
 }
 
-pub stepped : (limits : Limits) (quota : ℕ) (answer : Option Done) (before after : Book)
-    → before.commits < limits.commits → IsStep quota answer before after → IsStepped limits before after
-stepped limits quota answer before after few is = record {
-  besides = step_besides quota answer before after is;
-  commits = λ _. let more = step_commits_more quota answer before after is in omega arith;
+pub stepped : (limits : Limits) (quota most : ℕ) (sink : Option ℕ) (before after : Book)
+    → (before.commits ≤ limits.commits → before.commits + most ≤ limits.commits) → RunsOn quota most sink before after
+    → IsStepped limits before after
+stepped limits quota most sink before after fits is = record {
+  besides =
+      besides-trans is_of_outside before is.last after (row_besides quota before is.row)
+      (last_besides quota sink is.last after is.ends);
+  commits = λ below. let room = fits below in let within = is.within in omega arith;
 }
 
 -- ---- one after the other
@@ -447,14 +456,6 @@ module _ {S K : Type 0} (gives : S → ℕ → Result (Option ℤ) SourceFault �
       → Serves takes flushes limits ended b c i j → GoesOn gives at_hand takes flushes limits ended a c s s i j
   taken_then ended a b c s i j one two =
       goes_on-trans ended a b c s s s i i j (steps_go_on a b s i one) (serves_goes_on ended b c s i j two)
-
-  -- and the run may have come to an outcome
-  pub outcome_then : (ended : Option Ending) (a b c d : Book) (s : S) (i j k : K) → IsStepped limits a b
-      → Serves takes flushes limits None b c i j → Serves takes flushes limits ended c d j k
-      → GoesOn gives at_hand takes flushes limits ended a d s s i k
-  outcome_then ended a b c d s i j k one two three =
-      goes_on-trans ended a c d s s s i j k (taken_then None a b c s i j one two)
-      (serves_goes_on ended c d s j k three)
 
 -- ---- all sinks are flushed
 

@@ -11,7 +11,7 @@ use crate::devices::{Sinks, Sources};
 use crate::ending::{Ending, Streamed};
 use crate::ends::{Ends, ends_of};
 use crate::reading::read_one;
-use crate::stepping::{is_idle, step_many};
+use crate::stepping::{is_idle, step_until};
 use crate::taking::{flush_all, take_all};
 use kpn_net::Network;
 use kpn_run_here::{Limits, outcome_of};
@@ -93,9 +93,9 @@ fn make_turns<S: Sources, K: Sinks>(
     ensures { IfOk result (λ ending. GoesOn S.gives S.at_hand K.takes K.flushes limits.now (Some ending)
         book.old book.new sources.old sources.new sinks.old sinks.new) }
 {
-    let mut left = STRETCH;
+    let mut goal = STRETCH;
     'turns: for _turn in 0..u64::MAX {
-        let ended = turn(book, ends, sources, sinks, limits, &mut left)?;
+        let ended = turn(book, ends, sources, sinks, limits, &mut goal)?;
         if let Some(ending) = ended {
             return Ok(ending);
         }
@@ -103,33 +103,50 @@ fn make_turns<S: Sources, K: Sinks>(
     Err(AllocError)
 }
 
-/// One turn. So many commits are left of the stretch.
+/// One turn. The stretch is over once the commits have reached the goal.
 fn turn<S: Sources, K: Sinks>(
     book: &mut Book<'_>,
     ends: &Ends,
     sources: &mut S,
     sinks: &mut K,
     limits: &Limits,
-    left: &mut u64,
+    goal: &mut u64,
 ) -> Result<Option<Ending>, AllocError>
     requires sources { ends.now.sources.items ≡ end_numbers is_source book.old.tables }
     requires sinks { ends.now.sinks.items ≡ end_numbers is_sink book.old.tables }
     ensures { IfOk result (λ ended. GoesOn S.gives S.at_hand K.takes K.flushes limits.now ended
         book.old book.new sources.old sources.new sinks.old sinks.new) }
 {
-    *left = step_many(book, limits, *left)?;
+    step_until(book, limits, *goal)?;
     let ended = take_all(book, ends, sinks, limits)?;
     if ended.is_some() {
         return Ok(ended);
     }
-    let over = come_to_outcome(book, ends, sinks, limits)?;
-    if over.is_some() {
-        return Ok(over);
+    come_to_read(book, ends, sources, sinks, limits, goal)
+}
+
+/// The end of a turn, when the sinks have nothing unread: the run may have come to its limit, or it is time to read.
+fn come_to_read<S: Sources, K: Sinks>(
+    book: &mut Book<'_>,
+    ends: &Ends,
+    sources: &mut S,
+    sinks: &mut K,
+    limits: &Limits,
+    goal: &mut u64,
+) -> Result<Option<Ending>, AllocError>
+    requires sources { ends.now.sources.items ≡ end_numbers is_source book.old.tables }
+    requires sinks { ends.now.sinks.items ≡ end_numbers is_sink book.old.tables }
+    requires taken { AreTaken book.old.tables book.old.history }
+    ensures { IfOk result (λ ended. GoesOn S.gives S.at_hand K.takes K.flushes limits.now ended
+        book.old book.new sources.old sources.new sinks.old sinks.new) }
+{
+    if limits.commits <= book.commits() {
+        return come_to_outcome(book, ends, sinks, limits);
     }
-    if *left > 0 && !is_idle(book) {
+    if book.commits() < *goal && !is_idle(book) {
         return Ok(None);
     }
-    *left = STRETCH;
+    *goal = book.commits().saturating_add(STRETCH);
     read_one(book, ends, sources, sinks, limits)
 }
 

@@ -1,35 +1,46 @@
 //! The processes make steps.
-ghost use Rattle.std.specs.Prelude.{◌≡◌, count_by, IfOk, IsTrue};
+ghost use Rattle.std.specs.Prelude.{◌≡◌, ◌+◌, ◌<◌, ◌≤◌, ◌^◌, count_by, IfOk, IsTrue};
 ghost use Rattle.kpn_history.specs.Ends.{HaveStopped};
 ghost use Rattle.kpn_history.specs.Views.{is_ready};
+ghost use Rattle.kpn_run_state.specs.Book.{held_count};
 ghost use Rattle.kpn_stream.specs.Streaming.{IsStepped};
 
 use kpn_run_here::Limits;
 use kpn_run_state::Book;
 use std::alloc::AllocError;
 
-/// Steps the processes in turn until none is ready, but makes no more than `most` commits. Returns how many of these
-/// are left. The error is that memory ran out.
-pub(crate) fn step_many(book: &mut Book<'_>, limits: &Limits, most: u64) -> Result<u64, AllocError>
+/// Steps the processes in turn until none is ready, or the commits have reached the goal or their limit. The error is
+/// that memory ran out.
+pub(crate) fn step_until(book: &mut Book<'_>, limits: &Limits, goal: u64) -> Result<(), AllocError>
     ensures { IfOk result (λ _. IsStepped limits.now book.old book.new) }
 {
-    'steps: for made in 0..most {
-        if !step_first(book, limits)? {
-            return Ok(most - made);
+    'rows: for _row in 0..u64::MAX {
+        if step_row(book, limits, goal)?.is_none() {
+            return Ok(());
         }
     }
-    Ok(0)
+    Ok(())
 }
 
-/// Steps the first process that is ready, unless the commits have reached their limit. Returns whether one was stepped.
-fn step_first(book: &mut Book<'_>, limits: &Limits) -> Result<bool, AllocError>
+/// Steps the processes in turn until one has put an item on a sink, which is returned, or none is ready, or the commits
+/// have reached the goal or their limit.
+fn step_row(book: &mut Book<'_>, limits: &Limits, goal: u64) -> Result<Option<usize>, AllocError>
     ensures { IfOk result (λ _. IsStepped limits.now book.old book.new) }
 {
-    if limits.commits <= book.commits() {
-        return Ok(false);
-    }
-    let answer = book.step_next(limits.quota.max(1))?;
-    Ok(answer.is_some())
+    let most = commits_left(book, limits, goal);
+    book.run_on(limits.quota.max(1), most)
+}
+
+/// How many commits are left up to the goal and to the limit, and at most as many as can be counted.
+fn commits_left(book: &Book<'_>, limits: &Limits, goal: u64) -> u64
+    ensures countable { book.now.commits + held_count book.now + result < 2 ^ 64 }
+    ensures within { book.now.commits ≤ limits.now.commits
+        → book.now.commits + result ≤ limits.now.commits }
+{
+    book.known();
+    let made = book.commits();
+    let countable = u64::MAX - book.counts().held as u64;
+    limits.commits.min(goal).min(countable).saturating_sub(made)
 }
 
 /// Whether each process has ended or waits.
