@@ -148,6 +148,7 @@ def read_words_of_figures(words):
     parser.add_argument('file')
     parser.add_argument('history', nargs='?')
     parser.add_argument('--steps', type=int, default=histories.MOST_STEPS)
+    parser.add_argument('--across', action='store_true')
     parser.add_argument('--tsv', choices=('channels', 'processes'))
     parser.add_argument('--svg', action='store_true')
     parser.add_argument('--from', type=int, default=1, dest='first')
@@ -162,7 +163,7 @@ def figures_answer(words):
     description(found.file)
     network = histories.Network(load(found.file))
     if not found.history:
-        return figures.drawing(network), 0
+        return figures.drawing(network, across=found.across), 0
     trace = histories.read_trace(load(found.history).encode())
     audit = histories.audit_text(network, trace, found.steps)
     if not audit.startswith('legal'):
@@ -170,7 +171,7 @@ def figures_answer(words):
     if found.command == 'explain':
         return figures.explained(network, trace), 0
     if found.command == 'draw':
-        return figures.drawing(network, trace), 0
+        return figures.drawing(network, trace, found.across), 0
     if found.command == 'timeline' and found.svg:
         return ticks.picture_text(network, trace, found.first, found.last), 0
     if found.command == 'timeline':

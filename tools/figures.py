@@ -7,9 +7,9 @@ import ticks
 
 CHANNEL_HEADING = ('channel put read left most cap_first cap_last growths waits_empty waits_full complete '
                    'cap_shortest').split()
-PROCESS_HEADING = 'process gets puts waits_empty waits_full end'.split()
+PROCESS_HEADING = 'process gets puts waits_empty waits_full end bounds parameters'.split()
 HEAD = '''digraph network {
-  rankdir=LR;
+  rankdir=%s;
   node [fontname="sans-serif", shape=box];
   edge [fontname="sans-serif", fontsize=11];
 '''
@@ -36,6 +36,12 @@ def standing(audit, p):
     return f'waits {audit.network.channels[wait[1]]}' + (' full' if wait[0] == 'full' else '')
 
 
+def parameters(network, p):
+    """The parameters of process p, with their names and values."""
+    program, _, values = network.given[p]
+    return ' '.join(f'{name}={value}' for name, value in zip(network.processes[program][0]['par'], values))
+
+
 # ---- the tables
 
 def count(history, word, place, number):
@@ -53,9 +59,10 @@ def channel_row(audit, history, most, free, c):
     return [network.channels[c], put, read, put - read, most[c], *capacities, *events, complete, shortest]
 
 
-def process_row(audit, history, p):
+def process_row(audit, history, bounded, p):
     events = [count(history, word, 1, p) for word in ('get', 'put', 'wait-empty', 'wait-full')]
-    return [audit.network.instances[p], *events, standing(audit, p) or '-']
+    behind = [standing(audit, p) or '-', bounded.shares()[p], parameters(audit.network, p) or '-']
+    return [audit.network.instances[p], *events, *behind]
 
 
 def advice(audit, bounded, free, c):
@@ -67,12 +74,25 @@ def advice(audit, bounded, free, c):
     return f'{audit.network.channels[c]}: {number} {would} the run as short as it can be{has}\n'
 
 
-def head(history, bounded, free):
+def bound_line(network, bounded):
+    """The five processes that bind the run for most ticks, and the others together."""
+    shares = bounded.shares()
+    if not shares:
+        return 'bound by nothing\n'
+    first = sorted(shares, key=lambda p: (-shares[p], p))[:5]
+    told = [(network.instances[p], shares[p]) for p in first]
+    others = shares.total() - sum(ticks for _, ticks in told)
+    told += [('others', others)] * bool(others)
+    return 'bound by ' + ', '.join(f'{name} ({ticks} ticks)' for name, ticks in told) + '\n'
+
+
+def head(network, history, bounded, free):
     moves = len(bounded.places)
     hundredths = moves * 100 // bounded.length if bounded.length else None
     in_a_tick = '-' if hundredths is None else f'{hundredths // 100}.{hundredths % 100:02}'
     return (f'length {bounded.length} ticks, {free.length} without capacities\n'
-            f'events {len(history)}, gets and puts {moves}, in a tick {in_a_tick}\n')
+            f'events {len(history)}, gets and puts {moves}, in a tick {in_a_tick}\n'
+            + bound_line(network, bounded))
 
 
 def aligned(rows):
@@ -91,17 +111,17 @@ def stats_text(network, trace, tsv=None):
     channels, processes = range(len(network.channels)), range(len(network.instances))
     bounded, free = (ticks.Timing(network, trace, has_capacities) for has_capacities in (True, False))
     of_channels = [CHANNEL_HEADING, *(channel_row(audit, trace.history, most, free, c) for c in channels)]
-    of_processes = [PROCESS_HEADING, *(process_row(audit, trace.history, p) for p in processes)]
+    of_processes = [PROCESS_HEADING, *(process_row(audit, trace.history, bounded, p) for p in processes)]
     if tsv:
         return tabbed(of_channels if tsv == 'channels' else of_processes)
     said = ''.join(advice(audit, bounded, free, c) for c in channels)
-    return f'{head(trace.history, bounded, free)}\n{aligned(of_channels)}\n{aligned(of_processes)}\n{said}'
+    return f'{head(network, trace.history, bounded, free)}\n{aligned(of_channels)}\n{aligned(of_processes)}\n{said}'
 
 
 # ---- the drawing
 
 def box(network, audit, p):
-    label, style = f'{network.instances[p]}: {network.given[p][0]}', ''
+    label, style = f'{network.instances[p]}: {network.given[p][0]} {parameters(network, p)}'.rstrip(), ''
     state = standing(audit, p) if audit else ''
     if state:
         colour = {'done': 'grey'}.get(state, 'yellow' if state.startswith('waits') else 'pink')
@@ -129,11 +149,11 @@ def edge(network, audit, c):
     return f'  {writer} -> {reader} [label="{label}"{style}];\n'
 
 
-def drawing(network, trace=None):
+def drawing(network, trace=None, across=False):
     audit = replay(network, trace)[0] if trace else None
     boxes = ''.join(box(network, audit, p) for p in range(len(network.instances)))
     edges = ''.join(outside(network, c) + edge(network, audit, c) for c in range(len(network.channels)))
-    return HEAD + boxes + edges + LEGEND * bool(trace) + '}\n'
+    return HEAD % ('TB' if across else 'LR') + boxes + edges + LEGEND * bool(trace) + '}\n'
 
 
 # ---- what is said of a legal history that is not exact

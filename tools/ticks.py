@@ -104,6 +104,20 @@ class Timing:
         gets = [tick for place, tick in zip(self.places, self.ticks) if place.word == 'get' and place.channel == c]
         return self.written(c)[:self.taken[c]] + gets
 
+    def chain(self):
+        """A longest chain of gets and puts from its end: each has a cause at the tick before, of its own process if there
+        is one. It ends with the first process that has the last tick."""
+        ends = [k for k, tick in enumerate(self.ticks) if tick == self.length]
+        k = min(ends, key=lambda k: self.places[k].process, default=None)
+        while k is not None:
+            yield k
+            late = [cause for cause in self.causes(k) if self.ticks[cause] == self.ticks[k] - 1]
+            k = self.before.get(k) if self.before.get(k) in late else late[0] if late else None
+
+    def shares(self):
+        """How many ticks of the chain each process has."""
+        return collections.Counter(self.places[k].process for k in self.chain())
+
     def needed(self, c):
         """The capacity with which the puts on a channel have these ticks."""
         written, read = self.written(c), self.read(c)

@@ -66,9 +66,9 @@ IsAnswer may_give may_alias remaining (ExplainItems file) input read answer =
 IsAnswer may_give may_alias remaining (Print file) input read answer =
     (read ≡ input) × Answers (Succeeds (IsTextOf canonical_text may_give file.now))
     (IsRefusalOfCommand may_give file.now) answer
-IsAnswer may_give may_alias remaining (Draw file trace) input read answer =
+IsAnswer may_give may_alias remaining (Draw file trace direction) input read answer =
     let trace = option_map (λ name. name.now) trace in
-    (read ≡ input) × Answers (Tells (IsDrawn may_give file.now trace 10000000))
+    (read ≡ input) × Answers (Tells (IsDrawn may_give file.now trace direction 10000000))
     (IsRefusalOfDrawing may_give file.now trace) answer
 IsAnswer may_give may_alias remaining (Rounds file n sources) input read answer =
     let words = map (λ word. word.now) sources.items in

@@ -53,9 +53,11 @@ pub fn answer_here<'a, S: Shelf, I: Read>(
             Progress::Answered(explain_items_command(alloc, file, shelf))
         }
         Request::Print(file) => Progress::Answered(print_command(alloc, file, shelf)),
-        Request::Draw { file, trace } => {
-            Progress::Answered(draw_command(alloc, file, trace, USUAL_COUNT, shelf))
-        }
+        Request::Draw {
+            file,
+            trace,
+            direction,
+        } => Progress::Answered(draw_command(alloc, file, trace, direction, USUAL_COUNT, shelf)),
         Request::Rounds { file, n, sources } => {
             Progress::Answered(rounds_command(alloc, file, n, &sources, shelf))
         }

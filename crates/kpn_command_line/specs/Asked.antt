@@ -15,6 +15,8 @@ use Rattle.clap.specs.Matches.{found_of}
 use Rattle.clap.specs.declared.parser.matches.ArgMatches.{ArgMatches}
 use Rattle.clap.specs.declared.error.kind.ErrorKind.{ErrorKind}
 use Rattle.clap.specs.declared.error.kind.ErrorKind.TheVariants.{DisplayHelp, DisplayVersion, OutOfMemory}
+use Rattle.kpn_request.specs.declared.direction.Direction.{Direction}
+use Rattle.kpn_request.specs.declared.direction.Direction.TheVariants.{LeftToRight, TopToBottom}
 use Rattle.kpn_request.specs.declared.tables.StatsTables.{StatsTables}
 use Rattle.kpn_request.specs.declared.tables.StatsTables.TheVariants.{People, Channels, Processes}
 use Rattle.kpn_request.specs.declared.stream.ItemFormat.{ItemFormat}
@@ -85,6 +87,11 @@ format_name S64 = codes "s64le"
 abbrev pub format_for : (given : List Row) → List ℕ
 format_for given = unwrap_or (text_for (codes "FORMAT") given) (codes "lines")
 
+-- a drawing from top to bottom
+abbrev pub is_across : Direction → Bool
+is_across LeftToRight = false
+is_across TopToBottom = true
+
 -- the name of the command that a request is for; help is for none
 abbrev pub command_of : Request → List ℕ
 command_of (Alone name) = codes "alone"
@@ -92,7 +99,7 @@ command_of (Check file) = codes "check"
 command_of (Explain file trace steps) = codes "explain"
 command_of (ExplainItems file) = codes "explain"
 command_of (Print file) = codes "print"
-command_of (Draw file trace) = codes "draw"
+command_of (Draw file trace direction) = codes "draw"
 command_of (Rounds file n sources) = codes "rounds"
 command_of (Run run) = codes "run"
 command_of (Stream stream) = codes "stream"
@@ -120,9 +127,10 @@ Gives given (ExplainItems file) =
     (text_for (codes "FILE") given ≡ Some file.now) × (text_for (codes "TRACE") given ≡ None)
     × (is_set (codes "ITEMS") given ≡ true)
 Gives given (Print file) = text_for (codes "FILE") given ≡ Some file.now
-Gives given (Draw file trace) =
+Gives given (Draw file trace direction) =
     (text_for (codes "FILE") given ≡ Some file.now)
     × (text_for (codes "TRACE") given ≡ option_map (λ name. name.now) trace)
+    × (is_set (codes "ACROSS") given ≡ is_across direction)
 Gives given (Rounds file n sources) =
     (text_for (codes "FILE") given ≡ Some file.now) × (number_for 32 (codes "N") given ≡ Some n)
     × (texts_for (codes "SOURCE") given ≡ map (λ source. source.now) sources.items)

@@ -85,6 +85,9 @@ format_option = option (codes "FORMAT") (codes "format")
 abbrev pub quiet_flag : Rule
 quiet_flag = flag (codes "QUIET") (codes "quiet")
 
+abbrev pub across_flag : Rule
+across_flag = flag (codes "ACROSS") (codes "across")
+
 -- a command with these words and options
 abbrev pub command : (name : List ℕ) → List Rule → App
 command name rules = on_top (λ shape. record shape { rules = rules }) (new_app name)
@@ -103,7 +106,7 @@ abbrev pub print_words : App
 print_words = command (codes "print") (file_word ∷ [])
 
 abbrev pub draw_words : App
-draw_words = command (codes "draw") (file_word ∷ optional_word (codes "TRACE") ∷ [])
+draw_words = command (codes "draw") (file_word ∷ optional_word (codes "TRACE") ∷ across_flag ∷ [])
 
 abbrev pub rounds_words : App
 rounds_words = command (codes "rounds") (file_word ∷ rounds_word ∷ source_option ∷ [])

@@ -9,6 +9,7 @@ ghost use Rattle.kpn_command_line.specs.CommandLine.{file_word, rounds_word, sou
 ghost use Rattle.kpn_command_line.specs.CommandLine.{workers_option, steps_option, items_flag, quiet_flag, svg_flag};
 ghost use Rattle.kpn_command_line.specs.CommandLine.{format_option, from_option, to_option, trace_word};
 ghost use Rattle.kpn_command_line.specs.CommandLine.{run_inputs, stream_ends, timeline_inputs, bare_command_line, flag};
+ghost use Rattle.kpn_command_line.specs.CommandLine.{across_flag};
 
 use clap::builder::ValueParser;
 use clap::{Arg, ArgAction, Command};
@@ -52,6 +53,8 @@ pub(crate) const TO: &str = "TO";
 pub(crate) const FORMAT: &str = "FORMAT";
 
 pub(crate) const QUIET: &str = "QUIET";
+
+pub(crate) const ACROSS: &str = "ACROSS";
 
 // The commands and their words.
 pub(crate) fn program<'a>(alloc: Global) -> Result<Command<'a>, AllocError>
@@ -207,8 +210,10 @@ fn print_words<'a>(alloc: Global) -> Result<Command<'a>, AllocError>
 
 const DRAW_HELP: &str = "\
 Writes a directed graph in the language of Graphviz: `kpn draw FILE | dot -Tsvg` makes a picture. A
-box is a process, with the name of its instance and of its program. An arrow is a channel, from its
-writer to its reader, with its name and capacity. An ellipse is the outside at a source or a sink.
+box is a process, with the name of its instance, of its program, and its parameters. An arrow is a
+channel, from its writer to its reader, with its name and capacity. An ellipse is the outside at a
+source or a sink. What stands side by side in the network is drawn one below the other; with --across it
+is drawn side by side.
 
 With a trace that `kpn run --trace` has stored, the drawing also shows what stands after its events: how
 many items were put on each channel and how many of them are unread, the capacity that a grown channel
@@ -226,7 +231,8 @@ fn draw_words<'a>(alloc: Global) -> Result<Command<'a>, AllocError>
     let trace = "The file of a trace; without it the network is drawn before any run";
     command(alloc, "draw", about, DRAW_HELP)
         .arg(file_word(alloc))?
-        .arg(optional_word(alloc, TRACE, trace))
+        .arg(optional_word(alloc, TRACE, trace))?
+        .arg(across_word(alloc))
 }
 
 // What help says of `--source`, if sources have files.
@@ -392,14 +398,14 @@ fn audit_words<'a>(alloc: Global) -> Result<Command<'a>, AllocError>
 
 const STATS_HELP: &str = "\
 Counts the events of a trace that `kpn run --trace` has stored. Writes how long the run is if each get
-and put takes one tick, with the capacities and without any, a table of the channels, a table of the
-processes, and which capacities keep the run as short as it can be.
+and put takes one tick, with the capacities and without any, which processes bind it to this length, a
+table of the channels, a table of the processes, and which capacities keep the run as short as it can be.
 
 Of each channel: the items that were put and read, those that are left unread, the most that lay
 unread, the capacity at first and at last, how often it grew, how often its reader came to wait for an
 item and its writer for room, whether it is complete, and the capacity that a run without capacities
-makes use of. Of each process: the items that it got and put, how often it came to
-wait for an item and for room, and how it ended or what it waits for.
+makes use of. Of each process: the items that it got and put, how often it came to wait for an item
+and for room, how it ended or what it waits for, for how many ticks it binds the run, and its parameters.
 
 With --tsv one of the tables is written for other programs: a line of names, then a line for each
 channel or process, with a tab between two entries. A trace that is not legal is answered as by
@@ -519,6 +525,14 @@ fn to_word<'a>(alloc: Global) -> Arg<'a>
 {
     let help = "The last tick of the picture: 1 to 1000000000, and 1000000000 without it";
     count(alloc, TO, "to", "T", help)
+}
+
+// The `--across` flag.
+fn across_word<'a>(alloc: Global) -> Arg<'a>
+    ensures { IsArg across_flag result }
+{
+    let help = "Draws from top to bottom, and not from left to right: for a wide network";
+    flag(alloc, ACROSS, "across", help)
 }
 
 // The word for the file of a description.

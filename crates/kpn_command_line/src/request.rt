@@ -1,7 +1,7 @@
 //! What a command line may ask for.
 
 use clap::Error;
-use kpn_request::{RunRequest, StatsTables, StreamRequest};
+use kpn_request::{Direction, RunRequest, StatsTables, StreamRequest};
 use std::alloc::AllocError;
 
 /// What a command line asks for.
@@ -21,10 +21,11 @@ pub enum Request<'a> {
     ExplainItems(&'a str),
     /// `print FILE`.
     Print(&'a str),
-    /// `draw FILE` or `draw FILE TRACE`.
+    /// `draw FILE` or `draw FILE TRACE`, with the direction of the drawing.
     Draw {
         file: &'a str,
         trace: Option<&'a str>,
+        direction: Direction,
     },
     /// `rounds FILE N`, with the words behind its `--source` options.
     Rounds {

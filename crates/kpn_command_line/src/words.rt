@@ -7,17 +7,17 @@ ghost use Rattle.kpn_command_line.specs.CommandLine.{command_line};
 ghost use Rattle.kpn_command_line.specs.Asked.{IsAsked, IsRefused, IsHelpOfKind, IsRefusalOfKind};
 ghost use Rattle.kpn_command_line.specs.Asked.{AnswersTo, IsUsageIf, IsNoTable, IsNoFormat, Names, rows_in};
 ghost use Rattle.kpn_command_line.specs.Asked.{text_for, texts_for, number_for, is_set, table_name};
-ghost use Rattle.kpn_command_line.specs.Asked.{format_for, format_name};
+ghost use Rattle.kpn_command_line.specs.Asked.{format_for, format_name, is_across};
 
 use crate::command_line::{
-    FILE, FORMAT, FROM, ITEMS, MAX_COMMITS, NAME, QUIET, ROUNDS, SINK, SOURCE, STEPS, SVG, TABLE,
-    TAKE, TO, TRACE, WORKERS, program,
+    ACROSS, FILE, FORMAT, FROM, ITEMS, MAX_COMMITS, NAME, QUIET, ROUNDS, SINK, SOURCE, STEPS, SVG,
+    TABLE, TAKE, TO, TRACE, WORKERS, program,
 };
 use crate::request::{Request, WordsFault};
 use clap::error::ErrorKind;
 use clap::{ArgMatches, Command, Error};
 use kpn_limits::{MAX_COUNT, USUAL_COUNT};
-use kpn_request::{ItemFormat, RunRequest, StatsTables, StreamRequest};
+use kpn_request::{Direction, ItemFormat, RunRequest, StatsTables, StreamRequest};
 use std::alloc::{AllocError, Global};
 
 /// What the words ask for, or why the program can't do it.
@@ -75,6 +75,7 @@ fn command_request<'a>(
         "draw" => Ok(Request::Draw {
             file: required(program, given, FILE)?,
             trace: text_of(given, TRACE),
+            direction: direction_of(given),
         }),
         "rounds" => rounds_request(alloc, program, given),
         "run" => run_request(alloc, program, given),
@@ -123,6 +124,17 @@ fn explain_request<'a>(
             ErrorKind::ArgumentConflict,
             "with --items there is no TRACE",
         )),
+    }
+}
+
+// The direction of a drawing.
+fn direction_of(draw: &ArgMatches<'_>) -> Direction
+    ensures { is_set (codes "ACROSS") (rows_in draw.now) ≡ is_across result }
+{
+    if is_set(draw, ACROSS) {
+        Direction::TopToBottom
+    } else {
+        Direction::LeftToRight
     }
 }
 

@@ -13,6 +13,9 @@ use Rattle.kpn_history.specs.declared.state.State.TheVariants.{WaitsEmpty, Waits
 use Rattle.kpn_trace_text.specs.EventLine.{how_word}
 use Rattle.kpn_names.specs.Names.{name_at}
 use Rattle.kpn_names.specs.NetworkNames.{process_names}
+use Rattle.kpn_request.specs.declared.direction.Direction.{Direction}
+use Rattle.kpn_request.specs.declared.direction.Direction.TheVariants.{LeftToRight, TopToBottom}
+use Rattle.kpn_summary.specs.Parameters.{parameters_text}
 use Rattle.kpn_text.specs.Document.{Document}
 use Rattle.kpn_audit.specs.declared.findings.Audit.{Audit}
 use Rattle.kpn_draw_command.specs.declared.found.Flow.{Flow}
@@ -24,7 +27,7 @@ closing style = codes "\"" ++ style ++ codes "];\n"
 
 -- ---- processes
 
--- the line of process p as far as its label names it: `INSTANCE: PROCESS`
+-- the line of process p as far as its label names it: `INSTANCE: PROCESS`, behind which its parameters stand
 abbrev pub process_front : Document → (p : ℕ) → List ℕ
 process_front d p =
     codes "  p" ++ decimal p ++ codes " [label=\"" ++ name_at d.names.instances p ++ codes ": "
@@ -46,8 +49,11 @@ filling (Ended how) = codes ", style=filled, fillcolor=lightpink"
 filling other = []
 
 -- the line of process p in this state
+abbrev pub process_back : Document → State → List ℕ
+process_back d state = state_line d.names.channels state ++ closing (filling state)
+
 abbrev pub process_line : Document → (p : ℕ) → State → List ℕ
-process_line d p state = process_front d p ++ state_line d.names.channels state ++ closing (filling state)
+process_line d p state = process_front d p ++ parameters_text d p ++ process_back d state
 
 -- ---- channels
 
@@ -114,20 +120,32 @@ abbrev pub each_below : (n : ℕ) → (text : ℕ → List ℕ) → List ℕ
 each_below zero text = []
 each_below (suc n) text = each_below n text ++ text n
 
-abbrev pub head : List ℕ
-head =
-    codes "digraph network {\n  rankdir=LR;\n  node [fontname=\"sans-serif\", shape=box];\n"
+abbrev pub direction_word : Direction → List ℕ
+direction_word LeftToRight = codes "LR"
+direction_word TopToBottom = codes "TB"
+
+-- what holds for all boxes and edges
+abbrev pub look_of_all : List ℕ
+look_of_all =
+    codes ";\n  node [fontname=\"sans-serif\", shape=box];\n"
     ++ codes "  edge [fontname=\"sans-serif\", fontsize=11];\n"
+
+abbrev pub head : Direction → List ℕ
+head direction = codes "digraph network {\n  rankdir=" ++ direction_word direction ++ look_of_all
 
 -- what the colour of an edge means, if there is a history
 abbrev pub legend : {A : Type 0} → Option (Audit A) → List ℕ
 legend None = []
 legend (Some audit) = codes "  label=\"green: complete, nothing more is ever put there\";\n"
 
--- the network and, if there is an audit, what its history leads to
-abbrev pub drawing : {A : Type 0} → Document → Option (Audit A) → List ℕ
-drawing d audit =
-    head
-    ++ each_below (length d.tables.instances) (λ p. process_line d p (state_of audit p))
-    ++ each_below (length d.tables.channels) (λ c. channel_lines d c (flow_of d.tables audit c))
+-- the channels, what their colours mean, and the end
+abbrev pub tail : {A : Type 0} → Document → Option (Audit A) → List ℕ
+tail d audit =
+    each_below (length d.tables.channels) (λ c. channel_lines d c (flow_of d.tables audit c))
     ++ legend audit ++ codes "}\n"
+
+-- the network in this direction and, if there is an audit, what its history leads to
+abbrev pub drawing : {A : Type 0} → Document → Direction → Option (Audit A) → List ℕ
+drawing d direction audit =
+    head direction ++ each_below (length d.tables.instances) (λ p. process_line d p (state_of audit p))
+    ++ tail d audit

@@ -10,37 +10,44 @@ use kpn_audited::{Audited, Finding, load_audited};
 use kpn_conclusion::Conclusion;
 use kpn_inputs::load_document;
 use kpn_refusals::Refusal;
+use kpn_request::Direction;
 use kpn_shelf::Shelf;
 use std::alloc::{AllocError, Global};
 
-/// What `kpn draw FILE` or `kpn draw FILE TRACE` comes to. Each process may make `steps` steps before each of its
+/// What `kpn draw FILE` or `kpn draw FILE TRACE` comes to, in this direction. Each process may make `steps` steps before each of its
 /// events in the trace. It reads the description first, then the trace. For a trace that is not legal it tells what
 /// `kpn audit` tells.
 pub fn draw_command<S: Shelf>(
     alloc: Global,
     file: &str,
     trace: Option<&str>,
+    direction: Direction,
     steps: u64,
     shelf: &S,
 ) -> Result<Conclusion, Refusal>
     ensures ok { IfOk result (Tells (IsDrawn (S.may_give shelf.now) file.now
-        (option_map (λ name. name.now) trace.entry) steps)) }
+        (option_map (λ name. name.now) trace.entry) direction steps)) }
     ensures refused { IfErr result (IsRefusalOfDrawing (S.may_give shelf.now) file.now
         (option_map (λ name. name.now) trace.entry)) }
 {
     match trace {
-        Some(trace) => drawn_after(alloc, file, trace, steps, shelf),
-        None => drawn_alone(alloc, file, shelf),
+        Some(trace) => drawn_after(alloc, file, trace, direction, steps, shelf),
+        None => drawn_alone(alloc, file, direction, shelf),
     }
 }
 
 // The drawing of the network.
-fn drawn_alone<S: Shelf>(alloc: Global, file: &str, shelf: &S) -> Result<Conclusion, Refusal>
-    ensures ok { IfOk result (Tells (IsDrawnAlone (S.may_give shelf.now) file.now)) }
+fn drawn_alone<S: Shelf>(
+    alloc: Global,
+    file: &str,
+    direction: Direction,
+    shelf: &S,
+) -> Result<Conclusion, Refusal>
+    ensures ok { IfOk result (Tells (IsDrawnAlone (S.may_give shelf.now) file.now direction)) }
     ensures refused { IfErr result (IsRefusalOfCommand (S.may_give shelf.now) file.now) }
 {
     let document = load_document(alloc, shelf, file)?;
-    let text = text_of(alloc, &document, None)?;
+    let text = text_of(alloc, &document, direction, None)?;
     Ok(Conclusion {
         text,
         status: 0,
@@ -53,26 +60,31 @@ fn drawn_after<S: Shelf>(
     alloc: Global,
     file: &str,
     trace: &str,
+    direction: Direction,
     steps: u64,
     shelf: &S,
 ) -> Result<Conclusion, Refusal>
     ensures ok { IfOk result
-        (Tells (IsDrawnAfter (S.may_give shelf.now) file.now trace.now steps)) }
+        (Tells (IsDrawnAfter (S.may_give shelf.now) file.now trace.now direction steps)) }
     ensures refused { IfErr result (IsRefusalOfAudit (S.may_give shelf.now) file.now trace.now) }
 {
     let audited = load_audited(alloc, shelf, file, trace, steps)?;
-    let conclusion = conclusion_of(alloc, &audited)?;
+    let conclusion = conclusion_of(alloc, direction, &audited)?;
     Ok(conclusion)
 }
 
 // The text for what an audit finds, and its status.
-fn conclusion_of(alloc: Global, audited: &Audited) -> Result<Conclusion, AllocError>
-    ensures { IfOk result (Tells (IsTextFor (IsDrawing audited.now.document audited.now.trace)
-        audited.now.finding)) }
+fn conclusion_of(
+    alloc: Global,
+    direction: Direction,
+    audited: &Audited,
+) -> Result<Conclusion, AllocError>
+    ensures { let drawn = IsDrawing direction audited.now.document audited.now.trace in
+        IfOk result (Tells (IsTextFor drawn audited.now.finding)) }
 {
     match &audited.finding {
         Finding::Legal(audit) => Ok(Conclusion {
-            text: text_of(alloc, &audited.document, Some(audit))?,
+            text: text_of(alloc, &audited.document, direction, Some(audit))?,
             status: 0,
             files: Vec::new(alloc),
         }),

@@ -1,35 +1,89 @@
 //! The drawing of a network: a line for each process, source, sink and channel.
-ghost use Rattle.std.specs.Prelude.{◌≡◌, ◌<◌, length, codes, option_map, IfOk};
+ghost use Rattle.std.specs.Prelude.{◌≡◌, ◌++◌, ◌<◌, length, option_map, string_bytes, IfOk, OnOk};
 ghost use Rattle.kpn_net.specs.Tables.{channel_at, capacity};
 ghost use Rattle.kpn_pieces.specs.Added.{Adds};
-ghost use Rattle.kpn_draw_command.specs.DrawText.{drawing, head, each_below, process_line, state_line, filling, outside_line, end_node, capacity_label, growth_label, flow_line, look, edge_style, legend, arrow, edge_label, edge_line, channel_lines};
+ghost use Rattle.kpn_draw_command.specs.DrawText.{drawing, direction_word, look_of_all, head, tail, each_below, process_front, process_back, process_line, state_line, filling, outside_line, end_node, capacity_label, growth_label, flow_line, look, edge_style, legend, arrow, edge_label, edge_line, channel_lines};
 ghost use Rattle.kpn_draw_command.specs.Found.{state_of, flow_of};
 
 use crate::found::{Flow, flow_of, state_of};
 use kpn_audit::Audit;
 use kpn_history::{How, State};
 use kpn_net::{End, Network};
-use kpn_pieces::Pushed;
+use kpn_pieces::{Pushed, push_between};
+use kpn_request::Direction;
+use kpn_summary::push_parameters;
 use kpn_text::Document;
 use kpn_trace_text::how_word;
 use std::alloc::{AllocError, Global};
 
-/// The network and, if there is an audit of it, what its history leads to.
+/// The network in this direction and, if there is an audit of it, what its history leads to.
 pub(crate) fn text_of(
     alloc: Global,
     document: &Document,
+    direction: Direction,
     audit: Option<&Audit>,
 ) -> Result<Vec<u8>, AllocError>
     ensures { IfOk result (λ text.
-        text.items ≡ drawing document.now (option_map (λ a. a.now) audit.entry)) }
+        text.items ≡ drawing document.now direction (option_map (λ a. a.now) audit.entry)) }
+{
+    let mut text = Vec::new(alloc);
+    push_head(&mut text, direction)?;
+    push_processes(alloc, &mut text, document, audit)?;
+    push_tail(alloc, &mut text, document, audit)?;
+    Ok(text)
+}
+
+// The lines that hold for the whole drawing.
+fn push_head(text: &mut Vec<u8>, direction: Direction) -> Pushed
+    ensures { OnOk result (text.new.items ≡ text.old.items ++ head direction) }
+{
+    push_between(
+        text,
+        b"digraph network {\n  rankdir=",
+        direction_word(direction),
+        look_of_all(),
+    )
+}
+
+fn direction_word(direction: Direction) -> &'static [u8]
+    ensures { result.now ≡ direction_word direction }
+{
+    match direction {
+        Direction::LeftToRight => b"LR",
+        Direction::TopToBottom => b"TB",
+    }
+}
+
+// What holds for all boxes and edges.
+fn look_of_all() -> &'static [u8]
+    ensures { result.now ≡ look_of_all }
+{
+    b";\n  node [fontname=\"sans-serif\", shape=box];\n  edge [fontname=\"sans-serif\", fontsize=11];\n"
+}
+
+fn push_tail(
+    alloc: Global,
+    text: &mut Vec<u8>,
+    document: &Document,
+    audit: Option<&Audit>,
+) -> Pushed
+    ensures { OnOk result (text.new.items
+        ≡ text.old.items ++ tail document.now (option_map (λ a. a.now) audit.entry)) }
+{
+    let tail = tail_of(alloc, document, audit)?;
+    text.extend_from_slice(tail.as_bytes())
+}
+
+// The channels, what their colours mean, and the end.
+fn tail_of(alloc: Global, document: &Document, audit: Option<&Audit>) -> Result<String, AllocError>
+    ensures { IfOk result (λ text.
+        string_bytes text ≡ tail document.now (option_map (λ a. a.now) audit.entry)) }
 {
     let mut text = String::new(alloc);
-    text.push_str(head())?;
-    push_processes(&mut text, document, audit)?;
     push_channels(&mut text, document, audit)?;
     text.push_str(legend(audit))?;
     text.push_str("}\n")?;
-    Ok(text.into_bytes())
+    Ok(text)
 }
 
 // What the colour of an edge means, if there is a history.
@@ -42,37 +96,63 @@ fn legend(audit: Option<&Audit>) -> &'static str
     }
 }
 
-// The lines that hold for all boxes and edges.
-fn head() -> &'static str
-    ensures { result.now ≡ head }
-{
-    "digraph network {\n  rankdir=LR;\n  node [fontname=\"sans-serif\", shape=box];\n  \
-     edge [fontname=\"sans-serif\", fontsize=11];\n"
-}
-
-fn push_processes(text: &mut String, document: &Document, audit: Option<&Audit>) -> Pushed
+fn push_processes(
+    alloc: Global,
+    text: &mut Vec<u8>,
+    document: &Document,
+    audit: Option<&Audit>,
+) -> Pushed
     ensures { let d = document.now in
-        Adds result text.old text.new (each_below (length d.tables.instances)
+        OnOk result (text.new.items ≡ text.old.items ++ each_below (length d.tables.instances)
         (λ p. process_line d p (state_of (option_map (λ a. a.now) audit.entry) p))) }
 {
     let network = document.network();
     for p in 0..network.instances() {
         let state = state_of(audit, p);
-        push_process(text, document, p, state)?;
+        push_process(alloc, text, document, p, state)?;
     }
     Ok(())
 }
 
 // The line of a process in this state.
-fn push_process(text: &mut String, document: &Document, p: usize, state: State) -> Pushed
+fn push_process(
+    alloc: Global,
+    text: &mut Vec<u8>,
+    document: &Document,
+    p: usize,
+    state: State,
+) -> Pushed
     requires { p < length document.now.tables.instances }
-    ensures { Adds result text.old text.new (process_line document.now p state) }
+    ensures { OnOk result (text.new.items ≡ text.old.items ++ process_line document.now p state) }
+{
+    let front = front_of(alloc, document, p)?;
+    text.extend_from_slice(front.as_bytes())?;
+    push_parameters(text, document, p)?;
+    let back = back_of(alloc, document, state)?;
+    text.extend_from_slice(back.as_bytes())?;
+    Ok(())
+}
+
+// The line of a process as far as its label names it.
+fn front_of(alloc: Global, document: &Document, p: usize) -> Result<String, AllocError>
+    requires { p < length document.now.tables.instances }
+    ensures { IfOk result (λ text. string_bytes text ≡ process_front document.now p) }
 {
     let name = document.instance_name(p);
     let process = document.process_name(document.network().program_number(p));
+    let mut text = String::new(alloc);
     write!(text, "  p{p} [label=\"{name}: {process}")?;
-    push_state(text, document, state)?;
-    writeln!(text, "\"{}];", filling(state))
+    Ok(text)
+}
+
+// The line of a process in this state, from there on.
+fn back_of(alloc: Global, document: &Document, state: State) -> Result<String, AllocError>
+    ensures { IfOk result (λ text. string_bytes text ≡ process_back document.now state) }
+{
+    let mut text = String::new(alloc);
+    push_state(&mut text, document, state)?;
+    writeln!(text, "\"{}];", filling(state))?;
+    Ok(text)
 }
 
 // What a process waits for, or how it has ended.

@@ -5,8 +5,7 @@ use Rattle.std.proofs.lemmas.List.FromFn.{map-range_with_len_more}
 use Rattle.kpn_stats_command.specs.declared.table.Row.{Row}
 use Rattle.kpn_stats_command.specs.declared.times.Times.{Times}
 use Rattle.kpn_stats_command.specs.Layout.{longest, aligned_table}
-use Rattle.std.proofs.lemmas.List.{append_assoc, drop_more}
-use Rattle.kpn_pieces.specs.ListText.{lines_from}
+use Rattle.std.proofs.lemmas.List.{append_assoc}
 use Rattle.kpn_text.specs.Document.{Document}
 use Rattle.kpn_audit.specs.declared.findings.Audit.{Audit}
 use Rattle.kpn_stats_command.specs.declared.figures.ChannelFigures.{ChannelFigures}
@@ -54,26 +53,20 @@ joined old a b so_far more was added = added ∙ ap (λ x. x ++ b) was ∙ appen
 pub tables_told : {A : Type 0} (d : Document) (audit : Audit A) (channels : List ChannelFigures)
     (processes : List ProcessFigures) (times : Times) (old t1 t2 t3 t4 new : List ℕ) (first second : List Row)
     → first ≡ channel_rows d audit channels times → t1 ≡ old ++ aligned_table 11 first → t2 ≡ t1 ++ codes "\n"
-    → second ≡ process_rows d audit processes → t3 ≡ t2 ++ aligned_table 5 second → t4 ≡ t3 ++ codes "\n"
+    → second ≡ process_rows d audit processes times → t3 ≡ t2 ++ aligned_table 7 second → t4 ≡ t3 ++ codes "\n"
     → new ≡ t4 ++ advice d audit channels times → new ≡ old ++ tables_text d audit channels processes times
 tables_told d audit channels processes times old t1 t2 t3 t4 new first second rows e1 e2 more e3 e4 e5 =
     let a = aligned_table 11 (channel_rows d audit channels times) in
-    let b = aligned_table 5 (process_rows d audit processes) in
+    let b = aligned_table 7 (process_rows d audit processes times) in
     let s1 : t1 ≡ old ++ a = e1 ∙ ap (λ r. old ++ aligned_table 11 r) rows in
     let s2 = joined old a (codes "\n") t1 t2 s1 e2 in
-    let s3 = joined old (a ++ codes "\n") b t2 t3 s2 (e3 ∙ ap (λ r. t2 ++ aligned_table 5 r) more) in
+    let s3 = joined old (a ++ codes "\n") b t2 t3 s2 (e3 ∙ ap (λ r. t2 ++ aligned_table 7 r) more) in
     let s4 = joined old (a ++ codes "\n" ++ b) (codes "\n") t3 t4 s3 e4 in
     joined old (a ++ codes "\n" ++ b ++ codes "\n") (advice d audit channels times) t4 new s4 e5
 
--- what is written of one thing more
-pub line_next : {A : Type 0} (line : ℕ → A → List ℕ) (n : ℕ) (xs : List A) (d : A) (text more : List ℕ)
-    → n < length xs → more ≡ text ++ line n (get_or xs n d)
-    → more ++ lines_from line (n + 1) (drop (n + 1) xs) ≡ text ++ lines_from line n (drop n xs)
-line_next line n xs d text more below added =
-    let x = get_or xs n d in
-    let rest = drop (n + 1) xs in
-    let one : n + 1 ≡ suc n = omega arith in
-    ap (λ t. t ++ lines_from line (n + 1) rest) added
-    ∙ append_assoc text (line n x) (lines_from line (n + 1) rest)
-    ∙ ap (λ m. text ++ (line n x ++ lines_from line m rest)) one
-    ∙ ap (λ ys. text ++ lines_from line n ys) (sym (drop_more xs n d below))
+pub head_told : (lengths bound told first more whole : List ℕ) → first ≡ lengths → more ≡ first ++ told
+    → told ≡ bound → whole ≡ more ++ codes "\n" → whole ≡ lengths ++ bound ++ codes "\n"
+head_told lengths bound told first more whole is added says end =
+    end
+    ∙ ap (λ x. x ++ codes "\n")
+    (added ∙ ap (λ x. x ++ told) is ∙ ap (λ x. lengths ++ x) says)

@@ -17,6 +17,7 @@ use Rattle.kpn_stats_command.specs.declared.figures.ChannelFigures.{ChannelFigur
 use Rattle.kpn_stats_command.specs.declared.figures.ProcessFigures.{ProcessFigures}
 use Rattle.kpn_stats_command.specs.declared.figures.Figures.{Figures}
 use Rattle.kpn_ticks.specs.Ticks.{Clocks, clocks_after}
+use Rattle.kpn_ticks.specs.Chain.{shares_of}
 use Rattle.kpn_ticks.specs.Shown.{shown}
 use Rattle.kpn_stats_command.specs.declared.times.Times.{Times}
 use Rattle.kpn_stats_command.specs.Times.{is_move, AreTimes}
@@ -149,13 +150,15 @@ pub times_of_history : (t : Tables) (trace : Trace Global) (times : Times) (boun
     → shown times.bounded ≡ bounded → shown times.free ≡ free
     → bounded ≡ clocks_after (tables_for t trace) true (history_in t trace)
     → free ≡ clocks_after (tables_for t trace) false (history_in t trace)
+    → times.shares.items ≡ shares_of (tables_for t trace) (history_in t trace)
     → times.events ≡ length trace.events → times.moves ≡ count_by is_move trace.events
     → AreTimes (tables_for t trace) (history_in t trace) times
-times_of_history t trace times bounded free is_bounded is_free with_caps without events moves =
+times_of_history t trace times bounded free is_bounded is_free with_caps without shares events moves =
     let alike = history_plain trace.version (tables_for t trace) trace.events in
     record {
       bounded = is_bounded ∙ with_caps;
       free = is_free ∙ without;
+      shares = shares;
       events = events ∙ alike_length trace.events (history_in t trace) alike;
       moves = moves ∙ same_count is_move (λ p c n. refl) trace.events (history_in t trace) alike;
     }

@@ -11,6 +11,7 @@ use Rattle.kpn_history.specs.declared.event.How.{How}
 use Rattle.kpn_trace_text.specs.EventLine.{how_word}
 use Rattle.kpn_audit.specs.declared.findings.Audit.{Audit}
 use Rattle.kpn_pieces.specs.ListText.{lines_from}
+use Rattle.kpn_summary.specs.Parameters.{parameters_text}
 use Rattle.kpn_stats_command.specs.declared.figures.ChannelFigures.{ChannelFigures}
 use Rattle.kpn_stats_command.specs.declared.figures.ProcessFigures.{ProcessFigures}
 use Rattle.kpn_stats_command.specs.declared.figures.Figures.{Figures}
@@ -22,6 +23,7 @@ use Rattle.kpn_request.specs.declared.tables.StatsTables.{StatsTables}
 use Rattle.kpn_request.specs.declared.tables.StatsTables.TheVariants.{People, Channels, Processes}
 use Rattle.kpn_stats_command.specs.Figures.{no_channel, no_process}
 use Rattle.kpn_stats_command.specs.Layout.{tabbed_table, aligned_table}
+use Rattle.kpn_stats_command.specs.BoundText.{bound_text}
 
 -- ---- cells
 
@@ -82,7 +84,8 @@ channel_rows d audit figures times =
 abbrev pub process_heading : Row
 process_heading =
     row_of (codes "process")
-    (codes "gets" ∷ codes "puts" ∷ codes "waits_empty" ∷ codes "waits_full" ∷ codes "end" ∷ [])
+    (codes "gets" ∷ codes "puts" ∷ codes "waits_empty" ∷ codes "waits_full" ∷ codes "end"
+    ∷ codes "bounds" ∷ codes "parameters" ∷ [])
 
 -- how a process ended, or else what it waits for
 abbrev pub end_cell : (channels : List (List ℕ)) → Option How → Wait → List ℕ
@@ -94,16 +97,27 @@ end_cell channels None (Full c) = codes "waits " ++ name_at channels c ++ codes 
 abbrev pub process_numbers : ProcessFigures → List (Option ℕ)
 process_numbers f = Some f.gets ∷ Some f.puts ∷ Some f.waits_empty ∷ Some f.waits_full ∷ []
 
--- the row of the process with the number p
-abbrev pub process_row : {A : Type 0} → Document → Audit A → List ProcessFigures → (p : ℕ) → Row
-process_row d audit figures p =
-    row_of (name_at d.names.instances p)
-    (map number_cell (process_numbers (slice_index_or figures p no_process))
-    ++ end_cell d.names.channels (slice_index_or audit.ends p None) (slice_index_or audit.waits p Nobody) ∷ [])
+-- what is counted of a process, and how it ended
+abbrev pub process_cells : {A : Type 0} → Document → Audit A → List ProcessFigures → (p : ℕ) → List (List ℕ)
+process_cells d audit figures p =
+    map number_cell (process_numbers (slice_index_or figures p no_process))
+    ++ end_cell d.names.channels (slice_index_or audit.ends p None) (slice_index_or audit.waits p Nobody) ∷ []
 
-abbrev pub process_rows : {A : Type 0} → Document → Audit A → List ProcessFigures → List Row
-process_rows d audit figures =
-    process_heading ∷ map (process_row d audit figures) (range_with_len 0 (length d.tables.instances))
+-- parameters, of which each stands behind a space, or `-` if there are none
+abbrev pub parameters_cell : (text : List ℕ) → List ℕ
+parameters_cell [] = codes "-"
+parameters_cell (space ∷ text) = text
+
+-- the row of the process with the number p
+abbrev pub process_row : {A : Type 0} → Document → Audit A → List ProcessFigures → Times → (p : ℕ) → Row
+process_row d audit figures times p =
+    row_of (name_at d.names.instances p)
+    ((process_cells d audit figures p ++ number_cell (Some (slice_index_or times.shares.items p 0)) ∷ [])
+    ++ parameters_cell (parameters_text d p) ∷ [])
+
+abbrev pub process_rows : {A : Type 0} → Document → Audit A → List ProcessFigures → Times → List Row
+process_rows d audit figures times =
+    process_heading ∷ map (process_row d audit figures times) (range_with_len 0 (length d.tables.instances))
 
 -- ---- the head
 
@@ -116,11 +130,18 @@ abbrev pub parallelism : (moves length : ℕ) → List ℕ
 parallelism moves length = if nat_eq length 0 then codes "-" else hundredths (moves * 100 / length)
 
 -- the length of the run, and without capacities; how many events there are, and how many gets and puts
-abbrev pub head_text : (length shortest events moves : ℕ) → List ℕ
-head_text length shortest events moves =
+abbrev pub lengths_text : (length shortest events moves : ℕ) → List ℕ
+lengths_text length shortest events moves =
     codes "length " ++ decimal length ++ codes " ticks, " ++ (decimal shortest ++ codes " without capacities\n")
     ++ (codes "events " ++ decimal events ++ codes ", gets and puts " ++ decimal moves ++ codes ", in a tick ")
-    ++ parallelism moves length ++ codes "\n\n"
+    ++ parallelism moves length ++ codes "\n"
+
+-- the same, and which processes bind the run
+abbrev pub head_text : Document → Times → List ℕ
+head_text d times =
+    let length = (shown times.bounded).last in
+    lengths_text length (shown times.free).last times.events times.moves
+    ++ bound_text d.names.instances times.shares.items length ++ codes "\n"
 
 -- ---- advice
 
@@ -154,16 +175,15 @@ advice d audit figures times =
 abbrev pub tables_text : {A : Type 0} → Document → Audit A → List ChannelFigures → List ProcessFigures → Times → List ℕ
 tables_text d audit channels processes times =
     aligned_table 11 (channel_rows d audit channels times) ++ codes "\n"
-    ++ aligned_table 5 (process_rows d audit processes) ++ codes "\n" ++ advice d audit channels times
+    ++ aligned_table 7 (process_rows d audit processes times) ++ codes "\n" ++ advice d audit channels times
 
 -- the same behind the head
 abbrev pub people_text : {A : Type 0} → Document → Audit A → List ChannelFigures → List ProcessFigures → Times → List ℕ
 people_text d audit channels processes times =
-    head_text (shown times.bounded).last (shown times.free).last times.events times.moves
-    ++ tables_text d audit channels processes times
+    head_text d times ++ tables_text d audit channels processes times
 
 -- what is written for people, or one of the tables for other programs
 abbrev pub stats_text : {A : Type 0} → StatsTables → Document → Audit A → Figures → Times → List ℕ
 stats_text People d audit f times = people_text d audit f.channels f.processes times
 stats_text Channels d audit f times = tabbed_table (channel_rows d audit f.channels times)
-stats_text Processes d audit f times = tabbed_table (process_rows d audit f.processes)
+stats_text Processes d audit f times = tabbed_table (process_rows d audit f.processes times)

@@ -3,10 +3,12 @@ ghost use Rattle.std.specs.Fmt.{decimal};
 ghost use Rattle.std.specs.Prelude.{◌≡◌, ◌++◌, ◌<◌, codes, length, map, slice_index_or, None, IfOk, OnOk, string_bytes};
 ghost use Rattle.kpn_pieces.specs.Added.{Adds};
 ghost use Rattle.kpn_stats_command.specs.Layout.{tabbed_table};
+ghost use Rattle.kpn_summary.specs.Parameters.{parameters_text};
 ghost use Rattle.kpn_ticks.specs.Held.{capacity_needed};
 ghost use Rattle.kpn_ticks.specs.Shown.{shown};
-ghost use Rattle.kpn_stats_command.specs.StatsText.{hundredths, parallelism, head_text, tables_text, counted_cells, shortest_capacity, advised, advice_for, stats_text, people_text, number_cell, channel_heading, channel_row, channel_rows, complete_cell, process_heading, process_row, process_rows, end_cell, advice, advice_line, row_of};
+ghost use Rattle.kpn_stats_command.specs.StatsText.{hundredths, parallelism, lengths_text, head_text, tables_text, counted_cells, shortest_capacity, advised, advice_for, stats_text, people_text, number_cell, channel_heading, channel_row, channel_rows, complete_cell, process_heading, process_cells, parameters_cell, process_row, process_rows, end_cell, advice, advice_line, row_of};
 
+use crate::bound::bound_text;
 use crate::figures::{ChannelFigures, Figures, ProcessFigures};
 use crate::table::{Row, push_aligned, push_tabbed};
 use crate::times::Times;
@@ -16,6 +18,7 @@ use kpn_lang::Sequence;
 use kpn_net::Wait;
 use kpn_pieces::Pushed;
 use kpn_request::StatsTables;
+use kpn_summary::push_parameters;
 use kpn_text::Document;
 use kpn_trace_text::how_word;
 use std::alloc::{AllocError, Global};
@@ -39,7 +42,7 @@ pub(crate) fn text_of(
     match tables {
         StatsTables::People => people_of(alloc, document, audit, channels, processes, times),
         StatsTables::Channels => channels_of(alloc, document, audit, channels, times),
-        StatsTables::Processes => processes_of(alloc, document, audit, processes),
+        StatsTables::Processes => processes_of(alloc, document, audit, processes, times),
     }
 }
 
@@ -85,13 +88,14 @@ fn processes_of(
     document: &Document,
     audit: &Audit,
     processes: &[ProcessFigures],
+    times: &Times,
 ) -> Result<Vec<u8>, AllocError>
     requires { length processes.now ≡ length document.now.tables.instances }
-    ensures { IfOk result (λ text.
-        text.items ≡ tabbed_table (process_rows document.now audit.now processes.now)) }
+    ensures { IfOk result (λ text. text.items
+        ≡ tabbed_table (process_rows document.now audit.now processes.now times.now)) }
 {
     let mut text = Vec::new(alloc);
-    let rows = process_rows(alloc, document, audit, processes)?;
+    let rows = process_rows(alloc, document, audit, processes, times)?;
     push_tabbed(&mut text, &rows)?;
     Ok(text)
 }
@@ -111,15 +115,26 @@ fn push_people(
     ensures { OnOk result (text.new.items ≡ text.old.items
         ++ people_text document.now audit.now channels.now processes.now times.now) }
 {
-    let head = head_of(alloc, times)?;
+    let head = head_of(alloc, document, times)?;
     text.extend_from_slice(head.as_bytes())?;
     push_tables(alloc, text, document, audit, channels, processes, times)?;
     Ok(())
 }
 
+// The lengths of the run, how much happens in it, and which processes bind it.
+fn head_of(alloc: Global, document: &Document, times: &Times) -> Result<String, AllocError>
+    ensures { IfOk result (λ text. string_bytes text ≡ head_text document.now times.now) }
+{
+    let mut text = lengths_of(alloc, times)?;
+    let bound = bound_text(alloc, document, &times.shares, times.bounded.last())?;
+    text.push_str(&bound)?;
+    text.push_str("\n")?;
+    Ok(text)
+}
+
 // The lengths of the run, and how much happens in it.
-fn head_of(alloc: Global, times: &Times) -> Result<String, AllocError>
-    ensures { IfOk result (λ text. string_bytes text ≡ head_text (shown times.now.bounded).last
+fn lengths_of(alloc: Global, times: &Times) -> Result<String, AllocError>
+    ensures { IfOk result (λ text. string_bytes text ≡ lengths_text (shown times.now.bounded).last
         (shown times.now.free).last times.now.events times.now.moves) }
 {
     let mut text = String::new(alloc);
@@ -127,7 +142,7 @@ fn head_of(alloc: Global, times: &Times) -> Result<String, AllocError>
     push_lengths(&mut text, length, times.free.last())?;
     push_counts(&mut text, times.events, times.moves)?;
     push_parallelism(&mut text, times.moves, length)?;
-    text.push_str("\n\n")?;
+    text.push_str("\n")?;
     Ok(text)
 }
 
@@ -197,8 +212,8 @@ fn push_tables(
     let rows = channel_rows(alloc, document, audit, channels, times)?;
     push_aligned(alloc, text, 11, &rows)?;
     text.push(b'\n')?;
-    let rows = process_rows(alloc, document, audit, processes)?;
-    push_aligned(alloc, text, 5, &rows)?;
+    let rows = process_rows(alloc, document, audit, processes, times)?;
+    push_aligned(alloc, text, 7, &rows)?;
     text.push(b'\n')?;
     let advice = advice_of(alloc, document, audit, channels, times)?;
     text.extend_from_slice(advice.as_bytes())?;
@@ -342,15 +357,17 @@ fn process_rows(
     document: &Document,
     audit: &Audit,
     figures: &[ProcessFigures],
+    times: &Times,
 ) -> Result<Vec<Row>, AllocError>
     requires { length figures.now ≡ length document.now.tables.instances }
-    ensures { IfOk result (λ rows. rows.items ≡ process_rows document.now audit.now figures.now) }
+    ensures { IfOk result (λ rows.
+        rows.items ≡ process_rows document.now audit.now figures.now times.now) }
 {
     let mut rows = Vec::new(alloc);
     let heading = process_heading(alloc)?;
     rows.push(heading)?;
     for p in 0..figures.len() {
-        let row = process_row(alloc, document, audit, figures, p)?;
+        let row = process_row(alloc, document, audit, figures, times, p)?;
         rows.push(row)?;
     }
     Ok(rows)
@@ -359,7 +376,15 @@ fn process_rows(
 fn process_heading(alloc: Global) -> Result<Row, AllocError>
     ensures { IfOk result (λ row. row ≡ process_heading) }
 {
-    let words = ["gets", "puts", "waits_empty", "waits_full", "end"];
+    let words = [
+        "gets",
+        "puts",
+        "waits_empty",
+        "waits_full",
+        "end",
+        "bounds",
+        "parameters",
+    ];
     row_of(alloc, "process", word_cells(alloc, &words)?)
 }
 
@@ -368,10 +393,34 @@ fn process_row(
     document: &Document,
     audit: &Audit,
     figures: &[ProcessFigures],
+    times: &Times,
     p: usize,
 ) -> Result<Row, AllocError>
+    requires process { p < length document.now.tables.instances }
+    requires processes { length figures.now ≡ length document.now.tables.instances }
+    ensures { IfOk result (λ row.
+        row ≡ process_row document.now audit.now figures.now times.now p) }
+{
+    let mut cells = process_cells(alloc, document, audit, figures, p)?;
+    let share = times.shares.get(p).copied().unwrap_or(0);
+    let bounds = number_cell(alloc, Some(share))?;
+    cells.push(bounds)?;
+    let parameters = parameters_of(alloc, document, p)?;
+    cells.push(parameters)?;
+    row_of(alloc, document.instance_name(p), cells)
+}
+
+// What is counted of a process, and how it ended.
+fn process_cells(
+    alloc: Global,
+    document: &Document,
+    audit: &Audit,
+    figures: &[ProcessFigures],
+    p: usize,
+) -> Result<Vec<Sequence<u8>>, AllocError>
     requires { p < length figures.now }
-    ensures { IfOk result (λ row. row ≡ process_row document.now audit.now figures.now p) }
+    ensures { IfOk result (λ cells.
+        cells.items ≡ process_cells document.now audit.now figures.now p) }
 {
     let f = figures[p];
     let numbers = [
@@ -390,7 +439,26 @@ fn process_row(
     let mut cells = number_cells(alloc, &numbers)?;
     let end = end_cell(alloc, document, end, wait)?;
     cells.push(end)?;
-    row_of(alloc, document.instance_name(p), cells)
+    Ok(cells)
+}
+
+// The parameters of a process.
+fn parameters_of(alloc: Global, document: &Document, p: usize) -> Result<Sequence<u8>, AllocError>
+    requires { p < length document.now.tables.instances }
+    ensures { IfOk result (λ cell. cell ≡ parameters_cell (parameters_text document.now p)) }
+{
+    let mut text = Vec::new(alloc);
+    push_parameters(&mut text, document, p)?;
+    parameters_cell(alloc, &text)
+}
+
+fn parameters_cell(alloc: Global, text: &[u8]) -> Result<Sequence<u8>, AllocError>
+    ensures { IfOk result (λ cell. cell ≡ parameters_cell text.now) }
+{
+    match text.split_first() {
+        Some((_, text)) => Ok(Sequence::from_vec(Vec::from_slice(alloc, text)?)),
+        None => text_cell(alloc, "-"),
+    }
 }
 
 // How a process ended, or else what it waits for.

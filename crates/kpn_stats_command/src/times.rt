@@ -5,7 +5,7 @@ ghost use Rattle.kpn_stats_command.specs.Times.{is_move, AreTimes};
 
 use kpn_history::{Event, Trace};
 use kpn_net::Network;
-use kpn_ticks::{Clocks, clocks_of};
+use kpn_ticks::{Clocks, clocks_of, shares_of};
 use std::alloc::{AllocError, Global};
 
 /// The clocks after a history, and how much happens in it.
@@ -15,6 +15,8 @@ pub(crate) struct Times {
     pub(crate) bounded: Clocks,
     /// Without capacities.
     pub(crate) free: Clocks,
+    /// For how many ticks each process binds the run.
+    pub(crate) shares: Vec<usize>,
     /// How many events there are.
     pub(crate) events: usize,
     /// How many of them are gets and puts.
@@ -26,6 +28,7 @@ pub(crate) fn times_of(alloc: Global, network: &Network, trace: &Trace) -> Resul
     ensures { IfOk result
         (AreTimes (tables_for network.now trace.now) (history_in network.now trace.now)) }
 {
+    let shares = shares_of(alloc, network, trace)?;
     let bounded = clocks_of(alloc, network, trace, true)?;
     let free = clocks_of(alloc, network, trace, false)?;
     let events = trace.events.as_slice();
@@ -33,6 +36,7 @@ pub(crate) fn times_of(alloc: Global, network: &Network, trace: &Trace) -> Resul
     Ok(Times {
         bounded,
         free,
+        shares,
         events: events.len(),
         moves,
     })

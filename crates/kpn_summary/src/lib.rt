@@ -1,10 +1,13 @@
-//! The line that says how many parts a network has.
+//! The line that says how many parts a network has, and the parameters of an instance.
 #![tactic(auto)]
 
 ghost use Rattle.std.specs.Prelude.{◌≡◌, IfOk};
 ghost use Rattle.kpn_summary.specs.Counts.{summary_text};
 
+mod parameters;
+
 use kpn_text::Document;
+pub use parameters::push_parameters;
 use std::alloc::{AllocError, Global};
 
 /// `ok: P processes, I instances, C channels`, and a line feed.

@@ -1,9 +1,11 @@
 -- Documents: the tables of a network with the names of its parts.
-use Rattle.std.specs.Prelude.{ℕ, List}
+use Rattle.std.specs.Prelude.{ℕ, List, [], map, slice_index_or}
 use Rattle.kpn_net.specs.Tables.{Tables}
 use Rattle.kpn_names.specs.Named.{Named}
+use Rattle.kpn_names.specs.Names.{name_at}
 use Rattle.kpn_names.specs.NetworkNames.{names_in}
 use Rattle.kpn_names.specs.declared.network_names.NetworkNames.{NetworkNames}
+use Rattle.kpn_names.specs.declared.network_names.ProcessNames.{ProcessNames}
 use Rattle.kpn_canonical.specs.Named.{description_named}
 use Rattle.kpn_canonical.specs.Text.{description_text}
 
@@ -14,6 +16,10 @@ pub record Document : Type 0 where
 
 abbrev pub document_with : Tables → NetworkNames → Document
 document_with tables names = record { tables = tables; names = names }
+
+-- the name of variable v of process i; the parameters come first
+abbrev pub variable_name : List ProcessNames → (i v : ℕ) → List ℕ
+variable_name processes i v = name_at (slice_index_or (map (λ p. p.vars) processes) i []) v
 
 -- the document that a description names
 abbrev pub document_named : Named → Document

@@ -76,6 +76,14 @@ impl Document {
         process_name_in(self.names.processes.as_slice(), i)
     }
 
+    /// The name of a variable of the process with this number, as bytes; empty if there is none. The parameters come
+    /// first.
+    pub fn variable_name(&self, i: usize, v: usize) -> &[u8]
+        ensures { result.now ≡ spec.variable_name self.now.names.processes i v }
+    {
+        variable_in(self.names.processes.as_slice(), i, v)
+    }
+
     /// The name of the instance with this number; empty if there is none.
     pub fn instance_name(&self, p: usize) -> &str
         ensures { result.now ≡ name_at self.now.names.instances p }
@@ -112,6 +120,24 @@ fn process_name_in(processes: &[ProcessNames], number: usize) -> &str
     match processes.get(number) {
         Some(names) => text_of(names.name.as_slice()),
         None => "",
+    }
+}
+
+fn variable_in(processes: &[ProcessNames], i: usize, v: usize) -> &[u8]
+    ensures { result.now ≡ spec.variable_name processes.now i v }
+{
+    match processes.get(i) {
+        Some(names) => bytes_in(names.vars.as_slice(), v),
+        None => b"",
+    }
+}
+
+fn bytes_in(names: &[Sequence<u8>], number: usize) -> &[u8]
+    ensures { result.now ≡ name_at names.now number }
+{
+    match names.get(number) {
+        Some(name) => name.as_slice(),
+        None => b"",
     }
 }
 

@@ -17,7 +17,7 @@ use Rattle.kpn_ticks.specs.Shown.{AreClocks}
 -- ---- lists
 
 -- an element of a list after one was set: that one, or what it was
-set_cases : {X : Type 0} (P : X → Type 0) (xs : List X) (i : ℕ) (x d : X) (k : ℕ) → P x → P (get_or xs k d)
+pub set_cases : {X : Type 0} (P : X → Type 0) (xs : List X) (i : ℕ) (x d : X) (k : ℕ) → P x → P (get_or xs k d)
     → P (get_or (set xs i x) k d)
 set_cases P xs i x d k new old =
     elim (cases_lt i (length xs)) [
@@ -56,7 +56,7 @@ with_tick_up_to m lists d tick all new c =
     set_cases (λ xs. (k : ℕ) → get_or xs k 0 ≤ m) lists d (get_or lists d [] ++ tick ∷ []) [] c
     (pushed_cases (get_or lists d []) tick m (all d) new) (all c)
 
-set_up_to : (n m : ℕ) (xs : List ℕ) (p tick : ℕ) → ((q : ℕ) → get_or xs q 0 ≤ n) → n ≤ m → tick ≤ m → (q : ℕ)
+pub set_up_to : (n m : ℕ) (xs : List ℕ) (p tick : ℕ) → ((q : ℕ) → get_or xs q 0 ≤ n) → n ≤ m → tick ≤ m → (q : ℕ)
     → get_or (set xs p tick) q 0 ≤ m
 set_up_to n m xs p tick all less new q =
     set_cases (λ x. x ≤ m) xs p tick 0 q new (let here = all q in omega (arith, here, less))
@@ -180,7 +180,7 @@ no_tick n c k =
           subst (λ xs. get_or {A = ℕ} xs k 0 ≤ 0) (sym (get_or_past (replicate n []) c [] past)) (omega arith)
     ]
 
-zero_latest : (n p : ℕ) → get_or (replicate n 0) p 0 ≤ 0
+pub zero_latest : (n p : ℕ) → get_or (replicate n 0) p 0 ≤ 0
 zero_latest n p =
     elim (cases_lt p n) [
       | inl within ↦ let is = get_or-replicate {A = ℕ} n p 0 0 within in omega (arith, is)

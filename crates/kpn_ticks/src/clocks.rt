@@ -4,6 +4,7 @@ ghost use Rattle.kpn_net.specs.Tables.{Tables, channel_at, capacity, reader_of};
 ghost use Rattle.kpn_net.specs.Faults.{channel_numbers};
 ghost use Rattle.kpn_ticks.specs.Ticks.{item_there, room_there, latest_at, latest_of, written_of, read_of, get_tick, put_tick, with_tick, after_get, after_put, larger, grown_from, after, start, clocks_after};
 ghost use Rattle.kpn_ticks.specs.Shown.{shown, AreClocks};
+ghost use Rattle.kpn_ticks.specs.Chain.{last_process};
 
 use kpn_history::Event;
 use kpn_lang::Sequence;
@@ -172,6 +173,14 @@ impl Clocks {
         }
     }
 
+    /// The first process whose latest get or put has the last tick of all.
+    pub(crate) fn last_process(&self) -> usize
+        ensures { result ≡ last_process (shown self.now) }
+    {
+        let last = self.last;
+        self.latest.iter().take_while(|tick| **tick < last).count()
+    }
+
     /// The last tick of all.
     pub fn last(&self) -> usize
         ensures { result ≡ (shown self.now).last }
@@ -197,7 +206,8 @@ pub fn clocks_after(
     Ok(clocks)
 }
 
-fn zeros(alloc: Global, n: usize) -> Result<Vec<usize>, AllocError>
+// So many zeros.
+pub(crate) fn zeros(alloc: Global, n: usize) -> Result<Vec<usize>, AllocError>
     ensures { IfOk result (λ zeros. zeros.items ≡ replicate n 0) }
 {
     vec![in alloc; 0; n]

@@ -3,8 +3,13 @@
 
 mod clocks;
 mod held;
+mod laws;
+mod moves;
 mod traces;
+mod walk;
 
 pub use clocks::{Clocks, clocks_after};
 pub use held::reads_before;
+pub use laws::order_changes_no_tick;
 pub use traces::clocks_of;
+pub use walk::shares_of;

@@ -1,6 +1,5 @@
 -- One line more.
 use Rattle.std.proofs.Common.{◌++◌, option_map, ap, ◌∙◌}
-use Rattle.std.specs.String.{string_bytes}
 use Rattle.kpn_draw_command.specs.DrawText.{process_line}
 use Rattle.kpn_draw_command.specs.Found.{state_of}
 use Rattle.kpn_draw_command.proofs.Lines.{one_more}
@@ -10,7 +9,7 @@ pub loop-p-preserved : goal.loop-p-preserved
 loop-p-preserved c =
     let d = c.args.document.now in
     let audit = option_map (λ a. a.now) c.args.audit in
-    let start = string_bytes c.loop-p.text in
-    one_more (λ p. process_line d p (state_of audit p)) c.loop-p.p (string_bytes c.args.text.now) start
-    (string_bytes c.push_process.new.text) c.loop-p.invariant
+    let start = c.loop-p.text.items in
+    one_more (λ p. process_line d p (state_of audit p)) c.loop-p.p c.args.text.now.items start
+    c.push_process.new.text.items c.loop-p.invariant
     (c.in_ok-push_process.ensures ∙ ap (λ state. start ++ process_line d c.loop-p.p state) c.state_of-state.ensures)

@@ -4,7 +4,7 @@ use Rattle.std.specs.String.{string_bytes}
 use Rattle.kpn_names.specs.Names.{name_at}
 use Rattle.kpn_stats_command.specs.Figures.{no_channel}
 use Rattle.kpn_stats_command.specs.StatsText.{advice_line}
-use Rattle.kpn_stats_command.proofs.Rows.{line_next}
+use Rattle.kpn_summary.proofs.Values.{line_next}
 use Rattle.kpn_stats_command.proofs.stats_text.advice_of.Goals as goal
 
 pub loop-c-preserved : goal.loop-c-preserved

@@ -8,5 +8,6 @@ use Rattle.kpn_stats_command.proofs.times.times_of.Goals as goal
 pub returns : goal.returns
 returns c =
     times_of_history c.args.network.now c.args.trace.now _ _ _ refl refl c.in_ok-bounded.ensures c.in_ok-free.ensures
+    c.in_ok-shares.ensures
     (ap (λ (events : List Event). length events) c.as_slice-events.ensures)
     (c.moves_among-moves.ensures ∙ ap (λ (events : List Event). count_by is_move events) c.as_slice-events.ensures)
