@@ -20,7 +20,7 @@ TOP = pathlib.Path(__file__).resolve().parent.parent
 OTHERS = [TOP / name for name in ('README.md', 'bench/RESULTS.md', 'python/README.md')]
 DOCUMENTS = [*OTHERS, *sorted((TOP / 'docs').glob('*.md'))]
 COLUMNS = 120
-KINDS = ('.rt', '.antt', '.py', '.rs', '.kpn', '.edit')
+KINDS = ('.rt', '.antt', '.py', '.rs', '.c', '.h', '.kpn', '.edit')
 PATH = re.compile(r'(?<![\w./-])((?:\w[\w.-]*/)+(?:[\w.-]*\w)?|\w+\.(?:rt|antt|py|md|kpn|edit)\b)')
 CRATE = re.compile(r'\b(?:kpn|check|bench)_[a-z_]*[a-z]\b')
 NAME = re.compile(r"`((?:\w+::)*[A-Za-z_][\w']*)`")
@@ -40,7 +40,7 @@ ELSEWHERE = set("""rt go awk clap arrayvec indexmap itoa linked_list_allocator t
 
 
 def files_of_project():
-    for folder in ('crates', 'bench', 'tools', 'docs', 'python', '.ci'):
+    for folder in ('crates', 'bench', 'tools', 'docs', 'python', 'c', 'include', '.ci'):
         for file in (TOP / folder).rglob('*'):
             if 'out' not in file.relative_to(TOP).parts and '__pycache__' not in file.parts:
                 yield file

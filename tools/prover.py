@@ -20,7 +20,7 @@ class Crate:
     def __init__(self, folder, uses, direct):
         self.name, self.folder, self.uses, self.direct = folder.name, folder, uses, direct
         self.below = list(dict.fromkeys(it for low in direct for it in [*low.below, low]))
-        self.is_program = (folder / 'src/main.rt').exists()
+        self.is_program, self.is_static = (folder / 'src/main.rt').exists(), False
 
     def sources(self):
         return [file for part in PARTS for file in (self.folder / part).rglob('*')]
@@ -29,6 +29,7 @@ class Crate:
 def read_crates(top, kind=Crate):
     """The crates of a repository by their names, each after those below it."""
     rows = [row.partition('#')[0].partition(':') for row in (top / 'crates.txt').read_text().splitlines()]
+    heads = [head.split() for head, _, _ in rows if head.strip()]
     rows = {head.split()[0]: uses.split() for head, _, uses in rows if head.strip()}
     found = {}
 
@@ -38,8 +39,8 @@ def read_crates(top, kind=Crate):
             found[name] = kind(top / 'crates' / name, rows[name], direct)
         return found[name]
 
-    for name in rows:
-        add(name)
+    for name, *kind_of_library in heads:
+        add(name).is_static = 'staticlib' in kind_of_library
     return found
 
 
@@ -50,8 +51,9 @@ def needed_by(crates):
 
 
 def words_of(verb, crate, kit, libraries, *more):
-    own = {it.name for it in crate.below}
+    own, static = {it.name for it in crate.below}, ['--crate-type', 'staticlib'] if crate.is_static else []
     words = [kit / 'bin/rattle', verb, '--crate-name', crate.name, f'src/{"main" if crate.is_program else "lib"}.rt']
+    words += static
     for name in ['std', *crate.uses]:
         words += ['--extern', f'{name}={libraries if name in own else kit / "rlibs"}/{name}.rlib']
     words += ['-L', f'dependency={kit}/rlibs', '-L', f'dependency={libraries}', '--links', f'{crate.name}=']

@@ -1,0 +1,118 @@
+/* The calls of kpn.h. Each refuses null pointers and sessions that are not open, sets what the caller is told, and then
+   calls the proved export of the crate kpn_c. That takes a session by value and hands it back. Nothing proves this file;
+   tools/clib.py tests it. */
+#include "../include/kpn.h"
+
+extern uint32_t kpn_c_check(const uint8_t *text, size_t length, kpn_place *place);
+extern uint32_t kpn_c_run(const uint8_t *text, size_t length, const int64_t *items, size_t item_count,
+                          const size_t *lengths, size_t source_count, const kpn_limits *limits, int64_t *room,
+                          size_t item_room, size_t *sinks, size_t sink_room, uint8_t *trace, size_t trace_room,
+                          kpn_ran *ran, kpn_place *place);
+extern uint32_t kpn_c_open(const uint8_t *text, size_t length, kpn_session *session, kpn_place *place);
+extern uint32_t kpn_c_channel(kpn_session session, const uint8_t *name, size_t length, kpn_session *back,
+                              size_t *channel);
+extern uint32_t kpn_c_feed(kpn_session session, size_t source, const int64_t *items, size_t count, kpn_session *back,
+                           size_t *fed);
+extern uint32_t kpn_c_close_source(kpn_session session, size_t source, kpn_session *back);
+extern uint32_t kpn_c_step(kpn_session session, uint64_t most, kpn_session *back, uint64_t *commits);
+extern uint32_t kpn_c_take(kpn_session session, size_t sink, int64_t *items, size_t room, kpn_session *back,
+                           size_t *taken);
+extern uint32_t kpn_c_is_complete(kpn_session session, size_t channel, kpn_session *back, bool *complete);
+extern uint32_t kpn_c_verdict(kpn_session session, kpn_session *back, uint32_t *verdict);
+extern uint32_t kpn_c_trace(kpn_session session, uint8_t *text, size_t room, kpn_session *back, size_t *length);
+extern void kpn_c_free(kpn_session session);
+
+/* A slice has an address even if it has no elements. */
+static int64_t nothing[2];
+
+#define AT(pointer) ((pointer) ? (void *)(pointer) : (void *)nothing)
+#define LACKS(pointer, length) (!(pointer) && (length) > 0)
+
+uint32_t kpn_check(const char *text, size_t length, kpn_place *place) {
+  if (LACKS(text, length) || !place) return KPN_NULL;
+  *place = (kpn_place){false, 0};
+  return kpn_c_check(AT(text), length, place);
+}
+
+uint32_t kpn_run(const char *text, size_t length, const kpn_lists *lists, const kpn_limits *limits,
+                 const kpn_room *room, kpn_ran *ran, kpn_place *place) {
+  if (LACKS(text, length) || !lists || !limits || !room || !ran || !place) return KPN_NULL;
+  if (LACKS(lists->items, lists->item_count) || LACKS(lists->lengths, lists->source_count)) return KPN_NULL;
+  if (LACKS(room->items, room->item_room) || LACKS(room->lengths, room->sink_room)) return KPN_NULL;
+  if (LACKS(room->trace, room->trace_room)) return KPN_NULL;
+  *place = (kpn_place){false, 0};
+  *ran = (kpn_ran){0, 0, 0, 0, 0};
+  return kpn_c_run(AT(text), length, AT(lists->items), lists->item_count, AT(lists->lengths), lists->source_count,
+                   limits, AT(room->items), room->item_room, AT(room->lengths), room->sink_room, AT(room->trace),
+                   room->trace_room, ran, place);
+}
+
+uint32_t kpn_open(const char *text, size_t length, kpn_session *session, kpn_place *place) {
+  if (LACKS(text, length) || !session || !place) return KPN_NULL;
+  *place = (kpn_place){false, 0};
+  *session = (kpn_session){0};
+  return kpn_c_open(AT(text), length, session, place);
+}
+
+uint32_t kpn_channel(kpn_session *session, const char *name, size_t length, size_t *channel) {
+  if (!session || LACKS(name, length) || !channel) return KPN_NULL;
+  *channel = 0;
+  if (!session->at) return KPN_NO_SESSION;
+  return kpn_c_channel(*session, AT(name), length, session, channel);
+}
+
+uint32_t kpn_feed(kpn_session *session, size_t source, const int64_t *items, size_t count, size_t *fed) {
+  if (!session || LACKS(items, count) || !fed) return KPN_NULL;
+  *fed = 0;
+  if (!session->at) return KPN_NO_SESSION;
+  return kpn_c_feed(*session, source, AT(items), count, session, fed);
+}
+
+uint32_t kpn_close_source(kpn_session *session, size_t source) {
+  if (!session) return KPN_NULL;
+  if (!session->at) return KPN_NO_SESSION;
+  return kpn_c_close_source(*session, source, session);
+}
+
+uint32_t kpn_step(kpn_session *session, uint64_t most, uint64_t *commits) {
+  if (!session || !commits) return KPN_NULL;
+  *commits = 0;
+  if (!session->at) return KPN_NO_SESSION;
+  return kpn_c_step(*session, most, session, commits);
+}
+
+uint32_t kpn_take(kpn_session *session, size_t sink, int64_t *items, size_t room, size_t *taken) {
+  if (!session || LACKS(items, room) || !taken) return KPN_NULL;
+  *taken = 0;
+  if (!session->at) return KPN_NO_SESSION;
+  return kpn_c_take(*session, sink, AT(items), room, session, taken);
+}
+
+uint32_t kpn_is_complete(kpn_session *session, size_t channel, bool *complete) {
+  if (!session || !complete) return KPN_NULL;
+  *complete = false;
+  if (!session->at) return KPN_NO_SESSION;
+  return kpn_c_is_complete(*session, channel, session, complete);
+}
+
+uint32_t kpn_verdict(kpn_session *session, uint32_t *verdict) {
+  if (!session || !verdict) return KPN_NULL;
+  *verdict = 0;
+  if (!session->at) return KPN_NO_SESSION;
+  return kpn_c_verdict(*session, session, verdict);
+}
+
+uint32_t kpn_trace(kpn_session *session, char *text, size_t room, size_t *length) {
+  if (!session || LACKS(text, room) || !length) return KPN_NULL;
+  *length = 0;
+  if (!session->at) return KPN_NO_SESSION;
+  return kpn_c_trace(*session, AT(text), room, session, length);
+}
+
+uint32_t kpn_free(kpn_session *session) {
+  if (!session) return KPN_NULL;
+  if (!session->at) return KPN_NO_SESSION;
+  kpn_c_free(*session);
+  session->at = 0;
+  return KPN_OK;
+}

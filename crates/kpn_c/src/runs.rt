@@ -1,0 +1,95 @@
+//! Descriptions are checked, and networks are run on whole lists.
+use crate::codes::{LISTS, NO_MEMORY, OK, Place, TOO_SMALL, code_of_outcome, tell};
+use kpn_flat::{RunFault, check, fault_of, put_bytes, put_items, put_lengths, run};
+use std::alloc::Global;
+
+/// When a run stops.
+#[repr(C)]
+#[derive(Clone, Copy, Debug)]
+pub struct Limits {
+    pub commits: u64,
+    pub has_take: bool,
+    pub take: u64,
+    pub quota: u32,
+}
+
+/// What a run has come to, and how much room its items, sinks and trace want.
+#[repr(C)]
+#[derive(Clone, Copy, Debug)]
+pub struct Ran {
+    pub outcome: u32,
+    pub commits: u64,
+    pub items: usize,
+    pub sinks: usize,
+    pub trace: usize,
+}
+
+/// Reads a description. Returns 0, or the number of the fault.
+#[unsafe(no_mangle)]
+pub extern "C" fn kpn_c_check(alloc: Global, text: &[u8], place: &mut Place) -> u32 {
+    match check(alloc, text) {
+        Ok(()) => OK,
+        Err(fault) => tell(fault_of(fault), place),
+    }
+}
+
+/// Runs a network on lists.
+#[unsafe(no_mangle)]
+pub extern "C" fn kpn_c_run(
+    alloc: Global,
+    text: &[u8],
+    items: &[i64],
+    lengths: &[usize],
+    limits: &Limits,
+    room: &mut [i64],
+    sinks: &mut [usize],
+    trace: &mut [u8],
+    ran: &mut Ran,
+    place: &mut Place,
+) -> u32 {
+    match run(alloc, text, items, lengths, &limits_of(limits)) {
+        Ok(told) => put(&told, room, sinks, trace, ran),
+        Err(RunFault::Text(fault)) => tell(fault_of(fault), place),
+        Err(RunFault::Lists) => LISTS,
+        Err(RunFault::NoMemory) => NO_MEMORY,
+    }
+}
+
+fn limits_of(limits: &Limits) -> kpn_flat::Limits {
+    kpn_flat::Limits {
+        commits: limits.commits,
+        take: if limits.has_take {
+            Some(limits.take)
+        } else {
+            None
+        },
+        quota: limits.quota,
+    }
+}
+
+/// Puts what a run tells where C wants it, if all of it fits.
+fn put(
+    told: &kpn_flat::Ran,
+    room: &mut [i64],
+    sinks: &mut [usize],
+    trace: &mut [u8],
+    ran: &mut Ran,
+) -> u32 {
+    let items = told.items.as_slice();
+    let lengths = told.lengths.as_slice();
+    let text = told.trace.as_slice();
+    *ran = Ran {
+        outcome: code_of_outcome(told.outcome),
+        commits: told.commits,
+        items: items.len(),
+        sinks: lengths.len(),
+        trace: text.len(),
+    };
+    if room.len() < items.len() || sinks.len() < lengths.len() || trace.len() < text.len() {
+        return TOO_SMALL;
+    }
+    put_items(room, items);
+    put_lengths(sinks, lengths);
+    put_bytes(trace, text);
+    OK
+}

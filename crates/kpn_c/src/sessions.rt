@@ -1,0 +1,188 @@
+//! Sessions, which C keeps. Each call gets a session and hands it back.
+ghost use Rattle.std.specs.Prelude.{◌≡◌, ◌⊎◌};
+ghost use Rattle.kpn_c.specs.Sessions.{IsOpen};
+ghost use Rattle.kpn_c.specs.Exports.{Leads, Feeds, Takes, Steps, ClosesSource, TellsVerdict};
+
+use crate::codes::{
+    NO_CHANNEL, NO_MEMORY, OK, Place, TOO_SMALL, code_of_cause, code_of_verdict, tell,
+};
+use crate::held::Held;
+use crate::slot::{free, kept, put_back, taken};
+use kpn_flat::{Session, fault_of, number_of, put_bytes};
+use std::alloc::Global;
+
+/// Opens a session of the network that a text describes, or leaves `back` as it was.
+#[unsafe(no_mangle)]
+pub extern "C" fn kpn_c_open(alloc: Global, text: &[u8], back: &mut Held, place: &mut Place) -> u32
+    ensures { (back.new ≡ back.old) ⊎ IsOpen back.new.slot }
+{
+    match Session::open(alloc, text) {
+        Ok(session) => match kept(alloc, session) {
+            Some(held) => {
+                *back = held;
+                OK
+            }
+            None => NO_MEMORY,
+        },
+        Err(fault) => tell(fault_of(fault), place),
+    }
+}
+
+/// Frees a session.
+#[unsafe(no_mangle)]
+pub extern "C" fn kpn_c_free(held: Held)
+    requires { IsOpen held.slot }
+{
+    free(held);
+}
+
+/// Finds the number of a channel.
+#[unsafe(no_mangle)]
+pub extern "C" fn kpn_c_channel(
+    held: Held,
+    name: &[u8],
+    back: &mut Held,
+    channel: &mut usize,
+) -> u32
+    requires { IsOpen held.slot }
+    ensures { Leads (λ s u. u ≡ s) held.slot back.new.slot }
+{
+    let (boxed, session) = taken(held);
+    let found = session.find_channel(name);
+    *back = put_back(boxed, session);
+    match found {
+        Some(number) => {
+            *channel = number;
+            OK
+        }
+        None => NO_CHANNEL,
+    }
+}
+
+/// Feeds items to a source.
+#[unsafe(no_mangle)]
+pub extern "C" fn kpn_c_feed(
+    held: Held,
+    source: usize,
+    items: &[i64],
+    back: &mut Held,
+    count: &mut usize,
+) -> u32
+    requires { IsOpen held.slot }
+    ensures { Leads (Feeds source items.now result count.new) held.slot back.new.slot }
+{
+    let (boxed, session) = taken(held);
+    let (session, fed) = session.feed(source, items);
+    *back = put_back(boxed, session);
+    *count = fed.count;
+    code_of_cause(fed.cause)
+}
+
+/// Closes a source.
+#[unsafe(no_mangle)]
+pub extern "C" fn kpn_c_close_source(held: Held, source: usize, back: &mut Held) -> u32
+    requires { IsOpen held.slot }
+    ensures { Leads (ClosesSource source result) held.slot back.new.slot }
+{
+    let (boxed, session) = taken(held);
+    let (session, closed) = session.close_source(source);
+    *back = put_back(boxed, session);
+    match closed {
+        Ok(()) => OK,
+        Err(cause) => number_of(cause),
+    }
+}
+
+/// Makes turns of processes.
+#[unsafe(no_mangle)]
+pub extern "C" fn kpn_c_step(held: Held, most: u64, back: &mut Held, commits: &mut u64) -> u32
+    requires { IsOpen held.slot }
+    ensures { Leads (Steps most result commits.new) held.slot back.new.slot }
+{
+    let (boxed, session) = taken(held);
+    let (session, stepped) = session.step(most);
+    *back = put_back(boxed, session);
+    *commits = stepped.commits;
+    if stepped.is_refused { NO_MEMORY } else { OK }
+}
+
+/// Takes items from a sink.
+#[unsafe(no_mangle)]
+pub extern "C" fn kpn_c_take(
+    held: Held,
+    sink: usize,
+    room: &mut [i64],
+    back: &mut Held,
+    count: &mut usize,
+) -> u32
+    requires { IsOpen held.slot }
+    ensures { Leads (Takes sink room.old room.new result count.new) held.slot back.new.slot }
+{
+    let (boxed, session) = taken(held);
+    let (session, got) = session.take(sink, room);
+    *back = put_back(boxed, session);
+    *count = got.count;
+    code_of_cause(got.cause)
+}
+
+/// Tells whether a channel is complete.
+#[unsafe(no_mangle)]
+pub extern "C" fn kpn_c_is_complete(
+    held: Held,
+    channel: usize,
+    back: &mut Held,
+    complete: &mut bool,
+) -> u32
+    requires { IsOpen held.slot }
+    ensures { Leads (λ s u. u ≡ s) held.slot back.new.slot }
+{
+    let (boxed, session) = taken(held);
+    let (session, told) = session.is_complete(channel);
+    *back = put_back(boxed, session);
+    match told {
+        Some(is_complete) => {
+            *complete = is_complete;
+            OK
+        }
+        None => NO_CHANNEL,
+    }
+}
+
+/// Tells how the run has come to a stop.
+#[unsafe(no_mangle)]
+pub extern "C" fn kpn_c_verdict(held: Held, back: &mut Held, verdict: &mut u32) -> u32
+    requires { IsOpen held.slot }
+    ensures { Leads (TellsVerdict verdict.new) held.slot back.new.slot }
+{
+    let (boxed, session) = taken(held);
+    let (session, told) = session.verdict();
+    *back = put_back(boxed, session);
+    *verdict = code_of_verdict(told);
+    OK
+}
+
+/// Tells the trace.
+#[unsafe(no_mangle)]
+pub extern "C" fn kpn_c_trace(
+    alloc: Global,
+    held: Held,
+    room: &mut [u8],
+    back: &mut Held,
+    length: &mut usize,
+) -> u32
+    requires { IsOpen held.slot }
+    ensures { Leads (λ s u. u ≡ s) held.slot back.new.slot }
+{
+    let (boxed, session) = taken(held);
+    let (session, told) = session.trace(alloc);
+    *back = put_back(boxed, session);
+    let Ok(text) = told else {
+        return NO_MEMORY;
+    };
+    *length = text.len();
+    if put_bytes(room, text.as_slice()) {
+        OK
+    } else {
+        TOO_SMALL
+    }
+}

@@ -1,0 +1,18 @@
+use Rattle.std.proofs.Common.{ℤ, pos, map, take, get_or, sym, ap, subst, rules, w64, SFits}
+use Rattle.std.proofs.lemmas.Int.{to_z-of_z}
+use Rattle.kpn_history.specs.declared.event.Event.TheVariants.{Feed}
+use Rattle.kpn_run_state.specs.Appending.{Happens}
+use Rattle.kpn_run_here.proofs.Happening.{happens_alone}
+use Rattle.kpn_flat.proofs.OneMore.{feeds_more}
+use Rattle.kpn_flat.proofs.feeding.feed_each.Goals as goal
+
+pub items-preserved : goal.items-preserved
+items-preserved c =
+    let item : ℤ = get_or c.args.items.now c.items.count (pos 0) in
+    let fits : SFits w64 item = search rules in
+    record {
+      feeds = feeds_more c.args.source c.args.items.now c.items.count c.args.book.now c.items.book c.feed.new.self
+          c.items-test.true c.items.invariant.feeds
+          (subst (λ v. Happens (Feed c.args.source v) c.items.book c.feed.new.self) (to_z-of_z w64 item fits)
+          (happens_alone _ c.items.book c.feed.new.self c.known.ensures c.in-Ok.ensures.done.appends));
+    }

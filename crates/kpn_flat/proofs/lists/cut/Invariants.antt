@@ -1,0 +1,10 @@
+use Rattle.std.proofs.Common.{◌≡◌, ◌≤◌, length, map, take}
+use Rattle.kpn_flat.specs.Lists.{joined}
+use Rattle.kpn_flat.proofs.lists.cut.Given as goal
+
+abbrev pub invariant-lists : goal.invariant-lists
+invariant-lists l = record {
+  within : l.at ≤ length l.items;
+  items : joined l.lists.items ≡ take l.at l.items;
+  lengths : map length l.lists.items ≡ take l.k l.lengths;
+}

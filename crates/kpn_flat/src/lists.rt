@@ -1,0 +1,81 @@
+//! Lists that stand in one flat list.
+ghost use Rattle.std.specs.Prelude.{◌≡◌, ◌∷◌, [], ◌++◌, map, length, IfOk, OnOk};
+ghost use Rattle.kpn_flat.specs.declared.lists.CutFault.TheVariants.{NoMemory};
+ghost use Rattle.kpn_flat.specs.Lists.{AreLists};
+
+use kpn_lang::Sequence;
+use std::alloc::{AllocError, AllocFailed, Global};
+
+/// Why a flat list is not cut.
+#[derive(Clone, Copy, Debug, PartialEq, Eq)]
+pub enum CutFault {
+    /// The lengths do not sum up to the number of items.
+    Lengths,
+    /// Memory ran out.
+    NoMemory,
+}
+
+impl From<AllocError> for CutFault {
+    ghost from_gives = { λ _ fault. fault ≡ NoMemory };
+
+    fn from(_error: AllocError) -> CutFault {
+        CutFault::NoMemory
+    }
+}
+
+impl<T: Drop> From<AllocFailed<T>> for CutFault {
+    ghost from_gives = { λ _ fault. fault ≡ NoMemory };
+
+    fn from(_failed: AllocFailed<T>) -> CutFault {
+        CutFault::NoMemory
+    }
+}
+
+/// The lists of these lengths that stand in one flat list, one after the other.
+pub(crate) fn cut(
+    alloc: Global,
+    items: &[i64],
+    lengths: &[usize],
+) -> Result<Vec<Sequence<i64>>, CutFault>
+    ensures { IfOk result (λ lists. AreLists items.now lengths.now lists.items) }
+{
+    let mut lists = Vec::new(alloc);
+    let mut at = 0;
+    'lists: for k in 0..lengths.len() {
+        let length = lengths[k];
+        if items.len() - at < length {
+            return Err(CutFault::Lengths);
+        }
+        push_list(alloc, &mut lists, &items[at..at + length])?;
+        at += length;
+    }
+    if at < items.len() {
+        return Err(CutFault::Lengths);
+    }
+    Ok(lists)
+}
+
+fn push_list(alloc: Global, lists: &mut Vec<Sequence<i64>>, items: &[i64]) -> Result<(), AllocError>
+    ensures { OnOk result (lists.new.items ≡ lists.old.items ++ items.now ∷ []) }
+{
+    let list = Sequence::from_vec(items.to_vec(alloc)?);
+    lists.push(list)?;
+    Ok(())
+}
+
+/// The items of these lists, list by list, and the lengths of the lists.
+pub(crate) fn joined(
+    alloc: Global,
+    lists: &[Sequence<i64>],
+) -> Result<(Vec<i64>, Vec<usize>), AllocError>
+    ensures { IfOk result (λ told. AreLists told.0.items told.1.items lists.now) }
+{
+    let mut items = Vec::new(alloc);
+    let mut lengths = Vec::new(alloc);
+    'lists: for k in 0..lists.len() {
+        let list = lists[k].as_slice();
+        items.extend_from_slice(list)?;
+        lengths.push(list.len())?;
+    }
+    Ok((items, lengths))
+}

@@ -1,0 +1,150 @@
+/* kpn.h: Kahn process networks in a C program. README.md says how to link it.
+
+   Each call does all that it is asked for and returns KPN_OK, or returns the number of a fault. Channels go by number,
+   in the order in which a description declares them. `kpn_channel` finds the number of a name. Texts are bytes with a
+   length, and need no 0 at their end.
+
+   What there is
+
+     kpn_check     says whether a text describes a network
+     kpn_run       runs a network on whole lists: the items of all sinks, the outcome and the trace from one call
+     kpn_open      opens a session: a run that you feed, step and take from, in your own loop
+     kpn_channel   the number of a channel
+     kpn_feed      feeds items to a source; any number may wait there
+     kpn_close_source    says that nothing more comes to a source
+     kpn_step      lets processes go on, for so many commits or until none is ready
+     kpn_take      takes what came to a sink
+     kpn_is_complete     whether nothing more ever comes to a channel
+     kpn_verdict   how the run has come to a stop, if it has
+     kpn_trace     what has happened so far, as the text that `kpn audit` reads
+     kpn_free      frees a session
+
+   What you can rely on
+
+     - The same items come to the sinks as under `kpn run` and every other order of steps.
+     - A null pointer, a wrong number and a session that was freed are faults. (A pointer to 0 items may be null.)
+     - A buffer that is too small is a fault. The call then changes no buffer, and tells the sizes that are needed.
+     - Memory that is refused is a fault. `kpn_feed`, `kpn_step` and `kpn_take` tell how much they had done before; all
+       other calls leave the session as it was. A process whose commit was refused is ready again.
+     - No call waits, starts a thread or writes anywhere but to its buffers. No call takes longer than its work: a
+       process makes at most 1,000 steps in a commit.
+
+   What you owe
+
+     - A session is used by one thread at a time, and not from a signal handler.
+     - `kpn_open` begins with a `kpn_session` that is not open, or that was freed. You neither write to it nor use a
+       copy of it once it was freed. `kpn_free` ends it.
+     - A pointer points to as many elements as the length beside it says. The buffers that a call writes do not overlap,
+       and do not overlap what it reads.
+     - malloc, realloc and free come from one allocator, which aligns a block to each power of two up to 16 that divides
+       its size.
+*/
+#ifndef KPN_H
+#define KPN_H
+
+#include <stdbool.h>
+#include <stddef.h>
+#include <stdint.h>
+
+#ifdef __cplusplus
+extern "C" {
+#endif
+
+/* ---- faults. 1 to 24 are those of descriptions, with a place: a process, an instance, a channel or a byte */
+
+enum {
+  KPN_OK = 0,
+  KPN_TEXT_NO_MEMORY = 28, /* no memory for a description */
+  KPN_NO_MEMORY = 42,      /* no memory */
+  KPN_NO_SUCH_END = 43,    /* no source, or no sink, has this number */
+  KPN_SOURCE_CLOSED = 44,
+  KPN_LISTS = 60,          /* not one length for each source, or the lengths do not sum up to the items */
+  KPN_TOO_SMALL = 61,      /* a buffer is too small */
+  KPN_NO_SESSION = 62,     /* the session was not opened, or was freed */
+  KPN_NULL = 63,           /* a pointer is null */
+  KPN_NO_CHANNEL = 64      /* no channel has this name or number */
+};
+
+typedef struct {
+  bool has_place;
+  size_t place;
+} kpn_place;
+
+/* ---- descriptions */
+
+/* Reads a description. If it is none, the place says where. */
+uint32_t kpn_check(const char *text, size_t length, kpn_place *place);
+
+/* ---- a run on whole lists */
+
+enum { KPN_ENDED = 1, KPN_CLOGGED = 2, KPN_JAMMED = 3, KPN_ENOUGH = 4, KPN_STOPPED = 5 };
+
+typedef struct {
+  uint64_t commits; /* the most commits */
+  bool has_take;    /* whether `take` items of each sink are enough */
+  uint64_t take;
+  uint32_t quota;   /* the most steps of a process in a commit; 0 counts as 1 */
+} kpn_limits;
+
+/* The lists of the sources, list by list, in order of channel number. */
+typedef struct {
+  const int64_t *items;
+  size_t item_count;
+  const size_t *lengths; /* of each list */
+  size_t source_count;
+} kpn_lists;
+
+/* Where a run puts what it tells: the items of the sinks, sink by sink, how many are of each sink, and the trace. */
+typedef struct {
+  int64_t *items;
+  size_t item_room;
+  size_t *lengths;
+  size_t sink_room;
+  char *trace;
+  size_t trace_room;
+} kpn_room;
+
+/* What a run has come to, and the sizes of what it tells. */
+typedef struct {
+  uint32_t outcome;
+  uint64_t commits;
+  size_t item_count;
+  size_t sink_count;
+  size_t trace_length;
+} kpn_ran;
+
+uint32_t kpn_run(const char *text, size_t length, const kpn_lists *lists, const kpn_limits *limits,
+                 const kpn_room *room, kpn_ran *ran, kpn_place *place);
+
+/* ---- sessions */
+
+typedef struct {
+  void *at; /* null if it is not open */
+} kpn_session;
+
+uint32_t kpn_open(const char *text, size_t length, kpn_session *session, kpn_place *place);
+uint32_t kpn_channel(kpn_session *session, const char *name, size_t length, size_t *channel);
+
+/* Feeds items, and tells how many: all of them, unless it returns a fault. */
+uint32_t kpn_feed(kpn_session *session, size_t source, const int64_t *items, size_t count, size_t *fed);
+uint32_t kpn_close_source(kpn_session *session, size_t source);
+
+/* Makes so many commits, or fewer if no process is ready, and tells how many. */
+uint32_t kpn_step(kpn_session *session, uint64_t most, uint64_t *commits);
+
+/* Takes as many items as there are and as there is room for, and tells how many. */
+uint32_t kpn_take(kpn_session *session, size_t sink, int64_t *items, size_t room, size_t *taken);
+uint32_t kpn_is_complete(kpn_session *session, size_t channel, bool *complete);
+
+/* 0 if the run has not come to a stop, or KPN_ENDED, KPN_CLOGGED or KPN_JAMMED. */
+uint32_t kpn_verdict(kpn_session *session, uint32_t *verdict);
+
+/* Writes the trace, and tells its length, also if there is no room for it. */
+uint32_t kpn_trace(kpn_session *session, char *text, size_t room, size_t *length);
+uint32_t kpn_free(kpn_session *session);
+
+#ifdef __cplusplus
+}
+#endif
+
+#endif

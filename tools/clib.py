@@ -1,0 +1,439 @@
+#!/usr/bin/env python3
+"""Builds `libkpn.a` and `libkpn.so`, the calls of a network for C, and tests them.
+
+usage: tools/clib.py build [FOLDER] | headers | test [FOLDER] [--networks N] [--program KPN] [--seed N]
+
+`build` proves `kpn_c` over the libraries of `tools/build.py`, here or in the tree of KPN_BASE, and makes an archive and
+a shared object of it in FOLDER, by default out/c. `headers` compares include/kpn.h, c/kpn.c and the exports of `kpn_c`,
+and needs no build. `test` does that too, and then compares drivers in C, in Rust by cargo and in Python by ctypes with
+the program: on the examples, on N random networks, under AddressSanitizer and valgrind, with each memory request
+refused in turn, and with a million items. It is no part of the gate.
+"""
+import argparse
+import ctypes
+import os
+import pathlib
+import random
+import re
+import resource
+import subprocess
+import sys
+import tempfile
+
+import check
+import prover
+
+TOP = pathlib.Path(__file__).resolve().parent.parent
+sys.path += [str(TOP / 'bench/stress'), str(TOP / 'bench')]
+
+import histories  # noqa: E402
+import random_networks  # noqa: E402
+
+COMMITS, TURN = 500, 1000
+TOO_SMALL = 61
+STRICT = ['-std=c11', '-O2', '-fPIC', '-Wall', '-Wextra', '-Werror', '-I', str(TOP / 'include')]
+
+
+def call(*words, **more):
+    return subprocess.run([str(it) for it in words], check=True, **more)
+
+
+# ---- the build
+
+def build(folder):
+    """The archive and the shared object."""
+    folder.mkdir(parents=True, exist_ok=True)
+    crate, kit = prover.read_crates(TOP)['kpn_c'], prover.find_kit()
+    made = folder / 'libkpn_c.a'
+    with tempfile.TemporaryDirectory(prefix='kpn-clib-') as name:
+        room = check.view_of(crate, pathlib.Path(name))
+        words = ['--logic-built', kit / 'logic_built', '--toolchain', kit / 'toolchain', '--jobs', '1', '-o', made]
+        words = prover.words_of('build', crate, kit, room, *check.kept_of(crate.name, []), *words)
+        call(*words, cwd=crate.folder)
+    call('cc', *STRICT, '-c', TOP / 'c/kpn.c', '-o', folder / 'kpn.o')
+    archive = folder / 'libkpn.a'
+    archive.unlink(missing_ok=True)
+    parts = [f'addlib {made}', f'addlib {kit}/c/liblibc_c.a', f'addmod {folder}/kpn.o']
+    call('ar', '-M', input='\n'.join([f'create {archive}', *parts, 'save', 'end', '']), text=True)
+    call('cc', '-shared', '-o', folder / 'libkpn.so', '-Wl,--whole-archive', archive, '-Wl,--no-whole-archive')
+    print(f'{archive}: {archive.stat().st_size:,} bytes')
+
+
+# ---- the header and the exports
+
+TYPES = {
+    'alloc: Global': [], '&[u8]': ['const uint8_t *', 'size_t '], '&[i64]': ['const int64_t *', 'size_t '],
+    '&[usize]': ['const size_t *', 'size_t '], '&mut [u8]': ['uint8_t *', 'size_t '],
+    '&mut [i64]': ['int64_t *', 'size_t '], '&mut [usize]': ['size_t *', 'size_t '], 'usize': ['size_t '],
+    'u64': ['uint64_t '], '&mut usize': ['size_t *'], '&mut u64': ['uint64_t *'], '&mut u32': ['uint32_t *'],
+    '&mut bool': ['bool *'], '&Limits': ['const kpn_limits *'], '&mut Ran': ['kpn_ran *'],
+    '&mut Place': ['kpn_place *'], 'Held': ['kpn_session '], '&mut Held': ['kpn_session *'],
+}
+FIELDS = {'u32': 'uint32_t', 'u64': 'uint64_t', 'usize': 'size_t', 'bool': 'bool', '*mut u8': 'void *'}
+STRUCTS = {'Limits': 'kpn_limits', 'Ran': 'kpn_ran', 'Place': 'kpn_place', 'Held': 'kpn_session'}
+
+
+def exports(text):
+    """The exports of a source, as C declares them."""
+    found = {}
+    for name, inside, result in re.findall(r'pub extern "C" fn (\w+)\(([^)]*)\)(?: -> (\w+))?', text):
+        kinds = []
+        for it in filter(None, map(str.strip, inside.split(','))):
+            kinds += TYPES[it if it in TYPES else it.partition(': ')[2]]
+        found[name] = ({'u32': 'uint32_t', '': 'void'}[result], kinds)
+    return found
+
+
+def declared(text):
+    """The functions that a C text declares as `extern`."""
+    found = {}
+    for result, name, inside in re.findall(r'extern (\w+) (\w+)\(([^)]*)\);', text):
+        found[name] = (result, [re.sub(r'\w+$', '', ' '.join(it.split())) for it in inside.split(',')])
+    return found
+
+
+def check_headers():
+    """The header declares what c/kpn.c defines, and that declares the exports as they are."""
+    rattle = ''.join(it.read_text() for it in sorted((TOP / 'crates/kpn_c/src').glob('*.rt')))
+    header, guards = (TOP / 'include/kpn.h').read_text(), (TOP / 'c/kpn.c').read_text()
+    same('exports', exports(rattle), declared(guards))
+    prototype = r'^uint32_t (kpn_\w+)\(([^)]*)\)'
+    pairs = [{name: ' '.join(inside.split()) for name, inside in re.findall(prototype + end, text, re.M)}
+             for end, text in ((';', header), (r' \{', guards))]
+    same('prototypes', *pairs)
+    same('a guard for each', {f'kpn_c_{it[4:]}' for it in pairs[0]}, set(exports(rattle)))
+    for name, other in STRUCTS.items():
+        body = re.search(rf'pub struct {name} {{(.*?)\n}}', rattle, re.S).group(1)
+        ours = [FIELDS[it] for it in re.findall(r'^    (?:pub )?\w+: (\*mut u8|\w+),', body, re.M)
+                if it != 'Global']
+        body = re.search(rf'typedef struct {{((?:(?!typedef).)*?)}} {other};', header, re.S).group(1)
+        same(other, ours, [it.strip() for it in re.findall(r'^  ([\w *]+?)\w+;', body, re.M)])
+    print('headers: as the exports')
+
+
+def same(what, wanted, found):
+    if wanted != found:
+        sys.exit(f'{what}\n{wanted}\n---\n{found}')
+
+
+# ---- the driver in Python
+
+class Place(ctypes.Structure):
+    _fields_ = [('has_place', ctypes.c_bool), ('place', ctypes.c_size_t)]
+
+
+class Session(ctypes.Structure):
+    _fields_ = [('at', ctypes.c_void_p)]
+
+
+class Limits(ctypes.Structure):
+    _fields_ = [('commits', ctypes.c_uint64), ('has_take', ctypes.c_bool), ('take', ctypes.c_uint64),
+                ('quota', ctypes.c_uint32)]
+
+
+class Lists(ctypes.Structure):
+    _fields_ = [('items', ctypes.c_void_p), ('item_count', ctypes.c_size_t), ('lengths', ctypes.c_void_p),
+                ('source_count', ctypes.c_size_t)]
+
+
+class Room(ctypes.Structure):
+    _fields_ = [('items', ctypes.c_void_p), ('item_room', ctypes.c_size_t), ('lengths', ctypes.c_void_p),
+                ('sink_room', ctypes.c_size_t), ('trace', ctypes.c_void_p), ('trace_room', ctypes.c_size_t)]
+
+
+class Ran(ctypes.Structure):
+    _fields_ = [('outcome', ctypes.c_uint32), ('commits', ctypes.c_uint64), ('item_count', ctypes.c_size_t),
+                ('sink_count', ctypes.c_size_t), ('trace_length', ctypes.c_size_t)]
+
+
+def address(made):
+    return ctypes.cast(made, ctypes.c_void_p)
+
+
+def spelled(items):
+    return ''.join(f' {it}' for it in items)
+
+
+class Faulty(Exception):
+    """A call returned this number."""
+
+
+class Driver:
+    """Does what c/driver.c does, by the shared object."""
+
+    def __init__(self, library):
+        self.library, self.lines = ctypes.CDLL(str(library)), []
+
+    def say(self, *words):
+        self.lines.append(' '.join(map(str, words)))
+
+    def go(self, net, trace, commits, sinks, sources):
+        place, session, self.lines = Place(), Session(), []
+        fault = self.library.kpn_check(net, ctypes.c_size_t(len(net)), ctypes.byref(place))
+        self.say('check', fault, int(place.has_place), place.place)
+        self.run(net, trace, commits, [items for _, items in sources])
+        fault = self.library.kpn_open(net, ctypes.c_size_t(len(net)), ctypes.byref(session), ctypes.byref(place))
+        self.say('open', fault, int(place.has_place), place.place)
+        channels, taken = [], []
+        try:
+            if fault:
+                raise Faulty(fault)
+            channels, taken = self.serve(session, commits, sinks, sources)
+        except Faulty as faulty:
+            fault = faulty.args[0]
+        self.say('served', fault)
+        self.tell(session, channels, taken, pathlib.Path(f'{trace}.session'))
+        self.library.kpn_free(ctypes.byref(session))
+        self.say('freed', self.library.kpn_close_source(ctypes.byref(session), ctypes.c_size_t(0)))
+        return '\n'.join(self.lines) + '\n'
+
+    def run(self, net, trace, commits, lists):
+        items = [it for list in lists for it in list]
+        flat, lengths = (ctypes.c_int64 * len(items))(*items), (ctypes.c_size_t * len(lists))(*map(len, lists))
+        given = Lists(address(flat), len(items), address(lengths), len(lists))
+        limits, ran, place = Limits(commits, False, 0, TURN), Ran(), Place()
+
+        def ask(room):
+            given_too = map(ctypes.byref, (given, limits, room, ran, place))
+            return self.library.kpn_run(net, ctypes.c_size_t(len(net)), *given_too)
+
+        fault = ask(Room())
+        if fault != TOO_SMALL:
+            self.say('run', fault, int(place.has_place), place.place)
+            return
+        flat, lengths = (ctypes.c_int64 * ran.item_count)(), (ctypes.c_size_t * ran.sink_count)()
+        text = ctypes.create_string_buffer(ran.trace_length + 1)
+        fault = ask(Room(address(flat), ran.item_count, address(lengths), ran.sink_count, address(text),
+                         ran.trace_length))
+        self.say('run', fault, ran.outcome, ran.commits)
+        rest = list(flat)
+        for length in lengths:
+            self.lines.append(f'sink{spelled(rest[:length])}')
+            rest = rest[length:]
+        pathlib.Path(trace).write_bytes(text.raw[:ran.trace_length])
+
+    def ask(self, name, session, *words):
+        fault = getattr(self.library, f'kpn_{name}')(ctypes.byref(session), *words)
+        if fault:
+            raise Faulty(fault)
+
+    def channel(self, session, name):
+        number = ctypes.c_size_t()
+        self.ask('channel', session, name.encode(), ctypes.c_size_t(len(name)), ctypes.byref(number))
+        return number
+
+    def serve(self, session, most, sinks, sources):
+        channels = [self.channel(session, it) for it in sinks]
+        for name, items in sources:
+            channel, fed = self.channel(session, name), ctypes.c_size_t()
+            flat = (ctypes.c_int64 * len(items))(*items)
+            self.ask('feed', session, channel, flat, ctypes.c_size_t(len(items)), ctypes.byref(fed))
+            self.ask('close_source', session, channel)
+        taken, made, some = [[] for _ in channels], ctypes.c_uint64(1), (ctypes.c_int64 * TURN)()
+        while made.value:
+            self.ask('step', session, ctypes.c_uint64(min(most, TURN)), ctypes.byref(made))
+            most -= made.value
+            for channel, items in zip(channels, taken):
+                got = ctypes.c_size_t(1)
+                while got.value:
+                    self.ask('take', session, channel, some, ctypes.c_size_t(TURN), ctypes.byref(got))
+                    items += some[:got.value]
+        return channels, taken
+
+    def tell(self, session, channels, taken, trace):
+        verdict, length, one = ctypes.c_uint32(), ctypes.c_size_t(), ctypes.byref(session)
+        self.say('verdict', self.library.kpn_verdict(one, ctypes.byref(verdict)), verdict.value)
+        for channel, items in zip(channels, taken):
+            complete = ctypes.c_bool()
+            fault = self.library.kpn_is_complete(one, channel, ctypes.byref(complete))
+            self.lines.append(f'sink {fault} {int(complete.value)}{spelled(items)}')
+        fault = self.library.kpn_trace(one, None, ctypes.c_size_t(0), ctypes.byref(length))
+        text = ctypes.create_string_buffer(length.value + 1)
+        if fault == TOO_SMALL:
+            fault = self.library.kpn_trace(one, text, length, ctypes.byref(length))
+        self.say('trace', fault)
+        trace.write_bytes(text.raw[:length.value])
+
+
+# ---- the tests
+
+OUTCOMES = {1: 'ended', 2: 'clogged', 3: 'jammed', 5: 'stopped'}
+
+
+def declared_as(kind, text):
+    """The names of the sources or of the sinks of a description."""
+    body = re.sub(rb'#[^\n]*', b'', text)
+    return list(dict.fromkeys(it.decode() for it in re.findall(rb'\b' + kind + rb'\s+(\w+)', body)))
+
+
+class Tests:
+    """The drivers, the program, and a folder for what they write."""
+
+    def __init__(self, folder, program, room):
+        self.program, self.room, self.folder = program, pathlib.Path(room), folder
+        self.driver = self.make_driver(folder, 'driver', [])
+        self.checked = self.make_driver(folder, 'driver_checked', ['-fsanitize=address,undefined', '-g'])
+        cargo = {**os.environ, 'KPN_LIB': str(folder)}
+        call('cargo', 'build', '--quiet', '--offline', '--target-dir', folder / 'cargo', cwd=TOP / 'c/cargo', env=cargo)
+        self.rust = folder / 'cargo/debug/driver'
+        self.python = Driver(folder / 'libkpn.so')
+
+    def make_driver(self, folder, name, more):
+        words = [*STRICT, *more, '-o', folder / name, TOP / 'c/driver.c', folder / 'libkpn.a']
+        call('cc', *words)
+        return folder / name
+
+    def network(self, text, items, commits=COMMITS):
+        """Puts a network into the folder, and returns the words for drivers."""
+        (self.room / 'net').write_bytes(text)
+        for name, numbers in items.items():
+            (self.room / name).write_text(''.join(f'{it}\n' for it in numbers))
+        sinks = declared_as(b'sink', text)
+        return ['net', 'trace', commits, ','.join(sinks), *(f'{it}={it}' for it in items)], sinks
+
+    def answer(self, driver, words, **more):
+        """What a driver prints and stores."""
+        for name in ('trace', 'trace.session'):
+            (self.room / name).unlink(missing_ok=True)
+        done = subprocess.run([*driver, *map(str, words)], cwd=self.room, capture_output=True, text=True, **more)
+        return done.returncode, done.stdout + done.stderr, *self.traces()
+
+    def traces(self):
+        return [it.read_bytes() if it.exists() else b'' for it in (self.room / 'trace', self.room / 'trace.session')]
+
+    def compare(self, text, items, commits=COMMITS):
+        """All drivers say the same, and so does the program."""
+        words, sinks = self.network(text, items, commits)
+        wanted = self.answer([self.driver], words)
+        same('rust', wanted, self.answer([self.rust], words))
+        here = os.getcwd()
+        os.chdir(self.room)
+        said = self.python.go(text, 'trace', commits, sinks, list(items.items()))
+        os.chdir(here)
+        same('python', wanted, (0, said, *self.traces()))
+        self.beside_the_program(wanted, words, sinks, commits)
+        return wanted
+
+    def kpn(self, *words):
+        done = subprocess.run([self.program, *map(str, words)], cwd=self.room, capture_output=True, text=True)
+        return done.returncode, done.stdout, done.stderr
+
+    def beside_the_program(self, wanted, words, sinks, commits):
+        lines = wanted[1].splitlines()
+        sources = [it for word in words[4:] for it in ('--source', word)]
+        status, report, error = self.kpn('run', 'net', '--max-commits', commits, '--trace', 'kpn.trace', *sources)
+        if error:
+            number = error.split()[1]
+            found = [' '.join(it.split()[:2]) for it in (lines[0], lines[2])]
+            same('refused', [f'check {number}', f'open {number}'], found)
+            return
+        ran = lines[1].split()
+        same('outcome', report.splitlines()[-1].split()[0], OUTCOMES[int(ran[2])])
+        same('trace', (self.room / 'kpn.trace').read_bytes(), wanted[2])
+        served = [it for it in lines if it.startswith('sink')]
+        one, session = served[:len(sinks)], [' '.join(it.split()[3:]) for it in served[len(sinks):]]
+        if lines[-2 - len(sinks) - 1] != 'verdict 0 0' and int(ran[2]) != 5:
+            same('items', [' '.join(it.split()[1:]) for it in one], session)
+        (self.room / 'kpn.trace').write_bytes(wanted[3])
+        same('audit', 0, self.kpn('audit', 'net', 'kpn.trace')[0])
+
+    def examples(self):
+        count = 0
+        for file in sorted((TOP / 'examples').rglob('*')):
+            if file.is_file() and file.suffix not in ('.trace', '.c') and file.stat().st_size < 2**21:
+                text = file.read_bytes()
+                chance = random.Random(file.name)
+                names = declared_as(b'source', text)
+                self.compare(text, {it: [chance.randrange(-50, 50) for _ in range(40)] for it in names})
+                count += 1
+        print(f'examples: {count} files, the same by all')
+
+    def random(self, networks, chance):
+        for _ in range(networks):
+            text, items = random_networks.network(chance)
+            self.compare(text.encode(), items)
+        print(f'random networks: {networks}, the same by all')
+
+    def under_tools(self, chance, networks=60):
+        """The driver under AddressSanitizer, and some of it under valgrind."""
+        for k in range(networks):
+            text, items = random_networks.network(chance)
+            words, _ = self.network(text.encode(), items)
+            wanted = self.answer([self.driver], words)
+            same('sanitized', wanted, self.answer([self.checked], words))
+            if k < networks // 6:
+                grind = ['valgrind', '--quiet', '--error-exitcode=9', '--leak-check=full']
+                same('valgrind', wanted, self.answer([*grind, self.driver], words))
+        print(f'tools: {networks} networks under sanitizers, {networks // 6} under valgrind')
+
+    def refused(self, text, items):
+        """Each memory request is refused in turn. What a session has then taken begins what it takes otherwise."""
+        refuse = self.room / 'refuse.so'
+        call('cc', '-O2', '-shared', '-fPIC', '-o', refuse, TOP / 'bench/stress/refuse.c')
+        words, sinks = self.network(text, items)
+        wanted, counts = self.answer([self.driver], words), {}
+        for number in range(1, 100_000):
+            more = {**os.environ, 'LD_PRELOAD': str(refuse), 'FIRST': str(number), 'LAST': str(number)}
+            got = self.answer([self.driver], words, env=more)
+            if got == wanted and number > 50 and counts.get('same', 0) > 20:
+                break
+            kind = 'no room in the driver' if got[0] in (2, 3) else 'same' if got == wanted else 'refused'
+            counts[kind] = counts.get(kind, 0) + 1
+            if got[0] not in (0, 2, 3):
+                sys.exit(f'refused at {number}: status {got[0]}\n{got[1]}')
+            codes = {int(it.split()[1]) for it in got[1].splitlines() if it.split()[0] in ('check', 'open', 'served')}
+            if not codes <= {0, 28, 42}:
+                sys.exit(f'refused at {number}: {codes}\n{got[1]}')
+        print(f'refused memory: {counts}')
+
+    def million(self):
+        """A million items through a session, beside the program, in processor time."""
+        words = [*STRICT, '-o', self.room / 'million', TOP / 'c/million.c', self.folder / 'libkpn.a']
+        call('cc', *words)
+        text = (TOP / 'examples/mean.kpn').read_bytes().replace(b'sink means cap 1;', b'sink means cap 1000;')
+        (self.room / 'net').write_bytes(text)
+        (self.room / 'signal').write_text(''.join(f'{it}\n' for it in range(1_000_000)))
+        wanted, program = self.least('run', 'net', '--source', 'signal=signal', '--max-commits', 10**9)
+        total = sum(map(int, wanted.splitlines()[0].split()[2:]))
+        for most in (1000, 1):
+            said, session = self.least('net', most, program=self.room / 'million')
+            same('the sum', total, int(said))
+            print(f'a million items, {most} a call: {session:.2f} s in a session, {program:.2f} s by the program')
+
+    def least(self, *words, program=None, times=5):
+        """What a program says, and the least processor time that it takes."""
+        spent = []
+        for _ in range(times):
+            began = resource.getrusage(resource.RUSAGE_CHILDREN)
+            said = subprocess.run([program or self.program, *map(str, words)], cwd=self.room, capture_output=True,
+                                  check=True, text=True).stdout
+            ended = resource.getrusage(resource.RUSAGE_CHILDREN)
+            spent.append(ended.ru_utime + ended.ru_stime - began.ru_utime - began.ru_stime)
+        return said, min(spent)
+
+
+def main():
+    parser = argparse.ArgumentParser(description=__doc__, formatter_class=argparse.RawDescriptionHelpFormatter)
+    parser.add_argument('what', choices=['build', 'headers', 'test'])
+    parser.add_argument('folder', nargs='?', default=TOP / 'out/c', type=pathlib.Path)
+    parser.add_argument('--networks', default=200, type=int)
+    parser.add_argument('--program', default=TOP / 'crates/kpn/out/kpn')
+    parser.add_argument('--seed', default=1, type=int)
+    asked = parser.parse_args()
+    folder = asked.folder.resolve()
+    if asked.what == 'build':
+        build(folder)
+        return
+    check_headers()
+    if asked.what == 'test':
+        with tempfile.TemporaryDirectory() as room:
+            tests, chance = Tests(folder, asked.program, room), random.Random(asked.seed)
+            tests.examples()
+            tests.random(asked.networks, chance)
+            tests.under_tools(chance)
+            tests.refused(*[it.encode() if isinstance(it, str) else it for it in random_networks.network(chance)])
+            tests.million()
+
+
+if __name__ == '__main__':
+    main()
