@@ -242,7 +242,8 @@ def lines_of(name: str, items: Iterable[int]) -> bytes:
     except OverflowError:
         raise KpnError(f'an item of the source `{name}` is out of range: '
                        'it has to be from -2^63 to 2^63 - 1') from None
-    return ('\n'.join(map(str, values)) + '\n' * bool(values)).encode()
+    # One format for all takes half the time of a call for each.
+    return b'%d\n' * len(values) % tuple(values)
 
 
 def items_of(lines: bytes) -> List[int]:
