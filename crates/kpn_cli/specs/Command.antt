@@ -20,7 +20,7 @@ use Rattle.kpn_explain_command.specs.Answers.{IsExplained, IsRefusalOfExplaining
 use Rattle.kpn_explain_trace.specs.Answers as traces
 use Rattle.kpn_draw_command.specs.Answers.{IsDrawn, IsRefusalOfDrawing}
 use Rattle.kpn_stats_command.specs.Answers.{AreStats}
-use Rattle.kpn_timeline_command.specs.Answers.{IsTimeline}
+use Rattle.kpn_timeline_command.specs.Answers.{IsTimeline, HasGoneOut, IsNoTimeline}
 use Rattle.kpn_timeline_command.specs.PictureAnswers.{IsPictured, IsRefusalOfPicture}
 use Rattle.kpn_request.specs.StreamRequest.{StreamRequest}
 use Rattle.kpn_stream_command.specs.Command.{Streams, known_of}
@@ -32,7 +32,7 @@ use Rattle.kpn_command_line.specs.declared.request.Request.TheVariants.{Audit, S
 use Rattle.kpn_command_line.specs.declared.request.WordsFault.{WordsFault}
 use Rattle.kpn_command_line.specs.declared.request.WordsFault.TheVariants.{Usage, NoMemory as Unread}
 use Rattle.kpn_cli.specs.declared.here.Progress.{Progress}
-use Rattle.kpn_cli.specs.declared.here.Progress.TheVariants.{Answered, NeedsWorkers, NeedsDevices}
+use Rattle.kpn_cli.specs.declared.here.Progress.TheVariants.{Answered, NeedsWorkers, NeedsDevices, NeedsOutput}
 use Rattle.kpn_cli.specs.Concludes.{Concludes}
 
 -- ---- answers
@@ -52,7 +52,7 @@ Explains may_give file (Some trace) steps answer =
     answer
 
 -- What is answered to a request. Given is the input as it was and as it is afterwards: only `alone` reads it. A stream
--- is not answered by a conclusion.
+-- and a timeline are not answered by a conclusion.
 abbrev pub IsAnswer : {I : Type 0} → (may_give : Loads) (may_alias : Aliases) (remaining : I → Option (List ℕ))
     → Request → (input read : I) → Result Conclusion Refusal → Type 0
 IsAnswer may_give may_alias remaining (Alone name) input read answer = RunsAlone remaining name.now input read answer
@@ -83,14 +83,32 @@ IsAnswer may_give may_alias remaining (Audit file trace steps) input read answer
 IsAnswer may_give may_alias remaining (Stats file trace steps tables) input read answer =
     (read ≡ input) × Answers (Tells (AreStats may_give file.now trace.now steps tables))
     (IsRefusalOfAudit may_give file.now trace.now) answer
-IsAnswer may_give may_alias remaining (Timeline file trace steps) input read answer =
-    (read ≡ input) × Answers (Tells (IsTimeline may_give file.now trace.now steps))
-    (IsRefusalOfAudit may_give file.now trace.now) answer
+IsAnswer may_give may_alias remaining (Timeline file trace steps) input read answer = ⊥
 IsAnswer may_give may_alias remaining (Picture file trace steps first last) input read answer =
     (read ≡ input) × Answers (Tells (IsPictured may_give file.now trace.now steps first last))
     (IsRefusalOfPicture may_give file.now trace.now steps first last) answer
 IsAnswer may_give may_alias remaining (Help text) input read answer =
     (read ≡ input) × Answers (Succeeds (λ text. ⊤)) (λ refusal. refusal ≡ NoMemory) answer
+
+-- ---- timelines
+
+-- A timeline goes out while it is made. Given are the output and the place for faults, each as it was and as it is
+-- afterwards, and the status.
+pub data TellsTimeline {O E : Type 0} (contents : O → Option (List ℕ)) (may_give : Loads) (file trace : List ℕ)
+    (steps : ℕ) (out written : O) (err told : E) (status : ℕ) : Type 0 where
+  -- the text for these files goes out whole, and nothing is reported
+  whole : HasGoneOut (IsTimeline may_give file trace steps) (contents out) (contents written) status → told ≡ err →
+      TellsTimeline contents may_give file trace steps out written err told status
+  -- there is none, or it can't be written whole
+  refused : (refusal : Refusal) → IsNoTimeline may_give file trace out written refusal → status ≡ status_of refusal →
+      TellsTimeline contents may_give file trace steps out written err told status
+
+-- the same for a request of a timeline
+abbrev pub TellsAsked : {O E : Type 0} → (contents : O → Option (List ℕ)) (may_give : Loads) → Request
+    → (out written : O) (err told : E) (status : ℕ) → Type 0
+TellsAsked contents may_give (Timeline file trace steps) out written err told status =
+    TellsTimeline contents may_give file.now trace.now steps out written err told status
+TellsAsked contents may_give request out written err told status = ⊥
 
 -- ---- the program
 
@@ -109,6 +127,10 @@ pub data Runs {S I F O G E : Type 0} (may_give : S → Loads) (may_alias : S →
   streams : (stream : StreamRequest) → IsAsked asked (Stream stream) →
       Streams may_give (known_of remaining left_in contents holds_in) stream shelf kept input read out written status →
       Runs may_give may_alias remaining left_in contents holds_in asked shelf kept input read out written err told status
+  -- they ask for a timeline, which goes out while it is made
+  tells : (request : Request) → IsAsked asked request → kept ≡ shelf → read ≡ input →
+      TellsAsked contents (may_give shelf) request out written err told status →
+      Runs may_give may_alias remaining left_in contents holds_in asked shelf kept input read out written err told status
   -- they are not understood, and the place for faults gets how to use words
   unclear : AreUnclear asked → kept ≡ shelf → read ≡ input → written ≡ out → status ≡ 2 →
       Runs may_give may_alias remaining left_in contents holds_in asked shelf kept input read out written err told status
@@ -119,7 +141,7 @@ pub data Runs {S I F O G E : Type 0} (may_give : S → Loads) (may_alias : S →
 -- ---- scaffolding: what the parts of the code answer
 
 -- A request is answered without workers. Or it asks for a run by workers: then this run is handed back, and the input is
--- as it was. The same holds of a stream.
+-- as it was. The same holds of a stream and of a timeline.
 abbrev pub ComesTo : {I : Type 0} → (may_give : Loads) (may_alias : Aliases) (remaining : I → Option (List ℕ))
     → Request → (input read : I) → Progress → Type 0
 ComesTo may_give may_alias remaining request input read (Answered answer) =
@@ -127,6 +149,8 @@ ComesTo may_give may_alias remaining request input read (Answered answer) =
 ComesTo may_give may_alias remaining request input read (NeedsWorkers run) =
     (request ≡ Run run) × IsSome run.workers × (read ≡ input)
 ComesTo may_give may_alias remaining request input read (NeedsDevices stream) = (request ≡ Stream stream) × (read ≡ input)
+ComesTo may_give may_alias remaining request input read (NeedsOutput file trace steps) =
+    (request ≡ Timeline file trace steps) × (read ≡ input)
 
 -- the status for words that are not understood, or for want of memory to read them
 abbrev pub fault_status : WordsFault → ℕ

@@ -17,7 +17,7 @@ use kpn_request::{RunRequest, StreamRequest};
 use kpn_run_command::run_command;
 use kpn_shelf::Shelf;
 use kpn_stats_command::stats_command;
-use kpn_timeline_command::{picture_command, timeline_command};
+use kpn_timeline_command::picture_command;
 use std::alloc::Global;
 use std::io::Read;
 
@@ -30,9 +30,15 @@ pub enum Progress<'a> {
     NeedsWorkers(RunRequest<'a>),
     /// It asks for this stream, which writes while it goes on. Nothing of it is done yet.
     NeedsDevices(StreamRequest<'a>),
+    /// It asks for a timeline, which goes out while it is made. Nothing of it is done yet.
+    NeedsOutput {
+        file: &'a str,
+        trace: &'a str,
+        steps: u64,
+    },
 }
 
-/// Answers everything except a run by workers and a stream, which it hands back.
+/// Answers everything except a run by workers, a stream and a timeline, which it hands back.
 pub fn answer_here<'a, S: Shelf, I: Read>(
     alloc: Global,
     request: Request<'a>,
@@ -69,9 +75,7 @@ pub fn answer_here<'a, S: Shelf, I: Read>(
         Request::Audit { file, trace, steps } => {
             Progress::Answered(audit_command(alloc, file, trace, steps, shelf))
         }
-        Request::Timeline { file, trace, steps } => {
-            Progress::Answered(timeline_command(alloc, file, trace, steps, shelf))
-        }
+        Request::Timeline { file, trace, steps } => Progress::NeedsOutput { file, trace, steps },
         Request::Picture {
             file,
             trace,

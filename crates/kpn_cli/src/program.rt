@@ -1,7 +1,7 @@
 //! The whole program: what the words of a command line ask for is answered, and the answer is carried out.
 ghost use Rattle.std.specs.Prelude.{map};
 ghost use Rattle.std.specs.String.{string_bytes};
-ghost use Rattle.kpn_cli.specs.Command.{Runs};
+ghost use Rattle.kpn_cli.specs.Command.{Runs, TellsTimeline};
 
 use crate::concluding::conclude;
 use crate::here::{Progress, answer_here};
@@ -10,6 +10,7 @@ use kpn_command_line::read_words;
 use kpn_run_command::run_command_by_workers;
 use kpn_shelf::{Ports, Shelf};
 use kpn_stream_command::stream_command;
+use kpn_timeline_command::timeline_command;
 use std::alloc::Global;
 use std::io::{Read, Write};
 use std::sync::Wait;
@@ -43,7 +44,29 @@ pub fn command<R: Threads + Wait + Clock + Sync, S: Shelf + Ports, I: Read, O: W
             Progress::NeedsDevices(stream) => {
                 stream_command(alloc, &stream, shelf, input, out, err)
             }
+            Progress::NeedsOutput { file, trace, steps } => {
+                tell_timeline(alloc, file, trace, steps, shelf, out, err)
+            }
         },
         Err(fault) => refuse(&fault, err),
+    }
+}
+
+// Writes a timeline, or reports why there is none. It returns the status.
+fn tell_timeline<S: Shelf, O: Write, E: Write>(
+    alloc: Global,
+    file: &str,
+    trace: &str,
+    steps: u64,
+    shelf: &S,
+    out: &mut O,
+    err: &mut E,
+) -> u8
+    ensures { TellsTimeline O.contents (S.may_give shelf.now) file.now trace.now steps
+        out.old out.new err.old err.new result }
+{
+    match timeline_command(alloc, file, trace, steps, shelf, out) {
+        Ok(status) => status,
+        Err(refusal) => refusal.report(err),
     }
 }

@@ -3,3 +3,4 @@ pub mod Told
 pub mod PictureTold
 pub mod Drawn
 pub mod Pictured
+pub mod GoingOut

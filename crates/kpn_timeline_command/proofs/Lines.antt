@@ -1,17 +1,17 @@
 -- Texts that grow line by line.
-use Rattle.std.proofs.Common.{◌≡◌, ℕ, ◌+◌, ◌-◌, ◌<◌, ◌≤◌, List, [], ◌∷◌, ◌++◌, length, map, take, drop, get_or, sym, ap, ◌∙◌, append_assoc, arith}
-use Rattle.std.specs.List.{concat, range_with_len}
-use Rattle.std.proofs.lemmas.List.{append-nil, drop_more, drop-drop, take_all, length-drop}
+use Rattle.std.proofs.Common.{◌≡◌, ℕ, ◌+◌, ◌-◌, ◌<◌, ◌≤◌, List, [], ◌∷◌, ◌++◌, length, map, take, drop, get_or, sym, ap, ◌∙◌, refl, true, append_assoc, arith}
+use Rattle.std.specs.List.{concat, fold, range_with_len}
+use Rattle.std.proofs.lemmas.List.{append-nil, drop_more, drop-drop, take_all, take_more, length-drop}
 use Rattle.std.proofs.lemmas.List.Folds.{concat-append}
 use Rattle.std.proofs.lemmas.List.FromFn.{map-range_with_len_more}
 use Rattle.kpn_net.specs.Tables.{Tables}
 use Rattle.kpn_history.specs.declared.event.Event.{Event}
-use Rattle.kpn_ticks.specs.Ticks.{Clocks, after}
+use Rattle.kpn_ticks.specs.Ticks.{Clocks, after, start, clocks_after}
 use Rattle.kpn_ticks.specs.Held.{reads_before}
 use Rattle.kpn_timeline_command.specs.TimelineText.{each_below, event_lines, all_event_lines, counter_line, read_lines, counter_lines}
 
 -- the lines of one number more
-each_next : (n : ℕ) (line : ℕ → List ℕ) → each_below (n + 1) line ≡ each_below n line ++ line n
+pub each_next : (n : ℕ) (line : ℕ → List ℕ) → each_below (n + 1) line ≡ each_below n line ++ line n
 each_next n line =
     ap concat (map-range_with_len_more line 0 n n (omega arith))
     ∙ concat-append (map line (range_with_len 0 n)) (line n ∷ [])
@@ -104,3 +104,18 @@ write_next name unread now written reads place k d gone text more below there is
           (sym (drop-drop gone place reads)) last,
       omega (arith, within, ap length all, length-drop place reads, there),
     )
+
+-- ---- clocks
+
+fold_last : {A B : Type 0} (f : A → B → A) (a : A) (xs : List B) (x : B)
+    → fold f a (xs ++ x ∷ []) ≡ f (fold f a xs) x
+fold_last f a [] x = refl
+fold_last f a (y ∷ xs) x = fold_last f (f a y) xs x
+
+pub clocks_next : (t : Tables) (s now : Clocks) (events : List Event) (k : ℕ) (d : Event) → k < length events
+    → s ≡ clocks_after t true (take k events) → now ≡ after t s (get_or events k d)
+    → now ≡ clocks_after t true (take (k + 1) events)
+clocks_next t s now events k d below so_far counted =
+    counted ∙ ap (λ (x : Clocks). after t x (get_or events k d)) so_far
+    ∙ sym (fold_last (after t) (start t true) (take k events) (get_or events k d))
+    ∙ ap (λ (es : List Event). clocks_after t true es) (sym (take_more events k d below))

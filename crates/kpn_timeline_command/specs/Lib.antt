@@ -3,3 +3,4 @@ pub mod Answers
 pub mod PictureText
 pub mod Drawable
 pub mod PictureAnswers
+pub mod Sent

@@ -1,75 +1,99 @@
-//! The command reads a network and a trace, audits the trace, and writes the timeline of its history.
-ghost use Rattle.std.specs.Prelude.{◌≡◌, IfOk, IfErr};
-ghost use Rattle.kpn_conclusion.specs.Conclusion.{Tells};
+//! The command reads a network and a trace, audits the trace, and sends the timeline of its history while it makes it.
+ghost use Rattle.std.specs.Prelude.{IfOk, IfErr, OnOk};
+ghost use Rattle.std.specs.Io.KnownBytes.{Appends};
 ghost use Rattle.kpn_audit.specs.Stored.{audited_under};
-ghost use Rattle.kpn_audited.specs.Audited.{IsRefusalOfAudit, IsTextFor};
+ghost use Rattle.kpn_audited.specs.Flaw.{IsTold};
 ghost use Rattle.kpn_timeline_command.specs.TimelineText.{timeline};
-ghost use Rattle.kpn_timeline_command.specs.Answers.{IsTimeline, IsTimelineOf};
+ghost use Rattle.kpn_timeline_command.specs.Sent.{IsUnsent};
+ghost use Rattle.kpn_timeline_command.specs.Answers.{HasGoneOut, IsTimeline, IsToldTimeline, IsNoTimeline};
 
-use crate::timeline::text_of;
-use kpn_audited::{Audited, Finding, load_audited};
-use kpn_conclusion::Conclusion;
+use crate::sending::{SendFault, send_last};
+use crate::timeline::send_timeline;
+use kpn_audited::{Audited, Finding, Flaw, load_audited};
 use kpn_history::{Event, Version};
 use kpn_net::{Growth, Policy};
 use kpn_refusals::Refusal;
 use kpn_shelf::Shelf;
 use kpn_text::Document;
-use std::alloc::{AllocError, Global};
+use std::alloc::Global;
+use std::io::Write;
 
-/// What `kpn timeline FILE TRACE` comes to. Each process may make `steps` steps before each of its events. It reads the
-/// description first, then the trace. It tells the timeline of a legal trace, and what an audit tells of any other.
-pub fn timeline_command<S: Shelf>(
+/// Writes what `kpn timeline FILE TRACE` tells, and returns the status. Each process may make `steps` steps before each
+/// of its events. It reads the description first, then the trace. It tells the timeline of a legal trace, and what an
+/// audit tells of any other. A timeline goes out while it is made.
+pub fn timeline_command<S: Shelf, W: Write>(
     alloc: Global,
     file: &str,
     trace: &str,
     steps: u64,
     shelf: &S,
-) -> Result<Conclusion, Refusal>
+    out: &mut W,
+) -> Result<u8, Refusal>
     ensures ok { IfOk result
-        (Tells (IsTimeline (S.may_give shelf.now) file.now trace.now steps)) }
-    ensures refused { IfErr result (IsRefusalOfAudit (S.may_give shelf.now) file.now trace.now) }
+        (HasGoneOut (IsTimeline (S.may_give shelf.now) file.now trace.now steps)
+        (W.contents out.old) (W.contents out.new)) }
+    ensures refused { IfErr result
+        (IsNoTimeline (S.may_give shelf.now) file.now trace.now out.old out.new) }
 {
     let audited = load_audited(alloc, shelf, file, trace, steps)?;
-    let conclusion = conclusion_of(alloc, &audited)?;
-    Ok(conclusion)
+    let status = send_told(alloc, &audited, out)?;
+    Ok(status)
 }
 
-// The text for a finding, and its status.
-fn conclusion_of(alloc: Global, audited: &Audited) -> Result<Conclusion, AllocError>
-    ensures { IfOk result (Tells (IsTextFor
-        (IsTimelineOf audited.now.document audited.now.trace) audited.now.finding)) }
+// Sends the text for a finding, and returns its status.
+fn send_told<W: Write>(alloc: Global, audited: &Audited, out: &mut W) -> Result<u8, Refusal>
+    ensures ok { IfOk result
+        (HasGoneOut (IsToldTimeline audited.now) (W.contents out.old) (W.contents out.new)) }
+    ensures refused { IfErr result IsUnsent }
+{
+    match told(alloc, audited, out) {
+        Ok(status) => Ok(status),
+        Err(fault) => Err(fault.refusal()),
+    }
+}
+
+fn told<W: Write>(alloc: Global, audited: &Audited, out: &mut W) -> Result<u8, SendFault>
+    ensures { IfOk result
+        (HasGoneOut (IsToldTimeline audited.now) (W.contents out.old) (W.contents out.new)) }
 {
     match &audited.finding {
         Finding::Legal(_) => {
             let trace = &audited.trace;
             let events = trace.events.as_slice();
-            let text = timeline_of(alloc, &audited.document, trace.version, events)?;
-            Ok(Conclusion {
-                text,
-                status: 0,
-                files: Vec::new(alloc),
-            })
+            send_under(alloc, &audited.document, trace.version, events, out)?;
+            Ok(0)
         }
-        Finding::NotLegal(flaw) => flaw.conclusion(alloc),
+        Finding::NotLegal(flaw) => send_flaw(alloc, *flaw, out),
     }
 }
 
+// Sends what an audit tells.
+fn send_flaw<W: Write>(alloc: Global, flaw: Flaw, out: &mut W) -> Result<u8, SendFault>
+    ensures { IfOk result
+        (HasGoneOut (IsTold flaw) (W.contents out.old) (W.contents out.new)) }
+{
+    let made = flaw.conclusion(alloc)?;
+    send_last(out, &made.text)?;
+    Ok(made.status)
+}
+
 // The timeline of events of this version, under the rules of growth that it has.
-fn timeline_of(
+fn send_under<W: Write>(
     alloc: Global,
     document: &Document,
     version: Version,
     events: &[Event],
-) -> Result<Vec<u8>, AllocError>
-    ensures { IfOk result (λ text. text.items
-        ≡ timeline document.now (audited_under version document.now.tables) events.now) }
+    out: &mut W,
+) -> Result<(), SendFault>
+    ensures { OnOk result (Appends (W.contents out.old) (W.contents out.new)
+        (timeline document.now (audited_under version document.now.tables) events.now)) }
 {
     let network = document.network();
     match version {
         Version::One => {
             let plain = network.under(Policy::Cycles, Growth::One)?;
-            text_of(alloc, document, &plain, events)
+            send_timeline(alloc, document, &plain, events, out)
         }
-        Version::Two => text_of(alloc, document, network, events),
+        Version::Two => send_timeline(alloc, document, network, events, out),
     }
 }

@@ -7,6 +7,7 @@ mod counters;
 mod frame;
 mod picture;
 mod scale;
+mod sending;
 mod slices;
 mod svg_command;
 mod timeline;

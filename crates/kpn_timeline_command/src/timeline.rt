@@ -1,12 +1,15 @@
-//! The text of a timeline.
-ghost use Rattle.std.specs.Prelude.{◌≡◌, ◌+◌, ◌<◌, ◌^◌, ◌++◌, length, codes, true, IfOk, OnOk, string_bytes};
+//! The text of a timeline goes out while it is made.
+ghost use Rattle.std.specs.Prelude.{◌≡◌, ◌+◌, ◌<◌, ◌^◌, ◌++◌, codes, true, IfOk, OnOk, string_bytes};
+ghost use Rattle.std.specs.Io.KnownBytes.{Appends};
 ghost use Rattle.kpn_names.specs.Names.{name_at};
 ghost use Rattle.kpn_pieces.specs.Added.{Adds};
 ghost use Rattle.kpn_ticks.specs.Ticks.{start, clocks_after};
 ghost use Rattle.kpn_ticks.specs.Shown.{shown};
+ghost use Rattle.kpn_timeline_command.specs.Sent.{Sends};
 ghost use Rattle.kpn_timeline_command.specs.TimelineText.{head, track_line, each_below, all_event_lines, channel_counters, timeline};
 
-use crate::counters::push_counters;
+use crate::counters::send_counters;
+use crate::sending::{SendFault, send_if_long, send_last};
 use crate::slices::push_event;
 use kpn_history::Event;
 use kpn_net::Network;
@@ -14,26 +17,44 @@ use kpn_pieces::Pushed;
 use kpn_text::Document;
 use kpn_ticks::Clocks;
 use std::alloc::{AllocError, Global};
+use std::io::Write;
 
-/// The timeline of these events of the network, which has the names of the document.
-pub(crate) fn text_of(
+/// Sends the timeline of these events of the network, which has the names of the document.
+pub(crate) fn send_timeline<W: Write>(
     alloc: Global,
     document: &Document,
     network: &Network,
     events: &[Event],
-) -> Result<Vec<u8>, AllocError>
-    ensures { IfOk result (λ text. text.items ≡ timeline document.now network.now events.now) }
+    out: &mut W,
+) -> Result<(), SendFault>
+    ensures { OnOk result (Appends (W.contents out.old) (W.contents out.new)
+        (timeline document.now network.now events.now)) }
+{
+    let mut text = first_lines(alloc, document, network.instances())?;
+    let clocks = send_events(alloc, out, &mut text, document, network, events)?;
+    send_channels(out, &mut text, document, network.channels(), &clocks)?;
+    push_end(&mut text)?;
+    send_last(out, text.as_bytes())?;
+    Ok(())
+}
+
+fn push_end(text: &mut String) -> Pushed
+    ensures { Adds result text.old text.new (codes "]}\n") }
+{
+    text.push_str("]}\n")
+}
+
+// The first lines, and a track for each of so many processes.
+fn first_lines(alloc: Global, document: &Document, processes: usize) -> Result<String, AllocError>
+    ensures { IfOk result (λ text. string_bytes text ≡ head
+        ++ each_below processes (λ p. track_line p (name_at document.now.names.instances p))) }
 {
     let mut text = String::new(alloc);
     text.push_str(head())?;
-    push_tracks(&mut text, document, network.instances())?;
-    let clocks = push_events(alloc, &mut text, document, network, events)?;
-    push_channels(&mut text, document, network.channels(), &clocks)?;
-    text.push_str("]}\n")?;
-    Ok(text.into_bytes())
+    push_tracks(&mut text, document, processes)?;
+    Ok(text)
 }
 
-// The first lines.
 fn head() -> &'static str
     ensures { result.now ≡ head }
 {
@@ -63,33 +84,42 @@ fn push_track(text: &mut String, p: usize, name: &str) -> Pushed
 }
 
 // What is drawn of each event. It returns the clocks after all of them.
-fn push_events(
+fn send_events<W: Write>(
     alloc: Global,
+    out: &mut W,
     text: &mut String,
     document: &Document,
     network: &Network,
     events: &[Event],
-) -> Result<Clocks, AllocError>
+) -> Result<Clocks, SendFault>
     ensures clocks { IfOk result
         (λ clocks. shown clocks ≡ clocks_after network.now true events.now) }
-    ensures text { Adds result text.old text.new
+    ensures text { Sends W.contents result out.old out.new text.old text.new
         (all_event_lines document.now.names.channels network.now (start network.now true) events.now) }
 {
     let mut clocks = Clocks::new(alloc, network, true)?;
     for k in 0..events.len() {
         push_event(text, document, network, &clocks, events[k])?;
         clocks.count(network, events[k])?;
+        send_if_long(out, text)?;
     }
     Ok(clocks)
 }
 
 // A counter for each channel.
-fn push_channels(text: &mut String, document: &Document, channels: usize, clocks: &Clocks) -> Pushed
-    ensures { Adds result text.old text.new
+fn send_channels<W: Write>(
+    out: &mut W,
+    text: &mut String,
+    document: &Document,
+    channels: usize,
+    clocks: &Clocks,
+) -> Result<(), SendFault>
+    ensures { Sends W.contents result out.old out.new text.old text.new
         (each_below channels (channel_counters document.now.names.channels (shown clocks.now))) }
 {
     for c in 0..channels {
-        push_counters(
+        send_counters(
+            out,
             text,
             document.channel_name(c),
             clocks.written_of(c),

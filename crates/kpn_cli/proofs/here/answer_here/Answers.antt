@@ -36,7 +36,7 @@ pub returns-in-Audit : goal.returns-in-Audit
 returns-in-Audit g c = rw c.in-Audit.is (refl, (c.audit_command.ensures.ok, c.audit_command.ensures.refused))
 
 pub returns-in-Timeline : goal.returns-in-Timeline
-returns-in-Timeline g c = rw c.in-Timeline.is (refl, (c.timeline_command.ensures.ok, c.timeline_command.ensures.refused))
+returns-in-Timeline g c = (c.in-Timeline.is, refl)
 
 pub returns-in-Picture : goal.returns-in-Picture
 returns-in-Picture g c = rw c.in-Picture.is (refl, (c.picture_command.ensures.ok, c.picture_command.ensures.refused))

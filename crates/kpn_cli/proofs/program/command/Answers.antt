@@ -6,7 +6,7 @@ use Rattle.kpn_shelf.specs.Shelf.{Loads, Aliases}
 use Rattle.kpn_command_line.specs.Asked.{IsAsked, IsRefused}
 use Rattle.kpn_command_line.specs.declared.request.WordsFault.{WordsFault}
 use Rattle.kpn_command_line.specs.declared.request.WordsFault.TheVariants.{Usage, NoMemory}
-use Rattle.kpn_cli.specs.Command.{Runs, answers, streams, unclear, unread, fault_status}
+use Rattle.kpn_cli.specs.Command.{Runs, answers, streams, tells, unclear, unread, fault_status}
 use Rattle.kpn_cli.proofs.program.command.Goals as goal
 
 refused : {S I F O G E : Type 0} (may_give : S → Loads) (may_alias : S → Aliases) (remaining : I → Option (List ℕ))
@@ -34,6 +34,11 @@ returns-in-NeedsDevices g c =
     streams c.in-NeedsDevices.stream
     (subst (IsAsked (map string_bytes c.args.words.now)) c.in-NeedsDevices.ensures.0 c.in-Ok.ensures)
     (rw (← c.in-NeedsDevices.ensures.1) c.stream_command.ensures)
+
+pub returns-in-NeedsOutput : goal.returns-in-NeedsOutput
+returns-in-NeedsOutput g c =
+    tells c.in-Ok.request c.in-Ok.ensures refl c.in-NeedsOutput.ensures.1
+    (rw c.in-NeedsOutput.ensures.0 c.tell_timeline.ensures)
 
 pub returns-in-Err : goal.returns-in-Err
 returns-in-Err g c =

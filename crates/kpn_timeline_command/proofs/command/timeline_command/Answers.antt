@@ -2,11 +2,14 @@
 use Rattle.kpn_timeline_command.proofs.command.timeline_command.Goals as goal
 
 pub returns-clause-ok : goal.returns-clause-ok
-returns-clause-ok g c = (
-  record {
-    audited = c.in_ok-audited.audited;
-    is_audited = c.in_ok-audited.ensures.ok;
-    told = c.in_ok-conclusion.ensures.0;
-  },
-  c.in_ok-conclusion.ensures.1,
-)
+returns-clause-ok g c =
+    let made = c.in_ok-status.ensures.ok in
+    record {
+      text = made.text;
+      right = record {
+        audited = c.in_ok-audited.audited;
+        is_audited = c.in_ok-audited.ensures.ok;
+        told = made.right;
+      };
+      sent = made.sent;
+    }
