@@ -10,7 +10,7 @@ use kpn_net::Network;
 use std::alloc::{AllocError, Global};
 
 /// What a get or put waited for: it could begin no earlier.
-#[derive(Clone, Copy, Debug)]
+#[derive(Clone, Copy)]
 pub(crate) enum Cause {
     /// The get or put of its process before it.
     Own,
@@ -21,7 +21,7 @@ pub(crate) enum Cause {
 }
 
 /// A get or put.
-#[derive(Clone, Copy, Debug)]
+#[derive(Clone, Copy)]
 pub(crate) struct Move {
     pub(crate) process: u16,
     pub(crate) tick: usize,
@@ -29,7 +29,7 @@ pub(crate) struct Move {
 }
 
 /// The clocks after some events, and the gets and puts among these.
-#[derive(Debug, Drop)]
+#[derive(Drop)]
 pub(crate) struct Log {
     pub(crate) clocks: Clocks,
     pub(crate) moves: Vec<Move>,

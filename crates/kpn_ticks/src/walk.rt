@@ -54,7 +54,7 @@ fn shares_among(
 }
 
 /// A walk along the chain from its end: next comes the get or put of this process at this tick.
-#[derive(Debug, Drop)]
+#[derive(Drop)]
 pub(crate) struct Walker {
     process: usize,
     tick: usize,
