@@ -29,7 +29,7 @@ pub(crate) fn bound_text(
 }
 
 // What the line says so far, the shares that it has not told yet, and how many ticks those are.
-#[derive(Debug, Drop)]
+#[derive(Drop)]
 pub(crate) struct Line {
     text: String,
     left: Vec<usize>,

@@ -9,7 +9,7 @@ use std::alloc::AllocError;
 use std::io::Write;
 
 /// Why a text does not go out whole. A part of it may have gone out.
-#[derive(Clone, Copy, Debug)]
+#[derive(Clone, Copy)]
 pub(crate) enum SendFault {
     /// The output takes no more.
     Write,
