@@ -61,14 +61,15 @@ module _ {K N : Type 0} (takes : K → ℕ → ℤ → Result (Unit {0}) SinkFau
 pub inputs_same : {I F : Type 0} (remaining : I → Option (List ℕ)) (in_file : F → Option (List ℕ)) (before : Inputs I F)
     (c : ℕ) (answer : Result (Option ℤ) SourceFault) (after : Inputs I F)
     → InputsGive remaining in_file before c answer after → after.standard.ghost_name ≡ before.standard.ghost_name
-inputs_same remaining in_file before c answer after (by_input i input read found at gives each format ghost) = ghost
+inputs_same remaining in_file before c answer after (by_input i input read found at gives each format ghost lent) =
+    ghost
 inputs_same remaining in_file before c answer after (by_none found is same) =
     ap (λ (x : Inputs _ _). x.standard.ghost_name) same
 
 pub outputs_same : {O G : Type 0} (Does : ItemFormat → OutputRel O G) (before : Outputs O G) (c : ℕ)
     (answer : Result (Unit {0}) SinkFault) (after : Outputs O G) → OutputsDo Does before c answer after
     → after.standard.ghost_name ≡ before.standard.ghost_name
-outputs_same Does before c answer after (outputs.by_output i output written found at channel does each format ghost) =
+outputs_same Does before c answer after (outputs.by_output i output written found at channel does each format ghost lent) =
     ghost
 outputs_same Does before c answer after (outputs.by_none found is same) =
     ap (λ (x : Outputs _ _). x.standard.ghost_name) same

@@ -1,5 +1,5 @@
 -- Lists of places and of sinks, one more at a time.
-use Rattle.std.proofs.Common.{◌≡◌, ℕ, ◌+◌, ◌<◌, ◌≤◌, Bool, true, false, cond, List, [], ◌∷◌, ◌++◌, map, take, length, get_or, length-append, Option, Some, refl, sym, ap, ◌∙◌, subst, arith, inl, inr}
+use Rattle.std.proofs.Common.{◌≡◌, ℕ, ◌+◌, ◌<◌, ◌≤◌, Bool, true, false, cond, List, [], ◌∷◌, ◌++◌, map, take, length, get_or, length-append, take_all, le_refl, Option, Some, Ok, refl, sym, ap, ◌∙◌, subst, arith, inl, inr}
 use Rattle.std.specs.List.{AllZip}
 use Rattle.std.proofs.lemmas.Bool.{cases_lt}
 use Rattle.std.proofs.lemmas.List.{map-append, take_more, get_or_append_left}
@@ -7,9 +7,11 @@ use Rattle.std.proofs.Math.Seq.{get_or-append_seam}
 use Rattle.kpn_text.specs.Document.{Document}
 use Rattle.kpn_inputs.specs.declared.sources.Ends.{Ends}
 use Rattle.kpn_inputs.specs.declared.sources.NamedEnd.{NamedEnd}
+use Rattle.kpn_inputs.specs.Sources.{is_end, ends_named}
+use Rattle.kpn_stream.specs.Ending.{end_numbers}
 use Rattle.kpn_items.proofs.FileLemmas.{AllZip-push}
 use Rattle.kpn_stream_command.specs.declared.places.Place.{Place}
-use Rattle.kpn_stream_command.specs.Places.{name_for, ArePlaced, ArePlaces}
+use Rattle.kpn_stream_command.specs.Places.{name_for, ArePlaced, AllPlaced, ArePlaces}
 
 -- one place more
 pub placed_more : (named : List NamedEnd) (ends : List ℕ) (number : ℕ) (places : List Place) (place : Place)
@@ -33,6 +35,22 @@ placed_more named ends number places place placed below at name = record {
         (sym (ap (λ (n : ℕ). get_or (places ++ place ∷ []) n other) last ∙ get_or-append_seam places place [] other))
   ];
 }
+
+-- all places go by what the options name
+pub all_placed : (ends : Ends) (d : Document) (names files : List (List ℕ)) (named : List NamedEnd)
+    (places : List Place) → ends_named ends d names ≡ Ok (map (λ end. end.number) named)
+    → map (λ end. end.file.now) named ≡ files → AllPlaced named (end_numbers (is_end ends) d.tables) places
+    → ArePlaces ends d names files places
+all_placed ends d names files named places numbers given placed =
+    let all = end_numbers (is_end ends) d.tables in
+    record {
+      named = named;
+      numbers = numbers;
+      given = given;
+      channels = placed.channels ∙ take_all (length all) all (le_refl (length all));
+      each = λ number place below.
+          ap (λ (n : ℕ). name_for named number n) placed.count ∙ placed.each number place below;
+    }
 
 -- one item more has what it needs
 pub zipped_more : {A B : Type 0} (R : A → B → Type 0) (xs : List A) (ys : List B) (i : ℕ) (x : A) (y : B)

@@ -26,6 +26,8 @@ use Rattle.kpn_stream_devices.specs.Window.{fresh}
 use Rattle.kpn_stream_devices.specs.Inputs.{InputsGive}
 use Rattle.kpn_stream_devices.specs.Outputs.{OutputsTake, OutputsFlush}
 use Rattle.kpn_stream_command.specs.declared.places.Place.{Place}
+use Rattle.kpn_stream_command.specs.declared.places.Places.{Places}
+use Rattle.kpn_stream_command.specs.declared.command.Words.{Words}
 use Rattle.kpn_stream_command.specs.declared.ending.Over.{Over}
 use Rattle.kpn_stream_command.specs.declared.refusal.StreamRefusal.{StreamRefusal}
 use Rattle.kpn_stream_command.specs.Refusal.{refusal_status, source_status, sink_status}
@@ -109,22 +111,33 @@ pub record RanOver {I F O G : Type 0} (known : Known I F O G) (limits : Limits) 
   pub handed_on : HandedOn (OutputsFlush known.holds known.holds_in) served written
   pub is_ending : IsEnding limits ending b
 
--- The same, over standard input and output and the files of these places. The last devices hold the same references to
--- standard input and output. That these are then as the last devices say is not said.
+-- The same, over standard input and output and these files. Standard input and output are given as they were, and as
+-- they are afterwards: they are those of the first and of the last devices.
 pub record Ran {I F O G : Type 0} (known : Known I F O G) (request : StreamRequest) (t : Tables)
-    (inputs : List (Input F)) (outputs : List (Output G)) (input : I) (out : O) (ending : Ending)
+    (inputs : List (Input F)) (outputs : List (Output G)) (input read : I) (out written : O) (ending : Ending)
     (b : Book) : Type 0 where
   pub first_input : Inputs I F
   pub last_input : Inputs I F
   pub first_output : Outputs O G
   pub last_output : Outputs O G
   pub ran : RanOver known (limits_of request) t first_input last_input first_output last_output ending b
-  pub inputs_are : first_input.each.items ≡ inputs
+  pub inputs_are : first_input.each.now.items ≡ inputs
   pub input_is : first_input.standard.now ≡ input
+  pub input_read : last_input.standard.now ≡ read
   pub input_format : first_input.format ≡ request.format
-  pub outputs_are : first_output.each.items ≡ outputs
+  pub outputs_are : first_output.each.now.items ≡ outputs
   pub output_is : first_output.standard.now ≡ out
+  pub output_written : last_output.standard.now ≡ written
   pub output_format : first_output.format ≡ request.format
+
+-- the same, over standard input and output and the files of these places
+pub record RanAt {I F O G : Type 0} (may_give : Loads) (known : Known I F O G) (request : StreamRequest) (t : Tables)
+    (places : Places) (input read : I) (out written : O) (ending : Ending) (b : Book) : Type 0 where
+  pub inputs : List (Input F)
+  pub are_inputs : AllZip (IsInputFor may_give known.left_in) places.sources.items inputs
+  pub outputs : List (Output G)
+  pub are_outputs : AllZip IsOutputFor places.sinks.items outputs
+  pub ran : Ran known request t inputs outputs input read out written ending b
 
 -- ---- the end
 
@@ -152,24 +165,28 @@ pub record IsConcluded {S : Type 0} (may_give : S → Loads) (request : StreamRe
 
 -- ---- the whole
 
--- A stream of what is asked for. Given are the shelf, standard input and standard output, each as it was and as it is
+-- each source has the input that is asked for, and each sink the output
+pub record AreAskedFor (request : StreamRequest) (d : Document) (places : Places) : Type 0 where
+  pub sources : ArePlaces Sources d (map name_in request.sources) (map file_in request.sources) places.sources.items
+  pub sinks : ArePlaces Sinks d (map name_in request.sinks) (map file_in request.sinks) places.sinks.items
+
+-- A stream of this network. Given are the shelf, standard input and standard output, each as it was and as it is
 -- afterwards.
+pub record IsStreamedOf {S I F O G : Type 0} (may_give : S → Loads) (known : Known I F O G) (request : StreamRequest)
+    (d : Document) (shelf kept : S) (input read : I) (out written : O) (status : ℕ) : Type 0 where
+  pub places : Places
+  pub asked_for : AreAskedFor request d places
+  pub ending : Ending
+  pub book : Book
+  pub ran : RanAt (may_give shelf) known request d.tables places input read out written ending book
+  pub concluded : IsConcluded may_give request d.tables ending book shelf kept status
+
+-- A stream of what is asked for.
 pub record IsStreamed {S I F O G : Type 0} (may_give : S → Loads) (known : Known I F O G) (request : StreamRequest)
     (shelf kept : S) (input read : I) (out written : O) (status : ℕ) : Type 0 where
   pub document : Document
   pub described : IsDescribed (may_give shelf) request.file document
-  pub sources : List Place
-  pub are_sources : ArePlaces Sources document (map name_in request.sources) (map file_in request.sources) sources
-  pub sinks : List Place
-  pub are_sinks : ArePlaces Sinks document (map name_in request.sinks) (map file_in request.sinks) sinks
-  pub inputs : List (Input F)
-  pub are_inputs : AllZip (IsInputFor (may_give shelf) known.left_in) sources inputs
-  pub outputs : List (Output G)
-  pub are_outputs : AllZip IsOutputFor sinks outputs
-  pub ending : Ending
-  pub book : Book
-  pub ran : Ran known request document.tables inputs outputs input out ending book
-  pub concluded : IsConcluded may_give request document.tables ending book shelf kept status
+  pub streamed : IsStreamedOf may_give known request document shelf kept input read out written status
 
 -- A stream, or a refusal that gives the status.
 pub data Streams {S I F O G : Type 0} (may_give : S → Loads) (known : Known I F O G) (request : StreamRequest)
@@ -178,3 +195,12 @@ pub data Streams {S I F O G : Type 0} (may_give : S → Loads) (known : Known I 
       Streams may_give known request shelf kept input read out written status
   refused : (refusal : StreamRefusal) → status ≡ refusal_status refusal →
       Streams may_give known request shelf kept input read out written status
+
+-- ---- scaffolding
+
+-- these are the words of the request, taken apart
+pub record AreWordsOf (request : StreamRequest) (words : Words) : Type 0 where
+  pub source_names : map (λ o. o.name.now) words.sources.items ≡ map name_in request.sources
+  pub source_files : map (λ o. o.file.now) words.sources.items ≡ map file_in request.sources
+  pub sink_names : map (λ o. o.name.now) words.sinks.items ≡ map name_in request.sinks
+  pub sink_files : map (λ o. o.file.now) words.sinks.items ≡ map file_in request.sinks

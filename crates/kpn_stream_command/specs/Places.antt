@@ -41,3 +41,7 @@ pub record ArePlaced (named : List NamedEnd) (ends : List ℕ) (number : ℕ) (p
   pub count : length places ≡ number
   pub each : (k : ℕ) (place : Place) → k < length places
       → name_for named k (length ends) ≡ Some (get_or places k place).name.now
+
+-- the places of all ends
+abbrev pub AllPlaced : List NamedEnd → (ends : List ℕ) → List Place → Type 0
+AllPlaced named ends places = ArePlaced named ends (length ends) places

@@ -5,7 +5,7 @@ ghost use Rattle.std.specs.List.{AllZip};
 ghost use Rattle.kpn_inputs.specs.declared.sources.Ends.TheVariants as ends;
 ghost use Rattle.kpn_inputs.specs.Sources.{name_in, file_in};
 ghost use Rattle.kpn_stream_command.specs.Places.{ArePlaces};
-ghost use Rattle.kpn_stream_command.specs.Command.{IsConcluded, IsStreamed, IsTraceStored, Ran, RanOver, Streams, end_status, flushes_of, known_of, limits_of, HandedOn};
+ghost use Rattle.kpn_stream_command.specs.Command.{AreWordsOf, IsConcluded, IsStreamed, IsStreamedOf, IsTraceStored, Ran, RanAt, RanOver, Streams, end_status, flushes_of, known_of, limits_of, HandedOn};
 
 use crate::devices::{open_inputs, open_outputs};
 use crate::ending::{Over, over_of};
@@ -61,22 +61,30 @@ fn carry_out<S: Shelf + Ports, I: Read, O: Write, E: Write>(
 {
     let words = check_words(alloc, request, shelf)?;
     let document = load_document(alloc, shelf, request.file)?;
-    let places = places_for(alloc, &document, &words, shelf)?;
+    stream_document(alloc, request, &words, &document, shelf, input, out, err)
+}
+
+/// Streams a network between the inputs and outputs that these words name, and concludes.
+// It owns no document: a function that owns one and may fail behind it is dear to prove.
+fn stream_document<S: Shelf + Ports, I: Read, O: Write, E: Write>(
+    alloc: Global,
+    request: &StreamRequest<'_>,
+    words: &Words<'_>,
+    document: &Document,
+    shelf: &mut S,
+    input: &mut I,
+    out: &mut O,
+    err: &mut E,
+) -> Result<u8, StreamRefusal>
+    requires { AreWordsOf request.now words.now }
+    ensures { IfOk result (IsStreamedOf S.may_give
+        (known_of I.remaining S.Input.remaining O.contents S.Output.contents) request.now
+        document.now shelf.old shelf.new input.old input.new out.old out.new) }
+{
+    let places = places_for(alloc, document, words, shelf)?;
     make_ready(shelf, request.trace)?;
-    let inputs = open_inputs(alloc, shelf, &places)?;
-    let outputs = open_outputs(alloc, shelf, &places, request.take)?;
-    let streamed = run(
-        alloc,
-        request,
-        &document,
-        &places.sinks,
-        inputs,
-        outputs,
-        input,
-        out,
-    )?;
-    let status = conclude(alloc, request, &document, streamed, &places, shelf, err)?;
-    Ok(status)
+    let streamed = run(alloc, request, document, &places, shelf, input, out)?;
+    conclude(alloc, request, document, streamed, &places, shelf, err)
 }
 
 /// What the words behind `--source` and `--sink` name.
@@ -92,14 +100,7 @@ fn check_words<'a, S: Shelf>(
     request: &StreamRequest<'a>,
     shelf: &S,
 ) -> Result<Words<'a>, Refusal>
-    ensures source_names { IfOk result (λ words.
-        map (λ o. o.name.now) words.sources.items ≡ map name_in request.now.sources) }
-    ensures source_files { IfOk result (λ words.
-        map (λ o. o.file.now) words.sources.items ≡ map file_in request.now.sources) }
-    ensures sink_names { IfOk result (λ words.
-        map (λ o. o.name.now) words.sinks.items ≡ map name_in request.now.sinks) }
-    ensures sink_files { IfOk result (λ words.
-        map (λ o. o.file.now) words.sinks.items ≡ map file_in request.now.sinks) }
+    ensures { IfOk result (AreWordsOf request.now) }
 {
     let sources = sources_of(alloc, request)?;
     let run = as_run(alloc, request)?;
@@ -198,20 +199,50 @@ fn limits_of(request: &StreamRequest<'_>) -> Limits
     }
 }
 
-/// Runs the network over standard input and output and these files.
-fn run<'n, I: Read, F: Read + Drop, O: Write, G: Write + Drop>(
+/// Opens the inputs and the outputs, and runs the network between them.
+fn run<'n, S: Shelf + Ports, I: Read, O: Write>(
+    alloc: Global,
+    request: &StreamRequest<'_>,
+    document: &'n Document,
+    places: &Places<'_>,
+    shelf: &S,
+    input: &mut I,
+    out: &mut O,
+) -> Result<Streamed<'n>, Refusal>
+    ensures { IfOk result (λ streamed. RanAt (S.may_give shelf.now)
+        (known_of I.remaining S.Input.remaining O.contents S.Output.contents) request.now
+        document.now.tables places.now input.old input.new out.old out.new
+        streamed.ending streamed.book) }
+{
+    let mut inputs = open_inputs(alloc, shelf, places)?;
+    let mut outputs = open_outputs(alloc, shelf, places, request.take)?;
+    run_between(
+        alloc,
+        request,
+        document,
+        &places.sinks,
+        &mut inputs,
+        &mut outputs,
+        input,
+        out,
+    )
+}
+
+/// Runs the network between these inputs and outputs.
+fn run_between<'n, I: Read, F: Read + Drop, O: Write, G: Write + Drop>(
     alloc: Global,
     request: &StreamRequest<'_>,
     document: &'n Document,
     places: &[Place<'_>],
-    inputs: Vec<Input<F>>,
-    outputs: Vec<Output<G>>,
+    inputs: &mut Vec<Input<F>>,
+    outputs: &mut Vec<Output<G>>,
     input: &mut I,
     out: &mut O,
-) -> Result<Streamed<'n>, AllocError>
+) -> Result<Streamed<'n>, Refusal>
     ensures { IfOk result (λ streamed.
         Ran (known_of I.remaining F.remaining O.contents G.contents) request.now document.now.tables
-        inputs.items outputs.items input.old out.old streamed.ending streamed.book) }
+        inputs.old.items outputs.old.items input.old input.new out.old out.new
+        streamed.ending streamed.book) }
 {
     let format = request.format;
     let mut sources = Inputs {
@@ -272,9 +303,26 @@ fn conclude<S: Shelf, E: Write>(
 {
     let ending = streamed.ending;
     let over = over_of(alloc, streamed, &limits_of(request))?;
-    store_trace(alloc, request, document.network(), &over, shelf)?;
-    tell(alloc, request.quiet, document, &over, err)?;
-    Ok(report(ending, document, &over, places, err))
+    conclude_over(alloc, request, document, ending, &over, places, shelf, err)
+}
+
+/// The same of what the stream has come to.
+fn conclude_over<S: Shelf, E: Write>(
+    alloc: Global,
+    request: &StreamRequest<'_>,
+    document: &Document,
+    ending: Ending,
+    over: &Over,
+    places: &Places<'_>,
+    shelf: &mut S,
+    err: &mut E,
+) -> Result<u8, StreamRefusal>
+    ensures { IfOk result (λ status. IsTraceStored S.may_give request.now.trace
+        document.now.tables over.now shelf.old shelf.new × (status ≡ end_status ending over.now)) }
+{
+    store_trace(alloc, request, document.network(), over, shelf)?;
+    tell(alloc, request.quiet, document, over, err)?;
+    Ok(report(ending, document, over, places, err))
 }
 
 /// Stores the trace, if one was asked for.

@@ -3,7 +3,7 @@ ghost use Rattle.std.specs.Prelude.{◌≡◌, ◌<◌, ◌++◌, ◌∷◌, [],
 ghost use Rattle.kpn_net.specs.Tables.{channel_at};
 ghost use Rattle.kpn_inputs.specs.Sources.{is_end};
 ghost use Rattle.kpn_stream.specs.Ending.{end_numbers};
-ghost use Rattle.kpn_stream_command.specs.Places.{ArePlaces, file_for, name_for};
+ghost use Rattle.kpn_stream_command.specs.Places.{AllPlaced, ArePlaces, file_for, name_for};
 
 use crate::refusal::StreamRefusal;
 use kpn_inputs::{Ends, FileOption, NamedEnd, ends_of};
@@ -37,15 +37,41 @@ pub(crate) fn places_of<'a>(
     ends: Ends,
     options: &[FileOption<'a>],
 ) -> Result<Vec<Place<'a>>, StreamRefusal>
-    ensures places { IfOk result (λ places. ArePlaces ends document.now
+    ensures { IfOk result (λ places. ArePlaces ends document.now
         (map (λ o. o.name.now) options.now) (map (λ o. o.file.now) options.now) places.items) }
 {
     let named = ends_of(alloc, document, ends, options)?;
+    places_by(alloc, document, ends, &named)
+}
+
+/// The places by the names that options give.
+fn places_by<'a>(
+    alloc: Global,
+    document: &Document,
+    ends: Ends,
+    named: &[NamedEnd<'a>],
+) -> Result<Vec<Place<'a>>, StreamRefusal>
+    ensures { IfOk result (λ places.
+        AllPlaced named.now (end_numbers (is_end ends) document.now.tables) places.items) }
+{
     let channels = channels_of(alloc, document.network(), ends)?;
+    place_each(alloc, document, ends, named, &channels)
+}
+
+/// The places of these channels.
+fn place_each<'a>(
+    alloc: Global,
+    document: &Document,
+    ends: Ends,
+    named: &[NamedEnd<'a>],
+    channels: &[usize],
+) -> Result<Vec<Place<'a>>, StreamRefusal>
+    ensures { IfOk result (λ places. AllPlaced named.now channels.now places.items) }
+{
     let mut places = Vec::new(alloc);
     for number in 0..channels.len() {
         let channel = channels[number];
-        let Some(name) = name_for(&named, number, channels.len()) else {
+        let Some(name) = name_for(named, number, channels.len()) else {
             return Err(unnamed(alloc, ends, document.channel_name(channel)));
         };
         places.push(Place { channel, name })?;

@@ -1,8 +1,9 @@
 -- What reads and writes do to inputs and outputs.
-use Rattle.std.proofs.Common.{◌≡◌, ℕ, ◌+◌, ◌<◌, ◌≤◌, Bool, true, List, [], ◌∷◌, ◌++◌, length, take, length-take, Option, Some, None, Result, Ok, Err, refl, sym, ap, ◌∙◌, subst, arith, append_assoc}
+use Rattle.std.proofs.Common.{◌≡◌, ℕ, ◌+◌, ◌<◌, ◌≤◌, Bool, true, false, List, [], ◌∷◌, ◌++◌, length, take, length-take, Option, Some, None, Result, Ok, Err, refl, sym, ap, ◌∙◌, subst, arith, append_assoc}
 use Rattle.std.specs.Prelude.{ℤ}
 use Rattle.std.specs.Io.KnownBytes.{Keeps, Consumes, Appends, IsAtEnd, prepend_known, append_known}
 use Rattle.std.proofs.KnownBytes.{Keeps-trans, Keeps-refl, Appends-kept, append_known-grown}
+use Rattle.std.proofs.lemmas.Bool.{true≢false}
 use Rattle.kpn_request.specs.declared.stream.ItemFormat.{ItemFormat}
 use Rattle.kpn_request.specs.declared.stream.ItemFormat.TheVariants.{Lines, S16, S32, S64}
 use Rattle.kpn_stream.specs.declared.faults.SourceFault.{SourceFault}
@@ -10,9 +11,9 @@ use Rattle.kpn_stream.specs.declared.faults.SourceFault.TheVariants.{Read, NoMem
 use Rattle.kpn_stream.specs.declared.faults.SinkFault.{SinkFault}
 use Rattle.kpn_stream.specs.declared.faults.SinkFault.TheVariants.{Gone, NoSample, Write}
 use Rattle.kpn_stream_devices.specs.Formats.{HasItem, item_bytes}
-use Rattle.kpn_stream_devices.specs.Window.{Window, FormatGives, IfKnown, Gives, IsEndKnown, Tells, left_of}
+use Rattle.kpn_stream_devices.specs.Window.{Window, FormatGives, IfKnown, Gives, IsEndKnown, NeedsMore, Tells, left_of}
 use Rattle.kpn_stream_devices.specs.declared.inputs.Input.{Input}
-use Rattle.kpn_stream_devices.specs.Inputs.{InputGives, HaveMoved, FailsToRead}
+use Rattle.kpn_stream_devices.specs.Inputs.{InputGives, IsAsked, HaveMoved, FailsToRead}
 use Rattle.kpn_stream_devices.specs.Outputs.{HandsOn, TakesItem}
 
 -- ---- inputs
@@ -25,6 +26,17 @@ tells_gives Lines w answer after device tells known = tells device known
 tells_gives S16 w answer after device tells known = tells device known
 tells_gives S32 w answer after device tells known = tells device known
 tells_gives S64 w answer after device tells known = tells device known
+
+-- an input is open whose bytes are too few
+pub needs_open : (format : ItemFormat) (w : Window) → NeedsMore format w → w.is_over ≡ false
+needs_open Lines w needs = needs.0
+needs_open S16 w needs = needs.0
+needs_open S32 w needs = needs.0
+needs_open S64 w needs = needs.0
+
+-- nothing is said of the device of an open input
+pub not_over : (w : Window) (device : Option (List ℕ)) → w.is_over ≡ false → IsEndKnown w device
+not_over w device is over = absurd (true≢false (sym over ∙ is))
 
 -- so many bytes moved from the device to the window
 pub moved : (us vs bytes : List ℕ) (device read : Option (List ℕ)) → vs ≡ us ++ bytes → Consumes device read bytes
@@ -91,25 +103,72 @@ if_some P all us vs ws bytes (Some ds) (Some es) None kept took = absurd took
 if_some P all us vs ws bytes (Some ds) (Some es) (Some fs) kept took = all (us ++ ds) (ws ++ fs)
 
 module _ {I F : Type 0} (left : I → Option (List ℕ)) (left_in : F → Option (List ℕ)) (format : ItemFormat)
-    (first : I) (input : Input F) (between : I) (moved : Input F) (w : Window) (read : I) (after : Input F)
-    (fault : SourceFault) where
-  fails_from : HaveMoved left left_in first input between moved
-      → FailsToRead left left_in between moved read after fault
-      → InputGives left left_in format first input (Err fault) read after
-  fails_from have fails = record {
-    channel = fails.channel ∙ have.channel;
-    known = λ known. fails.known (have.known known);
-    given = λ known. gives_after format input.window moved.window after.window _ _ _ (Err fault) have.kept have.lines
-        (fails.given format);
+    (first : I) (input : Input F) where
+  -- So far bytes have moved from the device to the window, and none if the first ones tell the answer.
+  pub at_start : IsAsked left left_in format first input first input
+  at_start = record {
+    moved = record { channel = refl; lines = refl; kept = Keeps-refl _; known = λ known. known };
+    at_hand = λ at_hand. (refl, refl);
   }
 
-  -- some bytes have moved, the bytes tell nothing yet, and the next read fails
-  pub fails_after : HaveMoved left left_in first input between moved → w ≡ moved.window
-      → FailsToRead left left_in between (record moved { window = w }) read after fault
-      → InputGives left left_in format first input (Err fault) read after
-  fails_after have same fails =
-      fails_from have
-      (subst (λ (x : Window). FailsToRead left left_in between (record moved { window = x }) read after fault) same fails)
+  module _ (between : I) (moved : Input F) (so_far : IsAsked left left_in format first input between moved) where
+    -- the bytes tell the answer
+    pub told_after : (answer : Result (Option ℤ) SourceFault) (w : Window) → Tells format moved.window answer w
+        → w.is_over ≡ moved.window.is_over
+        → InputGives left left_in format first input answer between (record moved { window = w })
+    told_after answer w tells same = record {
+      channel = so_far.moved.channel;
+      known = λ known over. so_far.moved.known known (sym same ∙ over);
+      given = λ known. gives_after format input.window moved.window w _ _ _ answer so_far.moved.kept so_far.moved.lines
+          (tells_gives format moved.window answer w _ tells (so_far.moved.known known));
+      at_hand = λ at_hand.
+          let is = so_far.at_hand at_hand in (is.0, ap (λ (i : Input F). i.file) is.1);
+    }
+
+    -- after too many reads
+    pub fails_at_last : InputGives left left_in format first input (Err Read) between moved
+    fails_at_last = record {
+      channel = so_far.moved.channel;
+      known = so_far.moved.known;
+      given = λ known. read_fails format input.window moved.window _ _ so_far.moved.kept;
+      at_hand = λ at_hand.
+          let is = so_far.at_hand at_hand in (is.0, ap (λ (i : Input F). i.file) is.1);
+    }
+
+    -- the bytes tell nothing yet
+    module _ (w : Window) (same : w ≡ moved.window) (needs : NeedsMore format moved.window) (read : I)
+        (after : Input F) where
+      not_at_hand : (NeedsMore format input.window → ⊥) → ⊥
+      not_at_hand at_hand =
+          at_hand (subst (λ (i : Input F). NeedsMore format i.window) (so_far.at_hand at_hand).1 needs)
+
+      -- some more move
+      pub more_after : HaveMoved left left_in between (record moved { window = w }) read after
+          → IsAsked left left_in format first input read after
+      more_after more =
+          let next = subst (λ (x : Window). HaveMoved left left_in between (record moved { window = x }) read after) same more in
+          record {
+            moved = record {
+              channel = next.channel ∙ so_far.moved.channel;
+              lines = next.lines ∙ so_far.moved.lines;
+              kept = Keeps-trans _ _ _ so_far.moved.kept next.kept;
+              known = λ known. next.known (so_far.moved.known known);
+            };
+            at_hand = λ at_hand. absurd (not_at_hand at_hand);
+          }
+
+      -- the next read fails
+      pub fails_after : (fault : SourceFault) → FailsToRead left left_in between (record moved { window = w }) read after fault
+          → InputGives left left_in format first input (Err fault) read after
+      fails_after fault fails =
+          let last = subst (λ (x : Window). FailsToRead left left_in between (record moved { window = x }) read after fault) same fails in
+          record {
+            channel = last.channel ∙ so_far.moved.channel;
+            known = λ known. last.known (so_far.moved.known known);
+            given = λ known. gives_after format input.window moved.window after.window _ _ _ (Err fault)
+                so_far.moved.kept so_far.moved.lines (last.given format);
+            at_hand = λ at_hand. absurd (not_at_hand at_hand);
+          }
 
 -- and so may memory
 pub memory_fails : (format : ItemFormat) (first w after : Window) (device between read : Option (List ℕ))

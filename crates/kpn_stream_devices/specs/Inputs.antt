@@ -4,7 +4,7 @@ use Rattle.kpn_request.specs.declared.stream.ItemFormat.{ItemFormat}
 use Rattle.kpn_stream.specs.declared.faults.SourceFault.{SourceFault}
 use Rattle.kpn_stream_devices.specs.declared.inputs.Input.{Input}
 use Rattle.kpn_stream_devices.specs.declared.inputs.Inputs.{Inputs}
-use Rattle.kpn_stream_devices.specs.Window.{Gives, IsEndKnown, left_of}
+use Rattle.kpn_stream_devices.specs.Window.{Gives, IsEndKnown, NeedsMore, left_of}
 use Rattle.std.specs.Io.KnownBytes.{Keeps}
 
 -- what a device has left: the file, or else standard input
@@ -24,6 +24,8 @@ pub record InputGives {I F : Type 0} (left : I → Option (List ℕ)) (left_in :
   pub given : IsEndKnown input.window (device_left left left_in standard input.file)
       → Gives format input.window (device_left left left_in standard input.file) answer
       after.window (device_left left left_in read after.file)
+  -- no device is asked if the unused bytes tell the answer
+  pub at_hand : (NeedsMore format input.window → ⊥) → (read ≡ standard) × (after.file ≡ input.file)
 
 -- which input is that of a source: the first for its channel
 abbrev pub input_of : {F : Type 0} → List (Input F) → (source : ℕ) → Option ℕ
@@ -33,13 +35,20 @@ input_of inputs source = position (λ input. nat_eq input.channel source) inputs
 -- changes.
 pub data InputsGive {I F : Type 0} (left : I → Option (List ℕ)) (left_in : F → Option (List ℕ)) (before : Inputs I F)
     (source : ℕ) (answer : Result (Option ℤ) SourceFault) (after : Inputs I F) : Type 0 where
-  by_input : (i : ℕ) (input read : Input F) → input_of before.each.items source ≡ Some i →
-      get_or before.each.items i input ≡ input → InputGives left left_in before.format before.standard.now input answer
-      after.standard.now read → after.each.items ≡ slice_set before.each.items i read →
+  by_input : (i : ℕ) (input read : Input F) → input_of before.each.now.items source ≡ Some i →
+      get_or before.each.now.items i input ≡ input → InputGives left left_in before.format before.standard.now input answer
+      after.standard.now read → after.each.now.items ≡ slice_set before.each.now.items i read →
       after.format ≡ before.format → after.standard.ghost_name ≡ before.standard.ghost_name →
+      after.each.ghost_name ≡ before.each.ghost_name →
       InputsGive left left_in before source answer after
-  by_none : input_of before.each.items source ≡ None → answer ≡ Ok None → after ≡ before →
+  by_none : input_of before.each.now.items source ≡ None → answer ≡ Ok None → after ≡ before →
       InputsGive left left_in before source answer after
+
+-- the answer of a source is at hand: the unused bytes of its input tell it
+abbrev pub IsAtHand : {I F : Type 0} → Inputs I F → (source : ℕ) → Type 0
+IsAtHand {F = F} inputs source =
+    (i : ℕ) (input : Input F) → input_of inputs.each.now.items source ≡ Some i
+    → get_or inputs.each.now.items i input ≡ input → NeedsMore inputs.format input.window → ⊥
 
 -- ---- scaffolding: what reads do before the bytes tell
 
@@ -52,6 +61,12 @@ pub record HaveMoved {I F : Type 0} (left : I → Option (List ℕ)) (left_in : 
       (left_of after.window (device_left left left_in read after.file))
   pub known : IsEndKnown input.window (device_left left left_in standard input.file)
       → IsEndKnown after.window (device_left left left_in read after.file)
+
+-- so far bytes have moved, and none if the first ones tell the answer
+pub record IsAsked {I F : Type 0} (left : I → Option (List ℕ)) (left_in : F → Option (List ℕ)) (format : ItemFormat)
+    (standard : I) (input : Input F) (read : I) (after : Input F) : Type 0 where
+  pub moved : HaveMoved left left_in standard input read after
+  pub at_hand : (NeedsMore format input.window → ⊥) → (read ≡ standard) × (after ≡ input)
 
 -- a read fails, or there is no memory for what it gave
 pub record FailsToRead {I F : Type 0} (left : I → Option (List ℕ)) (left_in : F → Option (List ℕ))

@@ -53,12 +53,13 @@ output_of outputs sink = position (λ output. nat_eq output.channel sink) output
 -- changes.
 pub data OutputsDo {O G : Type 0} (Does : ItemFormat → OutputRel O G) (before : Outputs O G)
     (sink : ℕ) (answer : Result (Unit {0}) SinkFault) (after : Outputs O G) : Type 0 where
-  by_output : (i : ℕ) (output written : Output G) → output_of before.each.items sink ≡ Some i →
-      get_or before.each.items i output ≡ output → written.channel ≡ output.channel →
+  by_output : (i : ℕ) (output written : Output G) → output_of before.each.now.items sink ≡ Some i →
+      get_or before.each.now.items i output ≡ output → written.channel ≡ output.channel →
       Does before.format before.standard.now output after.standard.now written →
-      after.each.items ≡ slice_set before.each.items i written → after.format ≡ before.format →
-      after.standard.ghost_name ≡ before.standard.ghost_name → OutputsDo Does before sink answer after
-  by_none : output_of before.each.items sink ≡ None → answer ≡ Ok tt → after ≡ before →
+      after.each.now.items ≡ slice_set before.each.now.items i written → after.format ≡ before.format →
+      after.standard.ghost_name ≡ before.standard.ghost_name → after.each.ghost_name ≡ before.each.ghost_name →
+      OutputsDo Does before sink answer after
+  by_none : output_of before.each.now.items sink ≡ None → answer ≡ Ok tt → after ≡ before →
       OutputsDo Does before sink answer after
 
 module _ {O G : Type 0} (holds : O → Option (List ℕ)) (holds_in : G → Option (List ℕ)) where

@@ -1,5 +1,5 @@
 -- The bytes of an input that were read and not yet used, and what an input gives.
-use Rattle.std.specs.Prelude.{◌≡◌, ℕ, ◌+◌, ◌<◌, ◌≤◌, drop, ◌^◌, ◌-◌, min, ℤ, Bool, false, true, List, [], ◌∷◌, ◌++◌, length, Option, Some, None, Result, Ok, Err, ⊤}
+use Rattle.std.specs.Prelude.{◌≡◌, ℕ, ◌+◌, ◌<◌, ◌≤◌, ◌==◌, drop, position, ◌^◌, ◌-◌, min, ℤ, Bool, false, true, List, [], ◌∷◌, ◌++◌, length, Option, Some, None, Result, Ok, Err, ⊤}
 use Rattle.std.specs.Str.Lines.{lines}
 use Rattle.std.specs.Io.KnownBytes.{prepend_known, IsAtEnd}
 use Rattle.kpn_items.specs.ItemLine.{SpellsItem}
@@ -80,6 +80,23 @@ Gives format before device answer after read =
 -- if the input is over, its device has nothing left
 abbrev pub IsEndKnown : Window → (device : Option (List ℕ)) → Type 0
 IsEndKnown w device = w.is_over ≡ true → IsAtEnd device
+
+-- ---- when an input waits for its device
+
+-- the unused bytes are too few to tell: the input may go on behind them, and they have neither a whole line nor enough
+-- of one that spells no item; nor have they a whole sample
+abbrev pub LineNeedsMore : Window → Type 0
+LineNeedsMore w =
+    (w.is_over ≡ false) × (length w.unused < 22) × (position (λ byte. byte == 10) w.unused ≡ None)
+
+abbrev pub SampleNeedsMore : (width : ℕ) → Window → Type 0
+SampleNeedsMore width w = (w.is_over ≡ false) × (length w.unused < width)
+
+abbrev pub NeedsMore : ItemFormat → Window → Type 0
+NeedsMore Lines w = LineNeedsMore w
+NeedsMore S16 w = SampleNeedsMore 2 w
+NeedsMore S32 w = SampleNeedsMore 4 w
+NeedsMore S64 w = SampleNeedsMore 8 w
 
 -- ---- scaffolding: what the unused bytes alone tell
 

@@ -20,24 +20,23 @@ pub struct Input<F: Drop> {
     pub window: Window,
 }
 
-/// The inputs of all sources.
+/// The inputs of all sources. They are lent, so that the lender has them as the last read left them.
 #[derive(Drop)]
 pub struct Inputs<'i, I, F: Drop> {
     pub standard: &'i mut I,
     pub format: ItemFormat,
-    pub each: Vec<Input<F>>,
+    pub each: &'i mut Vec<Input<F>>,
 }
 
 impl<I: Read, F: Read + Drop> Sources for Inputs<'_, I, F> {
-    ghost use Rattle.std.specs.Bool.{⊤};
-    ghost use Rattle.kpn_stream_devices.specs.Inputs.{InputsGive};
+    ghost use Rattle.kpn_stream_devices.specs.Inputs.{InputsGive, IsAtHand};
 
     ghost gives = { InputsGive I.remaining F.remaining };
 
-    ghost at_hand = { λ _ _. ⊤ };
+    ghost at_hand = { IsAtHand };
 
     fn next(&mut self, source: usize) -> Answer {
-        let Some(i) = input_of(&self.each, source) else {
+        let Some(i) = input_of(self.each, source) else {
             return Ok(None);
         };
         let format = self.format;
@@ -45,7 +44,7 @@ impl<I: Read, F: Read + Drop> Sources for Inputs<'_, I, F> {
     }
 
     fn is_at_hand(&self, source: usize) -> bool {
-        match input_of(&self.each, source) {
+        match input_of(self.each, source) {
             Some(i) => self.each[i].window.is_at_hand(self.format),
             None => true,
         }

@@ -26,12 +26,12 @@ pub struct Output<G: Drop> {
     pub wanted: Option<u64>,
 }
 
-/// The outputs of all sinks.
+/// The outputs of all sinks. They are lent, so that the lender has them as the last write left them.
 #[derive(Drop)]
 pub struct Outputs<'o, O, G: Drop> {
     pub standard: &'o mut O,
     pub format: ItemFormat,
-    pub each: Vec<Output<G>>,
+    pub each: &'o mut Vec<Output<G>>,
 }
 
 impl<O: Write, G: Write + Drop> Sinks for Outputs<'_, O, G> {
@@ -42,7 +42,7 @@ impl<O: Write, G: Write + Drop> Sinks for Outputs<'_, O, G> {
     ghost flushes = { OutputsFlush O.contents G.contents };
 
     fn put(&mut self, sink: usize, item: i64) -> Result<(), SinkFault> {
-        let Some(i) = output_of(&self.each, sink) else {
+        let Some(i) = output_of(self.each, sink) else {
             return Ok(());
         };
         let format = self.format;
@@ -50,7 +50,7 @@ impl<O: Write, G: Write + Drop> Sinks for Outputs<'_, O, G> {
     }
 
     fn flush(&mut self, sink: usize) -> Result<(), SinkFault> {
-        let Some(i) = output_of(&self.each, sink) else {
+        let Some(i) = output_of(self.each, sink) else {
             return Ok(());
         };
         hand_on(&mut self.each[i], self.standard)
@@ -126,7 +126,8 @@ fn push_line(bytes: &mut Vec<u8>, item: i64) -> Result<(), AllocError>
 {
     let mut buffer = Buffer::new();
     bytes.extend_from_slice(buffer.format(item).as_bytes())?;
-    bytes.extend_from_slice(b"\n")
+    bytes.push(b'\n')?;
+    Ok(())
 }
 
 fn push_sample(bytes: &mut Vec<u8>, item: i64, width: usize) -> Result<(), AllocError>

@@ -1,7 +1,7 @@
 //! The bytes of an input that were read and not yet used, and the items that they spell.
 ghost use Rattle.std.specs.Prelude.{◌≡◌, ◌+◌, ◌<◌, ◌≤◌, ◌++◌, [], true, false, Ok, Err, Some, None, drop, length, vec_len, IfOk, OnOk, OnErr, IfSome, MatchOption, position, ◌==◌};
 ghost use Rattle.std.specs.Str.Lines.{strip_carriage_return};
-ghost use Rattle.kpn_stream_devices.specs.Window.{fresh, line_after, with_unused, with_line, Tells, LineTells, SampleTells};
+ghost use Rattle.kpn_stream_devices.specs.Window.{fresh, line_after, with_unused, with_line, NeedsMore, LineNeedsMore, SampleNeedsMore, Tells, LineTells, SampleTells};
 
 use byteorder::{ByteOrder, LittleEndian};
 use kpn_items::item_of_line;
@@ -108,7 +108,7 @@ impl Window {
     pub fn next(&mut self, format: ItemFormat) -> Option<Answer>
         ensures told { IfSome result (λ answer. Tells format self.old answer self.new) }
         ensures needs_more { result ≡ None → self.new ≡ self.old }
-        ensures goes_on { result ≡ None → self.old.is_over ≡ false }
+        ensures needs { result ≡ None → NeedsMore format self.old }
         ensures over { self.new.is_over ≡ self.old.is_over }
     {
         match format {
@@ -120,11 +120,13 @@ impl Window {
     }
 
     /// Whether `next` needs no more bytes.
-    pub fn is_at_hand(&self, format: ItemFormat) -> bool {
+    pub fn is_at_hand(&self, format: ItemFormat) -> bool
+        ensures { NeedsMore format self.now → result ≡ false }
+    {
         let unused = self.unused();
         self.is_over
             || match format {
-                ItemFormat::Lines => line_feed(unused).is_some() || unused.len() >= LONGEST,
+                ItemFormat::Lines => unused.len() >= LONGEST || line_feed(unused).is_some(),
                 ItemFormat::S16 => unused.len() >= 2,
                 ItemFormat::S32 => unused.len() >= 4,
                 ItemFormat::S64 => unused.len() >= 8,
@@ -134,7 +136,7 @@ impl Window {
     fn next_line(&mut self) -> Option<Answer>
         ensures told { IfSome result (λ answer. LineTells self.old answer self.new) }
         ensures needs_more { result ≡ None → self.new ≡ self.old }
-        ensures goes_on { result ≡ None → self.old.is_over ≡ false }
+        ensures needs { result ≡ None → LineNeedsMore self.old }
         ensures over { self.new.is_over ≡ self.old.is_over }
     {
         match line_feed(self.unused()) {
@@ -159,7 +161,7 @@ impl Window {
         requires { position (λ byte. byte == 10) self.old.unused ≡ None }
         ensures told { IfSome result (λ answer. LineTells self.old answer self.new) }
         ensures needs_more { result ≡ None → self.new ≡ self.old }
-        ensures goes_on { result ≡ None → self.old.is_over ≡ false }
+        ensures needs { result ≡ None → LineNeedsMore self.old }
         ensures over { self.new.is_over ≡ self.old.is_over }
     {
         let count = self.unused().len();
@@ -196,7 +198,7 @@ impl Window {
         requires high { width ≤ 8 }
         ensures told { IfSome result (λ answer. SampleTells width self.old answer self.new) }
         ensures needs_more { result ≡ None → self.new ≡ self.old }
-        ensures goes_on { result ≡ None → self.old.is_over ≡ false }
+        ensures needs { result ≡ None → SampleNeedsMore width self.old }
         ensures over { self.new.is_over ≡ self.old.is_over }
     {
         let unused = self.unused();
@@ -212,7 +214,7 @@ impl Window {
     fn no_sample(&self, width: usize) -> Option<Answer>
         requires { length self.now.unused < width }
         ensures told { IfSome result (λ answer. SampleTells width self.now answer self.now) }
-        ensures goes_on { result ≡ None → self.now.is_over ≡ false }
+        ensures needs { result ≡ None → SampleNeedsMore width self.now }
     {
         if !self.is_over {
             return None;

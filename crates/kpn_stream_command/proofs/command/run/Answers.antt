@@ -1,21 +1,15 @@
--- The run, from standard input and output as they were.
-use Rattle.std.proofs.Common.{◌≡◌, refl, ap}
-use Rattle.kpn_stream_command.proofs.Keeping.{ran_by}
+-- The inputs and outputs, and the run between them.
+use Rattle.std.proofs.lemmas.Result.{IfOk-weaker}
 use Rattle.kpn_stream_command.proofs.command.run.Goals as goal
 
 pub returns : goal.returns
 returns g c =
-    record {
-      first_input = _;
-      last_input = c.run_over.new.sources;
-      first_output = _;
-      last_output = c.run_over.new.sinks;
-      ran =
-          ran_by _ _ _ _ _ _ _ _ _ _ _ c.limits_of-limits.ensures c.network-network.ensures c.in_ok-streamed.ensures;
-      inputs_are = refl;
-      input_is = refl;
-      input_format = ap (λ r. r.format) c.request.view_is;
-      outputs_are = refl;
-      output_is = refl;
-      output_format = ap (λ r. r.format) c.request.view_is;
-    }
+    IfOk-weaker c.run_between.result _ _
+    (λ streamed ran. record {
+      inputs = c.in_ok-inputs.inputs.items;
+      are_inputs = c.in_ok-inputs.ensures;
+      outputs = c.in_ok-outputs.outputs.items;
+      are_outputs = c.in_ok-outputs.ensures;
+      ran = ran;
+    })
+    c.run_between.ensures

@@ -1,22 +1,31 @@
 -- The bytes tell, or a read fails.
-use Rattle.std.proofs.Common.{◌≡◌, ◌∙◌, sym, rules}
-use Rattle.kpn_stream_devices.proofs.Devices.{tells_gives, gives_after, fails_after}
+use Rattle.std.proofs.Common.{rules}
+use Rattle.kpn_stream_devices.proofs.Devices.{at_start, told_after, more_after, fails_after, fails_at_last, needs_open}
 use Rattle.kpn_stream_devices.proofs.inputs.next_of.Goals as goal
+
+pub loop-read-init : goal.loop-read-init
+loop-read-init g c =
+    at_start g.I.Read.remaining g.F.Read.remaining c.args.format c.args.standard.now c.args.input.now
 
 pub returns-in-Some : goal.returns-in-Some
 returns-in-Some g c =
-    let moved = c.loop-read.invariant in
-    record {
-      channel = moved.channel;
-      known = λ known over. moved.known known (sym c.next.ensures.over ∙ over);
-      given = λ known. gives_after c.args.format c.args.input.now.window c.loop-read.input.window c.next.new.self _ _ _
-          c.in-Some.answer moved.kept moved.lines
-          (tells_gives c.args.format c.loop-read.input.window c.in-Some.answer c.next.new.self _ c.in-Some.ensures.told
-          (moved.known known));
-    }
+    told_after g.I.Read.remaining g.F.Read.remaining c.args.format c.args.standard.now c.args.input.now
+    c.loop-read.standard c.loop-read.input c.loop-read.invariant c.in-Some.answer c.next.new.self c.in-Some.ensures.told
+    c.next.ensures.over
 
 pub returns-in-Err : goal.returns-in-Err
 returns-in-Err g c =
     fails_after g.I.Read.remaining g.F.Read.remaining c.args.format c.args.standard.now c.args.input.now
-    c.loop-read.standard c.loop-read.input c.next.new.self c.read_more.new.standard c.read_more.new.input c.in-Err.fault
-    c.loop-read.invariant (search rules) c.in-Err.ensures.fault
+    c.loop-read.standard c.loop-read.input c.loop-read.invariant c.next.new.self (search rules) (search rules)
+    c.read_more.new.standard c.read_more.new.input c.in-Err.fault c.in-Err.ensures.fault
+
+pub loop-read-preserved : goal.loop-read-preserved
+loop-read-preserved g c =
+    more_after g.I.Read.remaining g.F.Read.remaining c.args.format c.args.standard.now c.args.input.now
+    c.loop-read.standard c.loop-read.input c.loop-read.invariant c.next.new.self (search rules) (search rules)
+    c.read_more.new.standard c.read_more.new.input (search rules)
+
+pub returns : goal.returns
+returns g c =
+    fails_at_last g.I.Read.remaining g.F.Read.remaining c.args.format c.args.standard.now c.args.input.now
+    c.loop-read.standard c.loop-read.input c.loop-read.invariant

@@ -1,9 +1,7 @@
--- Bytes have moved from the device to the window, and no others.
-use Rattle.std.specs.Io.KnownBytes.{Keeps}
-use Rattle.kpn_stream_devices.specs.Window.{left_of, IsEndKnown}
-use Rattle.kpn_stream_devices.specs.Inputs.{device_left, HaveMoved}
+-- Bytes have moved from the device to the window, and no others. None has moved if the first ones tell the answer.
+use Rattle.kpn_stream_devices.specs.Inputs.{IsAsked}
 use Rattle.kpn_stream_devices.proofs.inputs.next_of.Given as goal
 
 abbrev pub invariant-loop-read : goal.invariant-loop-read
 invariant-loop-read g l =
-    HaveMoved g.I.Read.remaining g.F.Read.remaining l.fn.standard l.fn.input l.standard l.input
+    IsAsked g.I.Read.remaining g.F.Read.remaining l.format l.fn.standard l.fn.input l.standard l.input
