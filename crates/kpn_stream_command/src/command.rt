@@ -9,7 +9,7 @@ ghost use Rattle.kpn_stream_command.specs.Command.{AreWordsOf, IsConcluded, IsSt
 
 use crate::devices::{open_inputs, open_outputs};
 use crate::ending::{Over, over_of};
-use crate::places::{Place, Places, STANDARD, place_of, places_of, share_an_input};
+use crate::places::{Place, Places, is_dash, place_of, places_of, share_an_input};
 use crate::refusal::{StreamRefusal, report_sink, report_source};
 use crate::summary::{stream_status, summary_of};
 use kpn_inputs::{Ends, FileOption, load_document, options_of};
@@ -153,7 +153,7 @@ fn files_of<'a>(alloc: Global, words: &[&'a str]) -> Result<Vec<&'a str>, AllocE
 
 fn is_standard(word: &str) -> bool {
     match word.split_once('=') {
-        Some((_, file)) => file == STANDARD,
+        Some((_, file)) => is_dash(file),
         None => false,
     }
 }

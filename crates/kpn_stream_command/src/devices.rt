@@ -3,7 +3,7 @@ ghost use Rattle.std.specs.Prelude.{IfOk};
 ghost use Rattle.std.specs.List.{AllZip};
 ghost use Rattle.kpn_stream_command.specs.Command.{IsInputFor, IsInputOf, IsOutputFor, IsOutputOf};
 
-use crate::places::{Place, Places, STANDARD};
+use crate::places::{Place, Places, is_dash};
 use kpn_items::{ItemFault, WriteFault};
 use kpn_refusals::Refusal;
 use kpn_shelf::Ports;
@@ -50,7 +50,7 @@ fn input_for<S: Ports>(
 fn open_input<S: Ports>(shelf: &S, name: &str) -> Result<Option<S::Input>, ItemFault>
     ensures { IfOk result (IsInputOf (S.may_give shelf.now) S.Input.remaining name.now) }
 {
-    if name == STANDARD {
+    if is_dash(name) {
         return Ok(None);
     }
     Ok(Some(shelf.open_input(name)?))
@@ -98,7 +98,7 @@ fn output_for<S: Ports>(
 fn open_output<S: Ports>(shelf: &S, name: &str) -> Result<Option<S::Output>, WriteFault>
     ensures { IfOk result (IsOutputOf name.now) }
 {
-    if name == STANDARD {
+    if is_dash(name) {
         return Ok(None);
     }
     Ok(Some(shelf.open_output(name)?))

@@ -1,9 +1,9 @@
 //! Which input and which output each end of a network gets.
-ghost use Rattle.std.specs.Prelude.{◌≡◌, ◌<◌, ◌++◌, ◌∷◌, [], ℕ, map, length, option_map, IfOk, IfSome, IfErr, if◌then◌else◌};
+ghost use Rattle.std.specs.Prelude.{◌≡◌, ◌<◌, ◌++◌, ◌∷◌, [], ℕ, map, length, option_map, IfOk, IfSome, IfErr, IsTrue, ◌↔◌, if◌then◌else◌};
 ghost use Rattle.kpn_net.specs.Tables.{channel_at};
 ghost use Rattle.kpn_inputs.specs.Sources.{is_end};
 ghost use Rattle.kpn_stream.specs.Ending.{end_numbers};
-ghost use Rattle.kpn_stream_command.specs.Places.{AllPlaced, ArePlaces, file_for, name_for};
+ghost use Rattle.kpn_stream_command.specs.Places.{AllPlaced, ArePlaces, file_for, name_for, standard};
 
 use crate::refusal::StreamRefusal;
 use kpn_inputs::{Ends, FileOption, NamedEnd, ends_of};
@@ -14,6 +14,13 @@ use std::alloc::{AllocError, Global};
 
 /// The name of standard input and of standard output.
 pub(crate) const STANDARD: &str = "-";
+
+/// Whether this is the name of standard input and of standard output.
+pub(crate) fn is_dash(name: &str) -> bool
+    ensures { IsTrue result ↔ (name.now ≡ standard) }
+{
+    name == STANDARD
+}
 
 /// An end of a network by the number of its channel, and the name of its input or output.
 #[derive(Clone, Copy)]
@@ -162,8 +169,7 @@ pub(crate) fn place_of<'a>(places: &[Place<'a>], channel: usize) -> Place<'a> {
 pub(crate) fn share_an_input<S: Ports>(shelf: &S, places: &[Place<'_>]) -> bool {
     for i in 0..places.len() {
         let name = places[i].name;
-        let is_standard = name == STANDARD;
-        if occurs(&places[..i], name) && (is_standard || !shelf.is_plain(name)) {
+        if occurs(&places[..i], name) && (is_dash(name) || !shelf.is_plain(name)) {
             return true;
         }
     }
