@@ -1,13 +1,25 @@
 -- What an export of a session tells C, by the number that it returns, and the session that it hands back.
-use Rattle.std.specs.Prelude.{◌≡◌, ◌⊎◌, ℕ, Bool, if◌then◌else◌, ℤ, List, Option, Some, None}
+use Rattle.std.specs.Str.{IsUtf8}
+use Rattle.std.specs.Prelude.{◌≡◌, ◌⊎◌, ℕ, Bool, true, false, if◌then◌else◌, ℤ, List, length, Option, Some, None}
 use Rattle.kpn_history.specs.declared.state.Verdict.{Verdict}
 use Rattle.kpn_history.specs.declared.state.Verdict.TheVariants.{Ended, Clogged, Jammed}
 use Rattle.kpn_history.specs.Ends.{IsVerdict}
 use Rattle.kpn_run_state.specs.declared.answers.Refused.{Refused}
 use Rattle.kpn_run_state.specs.Refusals.{Closes, RefusesClose}
 use Rattle.kpn_flat.specs.Faults.{number_of_refusal}
-use Rattle.kpn_flat.specs.Calls.{FeedsEach, StepsEach, TakesEach}
+use Rattle.kpn_flat.specs.Calls.{FeedsEach, StepsEach, TakesEach, TellsComplete}
 use Rattle.kpn_flat.specs.Session.{Session}
+use Rattle.kpn_history.specs.declared.stored.Version.TheVariants.{Two}
+use Rattle.kpn_run_here.specs.RunHere.{IsFirst}
+use Rattle.kpn_trace_text.specs.TraceText.{trace_text}
+use Rattle.kpn_names.specs.Names.{number_of}
+use Rattle.kpn_text.specs.declared.fault.TextFault.{TextFault}
+use Rattle.kpn_text.specs.Spells.{Spells}
+use Rattle.kpn_text.specs.Phases.{Refuses}
+use Rattle.kpn_flat.specs.Faults.{fault_of_text}
+use Rattle.kpn_flat.specs.Slices.{PutsIfFits}
+use Rattle.kpn_flat.specs.Texts.{IsText}
+use Rattle.kpn_c.specs.declared.codes.Place.{Place}
 use Rattle.kpn_c.specs.declared.slot.Slot.{Slot}
 use Rattle.kpn_c.specs.Sessions.{holding}
 
@@ -60,3 +72,59 @@ pub record TellsVerdict (told : ℕ) (before after : Session) : Type 0 where
   pub verdict : Option Verdict
   pub is : IsVerdict before.book.tables before.book.history verdict
   pub number : told ≡ code_of_verdict verdict
+
+-- whether a channel is complete is told, or that there is none with this number, and nothing changes
+pub record TellsIfComplete (channel code : ℕ) (told : Bool) (before after : Session) : Type 0 where
+  pub same : after ≡ before
+  pub tells : ((code ≡ 0) × TellsComplete channel (Some told) before.book)
+      ⊎ ((code ≡ 64) × TellsComplete channel None before.book)
+
+-- the number of the channel with this name is told, or that there is none, and nothing changes
+pub record FindsChannel (name : List ℕ) (code number : ℕ) (before after : Session) : Type 0 where
+  pub same : after ≡ before
+  pub finds : IsUtf8 name
+      → ((code ≡ 0) × (number_of before.document.names.channels name ≡ Some number))
+      ⊎ ((code ≡ 64) × (number_of before.document.names.channels name ≡ None))
+
+-- the text of the trace is put to the front of a slice if it fits, and its length is told
+pub record PutsTrace (code told : ℕ) (room kept : List ℕ) (s : Session) : Type 0 where
+  pub text : List ℕ
+  pub is : text ≡ trace_text Two s.book.tables.policy s.book.tables.growth s.book.history
+  pub long : told ≡ length text
+  pub puts : ((code ≡ 0) × PutsIfFits true text room kept) ⊎ ((code ≡ 61) × PutsIfFits false text room kept)
+
+-- the trace is told, or memory ran out, and nothing changes
+pub record TellsTrace (code told : ℕ) (room kept : List ℕ) (before after : Session) : Type 0 where
+  pub same : after ≡ before
+  pub tells : PutsTrace code told room kept before ⊎ ((code ≡ 42) × (kept ≡ room))
+
+-- ---- texts
+
+-- the place of a fault, as C has it
+abbrev pub place_as : Option ℕ → Place
+place_as None = record { has_place = false; place = 0 }
+place_as (Some place) = record { has_place = true; place = place }
+
+-- the text is refused, and the fault is told by its number and its place
+pub record TellsFault (text : List ℕ) (code : ℕ) (place : Place) : Type 0 where
+  pub fault : TextFault
+  pub refuses : Refuses text fault
+  pub number : code ≡ (fault_of_text fault).number
+  pub place_is : place ≡ place_as (fault_of_text fault).place
+
+-- the text is a description, or its fault is told
+abbrev pub Checks : (text : List ℕ) → (code : ℕ) → Place → Type 0
+Checks text code place = ((code ≡ 0) × IsText text) ⊎ TellsFault text code place
+
+-- a session of the network that the text describes, where nothing has happened
+pub record IsOpened (text : List ℕ) (slot : Option Slot) : Type 0 where
+  pub session : Session
+  pub held : slot ≡ holding session
+  pub spelled : Spells text session.document
+  pub first : IsFirst session.document.tables session.book
+
+-- such a session is handed out, or what was there stays, and the fault is told or memory ran out
+abbrev pub Opens : (text : List ℕ) → (code : ℕ) → Place → (before after : Option Slot) → Type 0
+Opens text code place before after =
+    ((code ≡ 0) × IsOpened text after)
+    ⊎ ((after ≡ before) × (TellsFault text code place ⊎ (code ≡ 42)))

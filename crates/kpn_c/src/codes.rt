@@ -1,7 +1,7 @@
 //! The numbers that calls return. 0 means that a call did all that it was asked for. The numbers below 60 are those of
 //! faults of descriptions and of reasons why a book refuses a call.
 ghost use Rattle.std.specs.Prelude.{◌≡◌};
-ghost use Rattle.kpn_c.specs.Exports.{code_of_cause, code_of_verdict};
+ghost use Rattle.kpn_c.specs.Exports.{code_of_cause, code_of_verdict, place_as};
 
 use kpn_flat::{Fault, Outcome, Refused, Verdict, number_of};
 
@@ -17,14 +17,17 @@ pub(crate) const NO_CHANNEL: u32 = 64;
 
 /// The place of a fault, as C has it.
 #[repr(C)]
-#[derive(Clone, Copy, Debug)]
+#[derive(Clone, Copy)]
 pub struct Place {
     pub has_place: bool,
     pub place: usize,
 }
 
 /// Tells the place of a fault, and returns its number.
-pub(crate) fn tell(fault: Fault, place: &mut Place) -> u32 {
+pub(crate) fn tell(fault: Fault, place: &mut Place) -> u32
+    ensures number { result ≡ fault.number }
+    ensures place { place.new ≡ place_as fault.place }
+{
     *place = match fault.place {
         Some(place) => Place {
             has_place: true,

@@ -1,11 +1,13 @@
 //! Descriptions are checked, and networks are run on whole lists.
+ghost use Rattle.kpn_c.specs.Exports.{Checks};
+
 use crate::codes::{LISTS, NO_MEMORY, OK, Place, TOO_SMALL, code_of_outcome, tell};
 use kpn_flat::{RunFault, check, fault_of, put_bytes, put_items, put_lengths, run};
 use std::alloc::Global;
 
 /// When a run stops.
 #[repr(C)]
-#[derive(Clone, Copy, Debug)]
+#[derive(Clone, Copy)]
 pub struct Limits {
     pub commits: u64,
     pub has_take: bool,
@@ -15,7 +17,7 @@ pub struct Limits {
 
 /// What a run has come to, and how much room its items, sinks and trace want.
 #[repr(C)]
-#[derive(Clone, Copy, Debug)]
+#[derive(Clone, Copy)]
 pub struct Ran {
     pub outcome: u32,
     pub commits: u64,
@@ -26,7 +28,9 @@ pub struct Ran {
 
 /// Reads a description. Returns 0, or the number of the fault.
 #[unsafe(no_mangle)]
-pub extern "C" fn kpn_c_check(alloc: Global, text: &[u8], place: &mut Place) -> u32 {
+pub extern "C" fn kpn_c_check(alloc: Global, text: &[u8], place: &mut Place) -> u32
+    ensures { Checks text.now result place.new }
+{
     match check(alloc, text) {
         Ok(()) => OK,
         Err(fault) => tell(fault_of(fault), place),

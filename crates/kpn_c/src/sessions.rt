@@ -1,7 +1,6 @@
 //! Sessions, which C keeps. Each call gets a session and hands it back.
-ghost use Rattle.std.specs.Prelude.{◌≡◌, ◌⊎◌};
 ghost use Rattle.kpn_c.specs.Sessions.{IsOpen};
-ghost use Rattle.kpn_c.specs.Exports.{Leads, Feeds, Takes, Steps, ClosesSource, TellsVerdict};
+ghost use Rattle.kpn_c.specs.Exports.{Leads, Feeds, Takes, Steps, ClosesSource, TellsVerdict, TellsIfComplete, FindsChannel, TellsTrace, Opens};
 
 use crate::codes::{
     NO_CHANNEL, NO_MEMORY, OK, Place, TOO_SMALL, code_of_cause, code_of_verdict, tell,
@@ -14,7 +13,7 @@ use std::alloc::Global;
 /// Opens a session of the network that a text describes, or leaves `back` as it was.
 #[unsafe(no_mangle)]
 pub extern "C" fn kpn_c_open(alloc: Global, text: &[u8], back: &mut Held, place: &mut Place) -> u32
-    ensures { (back.new ≡ back.old) ⊎ IsOpen back.new.slot }
+    ensures { Opens text.now result place.new back.old.slot back.new.slot }
 {
     match Session::open(alloc, text) {
         Ok(session) => match kept(alloc, session) {
@@ -45,7 +44,7 @@ pub extern "C" fn kpn_c_channel(
     channel: &mut usize,
 ) -> u32
     requires { IsOpen held.slot }
-    ensures { Leads (λ s u. u ≡ s) held.slot back.new.slot }
+    ensures { Leads (FindsChannel name.now result channel.new) held.slot back.new.slot }
 {
     let (boxed, session) = taken(held);
     let found = session.find_channel(name);
@@ -134,7 +133,7 @@ pub extern "C" fn kpn_c_is_complete(
     complete: &mut bool,
 ) -> u32
     requires { IsOpen held.slot }
-    ensures { Leads (λ s u. u ≡ s) held.slot back.new.slot }
+    ensures { Leads (TellsIfComplete channel result complete.new) held.slot back.new.slot }
 {
     let (boxed, session) = taken(held);
     let (session, told) = session.is_complete(channel);
@@ -171,7 +170,7 @@ pub extern "C" fn kpn_c_trace(
     length: &mut usize,
 ) -> u32
     requires { IsOpen held.slot }
-    ensures { Leads (λ s u. u ≡ s) held.slot back.new.slot }
+    ensures { Leads (TellsTrace result length.new room.old room.new) held.slot back.new.slot }
 {
     let (boxed, session) = taken(held);
     let (session, told) = session.trace(alloc);

@@ -8,7 +8,7 @@ use kpn_run_state::Refused;
 use kpn_text::TextFault;
 
 /// The number of a fault, and its place: a byte, counted from 0, or the number of a process, an instance or a channel.
-#[derive(Clone, Copy, Debug, PartialEq, Eq)]
+#[derive(Clone, Copy)]
 pub struct Fault {
     pub number: u32,
     pub place: Option<usize>,

@@ -4,7 +4,7 @@ ghost use Rattle.kpn_flat.specs.Calls.{FeedsEach};
 use kpn_run_state::{Book, Refused};
 
 /// How many items of a slice were fed, and why the next one was refused, if it was.
-#[derive(Clone, Copy, Debug, PartialEq, Eq)]
+#[derive(Clone, Copy)]
 pub struct Fed {
     pub count: usize,
     pub cause: Option<Refused>,

@@ -7,7 +7,7 @@ use kpn_lang::Sequence;
 use std::alloc::{AllocError, AllocFailed, Global};
 
 /// Why a flat list is not cut.
-#[derive(Clone, Copy, Debug, PartialEq, Eq)]
+#[derive(Clone, Copy)]
 pub enum CutFault {
     /// The lengths do not sum up to the number of items.
     Lengths,

@@ -1,15 +1,17 @@
 //! A network is run on lists that stand in one flat list.
-ghost use Rattle.std.specs.Prelude.{IfOk};
+ghost use Rattle.std.specs.Prelude.{ℕ, ℤ, List, IfOk};
+ghost use Rattle.kpn_flat.specs.Lists.{AreLists};
 ghost use Rattle.kpn_flat.specs.Running.{Tells, IsRunOn};
 
 use crate::lists::{CutFault, cut, joined};
 use crate::telling::trace_of;
+use kpn_lang::Sequence;
 use kpn_net::Network;
 use kpn_run_here::{Limits, Outcome, Report, run_here};
-use std::alloc::{AllocError, Global};
+use std::alloc::Global;
 
 /// What a run tells.
-#[derive(Debug, Drop)]
+#[derive(Drop)]
 pub struct Ran {
     pub outcome: Outcome,
     /// How many commits were made.
@@ -33,15 +35,30 @@ pub(crate) fn run_network(
     ensures { IfOk result (IsRunOn network.now items.now lengths.now limits.now) }
 {
     let lists = cut(alloc, items, lengths)?;
+    run_lists(alloc, network, lists.as_slice(), limits)
+}
+
+/// Runs a network on these lists.
+fn run_lists(
+    alloc: Global,
+    network: &Network,
+    lists: &[Sequence<i64>],
+    limits: &Limits,
+) -> Result<Ran, CutFault>
+    ensures { IfOk result (λ ran. (items : List ℤ) (lengths : List ℕ) → AreLists items lengths lists.now
+        → IsRunOn network.now items lengths limits.now ran) }
+{
     if lists.len() != network.sources() {
         return Err(CutFault::Lengths);
     }
-    let report = run_here(alloc, network, lists.as_slice(), limits)?;
-    Ok(told_of(alloc, network, &report)?)
+    match run_here(alloc, network, lists, limits) {
+        Ok(report) => told_of(alloc, network, &report),
+        Err(_) => Err(CutFault::NoMemory),
+    }
 }
 
 /// What a report tells.
-fn told_of(alloc: Global, network: &Network, report: &Report) -> Result<Ran, AllocError>
+fn told_of(alloc: Global, network: &Network, report: &Report) -> Result<Ran, CutFault>
     ensures { IfOk result (Tells network.now report.now) }
 {
     let (items, lengths) = joined(alloc, report.taken.as_slice())?;

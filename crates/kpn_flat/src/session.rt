@@ -28,7 +28,7 @@ use std::str;
 const QUOTA: u32 = 1_000;
 
 /// A run of the network that a text describes. It owns its document, and borrows nothing. Channels go by their numbers.
-#[derive(Debug, Drop)]
+#[derive(Drop)]
 pub struct Session {
     document: Document,
     detached: Detached,

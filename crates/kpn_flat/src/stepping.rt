@@ -4,7 +4,7 @@ ghost use Rattle.kpn_flat.specs.Calls.{StepsEach};
 use kpn_run_state::Book;
 
 /// How many commits were made, and whether there are no more because memory ran out.
-#[derive(Clone, Copy, Debug, PartialEq, Eq)]
+#[derive(Clone, Copy)]
 pub struct Stepped {
     pub commits: u64,
     pub is_refused: bool,

@@ -4,7 +4,7 @@ ghost use Rattle.kpn_flat.specs.Calls.{TakesEach};
 use kpn_run_state::{Book, Refused};
 
 /// How many items were taken, and why the next take was refused, if it was.
-#[derive(Clone, Copy, Debug, PartialEq, Eq)]
+#[derive(Clone, Copy)]
 pub struct Taken {
     pub count: usize,
     pub cause: Option<Refused>,

@@ -1,16 +1,18 @@
 //! The network that a text describes is checked, or run on lists.
-ghost use Rattle.std.specs.Prelude.{IfOk, IfErr, OnOk};
+ghost use Rattle.std.specs.Prelude.{ℕ, List, IfOk, IfErr, OnOk};
 ghost use Rattle.kpn_text.specs.Phases.{Refuses};
 ghost use Rattle.kpn_flat.specs.Texts.{IsText, RunsText, RefusesRun};
+ghost use Rattle.kpn_flat.specs.Running.{IsRunOn};
 
 use crate::lists::CutFault;
 use crate::running::{Ran, run_network};
+use kpn_net::Network;
 use kpn_run_here::Limits;
 use kpn_text::{TextFault, read_network};
 use std::alloc::Global;
 
 /// Why there is no run.
-#[derive(Clone, Copy, Debug, PartialEq, Eq)]
+#[derive(Clone, Copy)]
 pub enum RunFault {
     /// The text is no description.
     Text(TextFault),
@@ -43,11 +45,24 @@ pub fn run(
     ensures ran { IfOk result (RunsText text.now items.now lengths.now limits.now) }
     ensures fault { IfErr result (RefusesRun text.now) }
 {
-    let document = match read_network(alloc, text) {
-        Ok(document) => document,
-        Err(fault) => return Err(RunFault::Text(fault)),
-    };
-    match run_network(alloc, document.network(), items, lengths, limits) {
+    match read_network(alloc, text) {
+        Ok(document) => run_described(alloc, document.network(), items, lengths, limits),
+        Err(fault) => Err(RunFault::Text(fault)),
+    }
+}
+
+/// Runs the network of a description.
+fn run_described(
+    alloc: Global,
+    network: &Network,
+    items: &[i64],
+    lengths: &[usize],
+    limits: &Limits,
+) -> Result<Ran, RunFault>
+    ensures ran { IfOk result (IsRunOn network.now items.now lengths.now limits.now) }
+    ensures fault { IfErr result (λ fault. (text : List ℕ) → IsText text → RefusesRun text fault) }
+{
+    match run_network(alloc, network, items, lengths, limits) {
         Ok(ran) => Ok(ran),
         Err(CutFault::Lengths) => Err(RunFault::Lists),
         Err(CutFault::NoMemory) => Err(RunFault::NoMemory),
