@@ -34,7 +34,7 @@ const START: u64 = 60;
 const LATE: u64 = 500;
 
 /// What the outside does while two workers are at work.
-#[derive(Clone, Copy)]
+#[derive(Clone, Copy, Debug)]
 enum Task {
     /// It feeds items one by one, each once the one before it has come to the last sink.
     HandsOver,

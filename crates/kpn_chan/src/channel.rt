@@ -13,7 +13,7 @@ use std::marker::Model;
 ///
 /// Contracts see its journal, how many of its items were read, its capacity, whether its reader is
 /// gone, and whether the next item is reserved.
-#[derive(Drop)]
+#[derive(Debug, Drop)]
 pub struct Channel<A: Allocator = Global> {
     journal: Chunks<A>,
     // the unread items; none once the reader is gone

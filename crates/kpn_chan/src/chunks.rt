@@ -16,7 +16,7 @@ const FIRST_PLACES: usize = 4;
 
 /// The items in order: those of the full chunks, which never move, and those of the last one. That one doubles until it
 /// is as long as a full one.
-#[derive(Drop)]
+#[derive(Debug, Drop)]
 pub struct Chunks<A: Allocator> {
     pub(crate) full: Vec<Vec<i64, A>, A>,
     pub(crate) last: Vec<i64, A>,

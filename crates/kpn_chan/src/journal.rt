@@ -11,7 +11,7 @@ use std::alloc::{AllocError, Allocator, Global};
 use std::marker::Model;
 
 /// A list of items, oldest first, in pieces of memory that move to a new owner without a copy. Contracts see the list.
-#[derive(Drop)]
+#[derive(Debug, Drop)]
 pub struct Journal<A: Allocator = Global> {
     pub(crate) chunks: Chunks<A>,
 }

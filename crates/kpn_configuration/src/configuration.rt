@@ -31,7 +31,7 @@ pub use processes::Got;
 ///
 /// Each call takes the network whose configuration it is. Contracts see what each channel holds, which
 /// sources are closed, what each process waits for, how it ended if it did, and its frame.
-#[derive(Drop)]
+#[derive(Debug, Drop)]
 pub struct Configuration<A: Allocator = Global> {
     channels: Vec<Channel<A>, A>,
     closed: Vec<bool, A>,

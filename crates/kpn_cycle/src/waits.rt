@@ -8,7 +8,7 @@ use std::alloc::{AllocError, Allocator, Global};
 use std::marker::Model;
 
 /// A wait for each process, in order of number. Contracts see it as the list of these.
-#[derive(Drop)]
+#[derive(Debug, Drop)]
 pub struct Waits<A: Allocator = Global> {
     waits: Vec<Wait, A>,
 }

@@ -10,7 +10,7 @@ use std::marker::Model;
 const _: () = prove!(size_of::<Event>() <= 16);
 
 /// The events of a run so far, oldest first, and memory for some more.
-#[derive(Drop)]
+#[derive(Debug, Drop)]
 pub struct History<A: Allocator = Global> {
     events: Vec<Event, A>,
 }

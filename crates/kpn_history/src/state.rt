@@ -35,7 +35,7 @@ pub struct Counts {
 
 /// What a run shows at one moment. The first four lists have an entry for each channel, `states` has one for each
 /// process.
-#[derive(Drop, PartialEq, Eq)]
+#[derive(Debug, Drop, PartialEq, Eq)]
 pub struct View<A: Allocator = Global> {
     /// All items that were written on the channel, in order.
     pub journals: Sequence<Journal<A>, A>,

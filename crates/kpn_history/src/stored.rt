@@ -14,7 +14,7 @@ pub enum Version {
 }
 
 /// A trace: the events of a run, and by which rules its channels grew.
-#[derive(Drop)]
+#[derive(Debug, Drop)]
 pub struct Trace<A: Allocator = Global> {
     pub version: Version,
     /// `Cycles` in version 1.

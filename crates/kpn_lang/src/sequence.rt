@@ -10,7 +10,7 @@ use std::marker::Model;
 use std::slice;
 
 /// A list of items. It is made from a `Vec` and given back as one without taking memory.
-#[derive(Drop)]
+#[derive(Debug, Drop)]
 pub struct Sequence<T, A: Allocator = Global> {
     items: Vec<T, A>,
 }

@@ -19,7 +19,7 @@ pub enum Op {
 }
 
 /// An expression over the variables of a process, which it names by number.
-#[derive(Drop)]
+#[derive(Debug, Drop)]
 pub enum Expr {
     /// A whole number.
     Num(i64),
@@ -37,7 +37,7 @@ pub enum Expr {
 pub type BlockId = usize;
 
 /// A statement. It names the blocks inside it by number.
-#[derive(Drop)]
+#[derive(Debug, Drop)]
 pub enum Stmt {
     /// Sets a variable to the value of an expression.
     Assign(usize, Expr),

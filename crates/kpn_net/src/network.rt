@@ -24,7 +24,7 @@ use sides::Side;
 
 /// A network: programs, instances of them, and channels that join them. Each channel has one writer and
 /// one reader, and a capacity from 1 to the limit unless it is a source.
-#[derive(Drop)]
+#[derive(Debug, Drop)]
 pub struct Network {
     parts: Parts,
     writers: Vec<End>,

@@ -31,7 +31,7 @@ pub enum Growth {
 }
 
 /// A process of a network: an instance of a program.
-#[derive(Drop)]
+#[derive(Debug, Drop)]
 pub struct Instance {
     /// The number of the program.
     pub program: usize,

@@ -32,7 +32,7 @@ mod waiting;
 ///
 /// Contracts see these five. Each call leaves a book of which `known` holds. A call that is refused leaves the book as
 /// it was.
-#[derive(Drop)]
+#[derive(Debug, Drop)]
 pub struct Book<'n, A: Allocator = Global> {
     parts: OpenBook<'n, A>,
 }

@@ -3,7 +3,7 @@ use kpn_lang::Program;
 use kpn_step::Frame;
 
 /// A process that is held, its program and its frame.
-#[derive(Drop)]
+#[derive(Debug, Drop)]
 pub struct Claim<'n> {
     pub process: usize,
     pub program: &'n Program,

@@ -20,7 +20,7 @@ mod turns;
 
 /// The network, the history so far, the configuration to which it leads, the schedule of the processes, and how many
 /// commits were made.
-#[derive(Drop)]
+#[derive(Debug, Drop)]
 pub(crate) struct OpenBook<'n, A: Allocator> {
     pub(crate) network: &'n Network,
     pub(crate) configuration: Configuration<A>,

@@ -5,7 +5,7 @@ ghost use Rattle.kpn_schedule.specs.Counting.{count_in, one_more, one_less};
 use kpn_history::State;
 
 /// The counts that are stored. Each stays the same when a ready process becomes held, and when it is put back.
-#[derive(Drop)]
+#[derive(Debug, Drop)]
 pub(crate) struct Tally {
     /// How many processes are ready or held.
     pub(crate) going: usize,

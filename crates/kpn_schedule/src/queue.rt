@@ -7,7 +7,7 @@ use std::alloc::{AllocError, Allocator};
 
 /// Numbers of processes in a list. It grows to its end before the queue drops those that were taken. So the queue needs
 /// no ring, and it moves a number once while it takes in many.
-#[derive(Drop)]
+#[derive(Debug, Drop)]
 pub(crate) struct Queue<A: Allocator> {
     pub(crate) numbers: Vec<usize, A>,
     // how many of them were taken

@@ -15,7 +15,7 @@ use std::marker::Model;
 /// ready goes to the tail of a queue. The first of the queue is the next to be held.
 ///
 /// Contracts see the state of each process and the queue. Only `new` and `copy_states` take memory.
-#[derive(Drop)]
+#[derive(Debug, Drop)]
 pub struct Schedule<A: Allocator = Global> {
     states: Vec<State, A>,
     // It is kept step by step. The length of the queue is how many are ready.

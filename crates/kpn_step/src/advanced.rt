@@ -10,7 +10,7 @@ use std::marker::Model;
 
 /// Steps that a process made: its program, the frames before and after, how many steps lie between,
 /// and the stop at which they ended.
-#[derive(Drop)]
+#[derive(Debug, Drop)]
 pub struct Advance<'p> {
     program: &'p Program,
     from: Frame,

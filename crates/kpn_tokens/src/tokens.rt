@@ -95,7 +95,7 @@ impl Number {
 }
 
 /// A mark: the punctuation and the operators.
-#[derive(Clone, Copy, PartialEq, Eq)]
+#[derive(Clone, Copy, Debug, PartialEq, Eq)]
 pub enum Mark {
     LeftParen,
     RightParen,
@@ -190,7 +190,7 @@ impl Mark {
 }
 
 /// A reserved word.
-#[derive(Clone, Copy, PartialEq, Eq)]
+#[derive(Clone, Copy, Debug, PartialEq, Eq)]
 pub enum Keyword {
     Process,
     In,

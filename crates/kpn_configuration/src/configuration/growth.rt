@@ -22,7 +22,7 @@ use kpn_net::{End, Network, Policy};
 use std::alloc::Allocator;
 
 /// A growth that is owed: the channel, and a process that waits.
-#[derive(Clone, Copy, PartialEq, Eq)]
+#[derive(Clone, Copy, Debug, PartialEq, Eq)]
 pub struct OwedGrowth {
     pub process: usize,
     pub channel: usize,
@@ -30,7 +30,7 @@ pub struct OwedGrowth {
 
 /// The new capacity of a channel, and the process that its growth wakes: the writer, if it waited on the channel as
 /// full.
-#[derive(Clone, Copy, PartialEq, Eq)]
+#[derive(Clone, Copy, Debug, PartialEq, Eq)]
 pub struct Grown {
     pub capacity: u32,
     pub woken: Option<usize>,

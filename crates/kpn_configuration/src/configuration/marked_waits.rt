@@ -14,7 +14,7 @@ use std::alloc::{AllocError, Allocator};
 use std::marker::Model;
 
 /// A wait for each process, in order of number. Contracts see it as the list of these.
-#[derive(Drop)]
+#[derive(Debug, Drop)]
 pub(crate) struct MarkedWaits<A: Allocator> {
     waits: Waits<A>,
     // whether a process may wait on the channel as full, and as empty

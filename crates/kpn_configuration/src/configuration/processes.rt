@@ -25,7 +25,7 @@ use kpn_net::Network;
 use std::alloc::Allocator;
 
 /// What was read from a channel, and the process that this wakes: its writer, if it waited on it as full.
-#[derive(Clone, Copy, PartialEq, Eq)]
+#[derive(Clone, Copy, Debug, PartialEq, Eq)]
 pub struct Got {
     pub item: i64,
     pub woken: Option<usize>,
