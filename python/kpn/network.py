@@ -12,6 +12,10 @@ from .live import Live
 from .process import MOST_PORTS, Capacities, Instance, Outputs, Process, Stream, forking
 from .program import Program, answer, draw_svg, explain
 
+ADVICE = {
+    'NoWriter': 'Nothing flows into this stream: `connect` it to what shall flow there, or make it by `net.source`.',
+    'NoReader': 'Nobody reads this stream: give it to a process, or to `net.sink`.',
+}
 LIMITS = (('processes', 256), ('instances', 256), ('channels', 1024))
 COPY = Process('copy', ('i',), ('o',), (), ('  while 1 {', '    read i x;', '    write o x;', '  }'))
 
@@ -46,6 +50,10 @@ class Layout(NamedTuple):
     sources: List[str]
     sinks: List[str]
     writers: Dict[str, str]
+
+    def error(self, program: Program = None) -> Optional[KpnError]:
+        """What `kpn explain` says of the text, with places and advice in terms of what the user wrote."""
+        return explain(self.text, self.spot_of, program, ADVICE)
 
     def spot_of(self, offset: int) -> Spot:
         """The place in the source of a process that stands at this place of the text, or else the place itself."""
@@ -319,7 +327,7 @@ class Network:
     def check(self, program: Program = None) -> None:
         """Raises an error with the words of `kpn explain` if the network is not right."""
         self.check_limits()
-        error = explain(str(self), self.layout().spot_of, program)
+        error = self.layout().error(program)
         if error:
             raise error
 

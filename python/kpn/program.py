@@ -7,7 +7,7 @@ import re
 import shutil
 import subprocess
 import tempfile
-from typing import Callable, Dict, Optional, Sequence, Union
+from typing import Callable, Dict, Mapping, Optional, Sequence, Union
 
 from .errors import KpnError, Spot
 
@@ -80,9 +80,12 @@ def failure(done: subprocess.CompletedProcess[str]) -> KpnError:
     return KpnError(message, error=error[1] if error else None)
 
 
-def explain(text: str, spot_of: Callable[[int], Spot], program: Program = None
-            ) -> Optional[KpnError]:
-    """What `kpn explain` says of a wrong text, with its places shown where `spot_of` says; None of a right one."""
+def explain(text: str, spot_of: Callable[[int], Spot], program: Program = None,
+            advice: Optional[Mapping[str, str]] = None) -> Optional[KpnError]:
+    """What `kpn explain` says of a wrong text, with its places shown where `spot_of` says; None of a right one.
+
+    `advice` has by the name of an error what to advise in place of the last line, if the user has not seen the text.
+    """
     with tempfile.TemporaryDirectory(prefix='kpn-') as folder:
         (pathlib.Path(folder) / NAME).write_bytes(text.encode())
         done = call(['explain', NAME], program, folder)
@@ -101,4 +104,7 @@ def explain(text: str, spot_of: Callable[[int], Spot], program: Program = None
         shown += spot.show(found[3])
         place, error = place or spot.place(), error or found[4]
         del lines[:2]
+    name = error.split()[1] if error else ''
+    if advice and name in advice:
+        shown[-1] = advice[name]
     return KpnError('\n'.join(shown), place=place, error=error) if place else failure(done)

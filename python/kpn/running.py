@@ -15,7 +15,7 @@ import weakref
 from typing import TYPE_CHECKING, Any, Callable, Dict, Iterable, Iterator, List, Mapping, NamedTuple, Optional, Union
 
 from .errors import KpnError
-from .program import Program, call, explain, failure, find_program
+from .program import Program, call, failure, find_program
 from .trace import Trace
 
 if TYPE_CHECKING:
@@ -67,6 +67,8 @@ class Result(collections.abc.Mapping):  # type: ignore[type-arg]
         self._trace: Optional[str] = None
 
     def __getitem__(self, sink: str) -> Any:
+        if sink not in self._sinks:
+            raise KeyError(f'the network has no sink `{sink}`: it has {", ".join(self._sinks) or "none"}')
         return self._sinks[sink]
 
     def __iter__(self) -> Iterator[str]:
@@ -270,7 +272,7 @@ def refusal(done: subprocess.CompletedProcess[str], layout: Layout, given: Mappi
     error = failure(done)
     number = int((error.error or '0').split()[0])
     if number in OF_TEXT:
-        return explain(layout.text, layout.spot_of, program) or error
+        return layout.error(program) or error
     files = {name: os.fspath(items) for name, items in given.items() if isinstance(items, os.PathLike)}
     for name, file in files.items() if number in OF_ITEMS else ():
         said = call(['explain', os.path.abspath(file), '--items'], program)

@@ -108,6 +108,7 @@ network {
     def test_a_channel_that_nobody_connects(self):
         GAIN(self.net.channel('lost'), 1, name='g')
         self.refused('`lost` has no writer', self.net.check)
+        self.refused('`connect` it to what shall flow there', self.net.check)
         early = self.net.channel('early')
         self.refused('connect it first', self.net.sink('y').connect, early)
         self.refused('connect it first', self.net.sink, 'z', early)
@@ -225,6 +226,7 @@ class Places(unittest.TestCase):
         with self.assertRaises(kpn.KpnError) as caught:
             net.check()
         self.assertIn('`g` has no reader [15 NoReader at 1]', str(caught.exception))
+        self.assertTrue(str(caught.exception).endswith('give it to a process, or to `net.sink`.'))
         self.assertEqual(caught.exception.place.what, 'the network')
 
 

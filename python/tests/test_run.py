@@ -79,6 +79,12 @@ class Inputs(unittest.TestCase):
 
 
 class Outcomes(unittest.TestCase):
+    def test_a_sink_that_is_not_there(self):
+        result = doubling().run([1])
+        self.assertNotIn('z', result)
+        with self.assertRaisesRegex(KeyError, 'no sink `z`: it has y'):
+            result['z']
+
     def test_ended(self):
         result = example('mean').run([3, 5, 10, -2])
         self.assertEqual((result.outcome, dict(result), result.faults), ('ended', {'means': [3, 4, 6, 4]}, {}))
