@@ -158,10 +158,10 @@ def drawing(network, trace=None, across=False):
 
 # ---- what is said of a legal history that is not exact
 
-def sink_line(audit, c, is_complete):
-    said = ('is complete: nothing more is ever put there' if is_complete else
-            'is not complete: a longer run or more room (`cap`, `limit`, `policy all`) may put more there')
-    return f'`{audit.network.channels[c]}` {said}\n'
+def sink_line(audit, c, is_complete, may_continue):
+    more = 'a longer run' if may_continue else 'more room (`cap`, `limit`)'
+    said = 'complete: nothing more is ever put there' if is_complete else f'not complete: {more} may put more there'
+    return f'`{audit.network.channels[c]}` is {said}\n'
 
 
 def unread_line(audit, c, complete):
@@ -188,6 +188,7 @@ def explained(network, trace):
     if audit.is_quiet():
         return audit.text()
     complete = audit.complete()
-    sinks = [sink_line(audit, c, complete[c]) for c in network.of_kind('sink')]
+    may_continue = any(not audit.has_ended(p) and audit.blocked(p) is None for p in range(len(network.instances)))
+    sinks = [sink_line(audit, c, complete[c], may_continue) for c in network.of_kind('sink')]
     full = [unread_line(audit, wait[1], complete) for wait in audit.waits() if wait and wait[0] == 'full']
     return audit.text() + ''.join(sinks + full)

@@ -156,7 +156,7 @@ pub(crate) fn advice(case: Case) -> &'static [u8]
         Case::Misplaced =>
             b"Look also at what stands just before it: something may be missing there.",
         Case::EarlyEnd =>
-            b"Look for a `}` that is missing. The network comes last, behind all processes.",
+            b"Close each `{` by a `}`. Behind all processes has to come a network.",
         Case::UnknownVariable =>
             b"Assign to it first, or make it a parameter. An item comes by `read PORT VARIABLE;`.",
         Case::LateVariable => b"Give it a value before this place, or make it a parameter.",

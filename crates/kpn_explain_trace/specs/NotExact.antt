@@ -1,6 +1,8 @@
 -- What `kpn explain` says of a legal history that is not exact: which sinks are complete, and why nobody reads from a
 -- channel on which a writer waits for room.
-use Rattle.std.specs.Prelude.{ℕ, Bool, true, false, nat_lt, if◌then◌else◌, List, [], ◌++◌, length, codes, slice_index_or}
+use Rattle.std.specs.Prelude.{ℕ, suc, Bool, true, false, nat_lt, if◌then◌else◌, List, [], ◌∷◌, ◌++◌, length, codes}
+use Rattle.std.specs.Prelude.{Option, None, slice_index_or}
+use Rattle.kpn_history.specs.declared.event.How.{How}
 use Rattle.std.specs.List.{flat_map}
 use Rattle.kpn_net.specs.declared.tables.End.{End}
 use Rattle.kpn_net.specs.declared.tables.End.TheVariants.{Process}
@@ -16,16 +18,31 @@ use Rattle.kpn_explain_trace.specs.Words.{process_words, channel_words, wait_wor
 
 -- ---- sinks
 
+-- whether a process that waits for this, and has ended in this way, can continue
+abbrev pub can_continue : Wait → Option How → Bool
+can_continue Nobody None = true
+can_continue wait end = false
+
+-- whether one of the processes from p on can continue, which wait for these
+abbrev pub can_one_continue : (p : ℕ) → List Wait → (ends : List (Option How)) → Bool
+can_one_continue p [] ends = false
+can_one_continue p (wait ∷ waits) ends =
+    if can_continue wait (slice_index_or ends p None) then true else can_one_continue (suc p) waits ends
+
+-- what gives more on a sink that is not complete: turns, if a process can continue, or else room
+abbrev pub remedy : (may_continue : Bool) → List ℕ
+remedy true = codes " is not complete: a longer run may put more there\n"
+remedy false = codes " is not complete: more room (`cap`, `limit`) may put more there\n"
+
 -- whether a sink is complete, and what to do if it is not
-abbrev pub completeness : (is_complete : Bool) → List ℕ
-completeness true = codes " is complete: nothing more is ever put there\n"
-completeness false =
-    codes " is not complete: a longer run or more room (`cap`, `limit`, `policy all`) may put more there\n"
+abbrev pub completeness : (may_continue is_complete : Bool) → List ℕ
+completeness may_continue true = codes " is complete: nothing more is ever put there\n"
+completeness may_continue false = remedy may_continue
 
 -- the line of channel c, if it is a sink
-abbrev pub sink_line : Document → (c : ℕ) → (is_complete : Bool) → List ℕ
-sink_line d c is_complete =
-    if is_sink (channel_at d.tables c) then channel_words d c ++ completeness is_complete else []
+abbrev pub sink_line : Document → (may_continue : Bool) → (c : ℕ) → (is_complete : Bool) → List ℕ
+sink_line d may_continue c is_complete =
+    if is_sink (channel_at d.tables c) then channel_words d c ++ completeness may_continue is_complete else []
 
 -- ---- channels that are full
 
@@ -80,7 +97,9 @@ wait_line d audit other = []
 
 -- a line for each sink, and for each process that waits for room
 abbrev pub not_exact_text : {A : Type 0} → Document → Audit A → List ℕ
-not_exact_text d audit = lines_from (sink_line d) 0 audit.complete ++ flat_map (wait_line d audit) audit.waits
+not_exact_text d audit =
+    lines_from (sink_line d (can_one_continue 0 audit.waits audit.ends)) 0 audit.complete
+    ++ flat_map (wait_line d audit) audit.waits
 
 -- what the audit says, and these lines if it is not exact
 abbrev pub legal_text : {A : Type 0} → Document → Audit A → List ℕ

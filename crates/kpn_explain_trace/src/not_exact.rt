@@ -10,6 +10,7 @@ use crate::names::{push_channel, push_process};
 use crate::words::push_wait;
 use kpn_audit::Audit;
 use kpn_audited::text_of;
+use kpn_history::How;
 use kpn_net::{End, Wait};
 use kpn_text::Document;
 use std::alloc::{AllocError, Global};
@@ -34,17 +35,45 @@ fn push_not_exact(text: &mut Vec<u8>, document: &Document, audit: &Audit) -> Res
     ensures { OnOk result
         (text.new.items ≡ text.old.items ++ spec.not_exact_text document.now audit.now) }
 {
-    push_sinks(text, document, audit)?;
+    push_sinks(text, document, audit, can_one_continue(audit))?;
     push_waits(text, document, audit)?;
     Ok(())
 }
 
-fn push_sinks(text: &mut Vec<u8>, document: &Document, audit: &Audit) -> Result<(), AllocError>
-    ensures { OnOk result (text.new.items
-        ≡ text.old.items ++ lines_from (spec.sink_line document.now) 0 audit.now.complete) }
+// Whether one of the processes can continue.
+fn can_one_continue(audit: &Audit) -> bool
+    ensures { result ≡ spec.can_one_continue 0 audit.now.waits audit.now.ends }
+{
+    let ends = audit.ends.as_slice();
+    for (p, wait) in audit.waits.as_slice().iter().enumerate() {
+        if can_continue(*wait, ends.get(p).copied().unwrap_or(None)) {
+            return true;
+        }
+    }
+    false
+}
+
+// Whether a process that waits for this, and has ended in this way, can continue.
+fn can_continue(wait: Wait, end: Option<How>) -> bool
+    ensures { result ≡ spec.can_continue wait end }
+{
+    match (wait, end) {
+        (Wait::Nobody, None) => true,
+        _ => false,
+    }
+}
+
+fn push_sinks(
+    text: &mut Vec<u8>,
+    document: &Document,
+    audit: &Audit,
+    may_continue: bool,
+) -> Result<(), AllocError>
+    ensures { OnOk result (text.new.items ≡ text.old.items
+        ++ lines_from (spec.sink_line document.now may_continue) 0 audit.now.complete) }
 {
     for (c, is_complete) in audit.complete.as_slice().iter().enumerate() {
-        push_sink(text, document, c, *is_complete)?;
+        push_sink(text, document, may_continue, c, *is_complete)?;
     }
     Ok(())
 }
@@ -53,30 +82,45 @@ fn push_sinks(text: &mut Vec<u8>, document: &Document, audit: &Audit) -> Result<
 fn push_sink(
     text: &mut Vec<u8>,
     document: &Document,
+    may_continue: bool,
     c: usize,
     is_complete: bool,
 ) -> Result<(), AllocError>
-    ensures { OnOk result
-        (text.new.items ≡ text.old.items ++ spec.sink_line document.now c is_complete) }
+    ensures { OnOk result (text.new.items
+        ≡ text.old.items ++ spec.sink_line document.now may_continue c is_complete) }
 {
     if document.network().is_sink(c) {
         push_channel(text, document, c)?;
-        push_completeness(text, is_complete)
+        push_completeness(text, may_continue, is_complete)
     } else {
         Ok(())
     }
 }
 
 // Whether a sink is complete, and what to do if it is not.
-fn push_completeness(text: &mut Vec<u8>, is_complete: bool) -> Result<(), AllocError>
-    ensures { OnOk result (text.new.items ≡ text.old.items ++ spec.completeness is_complete) }
+fn push_completeness(
+    text: &mut Vec<u8>,
+    may_continue: bool,
+    is_complete: bool,
+) -> Result<(), AllocError>
+    ensures { OnOk result
+        (text.new.items ≡ text.old.items ++ spec.completeness may_continue is_complete) }
 {
     if is_complete {
         text.extend_from_slice(b" is complete: nothing more is ever put there\n")
     } else {
-        text.extend_from_slice(
-            b" is not complete: a longer run or more room (`cap`, `limit`, `policy all`) may put more there\n",
-        )
+        text.extend_from_slice(remedy(may_continue))
+    }
+}
+
+// What gives more on a sink that is not complete: turns, if a process can continue, or else room.
+fn remedy(may_continue: bool) -> &'static [u8]
+    ensures { result.now ≡ spec.remedy may_continue }
+{
+    if may_continue {
+        b" is not complete: a longer run may put more there\n"
+    } else {
+        b" is not complete: more room (`cap`, `limit`) may put more there\n"
     }
 }
 

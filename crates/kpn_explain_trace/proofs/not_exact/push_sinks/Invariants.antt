@@ -6,5 +6,5 @@ use Rattle.kpn_explain_trace.proofs.not_exact.push_sinks.Given as goal
 
 abbrev pub invariant-loop-c : goal.invariant-loop-c
 invariant-loop-c l =
-    l.text.items ++ lines_from (sink_line l.document) l.c (drop l.c l.audit.complete)
-    ≡ l.initial.text.items ++ lines_from (sink_line l.document) 0 l.audit.complete
+    l.text.items ++ lines_from (sink_line l.document l.may_continue) l.c (drop l.c l.audit.complete)
+    ≡ l.initial.text.items ++ lines_from (sink_line l.document l.may_continue) 0 l.audit.complete
