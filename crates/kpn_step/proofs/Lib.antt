@@ -2,6 +2,7 @@ mod Rounds
 pub mod After
 pub mod Along
 pub mod Blocks
+pub mod Elementwise
 pub mod Going
 pub mod Leaving
 pub mod MayStep
