@@ -1,6 +1,7 @@
 mod Rounds
 pub mod After
 pub mod Along
+pub mod AtOnce
 pub mod Blocks
 pub mod Elementwise
 pub mod Going
