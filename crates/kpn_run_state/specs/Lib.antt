@@ -3,6 +3,7 @@ pub mod Appending
 pub mod Commits
 pub mod Refusals
 pub mod Stepping
+pub mod AtOnce
 pub mod InARow
 pub mod Kept
 pub mod Open

@@ -14,6 +14,7 @@ use kpn_net::Network;
 use kpn_schedule::Schedule;
 use std::alloc::Allocator;
 
+mod at_once;
 mod commits;
 mod outside;
 mod turns;

@@ -1,7 +1,9 @@
 mod Rounds
 pub mod After
 pub mod Along
+pub mod AtOnce
 pub mod Blocks
+pub mod Elementwise
 pub mod Going
 pub mod Leaving
 pub mod MayStep

@@ -2,19 +2,21 @@
 ghost use Rattle.std.specs.Prelude.{◌≡◌, ◌↔◌, ◌+◌, ◌<◌, ◌^◌, true, false, IfOk, IfErr, OnErr, IsTrue, IfSome, IfNone};
 ghost use Rattle.kpn_net.specs.Tables.{program_of};
 ghost use Rattle.kpn_step.specs.Frame.{fits};
+ghost use Rattle.kpn_step.specs.Stops.{IsAdvance, IsAtPort, advanced_of};
 ghost use Rattle.kpn_configuration.specs.Configuration.{frame_in};
 ghost use Rattle.kpn_run_state.specs.Book.{IsHeld, IsClaimed, held_count, put_back};
 ghost use Rattle.kpn_run_state.specs.InARow.{RunsOn};
 ghost use Rattle.kpn_run_state.specs.Commits.{Commits};
 ghost use Rattle.kpn_run_state.specs.Refusals.{RefusesCommit, RefusesPutBack};
 ghost use Rattle.kpn_run_state.specs.Stepping.{ClaimsNobody, IsStep, StepsInVain};
+ghost use Rattle.kpn_run_state.specs.AtOnce.{at_once_by};
 
 use super::Book;
 use crate::answers::{Done, Refused};
 use crate::claim::Claim;
 use kpn_history::State;
 use kpn_lang::same;
-use kpn_step::{Advance, Frame};
+use kpn_step::{Advance, Frame, Stop};
 use std::alloc::{AllocError, Allocator};
 
 impl<'n, A: Allocator> Book<'n, A> {
@@ -83,33 +85,58 @@ impl<'n, A: Allocator> Book<'n, A> {
         if !same(advance.program(), self.parts.network.program(p)) {
             return Err(Refused::Stranger);
         }
-        self.commit_own(p, advance)
+        advance.known();
+        let made = (advance.steps(), advance.stop());
+        self.commit_own(p, advance.from(), advance.to(), made)
     }
 
-    /// Commits the steps of process `p` as `commit` does. The caller knows that they are steps of its program, as those
-    /// of its claim are. So this call does not compare the programs, which may be long.
-    pub fn commit_own(&mut self, p: usize, advance: &Advance) -> Result<Done, Refused>
+    /// Commits the steps of process `p` between these frames as `commit` does: how many were made, and the stop after
+    /// them. The caller knows that they are steps of its program, as those of its claim are. So this call does not
+    /// compare the programs, which may be long.
+    pub fn commit_own(
+        &mut self,
+        p: usize,
+        from: &Frame,
+        to: &Frame,
+        made: (u32, Stop),
+    ) -> Result<Done, Refused>
     where
         A: Copy,
-        requires { advance.now.program ≡ program_of self.old.tables p }
-        ensures done { IfOk result (λ answer. Commits p advance.now answer self.old self.new) }
-        ensures refused { IfErr result (λ cause. RefusesCommit p advance.now self.old cause) }
+        requires advance { IsAdvance (advanced_of (program_of self.old.tables p) from.now to.now made.0 made.1) }
+        requires port { IsAtPort (program_of self.old.tables p) to.now made.1 }
+        ensures done { IfOk result (λ answer. Commits p
+            (advanced_of (program_of self.old.tables p) from.now to.now made.0 made.1)
+            answer self.old self.new) }
+        ensures refused { IfErr result (λ cause. RefusesCommit p
+            (advanced_of (program_of self.old.tables p) from.now to.now made.0 made.1)
+            self.old cause) }
         ensures as_before { OnErr result (self.new ≡ self.old) }
     {
-        advance.known();
         if !self.parts.is_held(p) {
             return Err(Refused::NotHeld);
         }
-        if !same_frame(advance.from(), self.parts.configuration.frame(p)) {
+        if !same_frame(from, self.parts.configuration.frame(p)) {
             return Err(Refused::Stranger);
         }
-        let stop = advance.stop();
+        let stop = made.1;
         self.parts.reserve(p, stop)?;
         let network = self.parts.network;
-        self.parts.configuration.step_to(network, p, advance);
+        self.parts.configuration.step_to(network, p, to, made);
         let done = self.parts.handle_stop(p, stop);
         self.parts.commits += 1;
         Ok(done)
+    }
+
+    /// Commits the first process of the queue where it stands, if it stands at a read or at a write of a number or a
+    /// variable: that takes no step and no expression. It returns whether it did. The error is that memory ran out, and
+    /// then nothing has changed.
+    pub fn commit_at_once(&mut self) -> Result<bool, AllocError>
+    where
+        A: Copy,
+        ensures at_once { IfOk result (λ made. at_once_by made self.old self.new) }
+        ensures as_before { OnErr result (self.new ≡ self.old) }
+    {
+        self.parts.commit_at_once()
     }
 
     /// Puts process `p`, which is held, to the tail of the queue. Its frame stays.

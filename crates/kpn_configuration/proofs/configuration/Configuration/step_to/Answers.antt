@@ -1,5 +1,4 @@
-use Rattle.std.proofs.Common.{refl, sym, ap, ◌∙◌, IsTrue, subst, arith}
-use Rattle.kpn_step.specs.Frame.{fits}
+use Rattle.std.proofs.Common.{refl, sym, ap, ◌∙◌, subst, arith}
 use Rattle.kpn_step.specs.Stops.{StandsAt}
 use Rattle.kpn_net.specs.Tables.{program_of}
 use Rattle.kpn_configuration.specs.Configuration.{frame_in, with_frame, IsConfiguration}
@@ -13,22 +12,18 @@ returns g c =
     let t = c.args.network.now in
     let s = c.args.self.now in
     let p = c.args.p in
-    let to = c.args.advance.now.to in
+    let to = c.args.to.now in
     let after =
-    ap (λ x. with_frame p c.copy_from.new.self x) c.self.view_is
-    ∙ ap (λ f. with_frame p f s) (c.copy_from.ensures ∙ c.to.ensures) in
+    ap (λ x. with_frame p c.copy_from.new.self x) c.self.view_is ∙ ap (λ f. with_frame p f s) c.copy_from.ensures in
     let moved =
     ap (λ x. frame_in x p) after ∙ frame_in-same s p to (omega (arith, c.requires.process, c.requires.shape.frames)) in
     record {
       after = after;
       stands =
-          subst (λ f. StandsAt (program_of t p).blocks f c.args.advance.now.stop) (sym moved)
-          (subst (λ x. StandsAt x.blocks to c.args.advance.now.stop) c.requires.program c.known.ensures.advance.stands);
+          subst (λ f. StandsAt (program_of t p).blocks f c.args.made.1) (sym moved) c.requires.advance.stands;
       shape =
           subst (λ x. IsConfiguration t x) (sym after)
-          (IsConfiguration-moved t s p to c.requires.process c.requires.shape
-          (subst (λ x. IsTrue (fits x to)) c.requires.program c.known.ensures.advance.to_fits));
+          (IsConfiguration-moved t s p to c.requires.process c.requires.shape c.requires.advance.to_fits);
       run = λ H run. subst (λ x. IsRun t H x) (sym after)
-          (IsRun-moved t s p to c.requires.process c.requires.shape H c.args.advance.now c.known.ensures.advance
-          c.requires.program c.requires.from refl run);
+          (IsRun-moved t s p to c.requires.process c.requires.shape H _ c.requires.advance refl refl refl run);
     }
