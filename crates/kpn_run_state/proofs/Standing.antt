@@ -5,6 +5,7 @@ use Rattle.kpn_lang.specs.Prefix.{IsPrefix}
 use Rattle.kpn_net.specs.declared.wait.Wait.{Wait}
 use Rattle.kpn_net.specs.declared.wait.Wait.TheVariants.{Nobody}
 use Rattle.kpn_net.specs.Tables.{larger_capacity}
+use Rattle.kpn_net.specs.Faults.{IsNetwork}
 use Rattle.kpn_history.specs.declared.event.How.{How}
 use Rattle.kpn_history.specs.declared.event.Event.{Event}
 use Rattle.kpn_history.specs.declared.event.Event.TheVariants as event
@@ -75,14 +76,14 @@ on_full end wait (WaitsEmpty c) ended is = sym (ap is_full_wait is.1)
 on_full end wait (WaitsFull c) ended is = sym (ap is_full_wait is.1)
 on_full end wait (Ended how) ended is = sym (ap is_full_wait (ended how is))
 
-module _ (b : Book) (book : IsBook b) where
+module _ (b : Book) (network : IsNetwork b.tables) (step : IsInStep b) where
   as_long : length b.schedule.states ≡ length b.configuration.waits
-  as_long = book.kept.in_step.processes ∙ sym book.kept.in_step.run.shape.waits.one_each
+  as_long = step.processes ∙ sym step.run.shape.waits.one_each
 
   nobody_at_end : (p : ℕ) → p < length b.tables.instances → (how : How) → end_in b.configuration p ≡ Some how
       → wait_in b.configuration p ≡ Nobody
   nobody_at_end p there how is =
-      ended_waits_for_nobody b.tables book.network b.history b.configuration book.kept.in_step.run p there how is
+      ended_waits_for_nobody b.tables network b.history b.configuration step.run p there how is
 
   pub empty_count : (counts : Counts) → AreCounts b.schedule.states counts
       → counts.empty ≡ count_by is_empty_wait (waits_of b.tables b.history)
@@ -90,12 +91,12 @@ module _ (b : Book) (book : IsBook b) where
       are.empty
       ∙ same_counts waits_empty is_empty_wait b.schedule.states b.configuration.waits as_long
       (λ p below.
-      let there : p < length b.tables.instances = let long = book.kept.in_step.processes in omega
+      let there : p < length b.tables.instances = let long = step.processes in omega
       (arith, long, below) in
       on_empty (end_in b.configuration p) (wait_in b.configuration p) (state_at b.schedule.states p)
-      (nobody_at_end p there) (book.kept.in_step.states p there))
+      (nobody_at_end p there) (step.states p there))
       ∙ ap (count_by is_empty_wait)
-      (same_waits b.tables book.network b.history b.configuration book.kept.in_step.run)
+      (same_waits b.tables network b.history b.configuration step.run)
 
   pub full_count : (counts : Counts) → AreCounts b.schedule.states counts
       → counts.full ≡ count_by is_full_wait (waits_of b.tables b.history)
@@ -103,12 +104,12 @@ module _ (b : Book) (book : IsBook b) where
       are.full
       ∙ same_counts waits_full is_full_wait b.schedule.states b.configuration.waits as_long
       (λ p below.
-      let there : p < length b.tables.instances = let long = book.kept.in_step.processes in omega
+      let there : p < length b.tables.instances = let long = step.processes in omega
       (arith, long, below) in
       on_full (end_in b.configuration p) (wait_in b.configuration p) (state_at b.schedule.states p)
-      (nobody_at_end p there) (book.kept.in_step.states p there))
+      (nobody_at_end p there) (step.states p there))
       ∙ ap (count_by is_full_wait)
-      (same_waits b.tables book.network b.history b.configuration book.kept.in_step.run)
+      (same_waits b.tables network b.history b.configuration step.run)
 
 -- ---- growths
 

@@ -178,6 +178,11 @@ impl<'n, A: Allocator> OpenBook<'n, A> {
     {
         let network = self.network;
         network.known();
+        // If nobody waits on a full channel, none has to grow, so a search would find nothing.
+        let counts = self.schedule.counts();
+        if counts.full == 0 {
+            return Done::Blocked;
+        }
         let Some(d) = self.configuration.owed(network, p) else {
             return match self.grow_at_stop() {
                 Some(d) => Done::Grew(d),

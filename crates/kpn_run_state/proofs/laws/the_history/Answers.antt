@@ -11,8 +11,8 @@ returns-clause-states c b book =
 
 pub returns-clause-empty : goal.returns-clause-empty
 returns-clause-empty c b book =
-    empty_count b book
+    empty_count b book.network book.kept.in_step
 
 pub returns-clause-full : goal.returns-clause-full
 returns-clause-full c b book =
-    full_count b book
+    full_count b book.network book.kept.in_step

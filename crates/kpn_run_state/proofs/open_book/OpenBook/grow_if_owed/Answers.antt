@@ -1,6 +1,14 @@
+use Rattle.std.proofs.Common.{◌≡◌, rules}
 use Rattle.kpn_run_state.specs.Open.{book_of}
 use Rattle.kpn_run_state.proofs.Answering.{owes_found, owes_none, has_grown}
+use Rattle.kpn_run_state.proofs.Seen.{nothing_to_grow}
 use Rattle.kpn_run_state.proofs.open_book.OpenBook.grow_if_owed.Goals as goal
+
+pub returns-then-counts-eq0-clause-grows : goal.returns-then-counts-eq0-clause-grows
+returns-then-counts-eq0-clause-grows g c =
+    let none : c.counts-counts.result.full ≡ 0 = search rules in
+    nothing_to_grow (book_of c.args.self.now) c.known.ensures c.requires.step c.counts-counts.result
+    c.counts-counts.ensures none c.args.p
 
 pub grow_at_stop-requires-clause-no_cycle : goal.grow_at_stop-requires-clause-no_cycle
 grow_at_stop-requires-clause-no_cycle g c =
