@@ -58,12 +58,19 @@ class Parser:
             return True
         return False
 
-    def names(self):
-        found = []
-        while self.peek() not in (';', ')'):
-            found.append(self.next())
-            self.took(',')
+    def listed(self, part):
+        """One part or more, with a comma between two."""
+        found = [part()]
+        while self.took(','):
+            found.append(part())
         return found
+
+    def names(self):
+        return [] if self.peek() in (';', ')') else self.listed(self.next)
+
+    def number(self):
+        sign = -1 if self.took('-') else 1
+        return sign * int(self.next())
 
     def description(self):
         processes = {}
@@ -153,12 +160,7 @@ class Parser:
         ins = self.names()
         self.next(';')
         outs = self.names()
-        values = []
-        if self.took(';'):
-            while self.peek() != ')':
-                sign = -1 if self.took('-') else 1
-                values.append(sign * int(self.next()))
-                self.took(',')
+        values = self.listed(self.number) if self.took(';') else []
         self.next(')')
         return program, ins, outs, values
 

@@ -31,7 +31,7 @@ set_cases P xs i x d k new old =
     ]
 
 -- a number in a list with one more at its end
-pushed_cases : (xs : List ℕ) (x m : ℕ) → ((k : ℕ) → get_or xs k 0 ≤ m) → x ≤ m → (k : ℕ)
+pub pushed_cases : (xs : List ℕ) (x m : ℕ) → ((k : ℕ) → get_or xs k 0 ≤ m) → x ≤ m → (k : ℕ)
     → get_or (xs ++ x ∷ []) k 0 ≤ m
 pushed_cases xs x m all new k =
     elim (cases_lt k (length xs)) [
@@ -81,7 +81,7 @@ cond_up_to : (b : Bool) (x y m : ℕ) → x ≤ m → y ≤ m → cond b x y ≤
 cond_up_to true x y m first second = first
 cond_up_to false x y m first second = second
 
-room_from : (cap : Option ℕ) (written read : List ℕ) (reader m : ℕ) → ((k : ℕ) → get_or read k 0 ≤ m) → reader ≤ m
+pub room_from : (cap : Option ℕ) (written read : List ℕ) (reader m : ℕ) → ((k : ℕ) → get_or read k 0 ≤ m) → reader ≤ m
     → room_there cap written read reader ≤ m
 room_from None written read reader m all gone = omega arith
 room_from (Some cap) written read reader m all gone =
@@ -170,25 +170,20 @@ all_few t (event ∷ events) s are =
     let count : length (event ∷ events) ≡ length events + 1 = omega arith in
     omega (arith, more, one, count)
 
-no_tick : (n c k : ℕ) → get_or (get_or (replicate {A = List ℕ} n []) c []) k 0 ≤ 0
-no_tick n c k =
-    elim (cases_lt c n) [
-      | inl within ↦
-          subst (λ xs. get_or {A = ℕ} xs k 0 ≤ 0) (sym (get_or-replicate n c [] [] within)) (omega arith)
-      | inr out ↦
-          let past : length (replicate {A = List ℕ} n []) ≤ c = omega (arith, out, length-replicate {A = List ℕ} n []) in
-          subst (λ xs. get_or {A = ℕ} xs k 0 ≤ 0) (sym (get_or_past (replicate n []) c [] past)) (omega arith)
+-- an element of a list of equal ones, of which one stands for those that are not there
+pub all_alike : {A : Type 0} (x : A) (n k : ℕ) → get_or (replicate n x) k x ≡ x
+all_alike x n k =
+    elim (cases_lt k n) [
+      | inl within ↦ get_or-replicate n k x x within
+      | inr out ↦ let long = length-replicate n x in get_or_past (replicate n x) k x (omega (arith, out, long))
     ]
 
+no_tick : (n c k : ℕ) → get_or (get_or (replicate {A = List ℕ} n []) c []) k 0 ≤ 0
+no_tick n c k =
+    subst (λ xs. get_or {A = ℕ} xs k 0 ≤ 0) (sym (all_alike {A = List ℕ} [] n c)) (omega arith)
+
 pub zero_latest : (n p : ℕ) → get_or (replicate n 0) p 0 ≤ 0
-zero_latest n p =
-    elim (cases_lt p n) [
-      | inl within ↦ let is = get_or-replicate {A = ℕ} n p 0 0 within in omega (arith, is)
-      | inr out ↦
-          let past : length (replicate {A = ℕ} n 0) ≤ p = omega (arith, out, length-replicate {A = ℕ} n 0) in
-          let is = get_or_past {X = ℕ} (replicate n 0) p 0 past in
-          omega (arith, is)
-    ]
+zero_latest n p = let is = all_alike {A = ℕ} 0 n p in omega (arith, is)
 
 first_capacities : (t : Tables) (b : Bool) → length (start t b).capacities ≡ length t.channels
 first_capacities t true = length-map-range_with_len (λ c. capacity (channel_at t c)) 0 (length t.channels)

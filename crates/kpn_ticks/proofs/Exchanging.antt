@@ -85,7 +85,7 @@ item_stays (Take c v) n s d differ has =
     ap (λ xs. get_or (written_of s d) (length xs) 0) (list_other s.read c d n differ)
 item_stays event n s d differ has = refl
 
-either : (b : Bool) (x y : ℕ) → (b ≡ false → x ≡ y) → cond b 0 x ≡ cond b 0 y
+pub either : (b : Bool) (x y : ℕ) → (b ≡ false → x ≡ y) → cond b 0 x ≡ cond b 0 y
 either true x y agree = refl
 either false x y agree = agree refl
 
@@ -224,7 +224,7 @@ both_orders t s event other can =
 
 -- ---- histories
 
-fold_along : (t : Tables) (s : Clocks) (B more : List Event)
+pub fold_along : (t : Tables) (s : Clocks) (B more : List Event)
     → fold (after t) s (B ++ more) ≡ fold (after t) (fold (after t) s B) more
 fold_along t s [] more = refl
 fold_along t s (event ∷ B) more = fold_along t (after t s event) B more

@@ -4,3 +4,4 @@ pub mod Held
 pub mod Chain
 pub mod ChainShown
 pub mod Reordered
+pub mod Schedules
