@@ -111,6 +111,21 @@ fn leave<A: Allocator>(alloc: Global, book: &mut Book<'_, A>, sink: usize) -> Re
     Ok(format!(in alloc; "{left:?}")?)
 }
 
+/// Whether a journal begins with an item.
+fn begins<A: Allocator>(
+    alloc: Global,
+    book: &Book<'_, A>,
+    channel: usize,
+    item: i64,
+) -> Result<String> {
+    ensure!(
+        channel < book.network().channels(),
+        "there is no such channel"
+    );
+    let begins = book.journal_begins(channel, &[item]);
+    Ok(format!(in alloc; "{begins}")?)
+}
+
 /// The lists of a view behind its journals.
 fn write_ends<A: Allocator>(text: &mut String, view: &View<A>) -> Result<()> {
     let (read, caps) = (view.read.as_slice(), view.caps.as_slice());
@@ -160,6 +175,7 @@ pub(crate) fn answer<'n, A: Allocator + Copy>(
         Call::Close(source) => close(alloc, book, source),
         Call::Take(sink) => take(alloc, book, sink),
         Call::Leave(sink) => leave(alloc, book, sink),
+        Call::Begins(channel, item) => begins(alloc, book, channel, item),
         Call::View => view(alloc, heap, book),
     }
 }

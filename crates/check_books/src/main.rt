@@ -9,6 +9,7 @@
 //! - `commit P K` commits the steps K as those of process P.
 //! - `put-back P` puts process P back.
 //! - `feed C ITEM BOUND`, `close C`, `take C` and `leave C` are the calls of the outside.
+//! - `begins C ITEM` asks whether the journal of a channel begins with an item.
 //! - `view` makes a snapshot on that heap.
 //!
 //! The expected output was worked out by hand.

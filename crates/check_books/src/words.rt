@@ -14,6 +14,7 @@ pub(crate) enum Call {
     Close(usize),
     Take(usize),
     Leave(usize),
+    Begins(usize, i64),
     View,
 }
 
@@ -36,6 +37,7 @@ fn named(words: &[&str]) -> Result<Call> {
         ["close", source] => Call::Close(source.parse()?),
         ["take", sink] => Call::Take(sink.parse()?),
         ["leave", sink] => Call::Leave(sink.parse()?),
+        ["begins", channel, item] => Call::Begins(channel.parse()?, item.parse()?),
         ["view"] => Call::View,
         _ => bail!("there is no such call"),
     })

@@ -1,3 +1,2 @@
--- Lemmas: states of reports, outputs that are apart, what a run is handed.
-pub mod Apart
+-- Lemmas: what a run is handed.
 pub mod Running

@@ -9,7 +9,7 @@ use Rattle.kpn_run_here.specs.Reports.{events_of}
 use Rattle.kpn_inputs.specs.declared.sources.NamedEnd.{NamedEnd}
 use Rattle.kpn_conclusion.specs.Conclusion.{StoredFile}
 use Rattle.kpn_run_command.specs.declared.reporting.Reported.{Reported}
-use Rattle.kpn_run_command.specs.ReportText.{wanted_of}
+use Rattle.kpn_run_outputs.specs.ReportText.{wanted_of}
 
 -- the trace, if one was asked for: these events in version 2, with the policy and the growth of the network
 abbrev pub trace_files : (trace : Option (List ℕ)) → Tables → List Event → List StoredFile

@@ -12,7 +12,7 @@ use Rattle.kpn_inputs.specs.Inputs.{AreInputs}
 use Rattle.kpn_shelf.specs.Shelf.{Loads}
 use Rattle.kpn_run_command.specs.declared.reporting.Reported.{Reported}
 use Rattle.kpn_run_command.specs.Limits.{limits_of}
-use Rattle.kpn_run_command.specs.Outputs.{AreSinks}
+use Rattle.kpn_run_outputs.specs.Outputs.{AreSinks}
 
 -- a run on one thread: it made turns of the front of the queue, each source was fed its whole list, and there are no
 -- more commits than the limit

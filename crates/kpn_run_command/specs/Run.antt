@@ -6,10 +6,10 @@ use Rattle.kpn_conclusion.specs.declared.Conclusion.{Conclusion}
 use Rattle.kpn_conclusion.specs.Conclusion.{files_in}
 use Rattle.kpn_shelf.specs.Shelf.{Loads, Aliases}
 use Rattle.kpn_run_command.specs.declared.reporting.Reported.{Reported}
-use Rattle.kpn_run_command.specs.ReportText.{report_text, outcome_status}
+use Rattle.kpn_run_outputs.specs.ReportText.{report_text, outcome_status}
 use Rattle.kpn_run_command.specs.Reported.{IsReported, IsRefusalOfReport}
 use Rattle.kpn_run_command.specs.Files.{files_of}
-use Rattle.kpn_run_command.specs.Outputs.{AreOutputsApart, IsUnprepared}
+use Rattle.kpn_run_outputs.specs.Outputs.{AreOutputsApart, IsUnprepared}
 
 -- the files of a run, the text of its report, and its status
 pub record IsConcluded (request : RunRequest) (reported : Reported) (made : Conclusion) : Type 0 where

@@ -1,25 +1,19 @@
 //! The files that a run stores: its trace in version 2, and what its sinks received.
 ghost use Rattle.std.specs.Prelude.{◌≡◌, ◌++◌, ◌∷◌, [], map, option_map, IfOk, IfErr, OnOk};
 ghost use Rattle.kpn_items.specs.ItemFile.{item_text};
-ghost use Rattle.kpn_trace_text.specs.TraceText.{trace_text};
 ghost use Rattle.kpn_conclusion.specs.Conclusion.{stored_as};
 ghost use Rattle.kpn_run_command.specs.Files.{trace_files, file_for, sink_file, sink_files, files_of};
 
-use crate::report_text::wanted_of;
 use crate::reporting::Reported;
 use kpn_conclusion::OutputFile;
-use kpn_history::{History, Version};
+use kpn_history::History;
 use kpn_inputs::NamedEnd;
 use kpn_items::write_items;
 use kpn_lang::Sequence;
 use kpn_net::Network;
 use kpn_refusals::Refusal;
-use kpn_trace_text::write_trace;
+use kpn_run_outputs::{trace_of, wanted_of};
 use std::alloc::Global;
-
-// How many bytes are reserved for each line. The longest has 37 with its line feed: a `put` of the least item, if the
-// two numbers are 65535.
-const LINE: usize = 40;
 
 /// The files that a run stores, in the order in which it stores them. Of each sink it stores as many items as are
 /// wanted at most.
@@ -76,20 +70,6 @@ fn push_file(
     let owned = String::from_str(alloc, name)?;
     files.push(OutputFile { name: owned, bytes })?;
     Ok(())
-}
-
-/// The text of a trace. There is room for each line before the first is made.
-pub fn trace_of(alloc: Global, network: &Network, history: &History) -> Result<Vec<u8>, Refusal>
-    ensures ok { let t = network.now in IfOk result (λ text.
-        text.items ≡ trace_text Version.Two t.policy t.growth history.now.events) }
-    ensures refused { IfErr result (λ refusal. refusal ≡ Refusal.NoMemory) }
-{
-    let lines = history.len().saturating_add(2);
-    let mut text = Vec::with_capacity(alloc, lines.saturating_mul(LINE))?;
-    match write_trace(&mut text, network.policy(), network.growth(), history) {
-        Ok(()) => Ok(text),
-        Err(_) => Err(Refusal::NoMemory),
-    }
 }
 
 // The file of each sink that an option names, in order of the sinks. What the sinks received is given in this order.

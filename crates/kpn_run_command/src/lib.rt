@@ -3,12 +3,7 @@
 #![tactic(auto)]
 
 mod files;
-mod outputs;
-mod report_text;
 mod reporting;
 mod run;
 
-pub use files::trace_of;
-pub use outputs::{Outputs, check_outputs};
-pub use report_text::{push_faults, push_waits, status_of, word_of};
 pub use run::{run_command, run_command_by_workers};

@@ -4,14 +4,13 @@ ghost use Rattle.std.specs.Prelude.{◌≡◌, IfOk, IfErr};
 ghost use Rattle.kpn_run_command.specs.Run.{IsConcluded, IsRun, IsNoRun};
 
 use crate::files::files_of;
-use crate::outputs::prepare;
-use crate::report_text::{status_of, text_of};
 use crate::reporting::{Reported, limits_of, run_by_workers};
 use kpn_conclusion::Conclusion;
 use kpn_inputs::RunInputs;
 use kpn_refusals::Refusal;
 use kpn_request::RunRequest;
 use kpn_run_here::run_here;
+use kpn_run_outputs::{prepare, status_of, text_of};
 use kpn_shelf::Shelf;
 use std::alloc::Global;
 use std::sync::Wait;

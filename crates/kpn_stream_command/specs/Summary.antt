@@ -14,7 +14,7 @@ use Rattle.kpn_configuration.specs.Configuration.{channel_in}
 use Rattle.kpn_run_state.specs.Book.{Book}
 use Rattle.kpn_run_here.specs.declared.outcome.Outcome.{Outcome}
 use Rattle.kpn_run_here.specs.declared.outcome.Outcome.TheVariants.{Stopped}
-use Rattle.kpn_run_command.specs.ReportText.{fault_text, wait_text, state_lines, outcome_word, outcome_status}
+use Rattle.kpn_run_outputs.specs.ReportText.{fault_text, wait_text, state_lines, outcome_word, outcome_status}
 use Rattle.kpn_stream.specs.Ending.{end_numbers}
 use Rattle.kpn_stream_command.specs.declared.summary.SinkEnd.{SinkEnd}
 

@@ -16,7 +16,7 @@ use kpn_inputs::{Ends, FileOption, load_document, options_of};
 use kpn_net::Network;
 use kpn_refusals::Refusal;
 use kpn_request::{RunRequest, StreamRequest};
-use kpn_run_command::{check_outputs, trace_of};
+use kpn_run_outputs::{check_outputs, trace_of};
 use kpn_shelf::{Ports, Shelf};
 use kpn_stream::{Ending, Limits, Sinks, Streamed, stream};
 use kpn_stream_devices::{Input, Inputs, Output, Outputs};

@@ -11,7 +11,7 @@ use crate::places::channels_of;
 use kpn_history::{How, State};
 use kpn_inputs::Ends;
 use kpn_pieces::Pushed;
-use kpn_run_command::{push_faults, push_waits, status_of, word_of};
+use kpn_run_outputs::{push_faults, push_waits, status_of, word_of};
 use kpn_run_state::Book;
 use kpn_stream::Outcome;
 use kpn_text::Document;

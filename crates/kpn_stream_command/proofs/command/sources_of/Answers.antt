@@ -3,7 +3,7 @@ use Rattle.std.proofs.Common.{◌≡◌, ◌∙◌, ℕ, List, Bor, map, ap, sym
 use Rattle.std.proofs.lemmas.Result.{IfOk-weaker}
 use Rattle.kpn_inputs.specs.Sources.{name_in, file_in}
 use Rattle.kpn_inputs.proofs.SourceLemmas.{map-map}
-use Rattle.kpn_run_command.proofs.Apart.{now}
+use Rattle.kpn_run_outputs.proofs.Apart.{now}
 use Rattle.kpn_stream_command.proofs.command.sources_of.Goals as goal
 
 -- a part of each word

@@ -1,0 +1,2 @@
+-- Lemmas: outputs that are apart.
+pub mod Apart
