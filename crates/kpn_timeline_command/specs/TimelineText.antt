@@ -20,30 +20,36 @@ track_line p name =
     codes ",{\"ph\":\"M\",\"pid\":1,\"tid\":" ++ decimal (p + 1)
     ++ codes ",\"name\":\"thread_name\",\"args\":{\"name\":\"" ++ name ++ codes "\"}}\n"
 
--- the front of a slice on the track of process p, up to its name
-abbrev pub slice_front : (p begin ticks : ℕ) → List ℕ
-slice_front p begin ticks =
+-- the front of a slice on the track of process p, up to its begin
+abbrev pub slice_front : (p begin : ℕ) → List ℕ
+slice_front p begin =
     codes ",{\"ph\":\"X\",\"pid\":1,\"tid\":" ++ decimal (p + 1) ++ codes ",\"ts\":" ++ decimal begin
-    ++ codes ",\"dur\":" ++ decimal ticks ++ codes ",\"name\":\""
 
-abbrev pub word_and_name : (word name : List ℕ) → List ℕ
-word_and_name word name = word ++ codes " " ++ name
+-- the words of a slice of one tick, up to the name of its channel
+abbrev pub get_words : List ℕ
+get_words = codes ",\"dur\":1,\"name\":\"get "
 
--- a slice of one tick, in which process p gets or puts an item
-abbrev pub item_slice : (p tick : ℕ) → (word name : List ℕ) → ℤ → List ℕ
-item_slice p tick word name item =
-    slice_front p (tick - 1) 1 ++ word_and_name word name
-    ++ (codes "\",\"args\":{\"item\":" ++ signed_decimal item ++ codes "}}\n")
+abbrev pub put_words : List ℕ
+put_words = codes ",\"dur\":1,\"name\":\"put "
 
--- the end of the slice of a wait
-abbrev pub wait_end : (name why : List ℕ) → List ℕ
-wait_end name why = codes "waits " ++ name ++ why ++ codes "\"}\n"
+-- what stands behind the name: the item
+abbrev pub item_end : ℤ → List ℕ
+item_end item = codes "\",\"args\":{\"item\":" ++ signed_decimal item ++ codes "}}\n"
+
+-- a slice of one tick, in which process p gets or puts an item. Its words stand in front of its name
+abbrev pub item_slice : (p tick : ℕ) → (words name : List ℕ) → ℤ → List ℕ
+item_slice p tick words name item = slice_front p (tick - 1) ++ (words ++ name) ++ item_end item
+
+-- the end of the slice of a wait of so many ticks
+abbrev pub wait_end : (ticks : ℕ) → (name why : List ℕ) → List ℕ
+wait_end ticks name why =
+    codes ",\"dur\":" ++ decimal ticks ++ codes ",\"name\":\"waits " ++ name ++ why ++ codes "\"}\n"
 
 -- a wait of process p from the end of its latest slice to the tick before this one, if that is longer than nothing
 abbrev pub wait_slice : (p latest tick : ℕ) → (name why : List ℕ) → List ℕ
 wait_slice p latest tick name why =
     if nat_lt (latest + 1) tick
-    then slice_front p latest (tick - 1 - latest) ++ wait_end name why
+    then slice_front p latest ++ wait_end (tick - 1 - latest) name why
     else []
 
 -- the growth of a channel, for which process p waits
@@ -53,15 +59,15 @@ growth_line p latest name =
     ++ codes ",\"name\":\"" ++ name ++ codes " grows\"}\n"
 
 -- a get or put, and the wait before it if it begins later than one tick after the latest one
-abbrev pub move_lines : (p latest tick : ℕ) → (word why name : List ℕ) → ℤ → List ℕ
-move_lines p latest tick word why name item = wait_slice p latest tick name why ++ item_slice p tick word name item
+abbrev pub move_lines : (p latest tick : ℕ) → (words why name : List ℕ) → ℤ → List ℕ
+move_lines p latest tick words why name item = wait_slice p latest tick name why ++ item_slice p tick words name item
 
 -- what is drawn of an event
 abbrev pub event_lines : (names : List (List ℕ)) → Tables → Clocks → Event → List ℕ
 event_lines names t s (Get p c v) =
-    move_lines p (latest_of s p) (get_tick s p c) (codes "get") [] (name_at names c) v
+    move_lines p (latest_of s p) (get_tick s p c) get_words [] (name_at names c) v
 event_lines names t s (Put p c v) =
-    move_lines p (latest_of s p) (put_tick t s p c) (codes "put") (codes " full") (name_at names c) v
+    move_lines p (latest_of s p) (put_tick t s p c) put_words (codes " full") (name_at names c) v
 event_lines names t s (Grow p c n) = growth_line p (latest_of s p) (name_at names c)
 event_lines names t s event = []
 
@@ -73,27 +79,33 @@ all_event_lines names t s (event ∷ events) =
 
 -- ---- the counters
 
--- so many items lie unread on a channel from this tick on
-abbrev pub counter_front : (tick : ℕ) → List ℕ
-counter_front tick = codes ",{\"ph\":\"C\",\"pid\":1,\"ts\":" ++ decimal tick ++ codes ",\"name\":\""
+-- what stands between the tick and the number of items of a channel
+abbrev pub counter_label : (name : List ℕ) → List ℕ
+counter_label name = codes ",\"name\":\"" ++ name ++ codes "\",\"args\":{\"unread\":"
 
-abbrev pub counter_line : (name : List ℕ) → (tick unread : ℕ) → List ℕ
-counter_line name tick unread =
-    counter_front tick ++ name ++ (codes "\",\"args\":{\"unread\":" ++ decimal unread ++ codes "}}\n")
+-- so many items, and what stands around them
+abbrev pub counter_end : (label : List ℕ) → (unread : ℕ) → List ℕ
+counter_end label unread = label ++ decimal unread ++ codes "}}\n"
+
+-- so many items lie unread on a channel from this tick on
+abbrev pub counter_line : (label : List ℕ) → (tick unread : ℕ) → List ℕ
+counter_line label tick unread =
+    codes ",{\"ph\":\"C\",\"pid\":1,\"ts\":" ++ decimal tick ++ counter_end label unread
 
 -- these reads, one after another, of so many unread items
-abbrev pub read_lines : (name : List ℕ) → (unread : ℕ) → (reads : List ℕ) → List ℕ
-read_lines name unread [] = []
-read_lines name unread (tick ∷ reads) = counter_line name tick (unread - 1) ++ read_lines name (unread - 1) reads
+abbrev pub read_lines : (label : List ℕ) → (unread : ℕ) → (reads : List ℕ) → List ℕ
+read_lines label unread [] = []
+read_lines label unread (tick ∷ reads) =
+    counter_line label tick (unread - 1) ++ read_lines label (unread - 1) reads
 
 -- the writes and reads of a channel by their ticks, with so many unread items at first
-abbrev pub counter_lines : (name : List ℕ) → (unread : ℕ) → (written reads : List ℕ) → List ℕ
-counter_lines name unread [] reads = read_lines name unread reads
-counter_lines name unread (tick ∷ written) reads =
+abbrev pub counter_lines : (label : List ℕ) → (unread : ℕ) → (written reads : List ℕ) → List ℕ
+counter_lines label unread [] reads = read_lines label unread reads
+counter_lines label unread (tick ∷ written) reads =
     let gone = reads_before tick reads in
     let now = unread - gone + 1 in
-    read_lines name unread (take gone reads) ++ counter_line name tick now
-    ++ counter_lines name now written (drop gone reads)
+    read_lines label unread (take gone reads) ++ counter_line label tick now
+    ++ counter_lines label now written (drop gone reads)
 
 -- ---- the whole
 
@@ -106,7 +118,8 @@ abbrev pub each_below : (n : ℕ) → (line : ℕ → List ℕ) → List ℕ
 each_below n line = concat (map line (range_with_len 0 n))
 
 abbrev pub channel_counters : (names : List (List ℕ)) → Clocks → (c : ℕ) → List ℕ
-channel_counters names s c = counter_lines (name_at names c) 0 (written_of s c) (read_of s c)
+channel_counters names s c =
+    counter_lines (counter_label (name_at names c)) 0 (written_of s c) (read_of s c)
 
 -- the timeline of these events of the network
 abbrev pub timeline : Document → Tables → List Event → List ℕ

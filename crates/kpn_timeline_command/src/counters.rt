@@ -3,32 +3,33 @@ ghost use Rattle.std.specs.Prelude.{◌≡◌, ◌+◌, ◌-◌, ◌<◌, ◌≤
 ghost use Rattle.kpn_pieces.specs.Added.{Adds};
 ghost use Rattle.kpn_ticks.specs.Held.{reads_before};
 ghost use Rattle.kpn_timeline_command.specs.Sent.{Sends};
-ghost use Rattle.kpn_timeline_command.specs.TimelineText.{counter_front, counter_line, read_lines, counter_lines};
+ghost use Rattle.kpn_timeline_command.specs.TimelineText.{counter_end, counter_line, read_lines, counter_lines};
 
+use crate::digits::push_digits;
 use crate::sending::{SendFault, send_if_long};
 use kpn_pieces::Pushed;
 use kpn_ticks::reads_before;
 use std::io::Write;
 
-/// The writes and reads of a channel by their ticks.
+/// The writes and reads of a channel by their ticks. Its label stands between the tick and the number of items.
 pub(crate) fn send_counters<W: Write>(
     out: &mut W,
     text: &mut String,
-    name: &str,
+    label: &str,
     written: &[usize],
     reads: &[usize],
 ) -> Result<(), SendFault>
     ensures { Sends W.contents result out.old out.new text.old text.new
-        (counter_lines name.now 0 written.now reads.now) }
+        (counter_lines label.now 0 written.now reads.now) }
 {
     let mut unread: usize = 0;
     let mut place = 0;
     for tick in written {
-        let gone = send_write(out, text, name, unread, *tick, &reads[place..])?;
+        let gone = send_write(out, text, label, unread, *tick, &reads[place..])?;
         unread = unread.saturating_sub(gone) + 1;
         place += gone;
     }
-    send_reads(out, text, name, unread, &reads[place..])?;
+    send_reads(out, text, label, unread, &reads[place..])?;
     Ok(())
 }
 
@@ -36,7 +37,7 @@ pub(crate) fn send_counters<W: Write>(
 fn send_write<W: Write>(
     out: &mut W,
     text: &mut String,
-    name: &str,
+    label: &str,
     unread: usize,
     tick: usize,
     reads: &[usize],
@@ -46,12 +47,12 @@ fn send_write<W: Write>(
     ensures within { IfOk result (λ gone. gone ≤ length reads.now) }
     ensures text { let gone = reads_before tick reads.now in
         Sends W.contents result out.old out.new text.old text.new
-        (read_lines name.now unread (take gone reads.now)
-        ++ counter_line name.now tick (unread - gone + 1)) }
+        (read_lines label.now unread (take gone reads.now)
+        ++ counter_line label.now tick (unread - gone + 1)) }
 {
     let gone = reads_before(tick, reads);
-    send_reads(out, text, name, unread, &reads[..gone])?;
-    push_counter(text, name, tick, unread.saturating_sub(gone) + 1)?;
+    send_reads(out, text, label, unread, &reads[..gone])?;
+    push_counter(text, label, tick, unread.saturating_sub(gone) + 1)?;
     send_if_long(out, text)?;
     Ok(gone)
 }
@@ -60,33 +61,34 @@ fn send_write<W: Write>(
 fn send_reads<W: Write>(
     out: &mut W,
     text: &mut String,
-    name: &str,
+    label: &str,
     unread: usize,
     reads: &[usize],
 ) -> Result<(), SendFault>
     ensures { Sends W.contents result out.old out.new text.old text.new
-        (read_lines name.now unread reads.now) }
+        (read_lines label.now unread reads.now) }
 {
     let mut left = unread;
     for tick in reads {
         left = left.saturating_sub(1);
-        push_counter(text, name, *tick, left)?;
+        push_counter(text, label, *tick, left)?;
         send_if_long(out, text)?;
     }
     Ok(())
 }
 
-fn push_counter(text: &mut String, name: &str, tick: usize, unread: usize) -> Pushed
-    ensures { Adds result text.old text.new (counter_line name.now tick unread) }
+fn push_counter(text: &mut String, label: &str, tick: usize, unread: usize) -> Pushed
+    ensures { Adds result text.old text.new (counter_line label.now tick unread) }
 {
-    push_counter_front(text, tick)?;
-    text.push_str(name)?;
-    write!(text, "\",\"args\":{{\"unread\":{unread}}}}}\n")?;
-    Ok(())
+    text.push_str(",{\"ph\":\"C\",\"pid\":1,\"ts\":")?;
+    push_digits(text, tick)?;
+    push_unread(text, label, unread)
 }
 
-fn push_counter_front(text: &mut String, tick: usize) -> Pushed
-    ensures { Adds result text.old text.new (counter_front tick) }
+fn push_unread(text: &mut String, label: &str, unread: usize) -> Pushed
+    ensures { Adds result text.old text.new (counter_end label.now unread) }
 {
-    write!(text, ",{{\"ph\":\"C\",\"pid\":1,\"ts\":{tick},\"name\":\"")
+    text.push_str(label)?;
+    push_digits(text, unread)?;
+    text.push_str("}}\n")
 }

@@ -4,6 +4,7 @@
 mod boxes;
 mod command;
 mod counters;
+mod digits;
 mod frame;
 mod picture;
 mod scale;

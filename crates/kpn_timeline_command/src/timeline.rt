@@ -6,7 +6,7 @@ ghost use Rattle.kpn_pieces.specs.Added.{Adds};
 ghost use Rattle.kpn_ticks.specs.Ticks.{start, clocks_after};
 ghost use Rattle.kpn_ticks.specs.Shown.{shown};
 ghost use Rattle.kpn_timeline_command.specs.Sent.{Sends};
-ghost use Rattle.kpn_timeline_command.specs.TimelineText.{head, track_line, each_below, all_event_lines, channel_counters, timeline};
+ghost use Rattle.kpn_timeline_command.specs.TimelineText.{head, track_line, each_below, all_event_lines, counter_label, channel_counters, timeline};
 
 use crate::counters::send_counters;
 use crate::sending::{SendFault, send_if_long, send_last};
@@ -32,7 +32,7 @@ pub(crate) fn send_timeline<W: Write>(
 {
     let mut text = first_lines(alloc, document, network.instances())?;
     let clocks = send_events(alloc, out, &mut text, document, network, events)?;
-    send_channels(out, &mut text, document, network.channels(), &clocks)?;
+    send_channels(alloc, out, &mut text, document, network.channels(), &clocks)?;
     push_end(&mut text)?;
     send_last(out, text.as_bytes())?;
     Ok(())
@@ -108,6 +108,7 @@ fn send_events<W: Write>(
 
 // A counter for each channel.
 fn send_channels<W: Write>(
+    alloc: Global,
     out: &mut W,
     text: &mut String,
     document: &Document,
@@ -118,13 +119,22 @@ fn send_channels<W: Write>(
         (each_below channels (channel_counters document.now.names.channels (shown clocks.now))) }
 {
     for c in 0..channels {
+        let label = label_of(alloc, document.channel_name(c))?;
         send_counters(
             out,
             text,
-            document.channel_name(c),
+            label.as_str(),
             clocks.written_of(c),
             clocks.read_of(c),
         )?;
     }
     Ok(())
+}
+
+fn label_of(alloc: Global, name: &str) -> Result<String, AllocError>
+    ensures { IfOk result (λ label. string_bytes label ≡ counter_label name.now) }
+{
+    let mut label = String::new(alloc);
+    write!(label, ",\"name\":\"{name}\",\"args\":{{\"unread\":")?;
+    Ok(label)
 }

@@ -9,6 +9,6 @@ abbrev pub invariant-loop-tick : goal.invariant-loop-tick
 invariant-loop-tick g l =
     let contents = g.W.Write.contents in
     AreSent (contents l.fn.out) (contents l.out)
-    (string_bytes l.text ++ counter_lines l.name l.unread (drop l.tick-index l.written) (drop l.place l.reads))
-    (string_bytes l.fn.text ++ counter_lines l.name 0 l.written l.reads)
+    (string_bytes l.text ++ counter_lines l.label l.unread (drop l.tick-index l.written) (drop l.place l.reads))
+    (string_bytes l.fn.text ++ counter_lines l.label 0 l.written l.reads)
     × (l.unread ≤ l.tick-index) × (l.place ≤ length l.reads)

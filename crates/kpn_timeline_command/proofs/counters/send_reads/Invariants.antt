@@ -9,5 +9,5 @@ abbrev pub invariant-loop-tick : goal.invariant-loop-tick
 invariant-loop-tick g l =
     let contents = g.W.Write.contents in
     AreSent (contents l.fn.out) (contents l.out)
-    (string_bytes l.text ++ read_lines l.name l.left (drop l.tick-index l.reads))
-    (string_bytes l.fn.text ++ read_lines l.name l.unread l.reads)
+    (string_bytes l.text ++ read_lines l.label l.left (drop l.tick-index l.reads))
+    (string_bytes l.fn.text ++ read_lines l.label l.unread l.reads)

@@ -5,7 +5,7 @@ use Rattle.kpn_names.specs.Names.{name_at}
 use Rattle.kpn_ticks.specs.Ticks.{written_of}
 use Rattle.kpn_ticks.specs.Shown.{shown}
 use Rattle.kpn_timeline_command.specs.Sent.{AreSent}
-use Rattle.kpn_timeline_command.specs.TimelineText.{each_below, counter_lines, channel_counters}
+use Rattle.kpn_timeline_command.specs.TimelineText.{each_below, counter_label, counter_lines, channel_counters}
 use Rattle.kpn_timeline_command.proofs.GoingOut.{none_sent_more, one_number_more}
 use Rattle.kpn_timeline_command.proofs.timeline.send_channels.Goals as goal
 
@@ -19,9 +19,11 @@ loop-c-preserved g c =
     let k = c.loop-c.c in
     one_number_more _ _ _ (channel_counters names s) k _ (string_bytes c.args.text.now) _ _ c.loop-c.invariant
     c.in_ok-send_counters.ensures
-    (ap (λ name. counter_lines name 0 c.written_of.result.now c.read_of.result.now) c.channel_name.ensures
-    ∙ ap (λ (ws : List ℕ). counter_lines (name_at names k) 0 ws c.read_of.result.now) c.written_of.ensures
-    ∙ ap (λ (rs : List ℕ). counter_lines (name_at names k) 0 (written_of s k) rs) c.read_of.ensures)
+    (ap (λ label. counter_lines label 0 c.written_of.result.now c.read_of.result.now)
+    (c.as_str.ensures.value ∙ c.in_ok-label.ensures ∙ ap counter_label c.channel_name.ensures)
+    ∙ ap (λ (ws : List ℕ). counter_lines (counter_label (name_at names k)) 0 ws c.read_of.result.now)
+    c.written_of.ensures
+    ∙ ap (λ (rs : List ℕ). counter_lines (counter_label (name_at names k)) 0 (written_of s k) rs) c.read_of.ensures)
 
 pub returns : goal.returns
 returns g c =
