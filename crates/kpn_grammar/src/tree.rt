@@ -78,7 +78,7 @@ pub struct Process<'a> {
 }
 
 /// The value of a parameter as written.
-#[derive(Clone, Copy, PartialEq, Eq)]
+#[derive(Clone, Copy)]
 pub enum Literal {
     Plain(Number),
     /// A number behind a minus.

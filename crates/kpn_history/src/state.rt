@@ -22,7 +22,7 @@ pub enum State {
 }
 
 /// How many processes are in each state.
-#[derive(Clone, Copy, Debug, PartialEq, Eq)]
+#[derive(Clone, Copy, Debug, PartialEq)]
 pub struct Counts {
     pub ready: usize,
     pub held: usize,
@@ -35,7 +35,7 @@ pub struct Counts {
 
 /// What a run shows at one moment. The first four lists have an entry for each channel, `states` has one for each
 /// process.
-#[derive(Debug, Drop, PartialEq, Eq)]
+#[derive(Drop)]
 pub struct View<A: Allocator = Global> {
     /// All items that were written on the channel, in order.
     pub journals: Sequence<Journal<A>, A>,
@@ -68,7 +68,7 @@ impl<A: Allocator> View<A> {
 
 /// How a run has come to a stop, once no growth is owed and nothing more can happen except that the outside leaves a
 /// sink.
-#[derive(Clone, Copy, Debug, PartialEq, Eq)]
+#[derive(Clone, Copy, Debug, PartialEq)]
 pub enum Verdict {
     /// Each process has ended or waits on an empty channel.
     Ended,

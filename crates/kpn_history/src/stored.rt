@@ -5,7 +5,7 @@ use kpn_net::{Growth, Policy};
 use std::alloc::{Allocator, Global};
 
 /// The version of the text of a trace.
-#[derive(Clone, Copy, Debug, PartialEq, Eq)]
+#[derive(Clone, Copy)]
 pub enum Version {
     /// A growth does not state the new capacity. Channels grow under the policy `cycles` and by one.
     One,
@@ -14,7 +14,7 @@ pub enum Version {
 }
 
 /// A trace: the events of a run, and by which rules its channels grew.
-#[derive(Debug, Drop)]
+#[derive(Drop)]
 pub struct Trace<A: Allocator = Global> {
     pub version: Version,
     /// `Cycles` in version 1.

@@ -20,7 +20,7 @@ use std::marker::Model;
 
 /// What a run came to: how it ended, the variables then, what remained of the lists, and what the process said, in
 /// order.
-#[derive(Debug, Drop)]
+#[derive(Drop)]
 pub struct Run {
     ending: Ending,
     variables: Sequence<i64>,

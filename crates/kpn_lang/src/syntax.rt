@@ -1,7 +1,7 @@
 //! The syntax of processes: expressions as trees, statements that name blocks by number.
 
 /// An operator of two operands.
-#[derive(Clone, Copy, Debug, PartialEq, Eq)]
+#[derive(Clone, Copy, PartialEq)]
 pub enum Op {
     Add,
     Sub,
@@ -19,7 +19,7 @@ pub enum Op {
 }
 
 /// An expression over the variables of a process, which it names by number.
-#[derive(Debug, Drop)]
+#[derive(Drop)]
 pub enum Expr {
     /// A whole number.
     Num(i64),
@@ -37,7 +37,7 @@ pub enum Expr {
 pub type BlockId = usize;
 
 /// A statement. It names the blocks inside it by number.
-#[derive(Debug, Drop)]
+#[derive(Drop)]
 pub enum Stmt {
     /// Sets a variable to the value of an expression.
     Assign(usize, Expr),

@@ -10,7 +10,7 @@ pub enum Said {
 }
 
 /// How a run on whole lists ends.
-#[derive(Clone, Copy, Debug, PartialEq, Eq)]
+#[derive(Clone, Copy, PartialEq, Eq)]
 pub enum Ending {
     /// The body came to its end.
     Done,

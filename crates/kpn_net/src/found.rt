@@ -1,7 +1,7 @@
 //! What a search for a cycle finds.
 
 /// What a search for a cycle of waiting processes finds.
-#[derive(Clone, Copy, Debug, PartialEq, Eq)]
+#[derive(Clone, Copy, PartialEq, Eq)]
 pub enum Found {
     /// There is no cycle.
     NoCycle,

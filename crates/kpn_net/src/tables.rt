@@ -2,7 +2,7 @@
 use kpn_lang::Sequence;
 
 /// A channel of a network, by what is at its outer end.
-#[derive(Clone, Copy, Debug, PartialEq, Eq)]
+#[derive(Clone, Copy, PartialEq)]
 pub enum ChannelSpec {
     /// From process to process, with this capacity.
     Inner(u32),
@@ -13,7 +13,7 @@ pub enum ChannelSpec {
 }
 
 /// Which channels grow.
-#[derive(Clone, Copy, Debug, PartialEq, Eq)]
+#[derive(Clone, Copy, PartialEq)]
 pub enum Policy {
     /// The smallest full channel of a cycle of waiting processes.
     Cycles,
@@ -22,7 +22,7 @@ pub enum Policy {
 }
 
 /// How large a channel becomes when it grows.
-#[derive(Clone, Copy, Debug, PartialEq, Eq)]
+#[derive(Clone, Copy, PartialEq)]
 pub enum Growth {
     /// Its capacity becomes 1 larger.
     One,
@@ -31,7 +31,7 @@ pub enum Growth {
 }
 
 /// A process of a network: an instance of a program.
-#[derive(Debug, Drop)]
+#[derive(Drop)]
 pub struct Instance {
     /// The number of the program.
     pub program: usize,
@@ -44,7 +44,7 @@ pub struct Instance {
 }
 
 /// What writes a channel or reads it.
-#[derive(Clone, Copy, Debug, PartialEq, Eq)]
+#[derive(Clone, Copy, PartialEq, Eq)]
 pub enum End {
     /// The process with this number.
     Process(usize),

@@ -11,7 +11,7 @@ use kpn_tokens::Lexeme;
 use std::alloc::{AllocError, Global};
 
 /// The byte that a fault concerns, and the byte of the other of two that conflict.
-#[derive(Clone, Copy, PartialEq, Eq)]
+#[derive(Clone, Copy)]
 pub struct Places {
     pub first: usize,
     pub second: Option<usize>,

@@ -3,7 +3,7 @@ ghost use Rattle.std.specs.Prelude.{◌≡◌, ◌≤◌, ◌+◌, length, take,
 ghost use Rattle.kpn_places.specs.Lines as spec;
 
 /// A place in a text: its line, and its column, which counts bytes. Both count from 1.
-#[derive(Clone, Copy, PartialEq, Eq)]
+#[derive(Clone, Copy)]
 pub(crate) struct Position {
     pub line: usize,
     pub column: usize,

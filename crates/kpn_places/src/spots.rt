@@ -7,7 +7,7 @@ use kpn_tokens::{Keyword, Lexeme, Mark, Token};
 use std::alloc::{AllocError, Global};
 
 /// Where a token stands, by what a name there is.
-#[derive(Clone, Copy, PartialEq, Eq)]
+#[derive(Clone, Copy)]
 pub enum Spot {
     /// Before all processes. The word `network` counts as outside too.
     Outside,

@@ -3,7 +3,7 @@ use crate::stop::AloneStop;
 use kpn_lang::{Said, Sequence};
 
 /// What the process said, in order, and how it ended.
-#[derive(Debug, Drop)]
+#[derive(Drop)]
 pub struct AloneRun {
     pub talk: Sequence<Said>,
     pub stop: AloneStop,

@@ -60,7 +60,7 @@ impl<'a> Eq for Name<'a> {
 }
 
 /// A number: 0 to [`MAX_NUMBER`]. Contracts see it as a natural number.
-#[derive(Clone, Copy, PartialEq, Eq)]
+#[derive(Clone, Copy)]
 pub struct Number {
     value: u64,
 }
@@ -271,7 +271,7 @@ impl Keyword {
 }
 
 /// A token of the text.
-#[derive(PartialEq, Eq, Drop)]
+#[derive(Drop)]
 pub enum Token<'a> {
     Name(Name<'a>),
     Number(Number),
@@ -280,7 +280,7 @@ pub enum Token<'a> {
 }
 
 /// A token and the byte at which it begins.
-#[derive(PartialEq, Eq, Drop)]
+#[derive(Drop)]
 pub struct Lexeme<'a> {
     pub token: Token<'a>,
     pub start: usize,

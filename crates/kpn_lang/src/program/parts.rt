@@ -11,7 +11,7 @@ use crate::syntax::{BlockId, Expr, Stmt};
 use kpn_limits::{MAX_LEVELS, MAX_NODES, MAX_PORTS, MAX_VARIABLES};
 
 /// How many in ports, out ports, parameters and variables, and the blocks of statements.
-#[derive(Debug, Drop)]
+#[derive(Drop)]
 pub struct Parts {
     pub ins: usize,
     pub outs: usize,

@@ -15,7 +15,7 @@ use kpn_lang::Program;
 use kpn_limits::{MAX_CAPACITY, MAX_CHANNELS, MAX_PROCESSES};
 
 /// The programs, the instances, the channels, the limit of each capacity, and how channels grow.
-#[derive(Debug, Drop)]
+#[derive(Drop)]
 pub struct Parts {
     pub programs: Vec<Program>,
     pub instances: Vec<Instance>,

@@ -10,7 +10,7 @@ use crate::tables::{ChannelSpec, End, Instance};
 use std::alloc::{AllocError, Global};
 
 /// What is at one side of a channel.
-#[derive(Clone, Copy, Debug)]
+#[derive(Clone, Copy)]
 pub enum Side {
     /// Nothing.
     Nobody,
