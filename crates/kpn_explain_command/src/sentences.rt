@@ -155,8 +155,7 @@ pub(crate) fn advice(case: Case) -> &'static [u8]
             b"Names have letters, digits and `_`. A comment goes from `#` to the end of its line.",
         Case::Misplaced =>
             b"Look also at what stands just before it: something may be missing there.",
-        Case::EarlyEnd =>
-            b"Close each `{` by a `}`. Behind all processes has to come a network.",
+        Case::EarlyEnd => b"Close each `{` by a `}`. Behind all processes has to come a network.",
         Case::UnknownVariable =>
             b"Assign to it first, or make it a parameter. An item comes by `read PORT VARIABLE;`.",
         Case::LateVariable => b"Give it a value before this place, or make it a parameter.",
