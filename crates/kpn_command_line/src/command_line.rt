@@ -285,7 +285,7 @@ can't be stored, no report is written, and the files before it stay.
 
 With --workers the processes are stepped side by side. What is then written of `ended` and `enough`
 is the same for any number of them. Four workers are faster than one thread if processes compute for
-some 2 microseconds or longer between two reads or writes.
+a microsecond or longer between two reads or writes.
 
 The file of a source has an item on each line: an optional `-` and 1 to 19 digits.
 

@@ -1,14 +1,19 @@
 -- What a worker does with several processes, one turn after the other.
-use Rattle.std.proofs.Common.{◌≡◌, ℕ, zero, suc, ◌+◌, ◌-◌, ◌<◌, Option, Some, List, [], ◌∷◌, ◌++◌, length, take, drop, get_or, inl, inr, refl, sym, ap, ◌∙◌, subst, arith}
+use Rattle.std.proofs.Common.{◌≡◌, ℕ, zero, suc, ◌+◌, ◌-◌, ◌<◌, ◌≤◌, Option, Some, List, [], ◌∷◌, ◌++◌, length, take, drop, get_or, inl, inr, refl, sym, ap, ◌∙◌, subst, arith, IfSome}
 use Rattle.std.specs.Prelude.{slice_set, slice_get}
 use Rattle.std.proofs.lemmas.Bool.{cases_order}
 use Rattle.std.proofs.lemmas.List.{take_more, take_more_set}
+use Rattle.kpn_lang.specs.Parts.{Parts}
+use Rattle.kpn_step.specs.declared.stop.Stop.{Stop}
+use Rattle.kpn_step.specs.Stops.{advanced_of}
 use Rattle.kpn_run_state.specs.Book.{Book}
 use Rattle.kpn_desk.specs.declared.seat.Why.{Why}
+use Rattle.kpn_desk.specs.declared.turn.Stepped.{Stepped}
 use Rattle.kpn_desk.specs.Desk.{Desk}
 use Rattle.kpn_desk.specs.declared.gate.Go.{Go}
 use Rattle.kpn_desk.specs.declared.gate.Go.TheVariants.{On, Abandon}
-use Rattle.kpn_desk.specs.Batch.{Turn, Batch, CommitsOrDrops, PutsBack, InTurn, IsEnd, Settles, claimed_by, LetsThrough}
+use Rattle.kpn_desk.specs.Batch.{Turn, Batch, IsTurnOf, made_of, steps_of, CommitsOrDrops, PutsBack, InTurn, IsEnd, Settles, claimed_by, LetsThrough, LetsAll, TurnsAtOnce, GoesAtOnce}
+use Rattle.kpn_run_state.specs.AtOnce.{CommitsAtOnce}
 
 -- ---- one turn more
 
@@ -39,15 +44,15 @@ one_more_set Does turns i turn before between after there so_far does =
 
 -- a turn of the same process in the place of another
 pub claimed_by-set : (turns : List Turn) (i : ℕ) (turn d : Turn) → i < length turns
-    → turn.claimed ≡ (get_or turns i d).claimed → claimed_by (slice_set turns i turn) ≡ claimed_by turns
+    → turn.process ≡ (get_or turns i d).process → claimed_by (slice_set turns i turn) ≡ claimed_by turns
 claimed_by-set [] i turn d below same = absurd (omega (arith, below))
 claimed_by-set (t ∷ turns) zero turn d below same = ap (λ p. p ∷ claimed_by turns) same
 claimed_by-set (t ∷ turns) (suc i) turn d below same =
-    ap (λ ps. t.claimed ∷ ps) (claimed_by-set turns i turn d (omega (arith, below)) same)
+    ap (λ ps. t.process ∷ ps) (claimed_by-set turns i turn d (omega (arith, below)) same)
 
 -- the process of a turn
 pub claimed_at : (turns : List Turn) (i : ℕ) (d : Turn) → i < length turns
-    → slice_get (claimed_by turns) i ≡ Some (get_or turns i d).claimed
+    → slice_get (claimed_by turns) i ≡ Some (get_or turns i d).process
 claimed_at [] i d below = absurd (omega (arith, below))
 claimed_at (t ∷ turns) zero d below = refl
 claimed_at (t ∷ turns) (suc i) d below = claimed_at turns i d (omega (arith, below))
@@ -99,3 +104,40 @@ settled b why before between after end turns committed same commits back book en
       (subst (λ xs. InTurn PutsBack (take (b.held - committed) (drop committed xs)) between.book after.book) same back);
   end = ends;
 }
+
+-- ---- turns at once
+
+pub one_more_at_once : (n : ℕ) (before between after : Book) → TurnsAtOnce n before between
+    → CommitsAtOnce between after → TurnsAtOnce (n + 1) before after
+one_more_at_once n before between after so_far made =
+    let next : suc n ≡ n + 1 = omega arith in
+    subst (λ k. TurnsAtOnce k before after) next (between, so_far, made)
+
+pub none_at_once : (may : (worker process : ℕ) → Go → Type 0) (most : ℕ) (b : Book) → GoesAtOnce may most b b
+none_at_once may most b = record {
+  turns = 0;
+  few = omega arith;
+  made = refl;
+  within = λ below. below;
+  asked = inr refl;
+}
+
+pub some_at_once : (may : (worker process : ℕ) → Go → Type 0) (most n : ℕ) (before after : Book) → LetsAll may → n ≤ 8
+    → TurnsAtOnce n before after → (before.commits ≤ most → after.commits ≤ most) → GoesAtOnce may most before after
+some_at_once may most n before after all few made within = record {
+  turns = n;
+  few = few;
+  made = made;
+  within = within;
+  asked = inl all;
+}
+
+-- ---- the steps of a turn
+
+pub steps_made : (program : Parts) (o : Option Stepped) (last : Stepped) (made : ℕ × Stop) → o ≡ Some last
+    → last.made ≡ Some made → IfSome o (IsTurnOf program)
+    → steps_of o ≡ Some (advanced_of program last.claim.frame last.to made.0 made.1)
+steps_made program o last made there is all =
+    let turn = subst (λ x. IfSome x (IsTurnOf program)) there all in
+    ap steps_of there ∙ ap (made_of last.claim.program.now last.claim.frame last.to) is
+    ∙ ap (λ p. Some (advanced_of p last.claim.frame last.to made.0 made.1)) turn.program_is

@@ -1,7 +1,7 @@
 //! The turns that a worker makes between two holds of the lock, in the order of their claims.
 ghost use Rattle.std.specs.Prelude.{◌≡◌, ◌↔◌, ◌<◌, ◌≤◌, IsTrue, take, length};
 ghost use Rattle.kpn_run_state.specs.Stepping.{ClaimsNobody};
-ghost use Rattle.kpn_desk.specs.Batch.{InTurn, Claims, CommitsOrDrops, PutsBack, Settles, claimed_by, LetsThrough};
+ghost use Rattle.kpn_desk.specs.Batch.{InTurn, Claims, CommitsOrDrops, PutsBack, Settles, claimed_by, LetsThrough, GoesAtOnce};
 ghost use Rattle.kpn_desk.specs.Desk.{share_in};
 
 use crate::crew::BATCH;
@@ -116,6 +116,36 @@ impl<'n, J: Job> Batch<'n, J> {
             return Some(Why::Abandoned);
         }
         None
+    }
+}
+
+/// Commits the first processes of the queue where they stand, one after the other, as long as each stands at a read or
+/// at a write of a number or a variable, and the commits are below this number: at most 8, and none if the gate is to be
+/// asked for each.
+pub(crate) fn go_at_once<J: Job, A: Allocator + Copy, G: Gate>(
+    gate: &G,
+    desk: &mut Desk<'_, J, A>,
+    seat: &mut WorkerSeat<J>,
+    most: u64,
+)
+    ensures goes { GoesAtOnce (G.may_answer gate.now) most desk.old.book desk.new.book }
+    ensures number { seat.new.number ≡ seat.old.number }
+    ensures counted { seat.old.commits ≤ seat.new.commits }
+{
+    if !gate.lets_all() {
+        return;
+    }
+    if desk.has_to_end() {
+        return;
+    }
+    'turns: for _turn in 0..BATCH {
+        if desk.book.commits() >= most {
+            return;
+        }
+        if !seat.commit_at_once(desk) {
+            return;
+        }
+        desk.note_at_once();
     }
 }
 

@@ -27,15 +27,17 @@
 //!
 //! The worker that keeps watch rests for a short time. Then the others have committed, and so are there to take the
 //! process up, or this one has waited in vain and joins, and by its claim sees to the next process.
-ghost use Rattle.std.specs.Prelude.{◌≡◌, true, max};
+ghost use Rattle.std.specs.Prelude.{◌≡◌, ◌<◌, true, max};
 ghost use Rattle.kpn_desk.specs.Desk.{share_of};
 
 use std::mem;
 use std::time::{Clock, Duration, Instant};
 
-// For how many nanoseconds a commit with the next claim keeps the lock from others. If turns take no longer, a second
-// worker only waits for the first.
+// For how many nanoseconds a turn keeps the lock from others, by its commit and its claim, until that is measured.
 const HOLD: u32 = 450;
+
+// No hold counts for more nanoseconds: one that was interrupted weighs little.
+const LONGEST_HOLD: u32 = 2_000;
 
 // No turn counts for more nanoseconds. At so many there pay more workers than a run may have, and a turn that was
 // interrupted weighs little.
@@ -48,7 +50,7 @@ const WEIGHT: u32 = 8;
 // always meet the same processes of 8 or 16.
 const MEASURED: u32 = 31;
 
-// A worker claims no more processes in one hold: so many pay for the lock, and others find enough that are ready.
+// A worker claims no more processes in one hold, and makes no more turns at once: so many pay for the lock, and others find enough that are ready.
 pub(crate) const BATCH: usize = 8;
 
 // For how many microseconds a worker looks on: some times as long as it takes to sleep and to be woken.
@@ -84,6 +86,8 @@ pub enum Awaited {
 pub(crate) struct Pace {
     turns: u32,
     begun: Option<Instant>,
+    // since when the worker has the lock, if the turn was measured
+    held: Option<Instant>,
     // how many commits there were then
     commits: u64,
 }
@@ -94,6 +98,7 @@ impl Pace {
         Pace {
             turns: 0,
             begun: None,
+            held: None,
             commits: u64::MAX,
         }
     }
@@ -111,6 +116,24 @@ impl Pace {
     /// For how long the turn lasts, if it is measured.
     pub(crate) fn time<R: Clock>(&self, rt: &R) -> Option<Duration> {
         self.begun?.elapsed(rt).ok()
+    }
+
+    /// The worker has the lock, which is measured if the turn was.
+    pub(crate) fn hold<R: Clock>(&mut self, rt: &R) {
+        self.held = None;
+        if self.begun.is_some() {
+            self.held = Instant::now(rt).ok();
+        }
+    }
+
+    /// The worker waits, so this hold is not measured.
+    pub(crate) fn wait(&mut self) {
+        self.held = None;
+    }
+
+    /// For how long the worker has had the lock, if that is measured.
+    pub(crate) fn held<R: Clock>(&self, rt: &R) -> Option<Duration> {
+        self.held?.elapsed(rt).ok()
     }
 
     /// Whether nobody has committed since the turn began, if there are now so many commits.
@@ -135,6 +158,8 @@ pub(crate) struct Crew {
     left: usize,
     // the mean of the nanoseconds for which a turn leaves the lock free
     away: u32,
+    // and of those for which it keeps the lock
+    hold: u32,
     // somebody outside sleeps until the outside is called
     is_awaited: bool,
     // somebody of those sleeps until a sink has an item
@@ -152,6 +177,14 @@ pub(crate) fn share(workers: usize, ready: usize) -> usize
     ready.div_ceil(workers.max(1)).min(BATCH)
 }
 
+/// The mean of nanoseconds, with so many turns more, which took this time together.
+fn mean_with(mean: u32, taken: Duration, turns: usize, longest: u32) -> u32
+    requires { 0 < turns }
+{
+    let nanos = u32::try_from(taken.as_nanos() / turns as u128).unwrap_or(longest);
+    (mean - mean / WEIGHT).saturating_add(nanos.min(longest) / WEIGHT)
+}
+
 impl Crew {
     /// So many workers, none of which has come yet.
     pub(crate) fn new(workers: usize) -> Crew
@@ -159,6 +192,7 @@ impl Crew {
     {
         Crew {
             working: workers,
+            hold: HOLD,
             ..Crew::default()
         }
     }
@@ -182,7 +216,7 @@ impl Crew {
 
     /// How many busy workers pay.
     fn paying(&self) -> usize {
-        (self.away / HOLD) as usize + 1
+        (self.away / self.hold.max(1)) as usize + 1
     }
 
     /// A worker is busy from now on.
@@ -198,9 +232,16 @@ impl Crew {
         }
         self.busy = self.busy.saturating_sub(1);
         if let Some(away) = away {
-            let nanos = u32::try_from(away.as_nanos() / turns as u128).unwrap_or(LONGEST);
-            let more = nanos.min(LONGEST) / WEIGHT;
-            self.away = (self.away - self.away / WEIGHT).saturating_add(more);
+            self.away = mean_with(self.away, away, turns, LONGEST);
+        }
+    }
+
+    /// A worker has had the lock for so long to commit so many turns and to claim the next ones.
+    pub(crate) fn held(&mut self, turns: usize, held: Duration)
+        ensures { self.new.working ≡ self.old.working }
+    {
+        if turns > 0 {
+            self.hold = mean_with(self.hold, held, turns, LONGEST_HOLD);
         }
     }
 

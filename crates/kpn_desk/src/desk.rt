@@ -25,6 +25,9 @@ use std::sync::ledger::Share;
 /// The book of a run, the mark that the workers have to end, and the total of the ledger in which commits are counted.
 #[derive(Drop)]
 pub struct Desk<'n, J: Job, A: Allocator = Global> {
+    // It lies between the word of the lock and what the lock guards. Workers that look on try the lock again and again,
+    // and so take the cache line of that word from the one that is at work.
+    _gap: [u64; 8],
     pub(crate) book: Book<'n, A>,
     pub(crate) total: ledger::Book<J>,
     halts: bool,
@@ -81,6 +84,7 @@ impl<'n, J: Job, A: Allocator + Copy> Desk<'n, J, A> {
             halts: false,
             workers,
             crew: Crew::new(workers),
+            _gap: [0; 8],
         })
     }
 }
@@ -160,6 +164,11 @@ impl<'n, J: Job, A: Allocator> Desk<'n, J, A> {
             return Some(Why::Limit);
         }
         None
+    }
+
+    /// Whether the workers have to end.
+    pub(crate) fn has_to_end(&self) -> bool {
+        self.halts
     }
 
     /// How many processes are ready.
@@ -269,14 +278,27 @@ impl<'n, J: Job, A: Allocator> Desk<'n, J, A> {
         ensures { self.new ≡ self.old }
     {
         let owes = match done {
-            Done::Put => self.has_filled(),
-            Done::Got(_) => self.crew.awaits_room() && self.has_drained(),
+            Done::Put | Done::Got(_) => self.has_served(),
             Done::Ended => self.crew.awaits_room(),
             _ => false,
         };
         if owes {
             self.crew.owe_call();
         }
+    }
+
+    /// Notes the same after a turn at once, which is a get or a put if it is no wait.
+    pub(crate) fn note_at_once(&mut self)
+        ensures { self.new ≡ self.old }
+    {
+        if self.has_served() {
+            self.crew.owe_call();
+        }
+    }
+
+    /// Whether the last event was a put or a get that somebody outside waits for.
+    fn has_served(&self) -> bool {
+        self.has_filled() || self.crew.awaits_room() && self.has_drained()
     }
 
     /// The workers have to end.

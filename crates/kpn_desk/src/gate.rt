@@ -14,7 +14,8 @@ pub enum Go {
 
 /// Is asked after the steps of a process and before they are committed, while nobody holds the lock on its behalf.
 pub trait Gate: Sync {
-    ghost use Rattle.std.specs.Prelude.{ℕ};
+    ghost use Rattle.std.specs.Prelude.{ℕ, ◌≡◌, true};
+    ghost use Rattle.kpn_desk.specs.Batch.{LetsAll};
     ghost use Rattle.kpn_desk.specs.declared.gate.Go.{Go};
 
     /// What it may answer when it is asked for this worker and this process; by default either.
@@ -26,6 +27,14 @@ pub trait Gate: Sync {
     /// it.
     fn between(&self, worker: usize, process: usize) -> Go
         ensures { may_answer self.now worker process result };
+
+    /// Whether it lets everything through, so that it need not be asked. By default it does not say so, and is asked for
+    /// each turn.
+    fn lets_all(&self) -> bool
+        ensures { (result ≡ true) → LetsAll (may_answer self.now) }
+    {
+        false
+    }
 }
 
 /// The commit gate that lets every commit through.
@@ -37,5 +46,9 @@ impl Gate for CommitsAll {
 
     fn between(&self, _worker: usize, _process: usize) -> Go {
         Go::On
+    }
+
+    fn lets_all(&self) -> bool {
+        true
     }
 }

@@ -1,6 +1,8 @@
 //! The seat of a worker: what it knows of its own work.
-ghost use Rattle.std.specs.Prelude.{◌≡◌, ◌+◌, IfOk, IfErr, OnErr, OnOk, Some, None};
+ghost use Rattle.std.specs.Prelude.{◌≡◌, ◌+◌, ◌<◌, ◌^◌, true, false, IfOk, IfErr, OnErr, OnOk, Some, None};
 ghost use Rattle.kpn_net.specs.Tables.{program_of};
+ghost use Rattle.kpn_step.specs.Stops.{IsAdvance, IsAtPort, advanced_of};
+ghost use Rattle.kpn_run_state.specs.AtOnce.{CommitsAtOnce};
 ghost use Rattle.kpn_run_state.specs.Commits.{Commits};
 ghost use Rattle.kpn_run_state.specs.Refusals.{RefusesCommit};
 ghost use Rattle.kpn_desk.specs.Desk.{with_commit};
@@ -10,9 +12,10 @@ use crate::desk::Desk;
 use crate::job::Job;
 use kpn_run_state::laws::what_a_commit_does;
 use kpn_run_state::{Done, Refused};
-use kpn_step::Advance;
+use kpn_step::{Frame, Stop};
 use std::alloc::Allocator;
 use std::marker::Model;
+use std::sync::ledger;
 use std::sync::ledger::Share;
 
 /// Why a worker ended.
@@ -87,30 +90,62 @@ impl<J: Job> WorkerSeat<J> {
         self.commits
     }
 
-    /// Commits the steps of a process that is held, which are steps of its program. The book's commits, the ledger's
-    /// total and this seat's share rise together.
+    /// Commits the steps of a process that is held: how many steps of its program lead from one frame to the other, and
+    /// the stop after them. The book's commits, the ledger's total and this seat's share rise together.
     pub fn commit<A: Allocator + Copy>(
         &mut self,
         desk: &mut Desk<'_, J, A>,
         p: usize,
-        steps: &Advance<'_>,
+        from: &Frame,
+        to: &Frame,
+        made: (u32, Stop),
     ) -> Result<Done, Refused>
-        requires { steps.now.program ≡ program_of J.network p }
-        ensures done { IfOk result (λ done.
-            Commits p steps.now done desk.old.book desk.new.book) }
+        requires advance { IsAdvance
+            (advanced_of (program_of J.network p) from.now to.now made.0 made.1) }
+        requires port { IsAtPort (program_of J.network p) to.now made.1 }
+        ensures done { IfOk result (λ done. Commits p
+            (advanced_of (program_of J.network p) from.now to.now made.0 made.1)
+            done desk.old.book desk.new.book) }
         ensures total { OnOk result (desk.new ≡ with_commit desk.new.book desk.old) }
         ensures share { OnOk result (self.new ≡ with_commits (self.old.commits + 1) self.old) }
-        ensures refused { IfErr result (λ cause.
-            RefusesCommit p steps.now desk.old.book cause) }
+        ensures refused { IfErr result (λ cause. RefusesCommit p
+            (advanced_of (program_of J.network p) from.now to.now made.0 made.1)
+            desk.old.book cause) }
         ensures as_before { OnErr result ((self.new ≡ self.old) × (desk.new ≡ desk.old)) }
     {
+        desk.known();
         what_a_commit_does();
-        let done = desk.book.commit_own(p, steps)?;
+        let done = desk.book.commit_own(p, from, to, made)?;
         desk.book.known();
-        desk.total.audit(&mut self.share);
-        desk.total.add(&mut self.share, 1);
-        self.commits += 1;
+        self.count(&mut desk.total);
         Ok(done)
+    }
+
+    /// Commits the first process of the queue where it stands, if it stands at a read or at a write of a number or a
+    /// variable. Returns whether it did. If memory is refused, nothing changes: the commit of its next turn says so.
+    pub(crate) fn commit_at_once<A: Allocator + Copy>(&mut self, desk: &mut Desk<'_, J, A>) -> bool
+        ensures made { (result ≡ true) → CommitsAtOnce desk.old.book desk.new.book
+            × (desk.new ≡ with_commit desk.new.book desk.old)
+            × (self.new ≡ with_commits (self.old.commits + 1) self.old) }
+        ensures none { (result ≡ false) → (self.new ≡ self.old) × (desk.new ≡ desk.old) }
+    {
+        let Ok(true) = desk.book.commit_at_once() else {
+            return false;
+        };
+        desk.book.known();
+        self.count(&mut desk.total);
+        true
+    }
+
+    /// Counts a commit, in the ledger and here.
+    fn count(&mut self, total: &mut ledger::Book<J>)
+        requires { total.old.total + 1 < 2 ^ 64 }
+        ensures total { total.new.total ≡ total.old.total + 1 }
+        ensures share { self.new ≡ with_commits (self.old.commits + 1) self.old }
+    {
+        total.audit(&mut self.share);
+        total.add(&mut self.share, 1);
+        self.commits += 1;
     }
 
     /// The share of the ledger that the worker has.

@@ -8,18 +8,25 @@ use crate::desk::Desk;
 use crate::job::Job;
 use crate::seat::WorkerSeat;
 use kpn_run_state::{Claim, Refused};
-use kpn_step::{Advance, advance};
+use kpn_step::{Frame, Stop};
 use std::alloc::Allocator;
 use std::marker::{Model, PhantomData};
 
-/// The turn of a process: its claim, and the steps that were made from there, with the process that made them. The
-/// memory of both is kept for the turns that follow.
+/// A process that was claimed, and where it came to from the frame of its claim.
+#[derive(Drop)]
+pub(crate) struct Stepped<'n> {
+    claim: Claim<'n>,
+    to: Frame,
+    // how many steps lead there, and their stop, once they are made
+    made: Option<(u32, Stop)>,
+}
+
+/// The turn of a process: the one that was claimed last, with the steps that were made from there. The memory is kept
+/// for the turns that follow.
 #[derive(Drop)]
 pub(crate) struct Turn<'n, J: Job> {
-    claimed: usize,
-    claim: Option<Claim<'n>>,
     process: usize,
-    steps: Option<Advance<'n>>,
+    last: Option<Stepped<'n>>,
     run: PhantomData<J>,
 }
 
@@ -29,28 +36,23 @@ impl<'n, J: Job> Model for Turn<'n, J> {
     ghost use Rattle.kpn_step.specs.Frame.{fits};
     ghost use Rattle.std.specs.Coded.{codes};
     ghost use Rattle.kpn_lang.specs.Codes.{parts_code};
-    ghost use Rattle.kpn_desk.specs.Batch.{Turn as Seen, frame_of};
+    ghost use Rattle.kpn_desk.specs.Batch.{Turn as Seen, frame_of, steps_of, IsTurnOf};
 
     ghost Value = { Seen };
 
     ghost coded = { Prim.hlevel (codes, parts_code) };
 
-    ghost view = { λ t. record { claimed = t.claimed; frame = frame_of t.claim; process = t.process; steps = t.steps } };
+    ghost view = { λ t. record { process = t.process; frame = frame_of t.last; steps = steps_of t.last } };
 
-    ghost invariant = { λ t.
-        IfSome t.claim (λ claim. (claim.process ≡ t.claimed) × (claim.program.now ≡ program_of J.network claim.process)
-        × IsTrue (fits claim.program.now claim.frame))
-        × IfSome t.steps (λ steps. steps.program ≡ program_of J.network t.process) };
+    ghost invariant = { λ t. IfSome t.last (IsTurnOf (program_of J.network t.process)) };
 }
 
 impl<'n, J: Job> Turn<'n, J> {
     /// A turn of nobody.
     pub(crate) fn new() -> Self {
         Turn {
-            claimed: 0,
-            claim: None,
             process: 0,
-            steps: None,
+            last: None,
             run: PhantomData,
         }
     }
@@ -62,37 +64,39 @@ impl<'n, J: Job> Turn<'n, J> {
         ensures same { desk.new ≡ with_book desk.new.book desk.old }
     {
         desk.known();
-        if let Some(claim) = &mut self.claim {
-            if !desk.book.claim_into(claim) {
+        if let Some(last) = &mut self.last {
+            if !desk.book.claim_into(&mut last.claim) {
                 return false;
             }
             desk.book.known();
-            self.claimed = claim.process;
+            last.made = None;
+            self.process = last.claim.process;
             return true;
         }
         let Some(claim) = desk.book.claim() else {
             return false;
         };
         desk.book.known();
-        self.claimed = claim.process;
-        self.claim = Some(claim);
+        self.process = claim.process;
+        let to = claim.frame.copy();
+        self.last = Some(Stepped {
+            claim,
+            to,
+            made: None,
+        });
         true
     }
 
     /// Makes at most `quota` steps of the process that is claimed. Returns which it is.
     pub(crate) fn step(&mut self, quota: u32) -> usize
-        ensures claimed { self.new.claimed ≡ self.old.claimed }
-        ensures process { result ≡ self.new.claimed }
+        ensures same { self.new.process ≡ self.old.process }
+        ensures process { result ≡ self.new.process }
     {
-        let Some(claim) = &self.claim else {
-            return self.claimed;
-        };
-        self.process = claim.process;
-        match &mut self.steps {
-            Some(steps) => steps.restart(claim.program, &claim.frame, quota),
-            None => self.steps = Some(advance(claim.program, claim.frame.copy(), quota)),
+        if let Some(last) = &mut self.last {
+            last.to.copy_from(&last.claim.frame);
+            last.made = Some(last.to.run(last.claim.program, quota));
         }
-        self.claimed
+        self.process
     }
 
     /// Commits the steps. Returns whether there was memory for that.
@@ -109,10 +113,13 @@ impl<'n, J: Job> Turn<'n, J> {
         ensures number { seat.new.number ≡ seat.old.number }
         ensures counted { seat.old.commits ≤ seat.new.commits }
     {
-        let Some(steps) = &self.steps else {
+        let Some(last) = &self.last else {
             return true;
         };
-        match seat.commit(desk, self.process, steps) {
+        let Some(made) = last.made else {
+            return true;
+        };
+        match seat.commit(desk, self.process, &last.claim.frame, &last.to, made) {
             Ok(done) => {
                 desk.note(done);
                 true
@@ -128,7 +135,7 @@ impl<'n, J: Job> Turn<'n, J> {
         ensures same { desk.new ≡ with_book desk.new.book desk.old }
     {
         // this is refused only if nobody holds it, and then it is in its place
-        let _ = desk.book.put_back(self.claimed);
+        let _ = desk.book.put_back(self.process);
         desk.book.known();
     }
 }

@@ -4,9 +4,10 @@ ghost use Rattle.std.specs.Prelude.{◌≡◌, ◌≤◌, false, IfNone, IsSome}
 ghost use Rattle.kpn_desk.specs.Seat.{ended};
 
 use super::Shared;
-use crate::batch::Batch;
+use crate::batch::{Batch, go_at_once};
 use crate::crew::{Crew, Pace};
 use crate::desk::Desk;
+use crate::gate::Gate;
 use crate::job::Job;
 use crate::seat::{Why, WorkerSeat};
 use std::alloc::{Allocator, Global};
@@ -14,11 +15,12 @@ use std::sync::{MutexGuard, Wait};
 use std::time::Clock;
 
 impl<'n, J: Job, A: Allocator> Shared<'n, J, A> {
-    /// Commits the batch of a worker, which becomes that of the next processes. Returns whether there are such: if not,
-    /// the worker ends.
-    pub(crate) fn go_on<R: Wait + Clock>(
+    /// Commits the batch of a worker, which becomes that of the next processes, and makes turns at once in between.
+    /// Returns whether there are such processes: if not, the worker ends.
+    pub(crate) fn go_on<G: Gate, R: Wait + Clock>(
         &self,
         rt: &R,
+        gate: &G,
         seat: &mut WorkerSeat<J>,
         pace: &mut Pace,
         batch: &mut Batch<'n, J>,
@@ -30,21 +32,24 @@ impl<'n, J: Job, A: Allocator> Shared<'n, J, A> {
         ensures ended { (result ≡ false) → IsSome seat.new.why }
     {
         let away = pace.time(rt);
+        let turns = batch.len();
         let mut desk = self.lock(rt);
+        pace.hold(rt);
         let is_alone = pace.is_alone(desk.book.commits());
-        desk.crew.come_back(batch.len(), away);
+        desk.crew.come_back(turns, away);
         if let Some(why) = batch.settle(&mut desk, seat) {
             self.end(desk, seat, why);
             return false;
         }
-        let Some(mut desk) = self.wait_for_work(rt, seat, desk, is_alone) else {
+        go_at_once(gate, &mut desk, seat, self.max_commits);
+        let Some(mut desk) = self.wait_for_work(rt, seat, pace, desk, is_alone) else {
             return false;
         };
         if !batch.claim(&mut desk) {
             self.end(desk, seat, Why::Limit);
             return false;
         }
-        self.let_go(rt, desk, pace);
+        self.let_go(rt, desk, pace, turns);
         true
     }
 
@@ -54,6 +59,7 @@ impl<'n, J: Job, A: Allocator> Shared<'n, J, A> {
         &'l self,
         rt: &R,
         seat: &mut WorkerSeat<J>,
+        pace: &mut Pace,
         desk: MutexGuard<'l, Desk<'n, J, A>>,
         in_vain: bool,
     ) -> Option<MutexGuard<'l, Desk<'n, J, A>>>
@@ -71,6 +77,7 @@ impl<'n, J: Job, A: Allocator> Shared<'n, J, A> {
             if desk.crew.has_place(desk.ready(), in_vain) {
                 return Some(desk);
             }
+            pace.wait();
             let commits = desk.book.commits();
             (desk, looks_on) = if looks_on {
                 (self.look_on(rt, desk), false)
@@ -118,16 +125,20 @@ impl<'n, J: Job, A: Allocator> Shared<'n, J, A> {
         (desk, !waited.timed_out())
     }
 
-    /// Lets the desk go after a claim: a turn begins. Notifies a worker if one is wanted beside this one, and calls the
+    /// Lets the desk go after the commit of so many turns and a claim: a turn begins. Notifies a worker if one is wanted beside this one, and calls the
     /// outside if a sink is to be taken from.
     fn let_go<'l, R: Wait + Clock>(
         &'l self,
         rt: &R,
         desk: MutexGuard<'l, Desk<'n, J, A>>,
         pace: &mut Pace,
+        turns: usize,
     ) {
         let mut desk = desk;
         let ready = desk.ready();
+        if let Some(held) = pace.held(rt) {
+            desk.crew.held(turns, held);
+        }
         desk.crew.join();
         let notifies = desk.crew.notify(ready, false);
         let calls = desk.crew.call();

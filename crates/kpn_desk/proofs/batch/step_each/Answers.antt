@@ -11,7 +11,7 @@ turns-preserved g c =
     let may = g.G.Gate.may_answer c.args.gate.now c.args.worker in
     let turn = c.index-turns-i.result in
     let below : c.turns.i < length c.turns.turns = search rules in
-    let same = c.step-process.ensures.claimed in
+    let same = c.step-process.ensures.same in
     let kept = claimed_by-set c.turns.turns c.turns.i c.step-process.new.self turn below same in
     let there =
     claimed_at c.turns.turns c.turns.i turn below ∙ ap Some (sym (c.step-process.ensures.process ∙ same)) in
@@ -28,7 +28,7 @@ returns-in-Abandon g c =
     let may = g.G.Gate.may_answer c.args.gate.now c.args.worker in
     let turn = c.index-turns-i.result in
     let below : c.turns.i < length c.turns.turns = search rules in
-    let same = c.step-process.ensures.claimed in
+    let same = c.step-process.ensures.same in
     let kept = claimed_by-set c.turns.turns c.turns.i c.step-process.new.self turn below same in
     let there =
     claimed_at c.turns.turns c.turns.i turn below ∙ ap Some (sym (c.step-process.ensures.process ∙ same)) in
