@@ -50,7 +50,8 @@ const WEIGHT: u32 = 8;
 // always meet the same processes of 8 or 16.
 const MEASURED: u32 = 31;
 
-// A worker claims no more processes in one hold, and makes no more turns at once: so many pay for the lock, and others find enough that are ready.
+// A worker claims no more processes in one hold, and makes no more turns at once: so many pay for the lock, and others
+// find enough that are ready.
 pub(crate) const BATCH: usize = 8;
 
 // For how many microseconds a worker looks on: some times as long as it takes to sleep and to be woken.
