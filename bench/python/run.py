@@ -5,7 +5,6 @@ It prints both times on the clock, and those on the processors with all children
 name the number of samples; the default is 100,000. The two take turns, and the best of nine runs of each counts, or of
 `--runs N`. `--program PROGRAM` names a build of `kpn`.
 """
-import os
 import pathlib
 import resource
 import subprocess
@@ -20,10 +19,10 @@ sys.path += [str(HERE.parent), str(HERE.parents[1] / 'python')]
 import kpn
 import measure
 from kpn.gallery import GALLERY
+from kpn.program import environment
 
 NETWORKS = ('fir', 'fft', 'biquad')
-# As the launcher and the package do.
-ENVIRONMENT = {'GLIBC_TUNABLES': 'glibc.malloc.hugetlb=1', **os.environ}
+ENVIRONMENT = environment()
 
 
 def on_processors():

@@ -15,6 +15,7 @@ from .errors import KpnError, Spot
 Program = Union[None, str, 'os.PathLike[str]']
 VARIABLE = 'KPN_PROGRAM'
 BUILT = pathlib.Path(__file__).resolve().parents[2] / 'crates/kpn/out/kpn'
+TUNABLES = 'glibc.malloc.hugetlb=1:glibc.malloc.mmap_threshold=4194304'
 # The name under which a text is explained, and the first line of an explanation.
 NAME = 'text.kpn'
 EXPLANATION = re.compile(re.escape(NAME) + r":(\d+):(\d+): (.*?(?: \[(.*)\])?)$")
@@ -38,8 +39,9 @@ def find_program(given: Program = None) -> str:
 
 
 def environment() -> Dict[str, str]:
-    """The environment of the program. As the launcher does, it asks for huge pages: long runs take some tenth less."""
-    return {'GLIBC_TUNABLES': 'glibc.malloc.hugetlb=1', **os.environ}
+    """The environment of the program, as the launcher sets it: huge pages make long runs some tenth shorter, and lists
+    that grow in maps of their own leave no holes."""
+    return {'GLIBC_TUNABLES': TUNABLES, **os.environ}
 
 
 def call(words: Sequence[str], program: Program = None, folder: Optional[str] = None,
