@@ -144,10 +144,12 @@ impl<A: Allocator> Channel<A> {
         requires { IsTrue self.old.is_reserved }
         ensures { self.new ≡ after_put item self.new.is_reserved self.old }
     {
-        self.journal.last.push_reserved(item);
+        // The ring comes first: a caller has just tested it, and a write to the journal might change it for all that the
+        // compiler knows.
         if let Some(ring) = &mut self.ring {
             let _is_put = ring.try_push_back(item);
         }
+        self.journal.last.push_reserved(item);
     }
 
     /// The oldest unread item, which is then read. If nothing is unread or the channel is retired, it returns `None`
