@@ -1,7 +1,8 @@
 //! How far the commits of a run by workers pass their limit.
+use crate::gates::TestGate;
 use kpn_limits::MAX_WORKERS;
 use kpn_text::read_network;
-use kpn_workers::{CommitsAll, Limits, Outcome, run};
+use kpn_workers::{Limits, Outcome, run};
 use std::alloc::{AllocError, Global};
 use std::sync::Wait;
 use std::test::Fail;
@@ -31,7 +32,7 @@ fn commits_of<R: Threads + Wait + Clock + Sync>(
     if network.sources() != 0 || workers == 0 || workers > MAX_WORKERS {
         return Ok(None);
     }
-    let report = run(rt, alloc, network, &[], workers, &CommitsAll, limits)?;
+    let report = run(rt, alloc, network, &[], workers, &TestGate::open(), limits)?;
     if report.outcome != Outcome::Stopped {
         return Ok(None);
     }

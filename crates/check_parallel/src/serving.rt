@@ -1,8 +1,8 @@
 //! Runs beside a client that takes, and feeds if nobody else does.
-use commit_gates::Always;
+use crate::gates::TestGate;
 use kpn_text::read_network;
 use kpn_workers::{
-    Awaited, Client, Feeder, Go, Job, Limits, Outside, Refused, Shared, SinkSeat, SourceSeat, Why,
+    Awaited, Client, Feeder, Job, Limits, Outside, Refused, Shared, SinkSeat, SourceSeat, Why,
     close, feed_when_room, run_beside, take_when_there,
 };
 use std::alloc::Global;
@@ -96,8 +96,8 @@ fn copies<R: Threads + Wait + Clock + Sync>(
     let document = read_network(alloc, COPY.as_bytes())?;
     let network = document.network();
     let client = Takes { sum: 0 };
-    let gate = &Always(Go::On);
-    let ran = run_beside(rt, alloc, network, 2, gate, &ALL, client, feeders)?;
+    let gate = TestGate::open();
+    let ran = run_beside(rt, alloc, network, 2, &gate, &ALL, client, feeders)?;
     let have_settled = ran
         .workers
         .iter()
