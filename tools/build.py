@@ -109,9 +109,9 @@ class Build:
         return None
 
     def start_ready(self):
-        """Starts what may run now, longest chain first. A crate whose chain is about the longest gets as many jobs as
-        there are processors, and the others share them: a second job shortens a check, but takes half as much
-        processor time again."""
+        """Starts what may run now, longest chain first. The crates share the processors, but one whose chain is about
+        the longest gets at least two jobs: a second job shortens a check, but takes half as much processor time again,
+        and the others wait for that."""
         ready = [it for it in self.waiting if all(below.sum for below in it.direct)]
         ready = sorted(ready, key=self.height.get, reverse=True)[: self.most - len(self.running)]
         share = self.most // max(1, len(ready) + len(self.running))
@@ -123,7 +123,8 @@ class Build:
                 unpack(crate, self.room)
                 self.progress.add(crate.name)
             else:
-                self.start(crate, min(4, self.most if self.height[crate] > 0.9 * longest else share))
+                least = min(2, self.most) if self.height[crate] > 0.9 * longest else 1
+                self.start(crate, min(4, max(share, least)))
 
     def start(self, crate, jobs):
         crate.stamp.unlink(missing_ok=True)
