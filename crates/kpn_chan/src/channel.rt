@@ -13,13 +13,27 @@ use std::marker::Model;
 ///
 /// Contracts see its journal, how many of its items were read, its capacity, whether its reader is
 /// gone, and whether the next item is reserved.
-#[derive(Debug, Drop)]
+#[derive(Debug)]
 pub struct Channel<A: Allocator = Global> {
     journal: Chunks<A>,
     // the unread items; none once the reader is gone
     ring: Option<HeapCircularBuffer<i64, A>>,
     read: usize,
     capacity: Option<u32>,
+}
+
+/// It is written out, so that a crate that drops a channel proves nothing about what is inside.
+impl<A: Allocator> Drop for Channel<A> {
+    fn drop(self) {
+        let Channel {
+            journal,
+            ring,
+            read: _,
+            capacity: _,
+        } = self;
+        drop(journal);
+        drop(ring);
+    }
 }
 
 impl<A: Allocator> Model for Channel<A> {
@@ -144,10 +158,12 @@ impl<A: Allocator> Channel<A> {
         requires { IsTrue self.old.is_reserved }
         ensures { self.new ≡ after_put item self.new.is_reserved self.old }
     {
-        self.journal.last.push_reserved(item);
+        // The ring comes first: a caller has just tested it, and for all that the compiler knows, a write to the
+        // journal might change it.
         if let Some(ring) = &mut self.ring {
             let _is_put = ring.try_push_back(item);
         }
+        self.journal.last.push_reserved(item);
     }
 
     /// The oldest unread item, which is then read. If nothing is unread or the channel is retired, it returns `None`
@@ -265,7 +281,13 @@ impl<A: Allocator> Channel<A> {
     pub fn into_journal(self) -> Journal<A>
         ensures { result ≡ self.journal }
     {
-        let Channel { journal, .. } = self;
+        let Channel {
+            journal,
+            ring,
+            read: _,
+            capacity: _,
+        } = self;
+        drop(ring);
         Journal { chunks: journal }
     }
 

@@ -19,15 +19,15 @@ use Rattle.kpn_schedule.proofs.Queueing.{scheduled, HoldsFirst-popped}
 use Rattle.kpn_run_state.specs.declared.answers.Done.{Done}
 use Rattle.kpn_run_state.specs.declared.answers.Done.TheVariants as done
 use Rattle.kpn_run_state.specs.Book.{Book, IsHeld, held_count, IsClaimed, standing_at, counted}
-use Rattle.kpn_run_state.specs.Commits.{IsAnswer, IsOwnAdvance, ready_if_paused, HandlesStop}
+use Rattle.kpn_run_state.specs.Commits.{IsWriteTo, IsAnswer, IsOwnAdvance, ready_if_paused, HandlesStop}
 use Rattle.kpn_run_state.specs.Kept.{IsKept, IsBook}
 use Rattle.kpn_run_state.specs.Stepping.{StepsNext}
 use Rattle.kpn_run_state.specs.InARow.{PutsOnNoSink, puts_on, StepsInRow, no_step, one_step_more, RunsOn}
-use Rattle.kpn_run_state.specs.Open.{first_claimed, IsSound, if_sink, sink_of, sink_by, grows_if_owed, HandlesFirst, IsTurn}
+use Rattle.kpn_run_state.specs.Open.{first_claimed, IsSound, if_sink, sink_of, sink_by, is_but_reserved, grows_if_owed, AnsweredFirst, HandlesFirst, IsTurn}
 use Rattle.kpn_run_state.proofs.Counting.{held_more}
 use Rattle.kpn_run_state.proofs.Appended.{claimed_is_held, tables_stay, history_then, commits_stay, base_tables, base_history, base_commits}
 use Rattle.kpn_run_state.proofs.Following.{recorded}
-use Rattle.kpn_run_state.proofs.Answering.{handles_counted, kept_counted, fits_after}
+use Rattle.kpn_run_state.proofs.Answering.{asked_otherwise, handles_counted, kept_counted, fits_after}
 use Rattle.kpn_run_state.proofs.Committing.{kept_moved, kept_claimed, kept_reserved, held_reserved, tables_reserved, history_reserved, commits_reserved, count_reserved, stepped_kept, stepped_held, steps_next}
 
 -- ---- it is held
@@ -118,6 +118,21 @@ module _ (b a o : Book) (p : ℕ) (s : Stop) (sink : Option ℕ) (events : List 
   puts_by (done.Grew d) is at = no_put (done.Grew d) (λ c. refl) tt at
   puts_by done.Ended is at = no_put done.Ended (λ c. refl) tt at
   puts_by done.Paused is at = no_put done.Paused (λ c. refl) tt at
+
+-- a commit at a write is one at a stop that is this write
+pub handles_write : (o reserved a : Book) (p d : ℕ) (v : ℤ) (s : Stop) (sink : Option ℕ) → is_but_reserved s o reserved
+    → ((z : Stop) → z ≡ s → IsWriteTo o.tables p z d v)
+    → AnsweredFirst p (λ z. IsWriteTo o.tables p z d v) sink reserved a → HandlesFirst p s sink o a
+handles_write o reserved a p d v s sink but asks made = record {
+  reserved = reserved;
+  but = but;
+  answered = record {
+    answer = made.answer;
+    answered =
+        asked_otherwise p (λ z. IsWriteTo o.tables p z d v) (λ z. z ≡ s) made.answer reserved a asks made.answered;
+    sink_is = λ z is. made.sink_is z (asks z is);
+  };
+}
 
 -- ---- its turn
 

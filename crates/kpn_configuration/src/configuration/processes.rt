@@ -48,8 +48,8 @@ impl<A: Allocator> Configuration<A> {
             → IsRun network.now (H ++ event.Get p c result.item ∷ []) self.new }
     {
         network.known();
-        // First the item leaves the ring, and then the frame passes its read. In the same way a put writes the journal
-        // first. The other order takes 5 instructions a commit more.
+        // First the item leaves the ring, and then the frame passes its read. The other order takes 5 instructions a
+        // commit more.
         let channel = &mut self.channels[c];
         let Some(item) = channel.get() else {
             unreachable!();

@@ -1,6 +1,6 @@
 //! Turns in a row: the first process of the queue makes steps and is committed, again and again. A process that gets or
 //! puts an item stays ready, so its state is not written: the queue is rotated.
-ghost use Rattle.std.specs.Prelude.{◌≡◌, ◌<◌, ◌≤◌, ◌+◌, ◌*◌, ◌^◌, ℕ, [], true, length, slice_get, Some, None, IfOk, OnErr, IsTrue};
+ghost use Rattle.std.specs.Prelude.{◌≡◌, ◌<◌, ◌≤◌, ◌+◌, ◌*◌, ◌^◌, ℕ, [], true, false, length, slice_get, option_to_list, Some, None, IfOk, OnErr, IsTrue};
 ghost use Rattle.kpn_chan.specs.Channel.{is_full, unread};
 ghost use Rattle.kpn_history.specs.declared.event.Event.TheVariants as event;
 ghost use Rattle.kpn_net.specs.Tables.{program_of};
@@ -9,18 +9,21 @@ ghost use Rattle.kpn_step.specs.Frame.{Frame};
 ghost use Rattle.kpn_step.specs.Stops.{IsAtPort};
 ghost use Rattle.kpn_configuration.specs.Configuration.{channel_in};
 ghost use Rattle.kpn_configuration.specs.Due.{Stands, ReadsFrom, WritesTo, stop_of};
-ghost use Rattle.kpn_schedule.specs.Schedule.{HoldsFirst, first_held};
+ghost use Rattle.kpn_schedule.specs.Schedule.{HoldsFirst, first_held, made_ready};
 ghost use Rattle.kpn_run_state.specs.Book.{held_count};
 ghost use Rattle.kpn_run_state.specs.Commits.{IsReadFrom, IsWriteTo};
 ghost use Rattle.kpn_run_state.specs.Kept.{IsKept};
 ghost use Rattle.kpn_run_state.specs.InARow.{RunsOn};
-ghost use Rattle.kpn_run_state.specs.Open.{book_of, first_claimed, IsSound, Answered, if_sink, Follows, AnsweredFirst, HandlesFirst, IsTurn};
+ghost use Rattle.kpn_run_state.specs.Appending.{all_made_ready};
+ghost use Rattle.kpn_run_state.specs.Open.{MayBeReady, book_of, first_claimed, IsSound, Answered, if_sink, Follows, AnsweredFirst, HandlesFirst, IsTurn};
 
 use super::commits::{how_of, in_channel, out_channel};
-use super::{OpenBook, number, wake};
+use super::{OpenBook, number};
 use crate::answers::Done;
+use kpn_chan::Channel;
 use kpn_history::{Event, How, State};
 use kpn_net::Network;
+use kpn_schedule::Schedule;
 use kpn_step::Stop;
 use std::alloc::{AllocError, Allocator};
 
@@ -105,6 +108,9 @@ impl<'n, A: Allocator> OpenBook<'n, A> {
             }
             Stop::WantWrite(port, item) => {
                 let c = out_channel(network, p, port);
+                if is_open(self.configuration.channel(c)) {
+                    return Ok(self.put_first(p, c, item));
+                }
                 self.configuration.reserve_one(c)?;
                 Ok(self.write_first(p, c, item))
             }
@@ -142,20 +148,20 @@ impl<'n, A: Allocator> OpenBook<'n, A> {
             return;
         }
         let got = self.configuration.get(network, p, c);
+        rotate_and_wake(&mut self.schedule, p, got.woken);
         self.history
             .push(Event::Get(number(p), number(c), got.item));
-        self.schedule.rotate(p);
-        wake(&mut self.schedule, got.woken);
     }
 
-    /// Process `p`, the first of the queue, which is at a write of this item to channel `c`, puts it there, or waits if
-    /// the channel is full.
+    /// Process `p`, the first of the queue, which is at a write of this item to channel `c`, puts it there. It returns
+    /// the channel, if it is a sink.
     #[inline(always)]
-    fn write_first(&mut self, p: usize, c: usize, item: i64) -> Option<usize>
+    fn put_first(&mut self, p: usize, c: usize, item: i64) -> Option<usize>
         requires first { HoldsFirst p self.old.schedule (first_held p self.old.schedule) }
         requires sound { IsSound (first_claimed p (book_of self.old)) }
         requires room { 2 ≤ self.old.history.room }
         requires writes { WritesTo self.old.network.now self.old.configuration p c item }
+        requires ready { is_full (channel_in self.old.configuration c) ≡ false }
         requires reserved { IsTrue (channel_in self.old.configuration c).is_reserved }
         ensures answered { let t = self.old.network.now in AnsweredFirst p (λ s. IsWriteTo t p s c item)
             result (first_claimed p (book_of self.old)) (book_of self.new) }
@@ -163,14 +169,9 @@ impl<'n, A: Allocator> OpenBook<'n, A> {
     {
         let network = self.network;
         network.known();
-        if self.configuration.channel(c).is_full() {
-            self.write_later(p, c, item);
-            return None;
-        }
         let woken = self.configuration.put(network, p, c, item);
+        rotate_and_wake(&mut self.schedule, p, woken);
         self.history.push(Event::Put(number(p), number(c), item));
-        self.schedule.rotate(p);
-        wake(&mut self.schedule, woken);
         if_sink(network, c)
     }
 
@@ -192,21 +193,28 @@ impl<'n, A: Allocator> OpenBook<'n, A> {
         self.grow_if_owed(p);
     }
 
+    /// Process `p`, the first of the queue, which is at a write of this item to channel `c`, puts it there, or waits if
+    /// the channel is full.
     #[cold]
     #[inline(never)]
-    fn write_later(&mut self, p: usize, c: usize, item: i64)
+    fn write_first(&mut self, p: usize, c: usize, item: i64) -> Option<usize>
         requires first { HoldsFirst p self.old.schedule (first_held p self.old.schedule) }
         requires sound { IsSound (first_claimed p (book_of self.old)) }
         requires room { 2 ≤ self.old.history.room }
         requires writes { WritesTo self.old.network.now self.old.configuration p c item }
-        requires ready { is_full (channel_in self.old.configuration c) ≡ true }
         requires reserved { IsTrue (channel_in self.old.configuration c).is_reserved }
         ensures answered { let t = self.old.network.now in AnsweredFirst p (λ s. IsWriteTo t p s c item)
-            None (first_claimed p (book_of self.old)) (book_of self.new) }
+            result (first_claimed p (book_of self.old)) (book_of self.new) }
         ensures room { self.old.history.room ≤ self.new.history.room + 2 }
     {
+        let network = self.network;
+        network.known();
+        if !self.configuration.channel(c).is_full() {
+            return self.put_first(p, c, item);
+        }
         self.first_waits_on_full(p, c, item);
         self.grow_if_owed(p);
+        None
     }
 
     #[cold]
@@ -272,6 +280,38 @@ fn turns_for(room: usize, left: u64) -> u64
 {
     let turns = room as u64 / 2;
     if turns < left { turns } else { left }
+}
+
+/// Moves process `p`, the first of the queue, to its tail, and makes a process that was woken ready behind it.
+// It tests first whether there is one. So where the channel has no mark, no value says that nobody was woken.
+#[inline(always)]
+fn rotate_and_wake<A: Allocator>(schedule: &mut Schedule<A>, p: usize, woken: Option<usize>)
+    requires first { slice_get schedule.old.queue 0 ≡ Some p }
+    requires woken { MayBeReady (made_ready p (first_held p schedule.old)) (option_to_list woken) }
+    ensures { schedule.new
+        ≡ all_made_ready (option_to_list woken) (made_ready p (first_held p schedule.old)) }
+{
+    let Some(q) = woken else {
+        schedule.rotate(p);
+        return;
+    };
+    schedule.rotate(p);
+    schedule.make_ready(q);
+}
+
+/// Whether an item can be put on a channel at once: its reader is there, it is not full, and the item is reserved.
+// The reader comes first, since the compiler then tests only once whether there is a ring.
+#[inline(always)]
+fn is_open<A: Allocator>(channel: &Channel<A>) -> bool
+    ensures { result ≡ true → IsTrue channel.now.is_reserved × (is_full channel.now ≡ false) }
+{
+    if channel.is_retired() {
+        return false;
+    }
+    if channel.is_full() {
+        return false;
+    }
+    channel.room()
 }
 
 /// The channel, if it is a sink.

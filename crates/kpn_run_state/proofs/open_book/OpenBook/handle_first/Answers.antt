@@ -18,7 +18,7 @@ use Rattle.kpn_run_state.proofs.Following.{held_is_there, recorded}
 use Rattle.kpn_run_state.proofs.Answering.{asked_otherwise, answered_paused}
 use Rattle.kpn_run_state.proofs.Committing.{no_pause}
 use Rattle.kpn_run_state.proofs.Reserved.{is_reserved_here}
-use Rattle.kpn_run_state.proofs.FirstOfQueue.{held_first}
+use Rattle.kpn_run_state.proofs.FirstOfQueue.{held_first, handles_write}
 use Rattle.kpn_run_state.proofs.open_book.OpenBook.handle_first.Goals as goal
 
 pub in_channel-c-requires-clause-port : goal.in_channel-c-requires-clause-port
@@ -41,6 +41,17 @@ out_channel-c-requires-clause-port g c =
     subst (λ s. IsAtPort (program_of b.tables c.args.p) c.requires.port.0 s) c.in-WantWrite.is c.requires.port.1 in
     let below = at.0 in
     let long = (IsInstance-of b.tables c.known.ensures c.args.p there).outs in
+    omega (arith, below, long)
+
+pub channel-requires : goal.channel-requires
+channel-requires g c =
+    let b = first_claimed c.args.p (book_of c.args.self.now) in
+    let outs = (instance_at b.tables c.args.p).outs in
+    let below =
+    out_is_there b.tables c.known.ensures c.args.p c.out_channel-c.result
+    (subst (λ x. Contains outs x) c.out_channel-c.ensures.1
+    (Contains-get_or outs c.in-WantWrite.port 0 c.out_channel-c.ensures.0)) in
+    let long = c.requires.kept.in_step.run.shape.channels in
     omega (arith, below, long)
 
 pub reserve_one-requires : goal.reserve_one-requires
@@ -88,6 +99,22 @@ returns-in-WantRead-clause-handles g c =
       };
     }
 
+pub returns-then-is_open-clause-handles : goal.returns-then-is_open-clause-handles
+returns-then-is_open-clause-handles g c =
+    let b = book_of c.args.self.now in
+    let o = first_claimed c.args.p b in
+    let d = c.out_channel-c.result in
+    let fits : SFits w64 c.in-WantWrite.item = search rules in
+    handles_write o o (book_of c.put_first.new.self) c.args.p d c.in-WantWrite.item c.args.stop c.put_first.result
+    (inl refl)
+    (λ s is. record {
+      port = c.in-WantWrite.port;
+      asks = is ∙ c.in-WantWrite.is;
+      channel = c.out_channel-c.ensures;
+    })
+    (subst (λ v. AnsweredFirst c.args.p (λ s. IsWriteTo b.tables c.args.p s d v) c.put_first.result o
+    (book_of c.put_first.new.self)) (to_z-of_z w64 c.in-WantWrite.item fits) c.put_first.ensures.answered)
+
 pub returns-in_ok-reserve_one-in-WantWrite-clause-handles :
     goal.returns-in_ok-reserve_one-in-WantWrite-clause-handles
 returns-in_ok-reserve_one-in-WantWrite-clause-handles g c =
@@ -109,27 +136,17 @@ returns-in_ok-reserve_one-in-WantWrite-clause-handles g c =
     reserved (book_of c.write_first.new.self) =
     subst (λ v. AnsweredFirst c.args.p (λ s. IsWriteTo b.tables c.args.p s d v) c.write_first.result reserved
     (book_of c.write_first.new.self)) (to_z-of_z w64 c.in-WantWrite.item fits) c.write_first.ensures.answered in
-    let asks : (s : Stop) → s ≡ c.args.stop → IsWriteTo b.tables c.args.p s d c.in-WantWrite.item =
-    λ s is. record {
+    handles_write o reserved (book_of c.write_first.new.self) c.args.p d c.in-WantWrite.item c.args.stop
+    c.write_first.result
+    (inr (
+      λ paused. no_pause c.args.stop c.in-WantWrite.port c.in-WantWrite.item c.in-WantWrite.is paused,
+      (d, below, same),
+    ))
+    (λ s is. record {
       port = c.in-WantWrite.port;
       asks = is ∙ c.in-WantWrite.is;
       channel = c.out_channel-c.ensures;
-    } in
-    record {
-      reserved = reserved;
-      but =
-          inr (
-            λ paused. no_pause c.args.stop c.in-WantWrite.port c.in-WantWrite.item c.in-WantWrite.is paused,
-            (d, below, same),
-          );
-      answered = record {
-        answer = made.answer;
-        answered =
-            asked_otherwise c.args.p (λ s. IsWriteTo b.tables c.args.p s d c.in-WantWrite.item)
-            (λ s. s ≡ c.args.stop) made.answer reserved (book_of c.write_first.new.self) asks made.answered;
-        sink_is = λ s is. made.sink_is s (asks s is);
-      };
-    }
+    }) made
 
 pub returns-in-Done-clause-handles : goal.returns-in-Done-clause-handles
 returns-in-Done-clause-handles g c =

@@ -1,18 +1,14 @@
-use Rattle.std.proofs.Common.{◌≡◌, None, false, sym, ap, subst, ◌∙◌, arith, w64, SFits, to_z, of_z, rules, slice_get}
+use Rattle.std.proofs.Common.{◌≡◌, ◌<◌, length, true, refl, sym, ap, ◌∙◌, subst, inr, arith, w64, SFits, rules}
 use Rattle.std.proofs.lemmas.Int.{to_z-of_z}
-use Rattle.std.specs.Option.{option_to_list}
 use Rattle.kpn_chan.specs.Channel.{is_full}
 use Rattle.kpn_history.specs.declared.event.Event.TheVariants as event
-use Rattle.kpn_configuration.specs.Changes.{Changes}
 use Rattle.kpn_configuration.specs.Configuration.{channel_in}
 use Rattle.kpn_configuration.proofs.Ports.{writes_below}
-use Rattle.kpn_configuration.proofs.Due.{Legal-due}
-use Rattle.kpn_run_state.specs.declared.answers.Done.TheVariants as done
 use Rattle.kpn_run_state.specs.Commits.{IsWriteTo}
-use Rattle.kpn_run_state.specs.Open.{book_of, first_claimed, if_sink, sink_by, AnsweredFirst}
-use Rattle.kpn_run_state.proofs.Following.{own_held, held_is_there, held_is_free, may_be_woken, followed, recorded, process_fits, channel_fits}
-use Rattle.kpn_run_state.proofs.Answering.{answered_put}
-use Rattle.kpn_run_state.proofs.FirstOfQueue.{held_first}
+use Rattle.kpn_run_state.specs.Open.{book_of, first_claimed, sink_by, AnsweredFirst}
+use Rattle.kpn_run_state.proofs.Following.{held_is_there}
+use Rattle.kpn_run_state.proofs.Answering.{answered_wait}
+use Rattle.kpn_run_state.proofs.FirstOfQueue.{held_first, waits_on_no_sink}
 use Rattle.kpn_run_state.proofs.open_book.OpenBook.write_first.Goals as goal
 
 pub channel-requires : goal.channel-requires
@@ -25,80 +21,58 @@ channel-requires g c =
     let long = c.requires.sound.in_step.run.shape.channels in
     omega (arith, below, long)
 
-pub returns-then-is_full-clause-answered : goal.returns-then-is_full-clause-answered
-returns-then-is_full-clause-answered g c =
+pub returns-then-not-is_full-clause-answered : goal.returns-then-not-is_full-clause-answered
+returns-then-not-is_full-clause-answered g c =
     let b = book_of c.args.self.now in
     let fits : SFits w64 c.args.item = search rules in
-    subst (λ v. AnsweredFirst c.args.p (λ s. IsWriteTo b.tables c.args.p s c.args.c v) None
-    (first_claimed c.args.p b) (book_of c.write_later.new.self)) (to_z-of_z w64 c.args.item fits)
-    c.write_later.ensures.answered
+    subst (λ v. AnsweredFirst c.args.p (λ s. IsWriteTo b.tables c.args.p s c.args.c v) c.put_first.result
+    (first_claimed c.args.p b) (book_of c.put_first.new.self)) (to_z-of_z w64 c.args.item fits)
+    c.put_first.ensures.answered
 
-pub put-woken-requires-clause-free : goal.put-woken-requires-clause-free
-put-woken-requires-clause-free g c =
-    let o = first_claimed c.args.p (book_of c.args.self.now) in
-    held_is_free o c.requires.sound.in_step c.args.p (held_first (book_of c.args.self.now) c.args.p c.requires.first)
+pub grow_if_owed-requires-clause-room : goal.grow_if_owed-requires-clause-room
+grow_if_owed-requires-clause-room g c =
+    let two = c.requires.room in
+    let more = c.first_waits_on_full.ensures.room in
+    omega (arith, two, more)
 
-pub number-requires : goal.number-requires
-number-requires g c =
-    let o = first_claimed c.args.p (book_of c.args.self.now) in
-    let held = held_first (book_of c.args.self.now) c.args.p c.requires.first in
-    process_fits o.tables c.known.ensures c.args.p (held_is_there o c.requires.sound.in_step c.args.p held)
+pub grow_if_owed-requires-clause-step : goal.grow_if_owed-requires-clause-step
+grow_if_owed-requires-clause-step g c = c.first_waits_on_full.ensures.follows.in_step
 
-pub number-requires-2 : goal.number-requires-2
-number-requires-2 g c =
-    let o = first_claimed c.args.p (book_of c.args.self.now) in
-    let held = held_first (book_of c.args.self.now) c.args.p c.requires.first in
-    let there = held_is_there o c.requires.sound.in_step c.args.p held in
-    channel_fits o.tables c.known.ensures c.args.c
-    (writes_below o.tables c.known.ensures o.configuration c.args.p there c.args.c c.args.item c.requires.writes)
+pub grow_if_owed-requires-clause-process : goal.grow_if_owed-requires-clause-process
+grow_if_owed-requires-clause-process g c =
+    let b = book_of c.args.self.now in
+    let o = first_claimed c.args.p b in
+    subst (λ t. c.args.p < length t.instances) (sym c.first_waits_on_full.ensures.follows.appends.tables)
+    (held_is_there o c.requires.sound.in_step c.args.p (held_first b c.args.p c.requires.first))
 
-pub rotate-requires : goal.rotate-requires
-rotate-requires g c = ap (λ q. slice_get q 0) c.requires.first.queue
-
-pub wake-requires : goal.wake-requires
-wake-requires g c =
-    let o = first_claimed c.args.p (book_of c.args.self.now) in
-    let held = held_first (book_of c.args.self.now) c.args.p c.requires.first in
-    may_be_woken o c.known.ensures c.requires.sound.in_step (event.Put c.args.p c.args.c c.args.item)
-    (own_held o c.args.p held) tt c.rotate.new.self (option_to_list c.put-woken.result)
-    c.rotate.ensures (ap option_to_list c.put-woken.ensures.woken)
-
-pub if_sink-requires : goal.if_sink-requires
-if_sink-requires g c =
-    let o = first_claimed c.args.p (book_of c.args.self.now) in
-    let held = held_first (book_of c.args.self.now) c.args.p c.requires.first in
-    let there = held_is_there o c.requires.sound.in_step c.args.p held in
-    writes_below o.tables c.known.ensures o.configuration c.args.p there c.args.c c.args.item c.requires.writes
+pub grow_if_owed-requires-clause-waits : goal.grow_if_owed-requires-clause-waits
+grow_if_owed-requires-clause-waits g c = record {
+  before = c.args.self.now.history.events;
+  wait = event.WaitFull c.args.p c.args.c;
+  is = c.first_waits_on_full.ensures.follows.appends.history;
+  waits = refl;
+}
 
 pub returns-clause-answered : goal.returns-clause-answered
 returns-clause-answered g c =
     let o = first_claimed c.args.p (book_of c.args.self.now) in
-    let held = held_first (book_of c.args.self.now) c.args.p c.requires.first in
-    let e = event.Put c.args.p c.args.c c.args.item in
-    let step = c.requires.sound.in_step in
-    let there = held_is_there o step c.args.p held in
-    let below =
-    writes_below o.tables c.known.ensures o.configuration c.args.p there c.args.c c.args.item c.requires.writes in
-    let ready : is_full (channel_in o.configuration c.args.c) ≡ false = search rules in
-    let fits : SFits w64 c.args.item = search rules in
-    let item = to_z w64 (of_z w64 c.args.item) in
-    let a = recorded o c.push.new.self.events c.put-woken.new.self c.wake.new.schedule in
+    let full : is_full (channel_in o.configuration c.args.c) ≡ true = search rules in
     record {
-      answer = done.Put;
+      answer = c.grow_if_owed.result;
       answered =
-          answered_put o a c.known.ensures c.args.p c.args.c c.args.item ready
-          (followed o c.known.ensures step e (own_held o c.args.p held) tt c.put-woken.new.self
-          (subst (λ x. Changes o.tables (event.Put c.args.p c.args.c x) o.configuration c.put-woken.new.self)
-          (to_z-of_z w64 c.args.item fits) c.put-woken.ensures.changes) c.put-woken.ensures.shape
-          (Legal-due o.tables c.known.ensures o.history o.configuration step.run c.requires.sound.nothing_owed e
-          (there, below) (held_is_free o step c.args.p held, c.requires.writes, ready))
-          (event.Put c.number.result c.number-2.result item) c.push.new.self.events c.rotate.new.self
-          c.wake.new.schedule (option_to_list c.put-woken.result)
-          (ap (λ x. event.Put x c.number-2.result item) c.number.ensures
-          ∙ ap (λ x. event.Put c.args.p x item) c.number-2.ensures
-          ∙ ap (λ x. event.Put c.args.p c.args.c x) (to_z-of_z w64 c.args.item fits))
-          c.push.ensures.events c.rotate.ensures c.wake.ensures (ap option_to_list c.put-woken.ensures.woken));
+          answered_wait o (book_of c.first_waits_on_full.new.self) c.args.p (event.WaitFull c.args.p c.args.c) refl
+          (λ s. IsWriteTo o.tables c.args.p s c.args.c c.args.item)
+          (λ s asks. inr (record {
+            channel = c.args.c;
+            item = c.args.item;
+            asks = asks;
+            full = full;
+            is = refl;
+          }))
+          c.first_waits_on_full.ensures.follows c.grow_if_owed.result (book_of c.grow_if_owed.new.self)
+          c.grow_if_owed.ensures.grows;
       sink_is = λ s asks.
-          c.if_sink.ensures ∙ ap (if_sink o.tables) (sym asks.channel.1)
-          ∙ ap (λ z. sink_by o.tables c.args.p z done.Put) (sym asks.asks);
+          sym (ap (λ z. sink_by o.tables c.args.p z c.grow_if_owed.result) asks.asks
+          ∙ waits_on_no_sink o.tables _ c.args.p (book_of c.first_waits_on_full.new.self)
+          (book_of c.grow_if_owed.new.self) c.grow_if_owed.result c.grow_if_owed.ensures.grows.grows);
     }
