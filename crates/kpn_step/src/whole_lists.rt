@@ -35,7 +35,8 @@ pub fn alone(
     let mut talk = Sequence::new(alloc);
     let mut unused = quota;
     'says: loop {
-        let (steps, stop) = walk(program, &mut frame, unused);
+        let at = frame.position(program);
+        let (steps, stop) = walk(program, &mut frame, at, unused);
         unused -= steps;
         match say(program, &mut frame, lists, &mut taken, stop) {
             Ok(said) => talk.push(said)?,

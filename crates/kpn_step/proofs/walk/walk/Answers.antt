@@ -6,7 +6,7 @@ use Rattle.kpn_step.proofs.walk.walk.Goals as goal
 
 pub steps-init : goal.steps-init
 steps-init c =
-    Walking-start c.args.program.now c.args.quota c.args.frame.now c.position-at.result c.position-at.ensures c.requires
+    Walking-start c.args.program.now c.args.quota c.args.frame.now c.args.from c.requires.here c.requires.fits
 
 pub step_by_tree-requires : goal.step_by_tree-requires
 step_by_tree-requires c = c.steps.invariant.fits

@@ -4,8 +4,13 @@ use Rattle.kpn_step.proofs.Places.{fits-steps}
 use Rattle.kpn_step.proofs.Along.{Along-fits, Along-stands, Along-said, Along-ends, way_left-falls}
 use Rattle.kpn_step.proofs.whole_lists.alone.Goals as goal
 
-pub walk-steps-requires : goal.walk-steps-requires
-walk-steps-requires c =
+pub position-at-requires : goal.position-at-requires
+position-at-requires c =
+    Along-fits c.args.program.now c.known.ensures c.args.pars.now c.args.lists.now c.requires.pars c.args.quota
+    c.says.unused c.says.talk c.says.frame c.says.taken.items c.says.invariant
+
+pub walk-steps-requires-clause-fits : goal.walk-steps-requires-clause-fits
+walk-steps-requires-clause-fits c =
     Along-fits c.args.program.now c.known.ensures c.args.pars.now c.args.lists.now c.requires.pars c.args.quota
     c.says.unused c.says.talk c.says.frame c.says.taken.items c.says.invariant
 
