@@ -7,7 +7,7 @@ use kpn_conclusion::Conclusion;
 use std::alloc::{AllocError, Global};
 
 /// Why the history of a trace is not found legal. Events are counted from 0.
-#[derive(Clone, Copy, PartialEq, Eq)]
+#[derive(Clone, Copy)]
 pub enum Flaw {
     /// This event is the first after which no legal history goes on.
     Illegal(usize),

@@ -10,7 +10,7 @@ use kpn_tokens::Lexeme;
 use std::alloc::{AllocError, Global};
 
 /// A way of writing that this language has not.
-#[derive(Clone, Copy, PartialEq, Eq)]
+#[derive(Clone, Copy)]
 pub(crate) enum Habit {
     /// An operator stands without parentheses.
     Sides,

@@ -3,7 +3,7 @@ ghost use Rattle.std.specs.Prelude.{◌≡◌};
 ghost use Rattle.kpn_explain_command.specs.Sentences as spec;
 
 /// What a limit counts.
-#[derive(Clone, Copy, PartialEq, Eq)]
+#[derive(Clone, Copy)]
 pub(crate) enum Part {
     Variables,
     InPorts,
@@ -16,7 +16,7 @@ pub(crate) enum Part {
 }
 
 /// A limit that is passed, and how many there are of what it counts.
-#[derive(Clone, Copy, PartialEq, Eq)]
+#[derive(Clone, Copy)]
 pub(crate) struct Excess {
     pub part: Part,
     pub count: usize,
@@ -24,7 +24,7 @@ pub(crate) struct Excess {
 }
 
 /// A kind of fault.
-#[derive(Clone, Copy, PartialEq, Eq)]
+#[derive(Clone, Copy)]
 pub(crate) enum Case {
     /// The text has too many bytes.
     LongText,

@@ -8,7 +8,7 @@ use kpn_tokens::Lexeme;
 use std::alloc::{AllocError, Global};
 
 /// Where in a statement a place is, by what may stand there.
-#[derive(Clone, Copy, PartialEq, Eq)]
+#[derive(Clone, Copy)]
 pub(crate) enum Stand {
     /// Behind the name of a variable that begins a statement: `=` may stand there.
     Assigning,

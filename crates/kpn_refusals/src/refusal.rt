@@ -16,7 +16,7 @@ use std::fmt;
 use std::io::Write;
 
 /// Why a command gives no answer.
-#[derive(Drop, PartialEq, Eq)]
+#[derive(Drop)]
 pub enum Refusal {
     /// A word of the command line is no UTF-8 text.
     NotText,
