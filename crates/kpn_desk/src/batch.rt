@@ -1,7 +1,7 @@
 //! The turns that a worker makes between two holds of the lock, in the order of their claims.
-ghost use Rattle.std.specs.Prelude.{◌≡◌, ◌↔◌, ◌<◌, ◌≤◌, IsTrue, take, length};
+ghost use Rattle.std.specs.Prelude.{◌≡◌, ◌↔◌, ◌+◌, ◌<◌, ◌≤◌, IsTrue, take, length};
 ghost use Rattle.kpn_run_state.specs.Stepping.{ClaimsNobody};
-ghost use Rattle.kpn_desk.specs.Batch.{InTurn, Claims, CommitsOrDrops, PutsBack, Settles, claimed_by, LetsThrough, GoesAtOnce};
+ghost use Rattle.kpn_desk.specs.Batch.{InTurn, Claims, CommitsOrDrops, PutsBack, Settles, claimed_by, LetsThrough, LetsAll, GoesAtOnce};
 ghost use Rattle.kpn_desk.specs.Desk.{share_in};
 
 use crate::crew::BATCH;
@@ -104,6 +104,7 @@ impl<'n, J: Job> Batch<'n, J> {
         ensures settles { Settles self.now result desk.old desk.new }
         ensures number { seat.new.number ≡ seat.old.number }
         ensures counted { seat.old.commits ≤ seat.new.commits }
+        ensures most { seat.new.commits ≤ seat.old.commits + self.now.passed }
     {
         let turns = self.turns.as_slice();
         let committed = commit_each(desk, seat, &turns[..self.passed]);
@@ -131,6 +132,7 @@ pub(crate) fn go_at_once<J: Job, A: Allocator + Copy, G: Gate>(
     ensures goes { GoesAtOnce (G.may_answer gate.now) most desk.old.book desk.new.book }
     ensures number { seat.new.number ≡ seat.old.number }
     ensures counted { seat.old.commits ≤ seat.new.commits }
+    ensures asked { seat.old.commits < seat.new.commits → LetsAll (G.may_answer gate.now) }
 {
     if !gate.lets_all() {
         return;
@@ -205,6 +207,7 @@ fn commit_each<'n, J: Job, A: Allocator + Copy>(
     ensures count { result ≤ length turns.now }
     ensures number { seat.new.number ≡ seat.old.number }
     ensures counted { seat.old.commits ≤ seat.new.commits }
+    ensures most { seat.new.commits ≤ seat.old.commits + length turns.now }
 {
     'turns: for i in 0..turns.len() {
         if !turns[i].commit(desk, seat) {

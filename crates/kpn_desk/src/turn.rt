@@ -1,5 +1,5 @@
 //! What a worker does with one process between two holds of the lock: its claim, its steps, and their commit.
-ghost use Rattle.std.specs.Prelude.{◌≡◌, ◌≤◌, true, false, None};
+ghost use Rattle.std.specs.Prelude.{◌≡◌, ◌+◌, ◌≤◌, true, false, None};
 ghost use Rattle.kpn_run_state.specs.Stepping.{ClaimsNobody};
 ghost use Rattle.kpn_desk.specs.Desk.{with_book};
 ghost use Rattle.kpn_desk.specs.Batch.{Claims, MayCommit, CommitsOrDrops, PutsBack};
@@ -112,6 +112,7 @@ impl<'n, J: Job> Turn<'n, J> {
         ensures refused { (result ≡ false) → MayCommit self.now desk.old.book × (desk.new ≡ desk.old) }
         ensures number { seat.new.number ≡ seat.old.number }
         ensures counted { seat.old.commits ≤ seat.new.commits }
+        ensures most { seat.new.commits ≤ seat.old.commits + 1 }
     {
         let Some(last) = &self.last else {
             return true;

@@ -1,6 +1,7 @@
 //! The holds of a worker: each time it has the lock it commits what it has stepped, and claims the next process or
 //! waits. It notifies others once the lock is free.
-ghost use Rattle.std.specs.Prelude.{◌≡◌, ◌≤◌, false, IfNone, IsSome};
+ghost use Rattle.std.specs.Prelude.{◌≡◌, ◌+◌, ◌<◌, ◌≤◌, false, IfNone, IsSome};
+ghost use Rattle.kpn_desk.specs.Batch.{LetsAll};
 ghost use Rattle.kpn_desk.specs.Seat.{ended};
 
 use super::Shared;
@@ -30,6 +31,9 @@ impl<'n, J: Job, A: Allocator> Shared<'n, J, A> {
         ensures number { seat.new.number ≡ seat.old.number }
         ensures commits { seat.old.commits ≤ seat.new.commits }
         ensures ended { (result ≡ false) → IsSome seat.new.why }
+        // turns that the gate was not asked for are committed only if it lets everything through
+        ensures asked { seat.old.commits + batch.old.passed < seat.new.commits
+            → LetsAll (G.may_answer gate.now) }
     {
         let away = pace.time(rt);
         let turns = batch.len();
@@ -125,8 +129,8 @@ impl<'n, J: Job, A: Allocator> Shared<'n, J, A> {
         (desk, !waited.timed_out())
     }
 
-    /// Lets the desk go after the commit of so many turns and a claim: a turn begins. Notifies a worker if one is wanted beside this one, and calls the
-    /// outside if a sink is to be taken from.
+    /// Lets the desk go after the commit of so many turns and a claim: a turn begins. Notifies a worker if one is wanted
+    /// beside this one, and calls the outside if a sink is to be taken from.
     fn let_go<'l, R: Wait + Clock>(
         &'l self,
         rt: &R,

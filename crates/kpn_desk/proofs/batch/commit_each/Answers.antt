@@ -16,4 +16,5 @@ turns-preserved g c =
           c.commit.new.desk.book c.turns-test.true is so_far.commits (more.commits done);
       number = more.number ∙ so_far.number;
       counted = let a = so_far.counted in let b = more.counted in omega arith;
+      most = let a = so_far.most in let b = more.most in omega arith;
     }

@@ -1,4 +1,4 @@
-use Rattle.std.proofs.Common.{◌≡◌, ◌≤◌, take}
+use Rattle.std.proofs.Common.{◌≡◌, ◌+◌, ◌≤◌, take}
 use Rattle.kpn_desk.specs.Batch.{CommitsOrDrops, InTurn}
 use Rattle.kpn_desk.proofs.batch.commit_each.Given as goal
 
@@ -7,4 +7,5 @@ invariant-turns g l = record {
   commits : InTurn CommitsOrDrops (take l.i l.turns) l.fn.desk.book l.desk.book;
   number : l.seat.number ≡ l.fn.seat.number;
   counted : l.fn.seat.commits ≤ l.seat.commits;
+  most : l.seat.commits ≤ l.fn.seat.commits + l.i;
 }
