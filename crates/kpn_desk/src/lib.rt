@@ -19,7 +19,7 @@ pub use crew::Awaited;
 pub use desk::Desk;
 pub use gate::{CommitsAll, Gate, Go};
 pub use job::Job;
-pub use kpn_run_state::{Counts, Refused, State, View};
+pub use kpn_run_state::{Refused, View};
 pub use opening::{EndSeats, end_seats};
 pub use outside_calls::{
     SnapFault, close, feed, feed_all, feed_when_room, leave, snapshot, take, take_each,

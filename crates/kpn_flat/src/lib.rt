@@ -17,7 +17,6 @@ pub use fault::{Fault, fault_of, number_of};
 pub use feeding::Fed;
 pub use kpn_run_here::{Limits, Outcome};
 pub use kpn_run_state::{Refused, Verdict};
-pub use kpn_text::TextFault;
 pub use lists::CutFault;
 pub use running::Ran;
 pub use session::Session;

@@ -14,4 +14,4 @@ pub use answers::{Done, Refused};
 pub use book::Book;
 pub use claim::Claim;
 pub use detached::Detached;
-pub use kpn_history::{Counts, Event, History, How, State, Verdict, View};
+pub use kpn_history::{Counts, Event, Verdict, View};
