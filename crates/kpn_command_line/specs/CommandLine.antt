@@ -1,6 +1,6 @@
 -- The command line of the program, as a description that `clap` reads: the commands, the words of each in their order,
 -- and its options. No word and no option has a rule about another.
-use Rattle.std.specs.Prelude.{◌≡◌, ℕ, pos, true, false, List, [], ◌∷◌, map, take, Some, codes}
+use Rattle.std.specs.Prelude.{◌≡◌, ℕ, pos, true, false, List, [], ◌∷◌, map, Some, codes}
 use Rattle.clap.specs.Walk.{Rule, rule_of}
 use Rattle.clap.specs.Simple.{App, app_of, new_app, new_rule, new_shape, on_top}
 use Rattle.clap.specs.declared.builder.command.Command.TheViews.{out-Command as fields_of}
@@ -160,10 +160,6 @@ IsArg rule arg = (rule_of arg ≡ rule) × (arg.global ≡ false)
 -- this command, all words of which belong to it only
 abbrev pub IsCommand : App → Command → Type 0
 IsCommand app command = (app_of command ≡ app) × ((fields_of command).has_globals ≡ false)
-
--- the program with so many of its commands
-abbrev pub first_commands : ℕ → App
-first_commands n = record command_line { subs = take n command_line.subs }
 
 -- the program without its commands
 abbrev pub bare_command_line : App

@@ -1,7 +1,8 @@
 //! The description of the command line for `clap`, and what help says of it.
 ghost use Rattle.std.specs.Prelude.{IfOk};
-ghost use Rattle.clap.specs.Words.{new_app};
-ghost use Rattle.kpn_command_line.specs.CommandLine.{IsArg, IsCommand, command_line, first_commands};
+ghost use Rattle.clap.specs.Words.{App, new_app};
+ghost use Rattle.clap.specs.Simple.{with_subcommand};
+ghost use Rattle.kpn_command_line.specs.CommandLine.{IsArg, IsCommand, command_line};
 ghost use Rattle.kpn_command_line.specs.CommandLine.{optional_word, word, option, count, alone_words, check_words};
 ghost use Rattle.kpn_command_line.specs.CommandLine.{explain_words, print_words, draw_words, rounds_words, run_words};
 ghost use Rattle.kpn_command_line.specs.CommandLine.{stream_words, audit_words, stats_words, timeline_words};
@@ -60,39 +61,32 @@ pub(crate) const ACROSS: &str = "ACROSS";
 pub(crate) fn program<'a>(alloc: Global) -> Result<Command<'a>, AllocError>
     ensures { IfOk result (IsCommand command_line) }
 {
-    first_nine(alloc)?
-        .subcommand(stats_words(alloc)?)?
-        .subcommand(timeline_words(alloc)?)
+    let program = with(bare_program(alloc), alone_words(alloc))?;
+    let program = with(program, check_words(alloc))?;
+    let program = with(program, explain_words(alloc))?;
+    let program = with(program, print_words(alloc))?;
+    let program = with(program, draw_words(alloc))?;
+    let program = with(program, rounds_words(alloc))?;
+    let program = with(program, run_words(alloc))?;
+    let program = with(program, stream_words(alloc))?;
+    let program = with(program, audit_words(alloc))?;
+    let program = with(program, stats_words(alloc))?;
+    with(program, timeline_words(alloc))
 }
 
-// The program with nine commands.
-fn first_nine<'a>(alloc: Global) -> Result<Command<'a>, AllocError>
-    ensures { IfOk result (IsCommand (first_commands 9)) }
+// The program with one more command, unless there was no memory for the words of that.
+fn with<'a>(
+    program: Command<'a>,
+    words: Result<Command<'a>, AllocError>,
+) -> Result<Command<'a>, AllocError>
+    ensures { (before command : App) → IsCommand before program.entry
+        → IfOk words.entry (IsCommand command)
+        → IfOk result (IsCommand (with_subcommand before command.top)) }
 {
-    first_six(alloc)?
-        .subcommand(run_words(alloc)?)?
-        .subcommand(stream_words(alloc)?)?
-        .subcommand(audit_words(alloc)?)
-}
-
-// The program with six commands.
-fn first_six<'a>(alloc: Global) -> Result<Command<'a>, AllocError>
-    ensures { IfOk result (IsCommand (first_commands 6)) }
-{
-    first_three(alloc)?
-        .subcommand(print_words(alloc)?)?
-        .subcommand(draw_words(alloc)?)?
-        .subcommand(rounds_words(alloc)?)
-}
-
-// The program with three commands.
-fn first_three<'a>(alloc: Global) -> Result<Command<'a>, AllocError>
-    ensures { IfOk result (IsCommand (first_commands 3)) }
-{
-    bare_program(alloc)
-        .subcommand(alone_words(alloc)?)?
-        .subcommand(check_words(alloc)?)?
-        .subcommand(explain_words(alloc)?)
+    match words {
+        Ok(words) => program.subcommand(words),
+        Err(error) => Err(error),
+    }
 }
 
 // What help says below the commands.

@@ -1,0 +1,22 @@
+-- A command that is added to a program.
+use Rattle.std.proofs.Common.{◌∙◌, ap, refl, Result, Ok, Err, IfOk}
+use Rattle.clap.specs.Built.{AddsSubcommand}
+use Rattle.clap.specs.Simple.{App, shape_of, with_subcommand}
+use Rattle.clap.specs.declared.builder.command.Command.{Command}
+use Rattle.kpn_command_line.specs.CommandLine.{IsCommand}
+
+module _ (before command : App) (program words : Command) (is : IsCommand before program)
+    (also : IsCommand command words) where
+  is_added : (new : Command) → AddsSubcommand program words new
+      → IsCommand (with_subcommand before command.top) new
+  is_added new adds = (
+    adds.shape also.1
+        ∙ ap (λ (app : App). with_subcommand app (shape_of words)) is.0
+        ∙ ap (λ (app : App). with_subcommand before app.top) also.0,
+    adds.globals ∙ rw (is.1, also.1) refl,
+  )
+
+  pub added : {E : Type 0} (result : Result Command E) → IfOk result (AddsSubcommand program words)
+      → IfOk result (IsCommand (with_subcommand before command.top))
+  added (Ok new) adds = is_added new adds
+  added (Err fault) adds = tt

@@ -1,0 +1,7 @@
+-- The command is added to what the program has.
+use Rattle.kpn_command_line.proofs.Adding.{added}
+use Rattle.kpn_command_line.proofs.command_line.with.Goals as goal
+
+pub returns-in-Ok : goal.returns-in-Ok
+returns-in-Ok c = λ before command is also.
+    added before command c.args.program c.in-Ok.words is (rw c.in-Ok.is at also) c.subcommand.result c.subcommand.ensures
