@@ -45,28 +45,53 @@ fn complete_sinks_of(
 ) -> Result<Sequence<bool>, AllocError>
     requires { length lists.now ≡ sources network.now }
 {
-    let report = run_here(alloc, network, lists, &ALL)?;
-    report.complete_sinks(alloc, network)
+    match run_here(alloc, network, lists, &ALL) {
+        Ok(report) => report.complete_sinks(alloc, network),
+        Err(fault) => Err(fault),
+    }
 }
 
-/// Whether a run of a described network has these complete sinks. The source `s` has no item.
-fn has_complete(alloc: Global, text: &str, complete: &[bool]) -> Result<bool, Fail> {
-    let document = read_network(alloc, text.as_bytes())?;
-    let network = document.network();
-    let none = Sequence::from_vec(Vec::new(alloc));
-    let items = Sequence::from_vec(vec![in alloc; 1, 2]?);
-    let lists = vec![in alloc; none, items]?;
+/// Whether these sinks are complete.
+fn are_complete(
+    alloc: Global,
+    network: &Network,
+    lists: &[Sequence<i64>],
+    complete: &[bool],
+) -> Result<bool, AllocError> {
     if lists.len() != network.sources() {
         return Ok(false);
     }
-    let found = complete_sinks_of(alloc, network, &lists)?;
+    let found = complete_sinks_of(alloc, network, lists)?;
     Ok(found.as_slice() == complete)
+}
+
+/// Whether a run of a described network has these complete sinks.
+fn has_complete(
+    alloc: Global,
+    text: &str,
+    lists: &[Sequence<i64>],
+    complete: &[bool],
+) -> Result<bool, Fail> {
+    let document = read_network(alloc, text.as_bytes())?;
+    let is_so = are_complete(alloc, document.network(), lists, complete);
+    drop(document);
+    Ok(is_so?)
+}
+
+/// The lists of the sources: `s` has no item.
+fn two_lists(alloc: Global) -> Result<Vec<Sequence<i64>>, AllocError> {
+    let items = vec![in alloc; 1, 2]?;
+    let mut lists = Vec::with_capacity(alloc, 2)?;
+    lists.push_reserved(Sequence::from_vec(Vec::new(alloc)));
+    lists.push_reserved(Sequence::from_vec(items));
+    Ok(lists)
 }
 
 #[test]
 fn a_stop_hides_no_item_of_a_complete_sink(rt: HostRuntime) -> Result<(), Fail> {
+    let lists = two_lists(rt.alloc())?;
     for (text, complete) in [(CLOGGED, [true, false]), (GROWN, [true, true])] {
-        assert!(rt; has_complete(rt.alloc(), text, complete.as_slice())?);
+        assert!(rt; has_complete(rt.alloc(), text, &lists, complete.as_slice())?);
     }
     Ok(())
 }

@@ -7,6 +7,8 @@ mod commits;
 #[cfg(test)]
 mod complete;
 #[cfg(test)]
+mod gates;
+#[cfg(test)]
 mod memory;
 #[cfg(test)]
 mod runs;

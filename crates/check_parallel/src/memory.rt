@@ -33,7 +33,10 @@ fn commits_of(alloc: Global, network: &Network) -> Result<Option<u64>, AllocErro
     if network.sources() != 0 {
         return Ok(None);
     }
-    Ok(Some(run_here(alloc, network, &[], &ALL)?.commits))
+    match run_here(alloc, network, &[], &ALL) {
+        Ok(report) => Ok(Some(report.commits)),
+        Err(fault) => Err(fault),
+    }
 }
 
 /// While there is memory, a commit and a run succeed.

@@ -2,17 +2,17 @@
 ghost use Rattle.std.specs.Prelude.{◌≡◌, ◌<◌, ◌≤◌, length};
 ghost use Rattle.kpn_net.specs.Iteration.{sources};
 
-use commit_gates::{Held, Holding};
+use crate::gates::TestGate;
+use commit_gates::Held;
 use kpn_history::{Event, History};
 use kpn_lang::Sequence;
 use kpn_limits::MAX_WORKERS;
 use kpn_net::Network;
 use kpn_run_here::run_here;
 use kpn_text::read_network;
-use kpn_workers::{Gate, Go, Limits, Outcome, Report, RunFault, run};
+use kpn_workers::{Limits, Outcome, Report, RunFault, run};
 use std::alloc::{AllocError, Global};
 use std::sync::Wait;
-use std::sync::atomic::{AtomicU64, Ordering};
 use std::test::Fail;
 use std::thread::Threads;
 use std::time::Clock;
@@ -87,39 +87,6 @@ const STILL: Limits = Limits {
     quota: 0,
 };
 
-/// A gate that abandons at some calls, counted from 0: from one on, and before another one.
-#[derive(Drop)]
-struct Abandons {
-    from: u64,
-    until: u64,
-    calls: AtomicU64,
-}
-
-impl Abandons {
-    fn new(from: u64, until: u64) -> Abandons {
-        Abandons {
-            from,
-            until,
-            calls: AtomicU64::new(0),
-        }
-    }
-
-    fn never() -> Abandons {
-        Abandons::new(0, 0)
-    }
-}
-
-impl Gate for Abandons {
-    fn between(&self, _worker: usize, _process: usize) -> Go {
-        let call = self.calls.fetch_add(1, Ordering::SeqCst);
-        if self.from <= call && call < self.until {
-            Go::Abandon
-        } else {
-            Go::On
-        }
-    }
-}
-
 /// What a report says, but for its items.
 #[derive(Clone, Copy)]
 struct Told {
@@ -185,13 +152,13 @@ impl Beside {
 }
 
 /// A run by workers, beside this one on one thread.
-fn ran_beside<R: Threads + Wait + Clock + Sync, G: Gate>(
+fn ran_beside<R: Threads + Wait + Clock + Sync>(
     rt: &R,
     alloc: Global,
     network: &Network,
     lists: &[Sequence<i64>],
     workers: usize,
-    gate: &G,
+    gate: &TestGate,
     limits: &Limits,
     here: &Report,
 ) -> Beside
@@ -213,34 +180,38 @@ fn ran_beside<R: Threads + Wait + Clock + Sync, G: Gate>(
 }
 
 /// A run of a network by this many workers, beside one on one thread. `None` if there is no list for each source.
-fn run_network<R: Threads + Wait + Clock + Sync, G: Gate>(
+fn run_network<R: Threads + Wait + Clock + Sync>(
     rt: &R,
     alloc: Global,
     network: &Network,
     lists: &[Sequence<i64>],
     workers: usize,
-    gate: &G,
+    gate: &TestGate,
     limits: &Limits,
 ) -> Result<Option<Beside>, AllocError> {
     if lists.len() != network.sources() || workers == 0 || workers > MAX_WORKERS {
         return Ok(None);
     }
-    let here = run_here(alloc, network, lists, limits)?;
-    Ok(Some(ran_beside(rt, alloc, network, lists, workers, gate, limits, &here)))
+    match run_here(alloc, network, lists, limits) {
+        Ok(here) => Ok(Some(ran_beside(rt, alloc, network, lists, workers, gate, limits, &here))),
+        Err(fault) => Err(fault),
+    }
 }
 
 /// The same of a described network.
-fn run_text<R: Threads + Wait + Clock + Sync, G: Gate>(
+fn run_text<R: Threads + Wait + Clock + Sync>(
     rt: &R,
     alloc: Global,
     text: &str,
     lists: &[Sequence<i64>],
     workers: usize,
-    gate: &G,
+    gate: &TestGate,
     limits: &Limits,
 ) -> Result<Option<Beside>, Fail> {
     let document = read_network(alloc, text.as_bytes())?;
-    Ok(run_network(rt, alloc, document.network(), lists, workers, gate, limits)?)
+    let ran = run_network(rt, alloc, document.network(), lists, workers, gate, limits);
+    drop(document);
+    Ok(ran?)
 }
 
 /// Whether a run by this many workers has the outcome and the items of a run on one thread.
@@ -250,7 +221,7 @@ fn runs_as_here<R: Threads + Wait + Clock + Sync>(
     text: &str,
     lists: &[Sequence<i64>],
     workers: usize,
-    gate: &Abandons,
+    gate: &TestGate,
     limits: &Limits,
 ) -> Result<bool, Fail> {
     let ran = run_text(rt, alloc, text, lists, workers, gate, limits)?;
@@ -265,7 +236,7 @@ fn refutes_run_always_refuses(rt: HostRuntime) -> Result<(), Fail> {
     let nothing = Sequence::from_vec(Vec::new(alloc));
     let closed = vec![in alloc; nothing]?;
     let none: &[Sequence<i64>] = &[];
-    let gate = Abandons::never();
+    let gate = TestGate::open(false);
     for workers in [1, 2, 16] {
         for (name, text, lists, limits) in [
             ("copy", COPY, lists.as_slice(), ALL),
@@ -294,7 +265,15 @@ fn feeds_as_here<R: Threads + Wait + Clock + Sync>(
     workers: usize,
     limits: &Limits,
 ) -> Result<bool, Fail> {
-    let ran = run_text(rt, alloc, text, lists, workers, &Abandons::never(), limits)?;
+    let ran = run_text(
+        rt,
+        alloc,
+        text,
+        lists,
+        workers,
+        &TestGate::open(false),
+        limits,
+    )?;
     Ok(ran.is_some_and(|ran| ran.is_fed_the_same()))
 }
 
@@ -330,7 +309,7 @@ fn comes_to<R: Threads + Wait + Clock + Sync>(
     until: u64,
     limits: &Limits,
 ) -> Result<Option<Result<Outcome, RunFault>>, Fail> {
-    let gate = Abandons::new(from, until);
+    let gate = TestGate::abandons(from, until);
     let ran = run_text(rt, alloc, text, &[], workers, &gate, limits)?;
     Ok(ran.map(|ran| ran.outcome()))
 }
@@ -360,7 +339,7 @@ fn a_gate_that_abandons_at_one_call(rt: HostRuntime) -> Result<(), Fail> {
             Some(Err(RunFault::Abandoned))
         );
     }
-    let gate = Abandons::new(11, 12);
+    let gate = TestGate::abandons(11, 12);
     assert!(rt; runs_as_here(&rt, alloc, TWO, &[], 1, &gate, &ALL)?);
     Ok(())
 }
@@ -372,7 +351,7 @@ fn first_event<R: Threads + Wait + Clock + Sync>(
     alloc: Global,
     held: Held,
 ) -> Result<Option<Event>, Fail> {
-    let gate = Holding::new(held);
+    let gate = TestGate::holds(held, false);
     let ran = run_text(rt, alloc, SEVENS, &[], 2, &gate, &ALL)?;
     let Some(
         Beside {
@@ -408,7 +387,7 @@ fn commits_here<R: Threads + Wait + Clock + Sync>(
     alloc: Global,
     text: &str,
 ) -> Result<Option<u64>, Fail> {
-    let ran = run_text(rt, alloc, text, &[], 1, &Abandons::never(), &ALL)?;
+    let ran = run_text(rt, alloc, text, &[], 1, &TestGate::open(false), &ALL)?;
     Ok(ran.map(|ran| ran.here.commits))
 }
 

@@ -1,11 +1,12 @@
 //! Runs beside a client that takes, and feeds if nobody else does.
-use commit_gates::Always;
+use crate::gates::TestGate;
+use kpn_net::Network;
 use kpn_text::read_network;
 use kpn_workers::{
-    Awaited, Client, Feeder, Go, Job, Limits, Outside, Refused, Shared, SinkSeat, SourceSeat, Why,
+    Awaited, Client, Feeder, Job, Limits, Outside, Ran, Refused, Shared, SinkSeat, SourceSeat, Why,
     close, feed_when_room, run_beside, take_when_there,
 };
-use std::alloc::Global;
+use std::alloc::{AllocError, Global};
 use std::sync::Wait;
 use std::test::Fail;
 use std::thread::Threads;
@@ -94,15 +95,33 @@ fn copies<R: Threads + Wait + Clock + Sync>(
     feeders: &[Feeds],
 ) -> Result<bool, Fail> {
     let document = read_network(alloc, COPY.as_bytes())?;
-    let network = document.network();
+    let is_copied = is_copied(rt, alloc, document.network(), feeders);
+    drop(document);
+    Ok(is_copied?)
+}
+
+/// The same of the network that copies.
+fn is_copied<R: Threads + Wait + Clock + Sync>(
+    rt: &R,
+    alloc: Global,
+    network: &Network,
+    feeders: &[Feeds],
+) -> Result<bool, AllocError> {
     let client = Takes { sum: 0 };
-    let gate = &Always(Go::On);
-    let ran = run_beside(rt, alloc, network, 2, gate, &ALL, client, feeders)?;
+    let gate = TestGate::open(false);
+    match run_beside(rt, alloc, network, 2, &gate, &ALL, client, feeders) {
+        Ok(ran) => Ok(has_copied(&ran)),
+        Err(fault) => Err(fault),
+    }
+}
+
+/// Whether all workers find the run settled, and all items came.
+fn has_copied(ran: &Ran<'_, Takes>) -> bool {
     let have_settled = ran
         .workers
         .iter()
         .all(|worked| worked.why == Some(Why::Settled));
-    Ok(have_settled && ran.fault.is_none() && ran.client.sum == SUM)
+    have_settled && ran.fault.is_none() && ran.client.sum == SUM
 }
 
 #[test]
