@@ -1,6 +1,6 @@
 //! The gate of all these tests. It is one type, since a run is compiled and proved anew for each type of gate.
 use commit_gates::{Held, Holding};
-use kpn_workers::{Gate, Go};
+use kpn_desk::{Gate, Go};
 use std::sync::atomic::{AtomicU64, Ordering};
 
 /// Counts its calls, and lets commits through but for some calls. It may hold one call.

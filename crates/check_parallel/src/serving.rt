@@ -1,11 +1,13 @@
 //! Runs beside a client that takes, and feeds if nobody else does.
 use crate::gates::TestGate;
-use kpn_net::Network;
-use kpn_text::read_network;
-use kpn_workers::{
-    Awaited, Client, Feeder, Job, Limits, Outside, Ran, Refused, Shared, SinkSeat, SourceSeat, Why,
-    close, feed_when_room, run_beside, take_when_there,
+use kpn_desk::{
+    Awaited, Job, Refused, Shared, SinkSeat, SourceSeat, Why, close, feed_when_room,
+    take_when_there,
 };
+use kpn_net::Network;
+use kpn_run_here::Limits;
+use kpn_text::read_network;
+use kpn_workers::{Client, Feeder, Outside, Ran, run_beside};
 use std::alloc::{AllocError, Global};
 use std::sync::Wait;
 use std::test::Fail;
