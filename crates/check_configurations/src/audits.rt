@@ -1,9 +1,9 @@
 //! Audits in a heap. If the heap is too small for the configuration on which an audit replays, or for the items that
 //! come, the audit fails. So does each audit in a heap that is smaller than the first that suffices.
-use crate::traces::trace_of;
 use kpn_audit::{AuditFault, audit};
-use kpn_history::{Event, Version};
-use kpn_net::{Growth, Network};
+use kpn_history::{Event, Trace, Version};
+use kpn_lang::Sequence;
+use kpn_net::{Growth, Network, Policy};
 use kpn_text::read_network;
 use linked_list_allocator::LocalHeap;
 use std::alloc::{AllocError, Global};
@@ -12,6 +12,18 @@ use test_support::texts::COPY;
 
 const ONE: [Event; 1] = [Event::Feed(0, 5)];
 
+/// The trace of these events, under the usual rules.
+fn trace_of(alloc: Global, events: &[Event]) -> Result<Trace, AllocError> {
+    let mut list = Vec::new(alloc);
+    list.extend_from_slice(events)?;
+    Ok(Trace {
+        version: Version::Two,
+        policy: Policy::Cycles,
+        growth: Growth::One,
+        events: Sequence::from_vec(list),
+    })
+}
+
 /// Why an audit of these events in a heap of this size fails, or `None` if it finds a legal history.
 fn fault_in(
     alloc: Global,
@@ -19,7 +31,7 @@ fn fault_in(
     events: &[Event],
     size: usize,
 ) -> Result<Option<AuditFault>, AllocError> {
-    let trace = trace_of(alloc, Version::Two, Growth::One, events)?;
+    let trace = trace_of(alloc, events)?;
     let heap = LocalHeap::new(alloc, size)?;
     Ok(audit(&heap, network, &trace, 1_000).err())
 }
