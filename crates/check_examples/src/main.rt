@@ -74,24 +74,25 @@ fn bytes_of<S: Shelf>(alloc: Global, shelf: &S, name: &str) -> Vec<u8> {
     }
 }
 
-/// Runs a command line.
-fn run<R: Threads + Wait + Clock + Sync, S: Ports, O: Write>(
+/// Runs a command line, and returns what it wrote and, if it failed, its error line and its status. A list in memory is
+/// its one type of output, so that the program is compiled once.
+fn run<R: Threads + Wait + Clock + Sync, S: Ports>(
     rt: &R,
     alloc: Global,
     shelf: &mut S,
-    out: &mut O,
     line: &str,
-) -> Result<()> {
+) -> Result<Vec<u8>> {
     let words = words_of(alloc, line)?;
     let input = bytes_of(alloc, shelf, "input");
-    let mut errors = Vec::new(alloc);
     let mut input = input.as_slice();
-    let status = command(rt, alloc, &words, shelf, &mut input, out, &mut errors);
+    let mut out = Vec::new(alloc);
+    let mut errors = Vec::new(alloc);
+    let status = command(rt, alloc, &words, shelf, &mut input, &mut out, &mut errors);
     if status != 0 {
         out.write_all(&errors)?;
         writeln!(out, "status {status}")?;
     }
-    Ok(())
+    Ok(out)
 }
 
 /// Runs the command line of `COUNT kpn WORDS`, and writes the first lines of what it wrote.
@@ -105,8 +106,7 @@ fn run_first<R: Threads + Wait + Clock + Sync, S: Ports, O: Write>(
     let Some((count, line)) = rest.split_once(' ') else {
         return Ok(());
     };
-    let mut text = Vec::new(alloc);
-    run(rt, alloc, shelf, &mut text, line)?;
+    let text = run(rt, alloc, shelf, line)?;
     let text = str::from_utf8(&text)?;
     for line in text.lines().take(count.parse()?) {
         writeln!(out, "{line}")?;
@@ -129,7 +129,7 @@ fn main(rt: HostRuntime) -> Result<()> {
             Some(("many", rest)) => extend_file(rt.alloc(), &mut shelf, rest)?,
             Some(("cat", name)) => out.write_all(&bytes_of(rt.alloc(), &shelf, name))?,
             Some(("first", rest)) => run_first(&rt, rt.alloc(), &mut shelf, &mut out, rest)?,
-            _ => run(&rt, rt.alloc(), &mut shelf, &mut out, line.as_str())?,
+            _ => out.write_all(&run(&rt, rt.alloc(), &mut shelf, line.as_str())?)?,
         }
     }
     Ok(())
