@@ -1,25 +1,18 @@
 //! Command lines, run over shelves and devices in memory.
 
-use kpn_cli::{MemoryShelf, Shelf, command};
+use crate::devices::{Input, Output, Troubled};
+use kpn_cli::{Shelf, command};
 use std::alloc::{AllocError, Global};
 use std::io::ErrorKind;
 use std::sync::Wait;
 use std::test::Fail;
 use std::thread::Threads;
 use std::time::Clock;
-use test_support::devices::{Broken, Fall, Tripping};
+use test_support::devices::Broken;
 use test_support::texts::COPY;
 
-/// The status of a command line, and what it wrote.
-#[derive(Drop)]
-pub struct Answer {
-    pub status: u8,
-    pub out: Vec<u8>,
-    pub err: Vec<u8>,
-}
-
 /// The words of a command line.
-pub fn words_of(alloc: Global, line: &str) -> Result<Vec<String>, AllocError> {
+fn words_of(alloc: Global, line: &str) -> Result<Vec<String>, AllocError> {
     let mut words = Vec::new(alloc);
     for word in line.split(' ') {
         words.push(String::from_str(alloc, word)?)?;
@@ -27,25 +20,38 @@ pub fn words_of(alloc: Global, line: &str) -> Result<Vec<String>, AllocError> {
     Ok(words)
 }
 
-/// Runs a command line over an input that fails and an empty shelf.
+/// Runs a command line, and returns its status.
 pub fn run<R: Threads + Wait + Clock + Sync>(
     rt: &R,
     alloc: Global,
     line: &str,
-) -> Result<Answer, AllocError> {
+    shelf: &mut Troubled<'_>,
+    input: &mut Input<'_>,
+    out: &mut Output,
+    err: &mut Output,
+) -> Result<u8, AllocError> {
     let words = words_of(alloc, line)?;
-    let mut out = Vec::new(alloc);
-    let mut err = Vec::new(alloc);
-    let mut shelf = MemoryShelf::new(alloc);
-    let status = command(
-        rt,
-        alloc,
-        &words,
-        &mut shelf,
-        &mut Broken,
-        &mut out,
-        &mut err,
-    );
+    Ok(command(rt, alloc, &words, shelf, input, out, err))
+}
+
+/// The status of a command line, and what it wrote.
+#[derive(Drop)]
+pub struct Answer {
+    pub status: u8,
+    pub out: Output,
+    pub err: Output,
+}
+
+/// Runs a command line over an input that fails and an empty shelf.
+pub fn answer_to<R: Threads + Wait + Clock + Sync>(
+    rt: &R,
+    alloc: Global,
+    line: &str,
+) -> Result<Answer, AllocError> {
+    let mut shelf = Troubled::new(alloc, None);
+    let (mut out, mut err) = (Output::kept(alloc), Output::kept(alloc));
+    let mut input = Input::Broken(Broken);
+    let status = run(rt, alloc, line, &mut shelf, &mut input, &mut out, &mut err)?;
     Ok(Answer { status, out, err })
 }
 
@@ -57,11 +63,11 @@ fn is_refused<R: Threads + Wait + Clock + Sync>(
     status: u8,
     error: &str,
 ) -> Result<bool, AllocError> {
-    let answer = run(rt, alloc, line)?;
+    let answer = answer_to(rt, alloc, line)?;
     Ok(
         answer.status == status
-            && answer.out.is_empty()
-            && answer.err.as_slice() == error.as_bytes(),
+            && answer.out.bytes().is_empty()
+            && answer.err.bytes() == error.as_bytes(),
     )
 }
 
@@ -75,22 +81,14 @@ fn writes_to<R: Threads + Wait + Clock + Sync>(
     wanted: u8,
     error: &str,
 ) -> Result<bool, Fail> {
-    let mut shelf = MemoryShelf::new(alloc);
+    let mut shelf = Troubled::new(alloc, None);
     shelf.store("n", COPY.as_bytes())?;
     shelf.store("t", b"kpn-trace 1\n")?;
-    let words = words_of(alloc, line)?;
-    let mut out = Tripping {
-        fall: Fall {
-            before: Some(calls),
-            kind: ErrorKind::Other,
-        },
-    };
-    let mut err = Vec::new(alloc);
-    let mut input = b"1\n".as_slice();
-    let status = command(
-        rt, alloc, &words, &mut shelf, &mut input, &mut out, &mut err,
-    );
-    Ok(status == wanted && err.as_slice() == error.as_bytes())
+    let mut out = Output::tripping(calls, ErrorKind::Other);
+    let mut err = Output::kept(alloc);
+    let mut input = Input::whole(b"1\n");
+    let status = run(rt, alloc, line, &mut shelf, &mut input, &mut out, &mut err)?;
+    Ok(status == wanted && err.bytes() == error.as_bytes())
 }
 
 /// Whether a command line reports an output that fails once, at the write or at the flush, and succeeds over one that

@@ -1,59 +1,49 @@
 //! Streams over an input or an output that fails at each call in turn, and over an input with a bad line.
 
-use crate::lines::words_of;
-use kpn_cli::{MemoryShelf, Shelf, command};
+use crate::devices::{Input, Output, Troubled};
+use crate::lines::run;
+use kpn_cli::Shelf;
 use std::alloc::Global;
-use std::io::{ErrorKind, Read, Write};
+use std::io::ErrorKind;
 use std::sync::Wait;
 use std::test::Fail;
 use std::thread::Threads;
 use std::time::Clock;
-use test_support::devices::{Fall, Stumbling, Tripping};
 use test_support::texts::COPY;
 
 const LINE: &str = "kpn stream copy --quiet";
 
 const ITEMS: &[u8] = b"1\n2\n3\n";
 
-/// The status of a stream through a copy, and its error lines.
-fn stream<R: Threads + Wait + Clock + Sync, I: Read, O: Write>(
+/// The status of a stream through a copy, with its error lines.
+fn stream<R: Threads + Wait + Clock + Sync>(
     rt: &R,
     alloc: Global,
-    input: &mut I,
-    out: &mut O,
-) -> Result<(u8, Vec<u8>), Fail> {
-    let words = words_of(alloc, LINE)?;
-    let mut shelf = MemoryShelf::new(alloc);
+    input: &mut Input<'_>,
+    out: &mut Output,
+) -> Result<(u8, Output), Fail> {
+    let mut shelf = Troubled::new(alloc, None);
     shelf.store("copy", COPY.as_bytes())?;
-    let mut err = Vec::new(alloc);
-    let status = command(rt, alloc, &words, &mut shelf, input, out, &mut err);
+    let mut err = Output::kept(alloc);
+    let status = run(rt, alloc, LINE, &mut shelf, input, out, &mut err)?;
     Ok((status, err))
 }
 
-/// Items, one byte at each read, of which the call of this number fails once.
-fn stumbling(bytes: &[u8], before: u8, kind: ErrorKind) -> Stumbling<'_> {
-    let before = Some(before);
-    Stumbling {
-        bytes,
-        fall: Fall { before, kind },
-    }
-}
-
-/// Whether a stream over these bytes writes the first so many bytes of the items, and ends so.
+/// Whether a stream over this input writes the first so many bytes of the items, and ends so.
 fn is_cut<R: Threads + Wait + Clock + Sync>(
     rt: &R,
     alloc: Global,
-    input: &mut Stumbling<'_>,
+    input: &mut Input<'_>,
     written: usize,
     wanted: u8,
     error: &str,
 ) -> Result<bool, Fail> {
-    let mut out = Vec::new(alloc);
+    let mut out = Output::kept(alloc);
     let (status, err) = stream(rt, alloc, input, &mut out)?;
     Ok(
         status == wanted
-            && out.as_slice() == ITEMS.get(..written).unwrap_or(ITEMS)
-            && err.as_slice() == error.as_bytes(),
+            && out.bytes() == ITEMS.get(..written).unwrap_or(ITEMS)
+            && err.bytes() == error.as_bytes(),
     )
 }
 
@@ -62,11 +52,11 @@ fn is_cut<R: Threads + Wait + Clock + Sync>(
 fn writes_what_came_before_an_input_fails(rt: HostRuntime) -> Result<(), Fail> {
     for before in 0..7u8 {
         let written = usize::from(before) / 2 * 2;
-        let mut input = stumbling(ITEMS, before, ErrorKind::Other);
+        let mut input = Input::stumbling(ITEMS, Some(before), ErrorKind::Other);
         let error = "kpn: 26 Read\nat --source s=-\n";
         let cut = is_cut(&rt, rt.alloc(), &mut input, written, 1, error)?;
         assert!(rt; cut, "{before}");
-        let mut input = stumbling(ITEMS, before, ErrorKind::Interrupted);
+        let mut input = Input::stumbling(ITEMS, Some(before), ErrorKind::Interrupted);
         let whole = is_cut(&rt, rt.alloc(), &mut input, 6, 0, "")?;
         assert!(rt; whole, "{before}");
     }
@@ -80,7 +70,7 @@ fn writes_what_came_before_a_bad_line(rt: HostRuntime) -> Result<(), Fail> {
         ("1\n\n3\n", 2, "kpn: 25 BadItem at 2\nat --source s=-\n"),
         ("1\n2\n3\r", 4, "kpn: 25 BadItem at 3\nat --source s=-\n"),
     ] {
-        let mut input = stumbling(bytes.as_bytes(), 100, ErrorKind::Other);
+        let mut input = Input::whole(bytes.as_bytes());
         let cut = is_cut(&rt, rt.alloc(), &mut input, written, 1, error)?;
         assert!(rt; cut, "{error}");
     }
@@ -95,14 +85,11 @@ fn ends_at_an_output_that_fails_at_any_call(rt: HostRuntime) -> Result<(), Fail>
             (ErrorKind::Other, 1, "kpn: 27 Write\nat --sink z=-\n"),
             (ErrorKind::BrokenPipe, 0, ""),
         ] {
-            let mut input = stumbling(ITEMS, 100, ErrorKind::Other);
-            let before = Some(before);
-            let mut out = Tripping {
-                fall: Fall { before, kind },
-            };
+            let mut input = Input::whole(ITEMS);
+            let mut out = Output::tripping(before, kind);
             let (status, err) = stream(&rt, rt.alloc(), &mut input, &mut out)?;
             assert!(rt;
-                status == wanted && err.as_slice() == error.as_bytes(),
+                status == wanted && err.bytes() == error.as_bytes(),
                 "{error}"
             );
         }

@@ -1,6 +1,6 @@
 //! Words that are understood or not, and help.
 
-use crate::lines::run;
+use crate::lines::answer_to;
 use std::alloc::{AllocError, Global};
 use std::sync::Wait;
 use std::test::Fail;
@@ -67,12 +67,12 @@ fn is_answered<R: Threads + Wait + Clock + Sync>(
     line: &str,
     status: u8,
 ) -> Result<bool, AllocError> {
-    let answer = run(rt, alloc, line)?;
+    let answer = answer_to(rt, alloc, line)?;
     let is_help = status == 0;
     Ok(
         answer.status == status
-            && answer.err.is_empty() == is_help
-            && answer.out.is_empty() != is_help,
+            && answer.err.bytes().is_empty() == is_help
+            && answer.out.bytes().is_empty() != is_help,
     )
 }
 
