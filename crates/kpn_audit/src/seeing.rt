@@ -1,12 +1,10 @@
 //! What a configuration shows of the process or the channel of an event.
 ghost use Rattle.std.specs.Prelude.{◌≡◌, ◌<◌, ℕ, true, false, List, length};
-ghost use Rattle.kpn_net.specs.Tables.{instance_at};
 ghost use Rattle.kpn_step.specs.declared.stop.Stop.TheVariants.{WantRead, WantWrite, Paused};
 ghost use Rattle.kpn_history.specs.declared.event.Event.{Event};
 ghost use Rattle.kpn_history.specs.Talks.{is_of, is_of_process};
 ghost use Rattle.kpn_history.specs.Legal.{HasNumbers};
 ghost use Rattle.kpn_history.specs.Stops.{OwesNothing};
-ghost use Rattle.kpn_configuration.specs.Changes.{IsChannelAt};
 ghost use Rattle.kpn_configuration.specs.Configuration.{IsConfiguration, IsFree};
 ghost use Rattle.kpn_configuration.specs.Due.{Stands};
 ghost use Rattle.kpn_configuration.specs.Run.{IsRun};
@@ -17,30 +15,12 @@ ghost use Rattle.kpn_audit.specs.Scene.{IsDoing, IsScene, source_side, sink_side
 use crate::judging::{has_numbers, process_of};
 use crate::scene::{Doing, Scene, Side};
 use crate::stepping::step_on;
-use kpn_configuration::Configuration;
+use kpn_configuration::{Configuration, in_channel, out_channel};
 use kpn_history::{Event, How};
 use kpn_lang::Fault;
 use kpn_net::{Network, Wait};
 use kpn_step::Stop;
 use std::alloc::Allocator;
-
-/// The channel at an in port of process `p`.
-fn in_channel(network: &Network, p: usize, port: usize) -> usize
-    requires process { p < length network.now.instances }
-    requires port { port < length (instance_at network.now p).ins }
-    ensures { IsChannelAt (instance_at network.now p).ins port result }
-{
-    network.ins(p)[port]
-}
-
-/// The channel at an out port of process `p`.
-fn out_channel(network: &Network, p: usize, port: usize) -> usize
-    requires process { p < length network.now.instances }
-    requires port { port < length (instance_at network.now p).outs }
-    ensures { IsChannelAt (instance_at network.now p).outs port result }
-{
-    network.outs(p)[port]
-}
 
 /// Process `p` is at a read.
 fn reads<A: Allocator>(

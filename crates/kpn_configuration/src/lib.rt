@@ -4,5 +4,7 @@
 
 mod configuration;
 pub mod laws;
+mod ports;
 
 pub use configuration::{Configuration, Got, Grown, OwedGrowth};
+pub use ports::{in_channel, out_channel};

@@ -42,14 +42,14 @@ fn read_of_sinks(
     ensures { (H : List Event) → Legal network.now H → Agrees network.now H view.now
         → IfOk result (λ taken. taken ≡ read_of_sinks network.now H) }
 {
-    let mut taken = Sequence::new(alloc);
+    let mut taken = Vec::new(alloc);
     'channels: for c in 0..network.channels() {
         if network.is_sink(c) {
             let items = read_of(alloc, view, c)?;
             taken.push(items)?;
         }
     }
-    Ok(taken)
+    Ok(Sequence::from_vec(taken))
 }
 
 /// The items that were read of a channel: the first of its journal.

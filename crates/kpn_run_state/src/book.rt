@@ -32,9 +32,16 @@ mod waiting;
 ///
 /// Contracts see these five. Each call leaves a book of which `known` holds. A call that is refused leaves the book as
 /// it was.
-#[derive(Debug, Drop)]
+#[derive(Debug)]
 pub struct Book<'n, A: Allocator = Global> {
     parts: OpenBook<'n, A>,
+}
+
+impl<A: Allocator> Drop for Book<'_, A> {
+    fn drop(self) {
+        let Book { parts } = self;
+        drop(parts);
+    }
 }
 
 impl<'n, A: Allocator> Model for Book<'n, A> {

@@ -4,7 +4,8 @@ ghost use Rattle.std.specs.Prelude.{⊤};
 use crate::Shelf;
 use crate::target::Target;
 use crate::written::Written;
-use kpn_items::{ItemFault, WriteFault, read_all};
+use kpn_items::{ItemFault, WriteFault, read_up_to};
+use kpn_limits::MAX_INPUT_BYTES;
 use std::alloc::{AllocError, Global};
 use std::cell::Cell;
 use std::collections::BTreeMap;
@@ -123,7 +124,7 @@ impl<R: Files<File = File> + AllocGlobal> Shelf for FileShelf<'_, R> {
 
     fn load(&self, alloc: Global, name: &str) -> Result<Vec<u8>, ItemFault> {
         let mut file = fs::open(self.rt, name).map_err(|_| ItemFault::Read)?;
-        read_all(alloc, &mut file)
+        read_up_to(alloc, &mut file, MAX_INPUT_BYTES)
     }
 
     fn store(&mut self, name: &str, bytes: &[u8]) -> Result<(), WriteFault> {

@@ -1,7 +1,7 @@
 //! The commit of a held process at its stop. One function for each kind of stop makes the event that is due there, and
 //! after a wait or an end the growth that is owed.
 ghost use Rattle.std.specs.Prelude.{◌≡◌, ◌≢◌, ◌<◌, ◌≤◌, ◌+◌, ℕ, ℤ, [], true, length, IsTrue};
-ghost use Rattle.kpn_net.specs.Tables.{instance_at, program_of};
+ghost use Rattle.kpn_net.specs.Tables.{program_of};
 ghost use Rattle.kpn_step.specs.declared.stop.Stop.{Stop as Place};
 ghost use Rattle.kpn_step.specs.declared.stop.Stop.TheVariants.{Faulted, Paused};
 ghost use Rattle.kpn_step.specs.Frame.{Frame};
@@ -9,7 +9,6 @@ ghost use Rattle.kpn_step.specs.Stops.{IsAtPort};
 ghost use Rattle.kpn_chan.specs.Channel.{is_full, unread};
 ghost use Rattle.kpn_history.specs.declared.event.Event.TheVariants as event;
 ghost use Rattle.kpn_configuration.specs.Configuration.{channel_in};
-ghost use Rattle.kpn_configuration.specs.Changes.{IsChannelAt};
 ghost use Rattle.kpn_configuration.specs.Due.{Stands, ReadsFrom, WritesTo, stop_of};
 ghost use Rattle.kpn_run_state.specs.Book.{IsHeld};
 ghost use Rattle.kpn_run_state.specs.Commits.{IsReadFrom, IsWriteTo};
@@ -22,9 +21,9 @@ ghost use Rattle.kpn_run_state.specs.Appending.{all_made_ready};
 
 use super::{OpenBook, number, wake};
 use crate::answers::Done;
+use kpn_configuration::{in_channel, out_channel};
 use kpn_history::{Event, How, State};
 use kpn_lang::Fault;
-use kpn_net::Network;
 use kpn_schedule::Schedule;
 use kpn_step::Stop;
 use std::alloc::{AllocError, Allocator};
@@ -287,22 +286,6 @@ fn wake_all<A: Allocator>(schedule: &mut Schedule<A>, woken: &[usize])
         let q = woken[i];
         schedule.make_ready(q);
     }
-}
-
-pub(super) fn in_channel(network: &Network, p: usize, port: usize) -> usize
-    requires process { p < length network.now.instances }
-    requires port { port < length (instance_at network.now p).ins }
-    ensures { IsChannelAt (instance_at network.now p).ins port result }
-{
-    network.ins(p)[port]
-}
-
-pub(super) fn out_channel(network: &Network, p: usize, port: usize) -> usize
-    requires process { p < length network.now.instances }
-    requires port { port < length (instance_at network.now p).outs }
-    ensures { IsChannelAt (instance_at network.now p).outs port result }
-{
-    network.outs(p)[port]
 }
 
 pub(super) fn how_of(fault: Fault) -> How

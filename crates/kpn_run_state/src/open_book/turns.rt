@@ -17,10 +17,11 @@ ghost use Rattle.kpn_run_state.specs.InARow.{RunsOn};
 ghost use Rattle.kpn_run_state.specs.Appending.{all_made_ready};
 ghost use Rattle.kpn_run_state.specs.Open.{MayBeReady, book_of, first_claimed, IsSound, Answered, if_sink, Follows, AnsweredFirst, HandlesFirst, IsTurn};
 
-use super::commits::{how_of, in_channel, out_channel};
+use super::commits::how_of;
 use super::{OpenBook, number};
 use crate::answers::Done;
 use kpn_chan::Channel;
+use kpn_configuration::{in_channel, out_channel};
 use kpn_history::{Event, How, State};
 use kpn_net::Network;
 use kpn_schedule::Schedule;
