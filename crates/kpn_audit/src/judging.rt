@@ -1,6 +1,6 @@
 //! One event judged: first what can be judged before any step, then, once its process has come to a stop, whether it
 //! is due there.
-ghost use Rattle.std.specs.Prelude.{◌≡◌, ◌≢◌, ◌↔◌, ◌<◌, ℕ, true, false, List, length, IsTrue, IfOk, IfSome, IfNone, Some, None, Ok};
+ghost use Rattle.std.specs.Prelude.{◌≡◌, ◌≢◌, ◌↔◌, ◌<◌, ℕ, true, false, List, length, IsTrue, IfOk, Some, None, Ok};
 ghost use Rattle.kpn_history.specs.declared.event.Event.{Event};
 ghost use Rattle.kpn_history.specs.Talks.{is_of, is_of_process};
 ghost use Rattle.kpn_history.specs.Legal.{HasNumbers};
@@ -40,21 +40,6 @@ pub(crate) fn has_numbers(network: &Network, event: Event) -> bool
         Event::Ended(p, _) => usize::from(p) < network.instances(),
         Event::Feed(c, _) | Event::Take(c, _) => usize::from(c) < network.channels(),
         Event::Close(c) | Event::Leave(c) => usize::from(c) < network.channels(),
-    }
-}
-
-/// The process that an event is of, if it is one of a process.
-pub(crate) fn process_of(event: Event) -> Option<usize>
-    ensures some { IfSome result (λ p. is_of p event ≡ true) }
-    ensures none { IfNone result (is_of_process event ≡ false) }
-{
-    match event {
-        Event::Get(p, _, _) => Some(p.into()),
-        Event::Put(p, _, _) => Some(p.into()),
-        Event::WaitEmpty(p, _) => Some(p.into()),
-        Event::WaitFull(p, _) => Some(p.into()),
-        Event::Ended(p, _) => Some(p.into()),
-        _ => None,
     }
 }
 
@@ -156,7 +141,7 @@ fn judge_next<A: Allocator + Copy>(
     if !has_numbers(network, event) {
         return Ok(Judged::Illegal);
     }
-    match process_of(event) {
+    match event.process() {
         Some(p) => judge_process(configuration, network, p, event, quota),
         None => judge_outside(configuration, network, event),
     }

@@ -12,7 +12,7 @@ ghost use Rattle.kpn_audit.specs.Audit.{IsOutOfSteps};
 ghost use Rattle.kpn_audit.specs.Judged.{ArePlaces};
 ghost use Rattle.kpn_audit.specs.Scene.{IsDoing, IsScene, source_side, sink_side};
 
-use crate::judging::{has_numbers, process_of};
+use crate::judging::has_numbers;
 use crate::scene::{Doing, Scene, Side};
 use crate::stepping::step_on;
 use kpn_configuration::{Configuration, in_channel, out_channel};
@@ -184,7 +184,7 @@ pub(crate) fn seen<A: Allocator>(
     if !has_numbers(network, event) {
         return Scene::NotThere;
     }
-    match process_of(event) {
+    match event.process() {
         Some(p) => Scene::Process(p, doing(configuration, network, p, quota)),
         None => seen_outside(configuration, network, event),
     }
