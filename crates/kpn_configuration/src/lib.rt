@@ -4,7 +4,7 @@
 
 mod configuration;
 pub mod laws;
-mod ports;
+mod port_channels;
 
 pub use configuration::{Configuration, Got, Grown, OwedGrowth};
-pub use ports::{in_channel, out_channel};
+pub use port_channels::{in_channel, out_channel};
