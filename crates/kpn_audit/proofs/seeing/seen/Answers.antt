@@ -3,7 +3,7 @@ use Rattle.kpn_audit.proofs.seeing.seen.Goals as goal
 pub returns-in-Some : goal.returns-in-Some
 returns-in-Some g c H run owes places =
     let numbers = c.has_numbers.ensures.0 c.if-not-has_numbers.false in
-    let own = c.in-Some.ensures.some in
+    let own = c.in-Some.ensures.own in
     record {
       by_itself = record { nothing_owed = owes; numbers = numbers };
       own = own;

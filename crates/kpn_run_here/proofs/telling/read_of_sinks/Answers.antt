@@ -27,18 +27,19 @@ channels-preserved c =
     elim c.if-is_sink.branch [
       | then-is_sink+in_ok-items+in_ok-push w ↦
           kept_more (λ d. is_sink (channel_at c.args.network.now d)) (first_read c.args.view.now) c.channels.c
-          c.channels.taken _ _ c.channels.invariant (sym c.is_sink.ensures ∙ w.if-is_sink.true)
-          (w.taken-is ∙ w.in_ok-push.ensures.items) w.in_ok-items.ensures
+          c.channels.taken.items _ _ c.channels.invariant (sym c.is_sink.ensures ∙ w.if-is_sink.true)
+          (ap (λ v. v.items) w.taken-is ∙ w.in_ok-push.ensures.items) w.in_ok-items.ensures
       | else-is_sink w ↦
           kept_same (λ d. is_sink (channel_at c.args.network.now d)) (first_read c.args.view.now) c.channels.c
-          c.channels.taken _ c.channels.invariant (sym c.is_sink.ensures ∙ w.if-is_sink.false) w.taken-is
+          c.channels.taken.items _ c.channels.invariant (sym c.is_sink.ensures ∙ w.if-is_sink.false)
+          (ap (λ v. v.items) w.taken-is)
     ]
 
 pub returns : goal.returns
 returns c H legal agrees =
     let end : c.channels.c ≡ length c.args.network.now.channels =
     omega (arith, c.channels-c-end.ensures, c.channels-test.false, c.channels.auto.c-end) in
-    c.channels.invariant
+    c.from_vec.ensures ∙ c.channels.invariant
     ∙ ap (λ n. map (first_read c.args.view.now)
     (filter (λ d. is_sink (channel_at c.args.network.now d)) (range_with_len 0 n))) end
     ∙ reads_of_sinks c.args.network.now H legal c.args.view.now agrees

@@ -6,4 +6,4 @@ use Rattle.kpn_run_here.proofs.telling.read_of_sinks.Given as goal
 
 abbrev pub invariant-channels : goal.invariant-channels
 invariant-channels l =
-    l.taken ≡ map (first_read l.view) (filter (λ c. is_sink (channel_at l.network c)) (range_with_len 0 l.c))
+    l.taken.items ≡ map (first_read l.view) (filter (λ c. is_sink (channel_at l.network c)) (range_with_len 0 l.c))
