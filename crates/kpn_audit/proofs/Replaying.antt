@@ -22,7 +22,7 @@ use Rattle.kpn_configuration.specs.declared.configuration.growth.OwedGrowth.{Owe
 use Rattle.kpn_audit.specs.declared.judged.Judged.{Judged}
 use Rattle.kpn_audit.specs.declared.judged.Judged.TheVariants.{Follows, Illegal, Budget}
 use Rattle.kpn_audit.specs.Place.{GoesBy, ComesBy}
-use Rattle.kpn_audit.specs.Judged.{ArePlaces, Owes, IsInTime, IsFollowed, IsUnreached}
+use Rattle.kpn_audit.specs.Judged.{ArePlaces, Owes, IsInTime, IsJudged}
 use Rattle.kpn_audit.specs.Audit.{IsWithinSteps, AreWithinSteps, IsIllegalAt, IsOutOfSteps, IsBudgetAt}
 
 -- the events before one, and it
@@ -39,11 +39,31 @@ event_at (x ∷ H) zero e d below is = ap Some (sym is)
 event_at (x ∷ H) (suc k) e d below is = event_at H k e d (omega arith) is
 event_at [] k e d below is = absurd (omega arith)
 
--- what the loop over the events keeps
-pub record IsReplayed (t : Tables) (H : List Event) (s : Configuration) (owed : Option OwedGrowth) : Type 0 where
-  pub run : IsRun t H s
-  pub owes : Owes t H s owed
-  pub places : ArePlaces t H s
+-- what the loop over the events keeps, after n of them
+pub record IsReplayed (t : Tables) (H : List Event) (quota n : ℕ) (s : Configuration) (owed : Option OwedGrowth)
+    : Type 0 where
+  pub run : IsRun t (take n H) s
+  pub owes : Owes t (take n H) s owed
+  pub places : ArePlaces t (take n H) s
+  pub within : AreWithinSteps t H quota n
+
+-- event k, and what it was judged to be
+pub record IsJudgedAt (t : Tables) (H : List Event) (quota k : ℕ) (s after : Configuration) (judged : Judged)
+    : Type 0 where
+  pub owed : Option OwedGrowth
+  pub before : IsReplayed t H quota k s owed
+  pub event : Event
+  pub other : Event
+  pub there : k < length H
+  pub is : event ≡ get_or H k other
+  pub found : IsJudged t (take k H) event quota s after judged
+  pub in_time : owed ≡ None → judged ≢ Budget → IsInTime t s quota event
+
+-- where this leads
+abbrev pub LeadsTo : Tables → List Event → (quota k : ℕ) → Configuration → Judged → Type 0
+LeadsTo t H quota k after (Follows owed) = IsReplayed t H quota (k + 1) after owed
+LeadsTo t H quota k after Illegal = IsIllegalAt t H k × AreWithinSteps t H quota (suc k)
+LeadsTo t H quota k after Budget = IsBudgetAt t H quota k × AreWithinSteps t H quota k
 
 -- one event more
 comes_more : (t : Tables) (p : ℕ) (H : List Event) (e : Event) (f g h : Frame) → ComesBy t p H f g → GoesBy t p e g h
@@ -51,28 +71,6 @@ comes_more : (t : Tables) (p : ℕ) (H : List Event) (e : Event) (f g h : Frame)
 comes_more t p [] e f g h comes goes = (h, subst (λ x. GoesBy t p e x h) comes goes, refl)
 comes_more t p (x ∷ H) e f g h comes goes =
     (comes.0, comes.1, comes_more t p H e comes.0 g h comes.2 goes)
-
-pub followed_by : (t : Tables) (H : List Event) (k : ℕ) (e d : Event) (before s : Configuration)
-    (owed : Option OwedGrowth) → k < length H → e ≡ get_or H k d → ArePlaces t (take k H) before
-    → IsFollowed t (take k H) e before s owed → IsReplayed t (take (k + 1) H) s owed
-followed_by t H k e d before s owed below is places found =
-    subst (λ B. IsReplayed t B s owed) (sym (one_event_more H k e d below is))
-    (record {
-      run = found.run;
-      owes = found.owes;
-      places = λ p there. comes_more t p (take k H) e (start_frame (program_of t p) (instance_at t p).pars)
-          (frame_in before p) (frame_in s p) (places p there) (found.goes p there);
-    })
-
-pub illegal_at : (t : Tables) (H : List Event) (k : ℕ) (e d : Event) (s : Configuration) → IsRun t (take k H) s
-    → k < length H → e ≡ get_or H k d → ¬ Legal t (take k H ++ e ∷ []) → IsIllegalAt t H k
-illegal_at t H k e d s run below is ends =
-    record {
-      there = below;
-      before = run.legal;
-      ends = subst (λ B. ¬ Legal t B) (sym (ap (λ n. take n H) (sym (add-one k)) ∙ one_event_more H k e d below is))
-          ends;
-    }
 
 -- a free process that is between two steps once they are used up
 pub out_of_steps : (t : Tables) → IsNetwork t → (H : List Event) (s : Configuration) → IsRun t H s → OwesNothing t H
@@ -92,22 +90,6 @@ out_of_steps t network H s run owes places event quota p there own numbers free 
       reached = reached;
       steps = steps;
       between = between;
-    }
-
-pub budget_at : (t : Tables) → IsNetwork t → (H : List Event) (quota k : ℕ) (e d : Event) (s : Configuration) →
-    IsRun t (take k H) s
-    → ArePlaces t (take k H) s → k < length H → e ≡ get_or H k d
-    → OwesNothing t (take k H) × IsUnreached t s e quota
-    → IsBudgetAt t H quota k
-budget_at t network H quota k e d s run places below is found =
-    record {
-      event = e;
-      there = event_at H k e d below is;
-      before = run.legal;
-      nothing_owed = found.0;
-      out_of_steps =
-          out_of_steps t network (take k H) s run found.0 places e quota found.1.process found.1.there found.1.own
-          found.1.numbers found.1.free found.1.reached found.1.steps found.1.between;
     }
 
 -- ---- within the steps
@@ -158,7 +140,7 @@ within_at t H quota k e d s owed run owes places below is in_time event p at own
 pub none_within : (t : Tables) (H : List Event) (quota : ℕ) → AreWithinSteps t H quota 0
 none_within t H quota k below = absurd (omega (arith, below))
 
-pub within_more : (t : Tables) (H : List Event) (quota k : ℕ) (e d : Event) (s : Configuration)
+within_more : (t : Tables) (H : List Event) (quota k : ℕ) (e d : Event) (s : Configuration)
     (owed : Option OwedGrowth)
     → IsRun t (take k H) s → Owes t (take k H) s owed → ArePlaces t (take k H) s → k < length H → e ≡ get_or H k d
     → (owed ≡ None → IsInTime t s quota e) → AreWithinSteps t H quota k → AreWithinSteps t H quota (suc k)
@@ -170,13 +152,56 @@ within_more t H quota k e d s owed run owes places below is in_time within j les
       | inr (inr later) ↦ absurd (omega (arith, less, later))
     ]
 
--- what follows or is illegal is not out of steps
-pub follows_in_time : {E : Type 0} (j : Judged) (owed : Option OwedGrowth) → j ≡ Follows owed
-    → ◌≢◌ {A = Result Judged E} (Ok j) (Ok Budget)
-follows_in_time j owed is e = absurd cc
+-- ---- where a judged event leads
 
-pub illegal_in_time : {E : Type 0} (j : Judged) → j ≡ Illegal → ◌≢◌ {A = Result Judged E} (Ok j) (Ok Budget)
-illegal_in_time j is e = absurd cc
+pub ok_apart : {E : Type 0} (j k : Judged) → j ≢ k → ◌≢◌ {A = Result Judged E} (Ok j) (Ok k)
+ok_apart j k differ e = let same : j ≡ k = cc in differ same
+
+module _ (t : Tables) (H : List Event) (quota k : ℕ) (s after : Configuration) where
+  with_it : (j : Judged) (at : IsJudgedAt t H quota k s after j) → take (k + 1) H ≡ take k H ++ at.event ∷ []
+  with_it j at = one_event_more H k at.event at.other at.there at.is
+
+  one_more_within : (j : Judged) → IsJudgedAt t H quota k s after j → j ≢ Budget → AreWithinSteps t H quota (suc k)
+  one_more_within j at enough =
+      within_more t H quota k at.event at.other s at.owed at.before.run at.before.owes at.before.places at.there at.is
+      (λ none. at.in_time none enough) at.before.within
+
+  pub leads_to : (j : Judged) → IsNetwork t → IsJudgedAt t H quota k s after j → LeadsTo t H quota k after j
+  leads_to (Follows owed) network at =
+      let all = sym (with_it (Follows owed) at) in
+      record {
+        run = subst (λ B. IsRun t B after) all at.found.run;
+        owes = subst (λ B. Owes t B after owed) all at.found.owes;
+        places =
+            subst (λ B. ArePlaces t B after) all
+            (λ p there. comes_more t p (take k H) at.event (start_frame (program_of t p) (instance_at t p).pars)
+            (frame_in s p) (frame_in after p) (at.before.places p there) (at.found.goes p there));
+        within =
+            subst (λ n. AreWithinSteps t H quota n) (sym (add-one k))
+            (one_more_within (Follows owed) at (λ e. absurd cc));
+      }
+  leads_to Illegal network at = (
+    record {
+      there = at.there;
+      before = at.before.run.legal;
+      ends =
+          subst (λ B. ¬ Legal t B) (sym (ap (λ n. take n H) (sym (add-one k)) ∙ with_it Illegal at)) at.found;
+    },
+    one_more_within Illegal at (λ e. absurd cc),
+  )
+  leads_to Budget network at =
+      let out = at.found.1 in (
+        record {
+          event = at.event;
+          there = event_at H k at.event at.other at.there at.is;
+          before = at.before.run.legal;
+          nothing_owed = at.found.0;
+          out_of_steps =
+              out_of_steps t network (take k H) s at.before.run at.found.0 at.before.places at.event quota out.process
+              out.there out.own out.numbers out.free out.reached out.steps out.between;
+        },
+        at.before.within,
+      )
 
 -- a legal list has no event that is illegal
 prefix_of : (H : List Event) (n : ℕ) → IsPrefix (take n H) H

@@ -377,6 +377,30 @@ fits_after b a p asks s answer is kept held answered =
     same_commits b a p s answer kept (answered.answers s is) answered.sound answered.released in
     omega (arith, fits, same)
 
+-- what is so once the commit is counted
+pub record IsCounted (a : Book) (R : Book → Type 0) : Type 0 where
+  pub fits : a.commits + 1 < 2 ^ 64
+  pub kept : IsKept (counted a)
+  pub is : R (counted a)
+
+-- process p is held at its stop, its memory is reserved, and its commit there makes what R says
+pub record IsAtStop (p : ℕ) (s : Stop) (R : Done → Book → Type 0) (b : Book) : Type 0 where
+  pub kept : IsKept b
+  pub held : IsHeld b p
+  pub commits : (answer : Done) (a : Book) → HandlesStop p s answer b a → R answer a
+
+pub is_counted : (p : ℕ) (s : Stop) (R : Done → Book → Type 0) (b a : Book) (answer : Done) → IsAtStop p s R b
+    → Answered p (λ z. z ≡ s) answer b a → IsCounted a (R answer)
+is_counted p s R b a answer at answered =
+    let answers = answered.answers s refl in
+    record {
+      fits = fits_after b a p (λ z. z ≡ s) s answer refl at.kept at.held answered;
+      kept = kept_counted b a p s answer at.kept answers answered.sound answered.released;
+      is =
+          at.commits answer (counted a)
+          (handles_counted b a p s answer at.kept answers answered.sound answered.released);
+    }
+
 -- one kind of stop in place of another
 pub asked_otherwise : (p : ℕ) (asks others : Stop → Type 0) (answer : Done) (b a : Book)
     → ((s : Stop) → others s → asks s) → Answered p asks answer b a → Answered p others answer b a

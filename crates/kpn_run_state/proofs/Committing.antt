@@ -30,8 +30,8 @@ use Rattle.kpn_run_state.specs.Stepping.{ClaimsAndSteps, StepsNext, StepsInVain}
 use Rattle.kpn_run_state.proofs.Appended.{claimed_is_held}
 use Rattle.kpn_run_state.proofs.Reserved.{handles_unreserved, is_reserved_here}
 use Rattle.kpn_configuration.specs.Changes.{IsChannelAt}
-use Rattle.kpn_run_state.proofs.Following.{recorded}
-use Rattle.kpn_run_state.proofs.Answering.{put_back_in_step, put_back_released, sound_after, events_at_stop, commits_at_stop}
+use Rattle.kpn_run_state.proofs.Following.{held_is_there, recorded}
+use Rattle.kpn_run_state.proofs.Answering.{put_back_in_step, put_back_released, sound_after, events_at_stop, commits_at_stop, IsAtStop}
 
 -- ---- memory that is reserved
 
@@ -80,6 +80,10 @@ module _ (s : Stop) (b o : Book) (but : is_but_reserved s b o) where
   pub frame_reserved : (p : ℕ) → frame_in o.configuration p ≡ frame_in b.configuration p
   frame_reserved p =
       by_cases (λ x. frame_in x.configuration p ≡ frame_in b.configuration p) refl (λ c below. refl)
+
+  pub port_reserved : (p : ℕ) → (f : Frame) × IsAtPort (program_of b.tables p) f s
+      → (f : Frame) × IsAtPort (program_of o.tables p) f s
+  port_reserved p at = (at.0, subst (λ t. IsAtPort (program_of t p) at.0 s) (sym tables_reserved) at.1)
 
   pub standing_reserved : (p : ℕ) (f : Frame) → is_but_reserved s (standing_at p f b) (standing_at p f o)
   standing_reserved p f =
@@ -204,19 +208,6 @@ claims_from (Some p) b s kept more held none =
     let claimed : IsClaimed p b (recorded b b.history b.configuration s) = record { holds = held; same = refl } in
     (claimed, kept_claimed b kept p (recorded b b.history b.configuration s) claimed more)
 
--- the steps are committed
-pub commits_from : (b o1 o2 a : Book) (p : ℕ) (x : Advanced) (answer : Done) → IsHeld b p → IsOwnAdvance b p x
-    → is_but_reserved x.stop b o1 → o2 ≡ standing_at p x.to o1 → HandlesStop p x.stop answer o2 a
-    → Commits p x answer b a
-commits_from b o1 o2 a p x answer held own but is handles = record {
-  held = held;
-  own = own;
-  handles =
-      handles_reserved x.stop (standing_at p x.to b) (standing_at p x.to o1)
-      (standing_reserved x.stop b o1 but p x.to) p answer a
-      (subst (λ z. HandlesStop p x.stop answer z a) is handles);
-}
-
 -- ---- an event of the outside
 
 -- if no growth is owed after it
@@ -267,18 +258,7 @@ source_there t c is =
       | inr past ↦ absurd (false≢true (sym (ap is_source (get_or_past t.channels c _ past)) ∙ is))
     ]
 
--- ---- a commit, call by call
-
-pub port_of : (b : Book) (p : ℕ) (x : Advanced) (s : Stop) → s ≡ x.stop → x.program ≡ program_of b.tables p
-    → IsAtPort x.program x.to x.stop → (f : Frame) × IsAtPort (program_of b.tables p) f s
-port_of b p x s is program at = (
-  x.to,
-  subst (λ z. IsAtPort (program_of b.tables p) x.to z) (sym is) (subst (λ z. IsAtPort z x.to x.stop) program at),
-)
-
-pub port_there : (b o : Book) (p : ℕ) (s : Stop) → o.tables ≡ b.tables
-    → (f : Frame) × IsAtPort (program_of b.tables p) f s → (f : Frame) × IsAtPort (program_of o.tables p) f s
-port_there b o p s same at = (at.0, subst (λ t. IsAtPort (program_of t p) at.0 s) (sym same) at.1)
+-- ---- a commit
 
 pub own_reserved : (s : Stop) (b o : Book) → is_but_reserved s b o → (p : ℕ) (x : Advanced) → IsOwnAdvance b p x
     → IsOwnAdvance o p x
@@ -287,24 +267,35 @@ own_reserved s b o but p x own = record {
   from = own.from ∙ sym (frame_reserved s b o but p);
 }
 
-pub kept_stepped : (s : Stop) (b o1 o2 : Book) → is_but_reserved s b o1 → IsKept b → (p : ℕ)
-    → p < length b.tables.instances → (x : Advanced) → IsAdvance x → IsOwnAdvance b p x
-    → o2 ≡ standing_at p x.to o1 → IsKept o2
-kept_stepped s b o1 o2 but kept p there x advance own is =
-    subst IsKept (sym is)
-    (kept_moved o1 (kept_reserved s b o1 but kept) p
-    (subst (λ t. p < length t.instances) (sym (tables_reserved s b o1 but)) there) x advance
-    (own_reserved s b o1 but p x own))
-
--- the steps of a commit, by the stop that the code reads from them
-pub commits_read : (b o1 o2 a : Book) (p : ℕ) (x : Advanced) (s : Stop) (answer : Done) → s ≡ x.stop
-    → IsHeld b p → IsOwnAdvance b p x → is_but_reserved s b o1 → o2 ≡ standing_at p x.to o1
-    → HandlesStop p s answer o2 a → Commits p x answer b a
-commits_read b o1 o2 a p x s answer same held own but is handles =
-    commits_from b o1 o2 a p x answer held own (subst (λ z. is_but_reserved z b o1) same but) is
-    (subst (λ z. HandlesStop p z answer o2 a) same handles)
+-- its memory is reserved, and the process goes to the end of its steps
+pub goes_to_stop : (b o a : Book) (p : ℕ) (x : Advanced) → IsKept b → IsHeld b p → IsAdvance x → IsOwnAdvance b p x
+    → is_but_reserved x.stop b o → a ≡ standing_at p x.to o → IsAtStop p x.stop (λ answer z. Commits p x answer b z) a
+goes_to_stop b o a p x kept held advance own but is =
+    let now = kept_reserved x.stop b o but kept in
+    let still = held_reserved x.stop b o but p held in
+    record {
+      kept =
+          subst IsKept (sym is)
+          (kept_moved o now p (held_is_there o now.in_step p still) x advance (own_reserved x.stop b o but p x own));
+      held = subst (λ z. IsHeld z p) (sym is) (held_moved o p p x.to still);
+      commits = λ answer z handles. record {
+        held = held;
+        own = own;
+        handles =
+            handles_reserved x.stop (standing_at p x.to b) (standing_at p x.to o)
+            (standing_reserved x.stop b o but p x.to) p answer z
+            (subst (λ y. HandlesStop p x.stop answer y z) is handles);
+      };
+    }
 
 -- ---- a step in place
+
+-- process p has been claimed and has made its steps, before memory for its stop is reserved
+pub record HasStepped (quota p : ℕ) (s : Stop) (b o : Book) : Type 0 where
+  pub kept : IsKept o
+  pub held : IsHeld o p
+  pub at_stop : (a : Book) → is_but_reserved s o a → IsAtStop p s (λ answer z. StepsNext quota answer b z) a
+  pub in_vain : (a : Book) → s ≢ stop.Paused → a ≡ put_back p o → StepsInVain quota b a
 
 module _ (quota p : ℕ) (b o0 : Book) (x : Advanced) (claimed : IsClaimed p b o0) (kept : IsKept o0)
     (own : IsOwnAdvance o0 p x) (advance : IsAdvance x) (within : IsWithinQuota quota x) (o1 : Book)
@@ -338,14 +329,23 @@ module _ (quota p : ℕ) (b o0 : Book) (x : Advanced) (claimed : IsClaimed p b o
     };
   }
 
-  pub steps_in_vain : (o2 a : Book) → x.stop ≢ stop.Paused → o2 ≡ o1 → a ≡ put_back p o2 → StepsInVain quota b a
-  steps_in_vain o2 a wants same back = record {
-    process = p;
-    advance = x;
-    between = o0;
-    steps = steps_made;
-    wants = wants;
-    back = back ∙ ap (put_back p) (same ∙ is);
+  pub has_stepped : HasStepped quota p x.stop b o1
+  has_stepped = record {
+    kept = stepped_kept;
+    held = stepped_held;
+    at_stop = λ a but. record {
+      kept = kept_reserved x.stop o1 a but stepped_kept;
+      held = held_reserved x.stop o1 a but p stepped_held;
+      commits = λ answer z handles. steps_next a z answer but handles;
+    };
+    in_vain = λ a wants back. record {
+      process = p;
+      advance = x;
+      between = o0;
+      steps = steps_made;
+      wants = wants;
+      back = back ∙ ap (put_back p) is;
+    };
   }
 
 -- ---- memory for a write

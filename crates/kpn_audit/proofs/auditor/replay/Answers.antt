@@ -1,85 +1,60 @@
 -- What is found of an event is said of the events before it, and of the place where it stands.
-use Rattle.std.proofs.Common.{suc, pos, take, subst, add-one, arith}
+use Rattle.std.proofs.Common.{◌≡◌, pos, take, subst, arith}
 use Rattle.std.proofs.lemmas.List.{take_all}
 use Rattle.kpn_history.specs.declared.event.Event.TheVariants.{Get}
 use Rattle.kpn_history.proofs.Growth.{none_owed_at_first}
 use Rattle.kpn_configuration.specs.Run.{IsRun}
-use Rattle.kpn_audit.specs.Judged.{ArePlaces, IsJudged, Owes}
-use Rattle.kpn_audit.specs.Audit.{AreWithinSteps}
-use Rattle.kpn_audit.proofs.Replaying.{followed_by, illegal_at, budget_at, none_within, within_more, follows_in_time, illegal_in_time}
+use Rattle.kpn_audit.specs.declared.judged.Judged.{Judged}
+use Rattle.kpn_audit.specs.declared.judged.Judged.TheVariants.{Follows, Illegal, Budget}
+use Rattle.kpn_audit.specs.Judged.{ArePlaces, Owes}
+use Rattle.kpn_audit.proofs.Replaying.{IsReplayed, LeadsTo, leads_to, none_within, ok_apart}
 use Rattle.kpn_audit.specs.Stored.{history_of}
 use Rattle.kpn_audit.proofs.Telling.{told_there, is_there, history_of-length}
+use Rattle.kpn_audit.proofs.auditor.replay.Given as given
 use Rattle.kpn_audit.proofs.auditor.replay.Goals as goal
+use Rattle.kpn_audit.proofs.auditor.replay.Goals.{In_ok-growth}
+
+leads : (g : given.Over) (c : In_ok-growth g) (found : Judged) → c.in_ok-growth.field-0 ≡ found
+    → LeadsTo c.args.network.now (history_of c.args.version c.args.network.now c.args.events.now) c.args.quota c.events.k
+    c.judge.new.configuration found
+leads g c found is =
+    let t = c.args.network.now in
+    let v = c.args.version in
+    let H = history_of v t c.args.events.now in
+    let k = c.events.k in
+    let s = c.events.configuration in
+    let after = c.judge.new.configuration in
+    let now = c.events.invariant in
+    let e = c.told-event.result in
+    let before : IsReplayed t H c.args.quota k s c.events.owed =
+    record { run = now.run; owes = now.owes; places = now.places; within = now.within } in
+    subst (λ j. LeadsTo t H c.args.quota k after j) is
+    (leads_to t H c.args.quota k s after c.in_ok-growth.field-0 c.known.ensures
+    (record {
+      owed = c.events.owed;
+      before = before;
+      event = e;
+      other = Get 0 0 (pos 0);
+      there = is_there v t c.args.events.now k c.events-test.true;
+      is = told_there v t c.args.events.now k (Get 0 0 (pos 0)) e c.events-test.true
+          (c.told-event.ensures (take k H) now.run);
+      found = c.in_ok-growth.ensures.judged (take k H) now.run now.owes;
+      in_time = λ none enough.
+          c.in_ok-growth.ensures.in_time none (ok_apart c.in_ok-growth.field-0 Budget enough);
+    }))
 
 pub returns-in-Illegal-clause-refused : goal.returns-in-Illegal-clause-refused
 returns-in-Illegal-clause-refused g c =
-    let t = c.args.network.now in
-    let v = c.args.version in
-    let H = history_of v t c.args.events.now in
-    let k = c.events.k in
-    let e = c.told-event.result in
-    let below = is_there v t c.args.events.now k c.events-test.true in
-    let is =
-    told_there v t c.args.events.now k (Get 0 0 (pos 0)) e c.events-test.true
-    (c.told-event.ensures (take k H) c.events.invariant.run) in
-    let found : IsJudged t (take k H) e c.args.quota c.events.configuration c.judge.new.configuration
-    c.in_ok-growth.field-0 =
-    c.in_ok-growth.ensures.judged (take k H) c.events.invariant.run c.events.invariant.owes in (
-      illegal_at t H k e (Get 0 0 (pos 0)) c.events.configuration c.events.invariant.run below is
-          (subst (λ j. IsJudged t (take k H) e c.args.quota c.events.configuration c.judge.new.configuration j)
-          c.in-Illegal.is found),
-      within_more t H c.args.quota k e (Get 0 0 (pos 0)) c.events.configuration c.events.owed c.events.invariant.run
-          c.events.invariant.owes c.events.invariant.places below is
-          (λ none. c.in_ok-growth.ensures.in_time none (illegal_in_time c.in_ok-growth.field-0 c.in-Illegal.is))
-          c.events.invariant.within,
-    )
+    leads g (goal.at.returns-in-Illegal-clause-refused g c).In_ok-growth Illegal c.in-Illegal.is
 
 pub returns-in-Budget-clause-refused : goal.returns-in-Budget-clause-refused
 returns-in-Budget-clause-refused g c =
-    let t = c.args.network.now in
-    let v = c.args.version in
-    let H = history_of v t c.args.events.now in
-    let k = c.events.k in
-    let e = c.told-event.result in
-    let below = is_there v t c.args.events.now k c.events-test.true in
-    let is =
-    told_there v t c.args.events.now k (Get 0 0 (pos 0)) e c.events-test.true
-    (c.told-event.ensures (take k H) c.events.invariant.run) in
-    let found : IsJudged t (take k H) e c.args.quota c.events.configuration c.judge.new.configuration
-    c.in_ok-growth.field-0 =
-    c.in_ok-growth.ensures.judged (take k H) c.events.invariant.run c.events.invariant.owes in (
-      budget_at t c.known.ensures H c.args.quota k e (Get 0 0 (pos 0)) c.events.configuration c.events.invariant.run
-          c.events.invariant.places below
-          is (subst (λ j. IsJudged t (take k H) e c.args.quota c.events.configuration c.judge.new.configuration j)
-          c.in-Budget.is found),
-      c.events.invariant.within,
-    )
+    leads g (goal.at.returns-in-Budget-clause-refused g c).In_ok-growth Budget c.in-Budget.is
 
 pub events-preserved : goal.events-preserved
 events-preserved g c =
-    let t = c.args.network.now in
-    let v = c.args.version in
-    let H = history_of v t c.args.events.now in
-    let k = c.events.k in
-    let e = c.told-event.result in
-    let below = is_there v t c.args.events.now k c.events-test.true in
-    let is =
-    told_there v t c.args.events.now k (Get 0 0 (pos 0)) e c.events-test.true
-    (c.told-event.ensures (take k H) c.events.invariant.run) in
-    let found : IsJudged t (take k H) e c.args.quota c.events.configuration c.judge.new.configuration
-    c.in_ok-growth.field-0 =
-    c.in_ok-growth.ensures.judged (take k H) c.events.invariant.run c.events.invariant.owes in
-    let then =
-    followed_by t H k e (Get 0 0 (pos 0)) c.events.configuration c.judge.new.configuration c.in-Follows.growth
-    below is c.events.invariant.places
-    (subst (λ j. IsJudged t (take k H) e c.args.quota c.events.configuration c.judge.new.configuration j)
-    c.in-Follows.is found) in
-    let more : AreWithinSteps t H c.args.quota (suc k) =
-    within_more t H c.args.quota k e (Get 0 0 (pos 0)) c.events.configuration c.events.owed c.events.invariant.run
-    c.events.invariant.owes c.events.invariant.places below is
-    (λ none. c.in_ok-growth.ensures.in_time none
-    (follows_in_time c.in_ok-growth.field-0 c.in-Follows.growth c.in-Follows.is)) c.events.invariant.within in
-    record { run = then.run; owes = then.owes; places = then.places; within = rw (add-one k) more }
+    let then = leads g (goal.at.events-preserved g c).In_ok-growth (Follows c.in-Follows.growth) c.in-Follows.is in
+    record { run = then.run; owes = then.owes; places = then.places; within = then.within }
 
 pub events-init : goal.events-init
 events-init g c =
@@ -97,28 +72,16 @@ told-event-requires g c =
       run = (take c.events.k (history_of c.args.version c.args.network.now c.args.events.now), c.events.invariant.run);
     }
 
-pub returns-clause-run : goal.returns-clause-run
-returns-clause-run g c =
-    let H = history_of c.args.version c.args.network.now c.args.events.now in
-    let same = history_of-length c.args.version c.args.network.now c.args.events.now in
-    subst (λ B. IsRun c.args.network.now B c.events.configuration)
-    (take_all c.events.k H (omega (arith, same))) c.events.invariant.run
-
-pub returns-clause-places : goal.returns-clause-places
-returns-clause-places g c =
-    let H = history_of c.args.version c.args.network.now c.args.events.now in
-    let same = history_of-length c.args.version c.args.network.now c.args.events.now in
-    subst (λ B. ArePlaces c.args.network.now B c.events.configuration)
-    (take_all c.events.k H (omega (arith, same))) c.events.invariant.places
-
-pub returns-clause-owes : goal.returns-clause-owes
-returns-clause-owes g c =
-    let H = history_of c.args.version c.args.network.now c.args.events.now in
-    let same = history_of-length c.args.version c.args.network.now c.args.events.now in
-    subst (λ B. Owes c.args.network.now B c.events.configuration c.events.owed)
-    (take_all c.events.k H (omega (arith, same))) c.events.invariant.owes
-
-pub returns-clause-within : goal.returns-clause-within
-returns-clause-within g c k below =
-    let same = history_of-length c.args.version c.args.network.now c.args.events.now in
-    c.events.invariant.within k (omega (arith, below, same))
+pub returns : goal.returns
+returns g c =
+    let t = c.args.network.now in
+    let s = c.events.configuration in
+    let same = history_of-length c.args.version t c.args.events.now in
+    let all = take_all c.events.k (history_of c.args.version t c.args.events.now) (omega (arith, same)) in
+    record {
+      run = subst (λ B. IsRun t B s) all c.events.invariant.run;
+      owes = subst (λ B. Owes t B s c.events.owed) all c.events.invariant.owes;
+      places = subst (λ B. ArePlaces t B s) all c.events.invariant.places;
+      within = λ k below. c.events.invariant.within k (omega (arith, below, same));
+      refused = tt;
+    }

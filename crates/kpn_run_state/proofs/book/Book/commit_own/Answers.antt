@@ -1,30 +1,51 @@
-use Rattle.std.proofs.Common.{◌≡◌, ◌+◌, ◌<◌, ◌^◌, sym, ap, ◌∙◌, subst, refl, rules, IsTrue}
+use Rattle.std.proofs.Common.{◌≡◌, ℕ, ◌+◌, ◌<◌, ◌^◌, refl, sym, ap, ◌∙◌, subst, rules, IsTrue}
 use Rattle.kpn_net.specs.Tables.{program_of}
-use Rattle.kpn_step.specs.Stops.{IsAdvance, advanced_of}
+use Rattle.kpn_step.specs.Frame.{Frame}
+use Rattle.kpn_step.specs.declared.stop.Stop.{Stop}
+use Rattle.kpn_step.specs.Stops.{IsAdvance, IsAtPort, advanced_of}
 use Rattle.kpn_configuration.specs.Configuration.{channel_in, frame_in}
 use Rattle.kpn_configuration.proofs.Moving.{advanced_as}
-use Rattle.kpn_run_state.specs.Book.{IsHeld, counted}
+use Rattle.kpn_run_state.specs.Book.{Book}
 use Rattle.kpn_run_state.specs.Commits.{IsOwnAdvance, Commits}
 use Rattle.kpn_run_state.specs.Kept.{IsKept}
 use Rattle.kpn_run_state.specs.Open.{book_of}
-use Rattle.kpn_run_state.proofs.Following.{held_is_there, recorded}
-use Rattle.kpn_run_state.proofs.Answering.{handles_counted, kept_counted, fits_after}
-use Rattle.kpn_run_state.proofs.Committing.{own_reserved, port_of, port_there, kept_stepped, held_reserved, commits_read, tables_reserved}
+use Rattle.kpn_run_state.proofs.Following.{recorded}
+use Rattle.kpn_run_state.proofs.Answering.{IsAtStop, is_counted}
+use Rattle.kpn_run_state.proofs.Committing.{own_reserved, port_reserved, goes_to_stop}
+use Rattle.kpn_run_state.proofs.book.Book.commit_own.Given as given
 use Rattle.kpn_run_state.proofs.book.Book.commit_own.Goals as goal
+use Rattle.kpn_run_state.proofs.book.Book.commit_own.Goals.{After-step_to}
 
-pub reserve-requires-clause-port : goal.reserve-requires-clause-port
-reserve-requires-clause-port g c =
+-- the stop is at a port, also by the tables of the open book
+at_port : (b s : Book) (p : ℕ) (f : Frame) (z : Stop) → b ≡ s → IsAtPort (program_of s.tables p) f z
+    → (to : Frame) × IsAtPort (program_of b.tables p) to z
+at_port b s p f z is at = (f, subst (λ x. IsAtPort (program_of x.tables p) f z) (sym is) at)
+
+-- the process is at its stop once it has gone there
+at_stop : (g : given.Over) (c : After-step_to g)
+    → let p = c.args.p in
+    let now = c.args.self.now in
+    let o = book_of c.reserve.new.self in
+    let x = advanced_of (program_of now.tables p) c.args.from.now c.args.to.now c.args.made.0 c.args.made.1 in
+    IsAtStop p c.args.made.1 (λ answer z. Commits p x answer now z) (recorded o o.history c.step_to.new.self o.schedule)
+at_stop g c =
     let b = book_of c.self.inside.parts in
     let p = c.args.p in
-    let x = advanced_of (program_of c.args.self.now.tables p) c.args.from.now c.args.to.now c.args.made.0
-    c.args.made.1 in
-    let stop = c.args.made.1 in
-    let held : IsHeld b p = c.is_held.ensures.0 (search rules) in
+    let o = book_of c.reserve.new.self in
+    let x = advanced_of (program_of c.args.self.now.tables p) c.args.from.now c.args.to.now c.args.made.0 c.args.made.1 in
+    let a = recorded o o.history c.step_to.new.self o.schedule in
     let own : IsOwnAdvance b p x = record {
       program = ap (λ z. program_of z.tables p) (sym c.self.view_is);
       from = c.same_frame.ensures.0 (search rules) ∙ c.frame.ensures;
     } in
-    port_of b p x stop refl own.program c.requires.port
+    subst (λ s. IsAtStop p c.args.made.1 (λ answer z. Commits p x answer s z) a) c.self.view_is
+    (goes_to_stop b o a p x c.self.invariant (c.is_held.ensures.0 (search rules)) c.requires.advance own
+    c.in_ok-reserve.ensures.1 (ap (λ z. recorded o o.history z o.schedule) c.step_to.ensures.after))
+
+pub reserve-requires-clause-port : goal.reserve-requires-clause-port
+reserve-requires-clause-port g c =
+    at_port (book_of c.self.inside.parts) c.args.self.now c.args.p c.args.to.now c.args.made.1 c.self.view_is
+    c.requires.port
 
 pub step_to-requires-clause-advance : goal.step_to-requires-clause-advance
 step_to-requires-clause-advance g c =
@@ -32,66 +53,29 @@ step_to-requires-clause-advance g c =
     let p = c.args.p in
     let x = advanced_of (program_of c.args.self.now.tables p) c.args.from.now c.args.to.now c.args.made.0
     c.args.made.1 in
-    let stop = c.args.made.1 in
     let own : IsOwnAdvance b p x = record {
       program = ap (λ z. program_of z.tables p) (sym c.self.view_is);
       from = c.same_frame.ensures.0 (search rules) ∙ c.frame.ensures;
     } in
     let o = book_of c.reserve.new.self in
-    let there = own_reserved stop b o c.in_ok-reserve.ensures.1 p x own in
+    let there = own_reserved x.stop b o c.in_ok-reserve.ensures.1 p x own in
     advanced_as IsAdvance x.program (program_of o.tables p) x.from (frame_in o.configuration p) x.to x.to x.steps x.stop
     there.program there.from refl c.requires.advance
 
 pub handle_stop-done-requires-clause-sound : goal.handle_stop-done-requires-clause-sound
 handle_stop-done-requires-clause-sound g c =
-    let b = book_of c.self.inside.parts in
-    let p = c.args.p in
-    let x = advanced_of (program_of c.args.self.now.tables p) c.args.from.now c.args.to.now c.args.made.0
-    c.args.made.1 in
-    let stop = c.args.made.1 in
-    let held : IsHeld b p = c.is_held.ensures.0 (search rules) in
-    let own : IsOwnAdvance b p x = record {
-      program = ap (λ z. program_of z.tables p) (sym c.self.view_is);
-      from = c.same_frame.ensures.0 (search rules) ∙ c.frame.ensures;
-    } in
-    let o = book_of c.reserve.new.self in
-    let is = ap (λ z. recorded o o.history z o.schedule) c.step_to.ensures.after in
-    let kept =
-    kept_stepped stop b o (recorded o o.history c.step_to.new.self o.schedule) c.in_ok-reserve.ensures.1
-    c.self.invariant p (held_is_there b c.self.invariant.in_step p held) x c.requires.advance own is in
+    let kept = (at_stop g (goal.at.handle_stop-done-requires-clause-sound g c).After-step_to).kept in
     record { in_step = kept.in_step; nothing_owed = kept.nothing_owed }
 
 pub handle_stop-done-requires-clause-held : goal.handle_stop-done-requires-clause-held
 handle_stop-done-requires-clause-held g c =
-    let b = book_of c.self.inside.parts in
-    let p = c.args.p in
-    let x = advanced_of (program_of c.args.self.now.tables p) c.args.from.now c.args.to.now c.args.made.0
-    c.args.made.1 in
-    let stop = c.args.made.1 in
-    let held : IsHeld b p = c.is_held.ensures.0 (search rules) in
-    let own : IsOwnAdvance b p x = record {
-      program = ap (λ z. program_of z.tables p) (sym c.self.view_is);
-      from = c.same_frame.ensures.0 (search rules) ∙ c.frame.ensures;
-    } in
-    let o = book_of c.reserve.new.self in
-    let now = held_reserved stop b o c.in_ok-reserve.ensures.1 p held in
-    record { there = now.there; held = now.held }
+    (at_stop g (goal.at.handle_stop-done-requires-clause-held g c).After-step_to).held
 
 pub handle_stop-done-requires-clause-port : goal.handle_stop-done-requires-clause-port
 handle_stop-done-requires-clause-port g c =
     let b = book_of c.self.inside.parts in
-    let p = c.args.p in
-    let x = advanced_of (program_of c.args.self.now.tables p) c.args.from.now c.args.to.now c.args.made.0
-    c.args.made.1 in
-    let stop = c.args.made.1 in
-    let held : IsHeld b p = c.is_held.ensures.0 (search rules) in
-    let own : IsOwnAdvance b p x = record {
-      program = ap (λ z. program_of z.tables p) (sym c.self.view_is);
-      from = c.same_frame.ensures.0 (search rules) ∙ c.frame.ensures;
-    } in
-    let o = book_of c.reserve.new.self in
-    port_there b o p stop (tables_reserved stop b o c.in_ok-reserve.ensures.1)
-    (port_of b p x stop refl own.program c.requires.port)
+    port_reserved c.args.made.1 b (book_of c.reserve.new.self) c.in_ok-reserve.ensures.1 c.args.p
+    (at_port b c.args.self.now c.args.p c.args.to.now c.args.made.1 c.self.view_is c.requires.port)
 
 pub handle_stop-done-requires-clause-reserved : goal.handle_stop-done-requires-clause-reserved
 handle_stop-done-requires-clause-reserved g c d v writes =
@@ -103,73 +87,14 @@ invariant_of-self g c = subst IsKept (sym c.in_err-reserve.ensures.1) c.self.inv
 
 pub overflow_add-self : goal.overflow_add-self
 overflow_add-self g c =
-    let b = book_of c.self.inside.parts in
-    let p = c.args.p in
-    let x = advanced_of (program_of c.args.self.now.tables p) c.args.from.now c.args.to.now c.args.made.0
-    c.args.made.1 in
-    let stop = c.args.made.1 in
-    let held : IsHeld b p = c.is_held.ensures.0 (search rules) in
-    let own : IsOwnAdvance b p x = record {
-      program = ap (λ z. program_of z.tables p) (sym c.self.view_is);
-      from = c.same_frame.ensures.0 (search rules) ∙ c.frame.ensures;
-    } in
-    let o = book_of c.reserve.new.self in
-    let is = ap (λ z. recorded o o.history z o.schedule) c.step_to.ensures.after in
-    let o2 = recorded o o.history c.step_to.new.self o.schedule in
-    let kept =
-    kept_stepped stop b o o2 c.in_ok-reserve.ensures.1 c.self.invariant p
-    (held_is_there b c.self.invariant.in_step p held) x c.requires.advance own is in
-    let a = book_of c.handle_stop-done.new.self in
-    let done = c.handle_stop-done.ensures in
-    let now = held_reserved stop b o c.in_ok-reserve.ensures.1 p held in
     let below : c.handle_stop-done.new.self.commits + 1 < 2 ^ 64 =
-    fits_after o2 a p (λ z. z ≡ stop) stop c.handle_stop-done.result refl kept
-    (record { there = now.there; held = now.held }) done in
+    (is_counted _ _ _ _ _ _ (at_stop g (goal.at.overflow_add-self g c).After-step_to) c.handle_stop-done.ensures).fits in
     search rules
 
 pub invariant_of-self-2 : goal.invariant_of-self-2
 invariant_of-self-2 g c =
-    let b = book_of c.self.inside.parts in
-    let p = c.args.p in
-    let x = advanced_of (program_of c.args.self.now.tables p) c.args.from.now c.args.to.now c.args.made.0
-    c.args.made.1 in
-    let stop = c.args.made.1 in
-    let held : IsHeld b p = c.is_held.ensures.0 (search rules) in
-    let own : IsOwnAdvance b p x = record {
-      program = ap (λ z. program_of z.tables p) (sym c.self.view_is);
-      from = c.same_frame.ensures.0 (search rules) ∙ c.frame.ensures;
-    } in
-    let o = book_of c.reserve.new.self in
-    let is = ap (λ z. recorded o o.history z o.schedule) c.step_to.ensures.after in
-    let o2 = recorded o o.history c.step_to.new.self o.schedule in
-    let kept =
-    kept_stepped stop b o o2 c.in_ok-reserve.ensures.1 c.self.invariant p
-    (held_is_there b c.self.invariant.in_step p held) x c.requires.advance own is in
-    let a = book_of c.handle_stop-done.new.self in
-    let done = c.handle_stop-done.ensures in
-    kept_counted o2 a p stop c.handle_stop-done.result kept (done.answers stop refl) done.sound done.released
+    (is_counted _ _ _ _ _ _ (at_stop g (goal.at.invariant_of-self-2 g c).After-step_to) c.handle_stop-done.ensures).kept
 
 pub returns-clause-done : goal.returns-clause-done
 returns-clause-done g c =
-    let b = book_of c.self.inside.parts in
-    let p = c.args.p in
-    let x = advanced_of (program_of c.args.self.now.tables p) c.args.from.now c.args.to.now c.args.made.0
-    c.args.made.1 in
-    let stop = c.args.made.1 in
-    let held : IsHeld b p = c.is_held.ensures.0 (search rules) in
-    let own : IsOwnAdvance b p x = record {
-      program = ap (λ z. program_of z.tables p) (sym c.self.view_is);
-      from = c.same_frame.ensures.0 (search rules) ∙ c.frame.ensures;
-    } in
-    let o = book_of c.reserve.new.self in
-    let is = ap (λ z. recorded o o.history z o.schedule) c.step_to.ensures.after in
-    let o2 = recorded o o.history c.step_to.new.self o.schedule in
-    let kept =
-    kept_stepped stop b o o2 c.in_ok-reserve.ensures.1 c.self.invariant p
-    (held_is_there b c.self.invariant.in_step p held) x c.requires.advance own is in
-    let a = book_of c.handle_stop-done.new.self in
-    let done = c.handle_stop-done.ensures in
-    subst (λ z. Commits p x c.handle_stop-done.result z (counted a)) c.self.view_is
-    (commits_read b o o2 (counted a) p x stop c.handle_stop-done.result refl held own
-    c.in_ok-reserve.ensures.1 is
-    (handles_counted o2 a p stop c.handle_stop-done.result kept (done.answers stop refl) done.sound done.released))
+    (is_counted _ _ _ _ _ _ (at_stop g (goal.at.returns-clause-done g c).After-step_to) c.handle_stop-done.ensures).is

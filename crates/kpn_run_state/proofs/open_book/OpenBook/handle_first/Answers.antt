@@ -19,7 +19,9 @@ use Rattle.kpn_run_state.proofs.Answering.{asked_otherwise, answered_paused}
 use Rattle.kpn_run_state.proofs.Committing.{no_pause}
 use Rattle.kpn_run_state.proofs.Reserved.{is_reserved_here}
 use Rattle.kpn_run_state.proofs.FirstOfQueue.{held_first, handles_write}
+use Rattle.kpn_run_state.proofs.open_book.OpenBook.handle_first.Given as given
 use Rattle.kpn_run_state.proofs.open_book.OpenBook.handle_first.Goals as goal
+use Rattle.kpn_run_state.proofs.open_book.OpenBook.handle_first.Goals.{After-out_channel-c}
 
 pub in_channel-c-requires-clause-port : goal.in_channel-c-requires-clause-port
 in_channel-c-requires-clause-port g c =
@@ -43,40 +45,31 @@ out_channel-c-requires-clause-port g c =
     let long = (IsInstance-of b.tables c.known.ensures c.args.p there).outs in
     omega (arith, below, long)
 
-pub channel-requires : goal.channel-requires
-channel-requires g c =
-    let b = first_claimed c.args.p (book_of c.args.self.now) in
-    let outs = (instance_at b.tables c.args.p).outs in
-    let below =
-    out_is_there b.tables c.known.ensures c.args.p c.out_channel-c.result
+-- the channel of a write is there
+out_there : (g : given.Over) (c : After-out_channel-c g)
+    → c.out_channel-c.result < length c.args.self.now.configuration.channels
+out_there g c =
+    let t = c.args.self.now.network.now in
+    let outs = (instance_at t c.args.p).outs in
+    let there =
+    out_is_there t c.known.ensures c.args.p c.out_channel-c.result
     (subst (λ x. Contains outs x) c.out_channel-c.ensures.1
     (Contains-get_or outs c.in-WantWrite.port 0 c.out_channel-c.ensures.0)) in
     let long = c.requires.kept.in_step.run.shape.channels in
-    omega (arith, below, long)
+    omega (arith, there, long)
+
+pub channel-requires : goal.channel-requires
+channel-requires g c = out_there g (goal.at.channel-requires g c).After-out_channel-c
 
 pub reserve_one-requires : goal.reserve_one-requires
-reserve_one-requires g c =
-    let b = first_claimed c.args.p (book_of c.args.self.now) in
-    let outs = (instance_at b.tables c.args.p).outs in
-    let below =
-    out_is_there b.tables c.known.ensures c.args.p c.out_channel-c.result
-    (subst (λ x. Contains outs x) c.out_channel-c.ensures.1
-    (Contains-get_or outs c.in-WantWrite.port 0 c.out_channel-c.ensures.0)) in
-    let long = c.requires.kept.in_step.run.shape.channels in
-    omega (arith, below, long)
+reserve_one-requires g c = out_there g (goal.at.reserve_one-requires g c).After-out_channel-c
 
 pub write_first-requires-clause-reserved : goal.write_first-requires-clause-reserved
 write_first-requires-clause-reserved g c =
-    let b = book_of c.args.self.now in
-    let outs = (instance_at b.tables c.args.p).outs in
-    let there =
-    out_is_there b.tables c.known.ensures c.args.p c.out_channel-c.result
-    (subst (λ x. Contains outs x) c.out_channel-c.ensures.1
-    (Contains-get_or outs c.in-WantWrite.port 0 c.out_channel-c.ensures.0)) in
-    let long = c.requires.kept.in_step.run.shape.channels in
-    let below : c.out_channel-c.result < length b.configuration.channels = omega (arith, there, long) in
     subst (λ s. IsTrue (channel_in s c.out_channel-c.result).is_reserved)
-    (sym c.in_ok-reserve_one-in-WantWrite.ensures.after) (is_reserved_here b c.out_channel-c.result below)
+    (sym c.in_ok-reserve_one-in-WantWrite.ensures.after)
+    (is_reserved_here (book_of c.args.self.now) c.out_channel-c.result
+    (out_there g (goal.at.write_first-requires-clause-reserved g c).After-out_channel-c))
 
 pub returns-in-WantRead-clause-handles : goal.returns-in-WantRead-clause-handles
 returns-in-WantRead-clause-handles g c =
@@ -121,13 +114,8 @@ returns-in_ok-reserve_one-in-WantWrite-clause-handles g c =
     let b = book_of c.args.self.now in
     let o = first_claimed c.args.p b in
     let d = c.out_channel-c.result in
-    let outs = (instance_at b.tables c.args.p).outs in
-    let there =
-    out_is_there b.tables c.known.ensures c.args.p d
-    (subst (λ x. Contains outs x) c.out_channel-c.ensures.1
-    (Contains-get_or outs c.in-WantWrite.port 0 c.out_channel-c.ensures.0)) in
-    let long = c.requires.kept.in_step.run.shape.channels in
-    let below : d < length b.configuration.channels = omega (arith, there, long) in
+    let below =
+    out_there g (goal.at.returns-in_ok-reserve_one-in-WantWrite-clause-handles g c).After-out_channel-c in
     let reserved = recorded o b.history c.reserve_one.new.self o.schedule in
     let same : reserved ≡ reserved_on d o =
     ap (λ s. recorded o b.history s o.schedule) c.in_ok-reserve_one-in-WantWrite.ensures.after in

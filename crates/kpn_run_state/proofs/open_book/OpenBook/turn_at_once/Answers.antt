@@ -1,4 +1,4 @@
-use Rattle.std.proofs.Common.{◌≡◌, ◌+◌, ◌-◌, ◌<◌, ◌^◌, slice_get, Some, sym, ◌∙◌, subst, arith, rules}
+use Rattle.std.proofs.Common.{◌≡◌, ◌+◌, ◌-◌, ◌<◌, ◌^◌, slice_get, Some, sym, subst, arith, rules}
 use Rattle.kpn_run_state.specs.Book.{held_count}
 use Rattle.kpn_run_state.specs.Kept.{IsKept}
 use Rattle.kpn_run_state.specs.Open.{book_of}
@@ -46,28 +46,17 @@ overflow_add-self g c =
     c.in_ok-handle_first.ensures.handles in
     search rules
 
-pub returns-clause-at_once : goal.returns-clause-at_once
-returns-clause-at_once g c =
+pub returns : goal.returns
+returns g c =
     let b = book_of c.args.self.now in
     let p = c.in-Some.p in
     let first : slice_get b.schedule.queue 0 ≡ Some p = search rules in
     let more =
     more_countable b.commits (held_count b) c.requires.kept.countable (λ is. absurd (search rules)) in
-    (made_at_once p b c.requires.kept (holds_first b.schedule c.known-2.ensures.schedule p first) more
+    let made =
+    made_at_once p b c.requires.kept (holds_first b.schedule c.known-2.ensures.schedule p first) more
     c.in-Some-stop_at_once.stop c.in-Some-stop_at_once.ensures _ (book_of c.handle_first.new.self)
     c.in_ok-handle_first.ensures.handles
     (record { network = c.known.ensures; schedule = c.known-2.ensures.schedule; kept = c.requires.kept }) first
-    c.known-3.ensures.schedule).0
-
-pub returns-clause-kept : goal.returns-clause-kept
-returns-clause-kept g c =
-    let b = book_of c.args.self.now in
-    let p = c.in-Some.p in
-    let first : slice_get b.schedule.queue 0 ≡ Some p = search rules in
-    let more =
-    more_countable b.commits (held_count b) c.requires.kept.countable (λ is. absurd (search rules)) in
-    (made_at_once p b c.requires.kept (holds_first b.schedule c.known-2.ensures.schedule p first) more
-    c.in-Some-stop_at_once.stop c.in-Some-stop_at_once.ensures _ (book_of c.handle_first.new.self)
-    c.in_ok-handle_first.ensures.handles
-    (record { network = c.known.ensures; schedule = c.known-2.ensures.schedule; kept = c.requires.kept }) first
-    c.known-3.ensures.schedule).1
+    c.known-3.ensures.schedule in
+    record { at_once = made.0; as_before = tt; kept = made.1 }
