@@ -2,6 +2,7 @@
 import argparse
 import os
 import pathlib
+import re
 import subprocess
 import sys
 import tempfile
@@ -61,8 +62,11 @@ def fastest(commands, runs):
 
 
 def kpn():
-    """The program to measure. It is built if it is not current."""
-    subprocess.run([TOP / 'kpn', '--version'], check=True, stdout=subprocess.DEVNULL)
+    """The program to measure. It is built if it is not current. All programs then take memory as the launcher has it."""
+    launcher = TOP / 'kpn'
+    subprocess.run([launcher, '--version'], check=True, stdout=subprocess.DEVNULL)
+    tunables = re.search(r'GLIBC_TUNABLES-([^}]+)', launcher.read_text())[1]
+    os.environ.setdefault('GLIBC_TUNABLES', tunables)
     return TOP / 'crates/kpn/out/kpn'
 
 
