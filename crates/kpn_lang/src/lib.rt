@@ -22,7 +22,7 @@ pub use chain::Chain;
 pub use code::{Code, Round, Ways};
 pub use codes::Coded;
 pub use formula::{
-    Below, Difference, Equal, Formula, IsRest, Product, ProductRest, Rest, RestSum, Sum,
+    Below, Difference, Equal, Formula, IsRest, Product, ProductRest, Remainder, Rest, RestSum, Sum,
 };
 pub use link::Link;
 pub use plain::{Run, run_alone};
