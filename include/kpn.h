@@ -22,6 +22,7 @@
    What you can rely on
 
      - The same items come to the sinks as under `kpn run` and every other order of steps.
+     - No call keeps a pointer of yours once it has returned. What is told as a text has no 0 at its end.
      - A null pointer, a wrong number and a session that was freed are faults. (A pointer to 0 items may be null.)
      - A buffer that is too small is a fault. The call then changes no buffer, and tells the sizes that are needed.
      - Memory that is refused is a fault. `kpn_feed`, `kpn_step` and `kpn_take` tell how much they had done before; all

@@ -7,7 +7,8 @@ It takes the libraries that `tools/build.py` has made, here or in the tree of KP
 keeps for the next check outside the tree, since the gate refuses sources that no check reads. Flags go to `rattle
 check`, as --only PATH, --allow-holes, --start F, --test and --jobs N; without --jobs it uses two. If a crate below has
 changed here, make its library first, and those of the crates between, by --library. --edits tries the wrong bodies of
-the crate, or those whose names contain a NAME, and prints what refuses each.
+the crate, or those whose names contain a NAME, and prints what refuses each; one that can't be put in, or does not
+compile, is not tried.
 """
 import os
 import pathlib
@@ -49,7 +50,7 @@ def kept_of(name, flags):
 
 
 def edited(crate, edit, folder):
-    """Copies a crate with an edit into a folder."""
+    """Copies a crate with an edit into a folder, and returns why it can't be applied, if it can't."""
     for part in prover.PARTS:
         if (crate.folder / part).is_dir():
             shutil.copytree(crate.folder / part, folder / part)
@@ -60,30 +61,53 @@ def edited(crate, edit, folder):
         elif word == 'old':
             old = text
         elif word == 'new' or line == 'new:':
-            file.write_text(file.read_text().replace(old, text))
-    return folder
+            source = file.read_text()
+            if source.count(old) != 1:
+                return f'the old text stands {source.count(old)} times in {file.relative_to(folder)}, not once'
+            file.write_text(source.replace(old, text))
+    return None
+
+
+def verdict_on(crate, edit, kit, room):
+    """What the prover makes of a crate with an edit, and the first lines that it says of it."""
+    with tempfile.TemporaryDirectory() as name:
+        folder = pathlib.Path(name)
+        why = edited(crate, edit, folder)
+        if why:
+            return 'NOT TRIED', [why]
+        done = subprocess.run(words('check', crate, kit, room, kept_of(crate.name, [])), capture_output=True,
+                              cwd=folder, text=True)
+    lines = (done.stdout + done.stderr).splitlines()
+    said = [it for it in lines if 'note:' in it or 'error' in it]
+    if done.returncode == 0:
+        return 'NOT REFUSED', said
+    # A text that does not compile is refused before any contract is looked at.
+    is_judged = any(it.startswith('logic=not-proved') for it in lines)
+    return 'refused' if is_judged else 'NOT TRIED', said
 
 
 def try_edits(crate, kit, room, names):
     """Tries the edits of a crate, and returns whether all are refused."""
-    refused = []
-    for edit in sorted((crate.folder / 'must-fail').glob('*.edit')):
-        if names and not any(name in edit.stem for name in names):
-            continue
-        with tempfile.TemporaryDirectory() as name:
-            done = subprocess.run(words('check', crate, kit, room, kept_of(crate.name, [])), capture_output=True,
-                                  cwd=edited(crate, edit, pathlib.Path(name)), text=True)
-        said = [it for it in (done.stdout + done.stderr).splitlines() if 'note:' in it or 'error' in it]
-        refused.append(done.returncode == 1)
-        print(f'{edit.stem}: {"refused" if refused[-1] else "NOT REFUSED"}', *said[:2], sep='\n  ', flush=True)
-    return all(refused)
+    edits = sorted((crate.folder / 'must-fail').glob('*.edit'))
+    chosen = [it for it in edits if not names or any(name in it.stem for name in names)]
+    if not chosen:
+        sys.exit(f'{crate.name} has no edit' + (f' whose name contains {" or ".join(names)}' if names else ''))
+    found = []
+    for edit in chosen:
+        verdict, said = verdict_on(crate, edit, kit, room)
+        found.append(verdict)
+        print(f'{edit.stem}: {verdict}', *said[:2], sep='\n  ', flush=True)
+    return set(found) == {'refused'}
 
 
 def main():
-    if len(sys.argv) < 2:
+    if len(sys.argv) < 2 or sys.argv[1] in ('-h', '--help'):
         sys.exit(__doc__)
     name, *flags = sys.argv[1:]
-    crate, kit = prover.read_crates(TOP)[name], prover.find_kit()
+    crates, kit = prover.read_crates(TOP), prover.find_kit()
+    if name not in crates:
+        sys.exit(f'there is no crate {name} in crates.txt')
+    crate = crates[name]
     with tempfile.TemporaryDirectory(prefix='kpn-check-') as folder:
         room = view_of(crate, pathlib.Path(folder))
         if flags[:1] == ['--edits']:
