@@ -1,5 +1,5 @@
 use Rattle.kpn_desk.proofs.Seating.{takes_more}
-use Rattle.kpn_desk.proofs.outside_calls.take_when_there.Goals as goal
+use Rattle.kpn_workers.proofs.outside_calls.take_when_there.Goals as goal
 
 pub returns-clause-taken : goal.returns-clause-taken
 returns-clause-taken g c =
