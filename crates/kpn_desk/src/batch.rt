@@ -22,8 +22,6 @@ pub struct Batch<'n, J: Job> {
     turns: ArrayVec<Turn<'n, J>, BATCH>,
     held: usize,
     passed: usize,
-    // how many commits there were at their claim
-    commits: u64,
 }
 
 impl<'n, J: Job> Model for Batch<'n, J> {
@@ -62,7 +60,6 @@ impl<'n, J: Job> Batch<'n, J> {
             ),
             held: 0,
             passed: 0,
-            commits: u64::MAX,
         }
     }
 
@@ -85,7 +82,6 @@ impl<'n, J: Job> Batch<'n, J> {
         let most = desk.share();
         self.held = claim_each(desk, self.turns.as_mut_slice(), most);
         self.passed = 0;
-        self.commits = desk.book.commits();
         self.held > 0
     }
 
@@ -100,13 +96,15 @@ impl<'n, J: Job> Batch<'n, J> {
         self.passed = step_each(gate, worker, quota, self.turns.as_mut_slice(), held);
     }
 
-    /// A worker is back from these turns, which left the lock free for so long if that was measured. It commits their
-    /// steps, and then makes turns at once. Returns what it does next, if `most` commits are allowed.
+    /// A worker is back from these turns, which began after so many commits and left the lock free for so long, if that
+    /// was measured. It commits their steps, and then makes turns at once. Returns what it does next, if `most` commits
+    /// are allowed.
     pub fn come_back<A: Allocator + Copy, G: Gate>(
         &self,
         desk: &mut Desk<'n, J, A>,
         gate: &G,
         seat: &mut WorkerSeat<J>,
+        commits: u64,
         away: Option<Duration>,
         most: u64,
     ) -> Next
@@ -116,7 +114,7 @@ impl<'n, J: Job> Batch<'n, J> {
         ensures asked { seat.old.commits + self.now.passed < seat.new.commits
             → LetsAll (G.may_answer gate.now) }
     {
-        let is_alone = desk.book.commits() == self.commits;
+        let is_alone = desk.book.commits() == commits;
         desk.crew.come_back(self.held, away);
         if let Some(why) = self.settle(desk, seat) {
             return Next::End(why);

@@ -190,6 +190,11 @@ impl<'n, J: Job, A: Allocator> Desk<'n, J, A> {
         None
     }
 
+    /// Whether all workers have ended.
+    pub(crate) fn has_ended(&self) -> bool {
+        self.crew.has_ended()
+    }
+
     /// Whether the workers have to end.
     pub(crate) fn has_to_end(&self) -> bool {
         self.halts

@@ -321,7 +321,7 @@ impl<A: Allocator> SinkSeat<A> {
     {
         let before = self.taken().len();
         self.take_all(desk)?;
-        if desk.crew.has_ended() {
+        if desk.has_ended() {
             return Ok(Some(Awaited::Ended));
         }
         if self.taken().len() > before {
@@ -363,5 +363,5 @@ pub fn take_from_each<J: Job, A: Allocator, B: Allocator>(
         let seat = &mut seats[i];
         seat.take_all(desk)?;
     }
-    Ok(!desk.crew.has_ended())
+    Ok(!desk.has_ended())
 }

@@ -102,8 +102,8 @@ impl<'n, J: Job, A: Allocator> Desk<'n, J, A> {
 
     /// A worker steps what it has claimed from now on. It has had the lock for so long, if that was measured, to commit
     /// so many turns and for the claim. A worker is notified if one is wanted beside this one, and the outside if a
-    /// sink is to be taken from.
-    pub fn join(&mut self, turns: usize, held: Option<Duration>) -> Notices
+    /// sink is to be taken from. Returns this, and how many commits there are.
+    pub fn join(&mut self, turns: usize, held: Option<Duration>) -> (Notices, u64)
         ensures { self.new ≡ self.old }
     {
         let ready = self.ready();
@@ -116,10 +116,8 @@ impl<'n, J: Job, A: Allocator> Desk<'n, J, A> {
         } else {
             Workers::Nobody
         };
-        Notices {
-            workers,
-            outside: self.crew.call(),
-        }
+        let outside = self.crew.call();
+        (Notices { workers, outside }, self.book.commits())
     }
 
     /// A call of the outside was made. A worker is notified if the call has made a process ready, and all if the run is

@@ -12,6 +12,8 @@ pub(crate) struct Pace {
     begun: Option<Instant>,
     // since when the worker has the lock, if the turn was measured
     held: Option<Instant>,
+    /// How many commits there were when the turn began.
+    pub commits: u64,
 }
 
 impl Pace {
@@ -21,11 +23,13 @@ impl Pace {
             turns: 0,
             begun: None,
             held: None,
+            commits: u64::MAX,
         }
     }
 
-    /// A turn begins.
-    pub(crate) fn begin<R: Clock>(&mut self, rt: &R) {
+    /// A turn begins after so many commits.
+    pub(crate) fn begin<R: Clock>(&mut self, rt: &R, commits: u64) {
+        self.commits = commits;
         self.begun = None;
         if self.turns % MEASURED == 0 {
             self.begun = Instant::now(rt).ok();

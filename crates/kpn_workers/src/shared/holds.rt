@@ -35,7 +35,7 @@ impl<'n, J: Job, A: Allocator> Shared<'n, J, A> {
         let turns = batch.len();
         let mut desk = self.lock(rt);
         pace.hold(rt);
-        let next = batch.come_back(&mut desk, gate, seat, away, self.max_commits);
+        let next = batch.come_back(&mut desk, gate, seat, pace.commits, away, self.max_commits);
         let Some(mut desk) = self.wait_for_work(rt, seat, pace, desk, next) else {
             return false;
         };
@@ -44,9 +44,9 @@ impl<'n, J: Job, A: Allocator> Shared<'n, J, A> {
             return false;
         }
         let held = pace.held(rt);
-        let notices = desk.join(turns, held);
+        let (notices, commits) = desk.join(turns, held);
         self.let_go(desk, notices);
-        pace.begin(rt);
+        pace.begin(rt, commits);
         true
     }
 
