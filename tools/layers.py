@@ -27,8 +27,8 @@ OFFERED = {
     'kpn_run_state': 'new claim commit put_back feed close_source take leave_sink counts commits history into_history '
                 'verdict snapshot',
     'kpn_run_here': 'run_here',
-    'kpn_desk': 'new between work why commits halt gather feed close take leave fed taken snapshot try_snapshot',
-    'kpn_workers': 'run',
+    'kpn_desk': 'new between why commits halt feed close take leave fed taken snapshot',
+    'kpn_workers': 'run work halt gather feed close take leave snapshot try_snapshot',
     'kpn_audit': 'audit',
     'kpn_cli': 'command',
 }

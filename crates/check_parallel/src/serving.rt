@@ -1,13 +1,12 @@
 //! Runs beside a client that takes, and feeds if nobody else does.
 use crate::gates::TestGate;
-use kpn_desk::{
-    Awaited, Job, Refused, Shared, SinkSeat, SourceSeat, Why, close, feed_when_room,
-    take_when_there,
-};
+use kpn_desk::{Awaited, Job, Refused, SinkSeat, SourceSeat, Why};
 use kpn_net::Network;
 use kpn_run_here::Limits;
 use kpn_text::read_network;
-use kpn_workers::{Client, Feeder, Outside, Ran, run_beside};
+use kpn_workers::{
+    Client, Feeder, Outside, Ran, Shared, close, feed_when_room, run_beside, take_when_there,
+};
 use std::alloc::{AllocError, Global};
 use std::sync::Wait;
 use std::test::Fail;

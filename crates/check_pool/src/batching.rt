@@ -4,9 +4,10 @@ ghost use Rattle.std.specs.Prelude.{◌≡◌};
 
 use crate::networks::nine_sevens;
 use commit_gates::Flag;
-use kpn_desk::{Gate, Go, Job, Opened, Shared, View, Why, WorkerSeat, gather, work};
+use kpn_desk::{Gate, Go, Job, View, Why, WorkerSeat};
 use kpn_net::Network;
 use kpn_run_state::{Book, Event};
+use kpn_workers::{Opened, Shared, gather, work};
 use std::alloc::{AllocError, Global};
 use std::marker::Brand;
 use std::sync::Wait;

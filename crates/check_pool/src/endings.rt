@@ -3,8 +3,9 @@ ghost use Rattle.std.specs.Prelude.{◌≡◌};
 
 use crate::networks::spinning;
 use commit_gates::Always;
-use kpn_desk::{Gate, Go, Job, Opened, Shared, View, Why, work};
+use kpn_desk::{Gate, Go, Job, View, Why};
 use kpn_net::Network;
+use kpn_workers::{Opened, Shared, work};
 use std::alloc::{AllocError, Global};
 use std::marker::Brand;
 use std::sync::Wait;

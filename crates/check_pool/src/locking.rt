@@ -3,8 +3,9 @@ ghost use Rattle.std.specs.Prelude.{◌≡◌};
 
 use crate::networks::{spinning, summing};
 use commit_gates::{Flag, MOST_TURNS};
-use kpn_desk::{Gate, Go, Job, Opened, Shared, Why, WorkerSeat, work};
+use kpn_desk::{Gate, Go, Job, Why, WorkerSeat};
 use kpn_net::Network;
+use kpn_workers::{Opened, Shared, work};
 use std::alloc::{AllocError, Global};
 use std::marker::Brand;
 use std::sync::Wait;

@@ -3,12 +3,10 @@ ghost use Rattle.std.specs.Prelude.{◌≡◌};
 
 use crate::networks::copying;
 use commit_gates::{Always, MOST_TURNS};
-use kpn_desk::{
-    Go, Job, Opened, Refused, Shared, SinkSeat, SnapFault, SourceSeat, View, Why, WorkerSeat,
-    close, feed, leave, snapshot, take, work,
-};
+use kpn_desk::{Go, Job, Refused, SinkSeat, SnapFault, SourceSeat, View, Why, WorkerSeat};
 use kpn_net::Network;
 use kpn_text::read_network;
+use kpn_workers::{Opened, Shared, close, feed, leave, snapshot, take, work};
 use std::alloc::{AllocError, Allocator, Global};
 use std::marker::Brand;
 use std::sync::Wait;

@@ -6,11 +6,9 @@ use crate::endings::is_ready;
 use crate::networks::{copying, pouring};
 use crate::outside::shows;
 use commit_gates::Always;
-use kpn_desk::{
-    Go, Job, Opened, Refused, Shared, SinkSeat, SnapFault, SourceSeat, Why, close, feed, gather,
-    leave, snapshot, take, work,
-};
+use kpn_desk::{Go, Job, Refused, SinkSeat, SnapFault, SourceSeat, Why};
 use kpn_net::Network;
+use kpn_workers::{Opened, Shared, close, feed, gather, leave, snapshot, take, work};
 use linked_list_allocator::LocalHeap;
 use std::alloc::{AllocError, Global};
 use std::marker::Brand;

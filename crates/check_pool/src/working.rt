@@ -1,5 +1,6 @@
 //! Two or three workers at once.
-use kpn_desk::{Gate, Job, Shared, WorkerSeat, work};
+use kpn_desk::{Gate, Job, WorkerSeat};
+use kpn_workers::{Shared, work};
 use std::sync::Wait;
 use std::thread;
 use std::thread::Threads;

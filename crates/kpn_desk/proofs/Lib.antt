@@ -2,4 +2,3 @@ pub mod Batches
 pub mod Keeping
 pub mod Recording
 pub mod Seating
-pub mod Sharing

@@ -1,5 +1,5 @@
 -- What lies under the lock of a run, and what holds of it whenever the lock is free.
-use Rattle.std.specs.Prelude.{◌≡◌, ◌≤◌, ◌<◌, ◌+◌, ℕ, Bool, true, false, min, max, count_by, Option, Some, None}
+use Rattle.std.specs.Prelude.{◌≡◌, ◌≤◌, ◌<◌, ◌+◌, ◌-◌, ℕ, Bool, true, false, min, max, count_by, Option, Some, None}
 use Rattle.std.specs.Int.{div_ceil}
 use Rattle.kpn_net.specs.Tables.{Tables}
 use Rattle.kpn_history.specs.Ends.{IsSettled}
@@ -53,6 +53,10 @@ with_commit book d = record d { book = book; total = d.total + 1 }
 -- the workers have to end
 abbrev pub halted : Desk → Desk
 halted d = record d { halts = true }
+
+-- one worker more has ended
+abbrev pub without_worker : Desk → Desk
+without_worker d = record d { working = d.working - 1 }
 
 -- ---- why a worker ends
 

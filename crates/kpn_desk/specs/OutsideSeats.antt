@@ -11,9 +11,9 @@ use Rattle.kpn_history.specs.declared.event.Event.TheVariants as event
 use Rattle.kpn_configuration.specs.Configuration.{channel_in}
 use Rattle.kpn_run_state.specs.Book.{Book}
 use Rattle.kpn_run_state.specs.Appending.{AllHappen}
-use Rattle.kpn_desk.specs.declared.outside_calls.SnapFault.{SnapFault}
-use Rattle.kpn_desk.specs.declared.outside_calls.SnapFault.TheVariants as snap_fault
-use Rattle.kpn_desk.specs.declared.outside_calls.SnapFault.TheVariants.{Foreign}
+use Rattle.kpn_desk.specs.declared.outside_seats.SnapFault.{SnapFault}
+use Rattle.kpn_desk.specs.declared.outside_seats.SnapFault.TheVariants as snap_fault
+use Rattle.kpn_desk.specs.declared.outside_seats.SnapFault.TheVariants.{Foreign}
 use Rattle.kpn_run_state.specs.declared.answers.Refused.{Refused}
 use Rattle.kpn_run_state.specs.declared.answers.Refused.TheVariants.{NoMemory, NoSuchEnd, SourceClosed, Full, SinkLeft}
 

@@ -8,15 +8,17 @@ use crate::crew::BATCH;
 use crate::desk::Desk;
 use crate::gate::{Gate, Go};
 use crate::job::Job;
+use crate::phases::Next;
 use crate::seat::{Why, WorkerSeat};
 use crate::turn::Turn;
 use arrayvec::ArrayVec;
 use std::alloc::Allocator;
 use std::marker::Model;
+use std::time::Duration;
 
 /// Turns of which the first ones are held, and of these the gate has let the first ones through.
 #[derive(Drop)]
-pub(crate) struct Batch<'n, J: Job> {
+pub struct Batch<'n, J: Job> {
     turns: ArrayVec<Turn<'n, J>, BATCH>,
     held: usize,
     passed: usize,
@@ -39,7 +41,7 @@ impl<'n, J: Job> Model for Batch<'n, J> {
 
 impl<'n, J: Job> Batch<'n, J> {
     /// No process is claimed.
-    pub(crate) fn new() -> Self
+    pub fn new() -> Self
         ensures { result.held ≡ 0 }
     {
         Batch {
@@ -62,14 +64,14 @@ impl<'n, J: Job> Batch<'n, J> {
     }
 
     /// How many processes are claimed.
-    pub(crate) fn len(&self) -> usize
+    pub fn len(&self) -> usize
         ensures { result ≡ self.now.held }
     {
         self.held
     }
 
     /// Claims a worker's share of those that are ready, at most 8. Returns whether there is one.
-    pub(crate) fn claim<A: Allocator>(&mut self, desk: &mut Desk<'n, J, A>) -> bool
+    pub fn claim<A: Allocator>(&mut self, desk: &mut Desk<'n, J, A>) -> bool
         ensures claims { InTurn Claims (take self.new.held self.new.turns) desk.old.book desk.new.book }
         ensures share { self.new.held ≤ share_in J.parts desk.old.book }
         ensures all { self.new.held < share_in J.parts desk.old.book
@@ -84,7 +86,7 @@ impl<'n, J: Job> Batch<'n, J> {
     }
 
     /// Steps each process and asks the gate for it, in order, until the gate ends the worker.
-    pub(crate) fn step<G: Gate>(&mut self, gate: &G, worker: usize, quota: u32)
+    pub fn step<G: Gate>(&mut self, gate: &G, worker: usize, quota: u32)
         ensures held { self.new.held ≡ self.old.held }
         ensures claimed { claimed_by self.new.turns ≡ claimed_by self.old.turns }
         ensures gate { LetsThrough (G.may_answer gate.now worker) self.new.passed self.new.held
@@ -94,9 +96,36 @@ impl<'n, J: Job> Batch<'n, J> {
         self.passed = step_each(gate, worker, quota, self.turns.as_mut_slice(), held);
     }
 
+    /// A worker is back from these turns, which began after so many commits and left the lock free for so long, if that
+    /// was measured. It commits their steps, and then makes turns at once. Returns what it does next, if `most` commits
+    /// are allowed.
+    pub fn come_back<A: Allocator + Copy, G: Gate>(
+        &self,
+        desk: &mut Desk<'n, J, A>,
+        gate: &G,
+        seat: &mut WorkerSeat<J>,
+        commits: u64,
+        away: Option<Duration>,
+        most: u64,
+    ) -> Next
+        ensures number { seat.new.number ≡ seat.old.number }
+        ensures commits { seat.old.commits ≤ seat.new.commits }
+        // turns that the gate was not asked for are committed only if it lets everything through
+        ensures asked { seat.old.commits + self.now.passed < seat.new.commits
+            → LetsAll (G.may_answer gate.now) }
+    {
+        let is_alone = desk.book.commits() == commits;
+        desk.crew.come_back(self.held, away);
+        if let Some(why) = self.settle(desk, seat) {
+            return Next::End(why);
+        }
+        go_at_once(gate, desk, seat, most);
+        desk.next(most, is_alone, true)
+    }
+
     /// Commits the steps that the gate has let through, in order, until memory is refused, and puts the others back, in
     /// order. Returns why the worker ends, if there are such. If memory was refused, all workers have to end.
-    pub(crate) fn settle<A: Allocator + Copy>(
+    fn settle<A: Allocator + Copy>(
         &self,
         desk: &mut Desk<'n, J, A>,
         seat: &mut WorkerSeat<J>,
@@ -123,7 +152,7 @@ impl<'n, J: Job> Batch<'n, J> {
 /// Commits the first processes of the queue where they stand, one after the other, as long as each stands at a read or
 /// at a write of a number or a variable, and the commits are below this number: at most 8, and none if the gate is to be
 /// asked for each.
-pub(crate) fn go_at_once<J: Job, A: Allocator + Copy, G: Gate>(
+fn go_at_once<J: Job, A: Allocator + Copy, G: Gate>(
     gate: &G,
     desk: &mut Desk<'_, J, A>,
     seat: &mut WorkerSeat<J>,

@@ -27,11 +27,11 @@
 //!
 //! The worker that keeps watch rests for a short time. Then the others have committed, and so are there to take the
 //! process up, or this one has waited in vain and joins, and by its claim sees to the next process.
-ghost use Rattle.std.specs.Prelude.{◌≡◌, ◌<◌, true, max};
+ghost use Rattle.std.specs.Prelude.{◌≡◌, ◌<◌, ◌-◌, true, max};
 ghost use Rattle.kpn_desk.specs.Desk.{share_of};
 
 use std::mem;
-use std::time::{Clock, Duration, Instant};
+use std::time::Duration;
 
 // For how many nanoseconds a turn keeps the lock from others, by its commit and its claim, until that is measured.
 const HOLD: u32 = 450;
@@ -46,16 +46,9 @@ const LONGEST: u32 = 16_000;
 // A turn is one part of so many in the mean: so the mean follows within some hundred turns.
 const WEIGHT: u32 = 8;
 
-// One of so many batches is measured, since a look at the clock costs as much as a short turn. An even number would
-// always meet the same processes of 8 or 16.
-const MEASURED: u32 = 31;
-
 // A worker claims no more processes in one hold, and makes no more turns at once: so many pay for the lock, and others
 // find enough that are ready.
 pub(crate) const BATCH: usize = 8;
-
-// For how many microseconds a worker looks on: some times as long as it takes to sleep and to be woken.
-pub(crate) const MOMENT: u64 = 20;
 
 // For how many milliseconds the one that keeps watch rests: so seldom does it cost nothing, and two such rests, after
 // which it takes the place of a worker that is held, are still less than a tenth of a second.
@@ -66,7 +59,7 @@ const REST: u64 = 1_000;
 
 /// What somebody outside waits for.
 #[derive(Clone, Copy)]
-pub(crate) enum Need {
+pub enum Need {
     /// A sink has an item.
     Item { sink: usize },
     /// A source has fewer unread items than the bound, or its reader has ended.
@@ -80,67 +73,6 @@ pub enum Awaited {
     There,
     /// All workers have ended. What they left was taken, and no more comes.
     Ended,
-}
-
-/// What a worker knows of its turn.
-#[derive(Clone, Copy)]
-pub(crate) struct Pace {
-    turns: u32,
-    begun: Option<Instant>,
-    // since when the worker has the lock, if the turn was measured
-    held: Option<Instant>,
-    // how many commits there were then
-    commits: u64,
-}
-
-impl Pace {
-    /// Of a worker that has had no turn.
-    pub(crate) const fn new() -> Pace {
-        Pace {
-            turns: 0,
-            begun: None,
-            held: None,
-            commits: u64::MAX,
-        }
-    }
-
-    /// A turn begins after so many commits.
-    pub(crate) fn begin<R: Clock>(&mut self, rt: &R, commits: u64) {
-        self.commits = commits;
-        self.begun = None;
-        if self.turns % MEASURED == 0 {
-            self.begun = Instant::now(rt).ok();
-        }
-        self.turns = self.turns.wrapping_add(1);
-    }
-
-    /// For how long the turn lasts, if it is measured.
-    pub(crate) fn time<R: Clock>(&self, rt: &R) -> Option<Duration> {
-        self.begun?.elapsed(rt).ok()
-    }
-
-    /// The worker has the lock, which is measured if the turn was.
-    pub(crate) fn hold<R: Clock>(&mut self, rt: &R) {
-        self.held = None;
-        if self.begun.is_some() {
-            self.held = Instant::now(rt).ok();
-        }
-    }
-
-    /// The worker waits, so this hold is not measured.
-    pub(crate) fn wait(&mut self) {
-        self.held = None;
-    }
-
-    /// For how long the worker has had the lock, if that is measured.
-    pub(crate) fn held<R: Clock>(&self, rt: &R) -> Option<Duration> {
-        self.held?.elapsed(rt).ok()
-    }
-
-    /// Whether nobody has committed since the turn began, if there are now so many commits.
-    pub(crate) fn is_alone(&self, commits: u64) -> bool {
-        self.commits == commits
-    }
 }
 
 /// How many workers there are of each kind, what their turns take, and whether somebody outside waits.
@@ -221,7 +153,9 @@ impl Crew {
     }
 
     /// A worker is busy from now on.
-    pub(crate) fn join(&mut self) {
+    pub(crate) fn join(&mut self)
+        ensures { self.new.working ≡ self.old.working }
+    {
         self.busy = self.busy.saturating_add(1);
     }
 
@@ -247,7 +181,9 @@ impl Crew {
     }
 
     /// A worker looks on from now on. If nobody is busy, the outside is called, since the worker hopes for its call.
-    pub(crate) fn look_on(&mut self) {
+    pub(crate) fn look_on(&mut self)
+        ensures { self.new.working ≡ self.old.working }
+    {
         self.looking = self.looking.saturating_add(1);
         if self.is_idle() {
             self.owes_call = true;
@@ -255,13 +191,17 @@ impl Crew {
     }
 
     /// A worker has looked on.
-    pub(crate) fn look_away(&mut self) {
+    pub(crate) fn look_away(&mut self)
+        ensures { self.new.working ≡ self.old.working }
+    {
         self.looking = self.looking.saturating_sub(1);
     }
 
     /// A worker rests from now on, and the outside is called: this may be the last one that is not held. Returns
     /// whether it keeps watch, which one of them does while somebody is busy.
-    pub(crate) fn rest(&mut self) -> bool {
+    pub(crate) fn rest(&mut self) -> bool
+        ensures { self.new.working ≡ self.old.working }
+    {
         self.resting = self.resting.saturating_add(1);
         self.owes_call = true;
         self.busy > 0 && !mem::replace(&mut self.is_watched, true)
@@ -273,7 +213,9 @@ impl Crew {
     }
 
     /// A worker has rested.
-    pub(crate) fn rise(&mut self, keeps_watch: bool) {
+    pub(crate) fn rise(&mut self, keeps_watch: bool)
+        ensures { self.new.working ≡ self.old.working }
+    {
         self.resting = self.resting.saturating_sub(1);
         self.notified = self.notified.saturating_sub(1);
         if keeps_watch {
@@ -282,14 +224,18 @@ impl Crew {
     }
 
     /// A worker has ended, and the outside is called.
-    pub(crate) fn end(&mut self) {
+    pub(crate) fn end(&mut self)
+        ensures { self.new.working ≡ self.old.working - 1 }
+    {
         self.working = self.working.saturating_sub(1);
         self.owes_call = true;
     }
 
     /// A worker claims or ends, or a call of the outside was made, and so many processes are left ready. Returns
     /// whether one of those that rest is to be notified, and counts it.
-    pub(crate) fn notify(&mut self, ready: usize, is_call: bool) -> bool {
+    pub(crate) fn notify(&mut self, ready: usize, is_call: bool) -> bool
+        ensures { self.new.working ≡ self.old.working }
+    {
         let are_more = ready > mem::replace(&mut self.left, ready);
         let coming = self.looking.saturating_add(self.notified);
         let awake = self.busy.saturating_add(coming);
@@ -303,13 +249,17 @@ impl Crew {
     }
 
     /// Somebody outside sleeps from now on, until the outside is called or this time is over.
-    pub(crate) fn await_call(&mut self) -> Duration {
+    pub(crate) fn await_call(&mut self) -> Duration
+        ensures { self.new.working ≡ self.old.working }
+    {
         self.is_awaited = true;
         Crew::rest_of(!self.is_idle())
     }
 
     /// Somebody outside sleeps from now on, until the outside is called or this time is over, and needs this.
-    pub(crate) fn await_need(&mut self, need: Need) -> Duration {
+    pub(crate) fn await_need(&mut self, need: Need) -> Duration
+        ensures { self.new.working ≡ self.old.working }
+    {
         self.is_awaited = true;
         match need {
             Need::Item { .. } => self.awaits_item = true,
@@ -337,7 +287,9 @@ impl Crew {
 
     /// The lock is let go. Returns whether the outside is to be called: there is something for it, and somebody sleeps
     /// there. All that sleep there then wake, so nobody is awaited any more.
-    pub(crate) fn call(&mut self) -> bool {
+    pub(crate) fn call(&mut self) -> bool
+        ensures { self.new.working ≡ self.old.working }
+    {
         let calls = mem::replace(&mut self.owes_call, false) && self.is_awaited;
         if calls {
             self.is_awaited = false;

@@ -1,11 +1,13 @@
 //! What lies under the lock of a run: each change of it is a call that is lent it.
-ghost use Rattle.std.specs.Prelude.{◌≡◌, true, false, IfOk, IfSome};
+ghost use Rattle.std.specs.Prelude.{◌≡◌, ◌<◌, true, false, length, IfOk, IfSome};
+ghost use Rattle.std.specs.List.{sum_by};
 ghost use Rattle.kpn_history.specs.declared.state.Counts.{Counts as Tally};
 ghost use Rattle.kpn_history.specs.Views.{Agrees, AreCounts};
 ghost use Rattle.kpn_run_state.specs.Kept.{IsBook};
 ghost use Rattle.kpn_desk.specs.declared.crew.Awaited.TheVariants.{There, Ended};
 ghost use Rattle.kpn_desk.specs.declared.crew.Need.TheVariants.{Item, Room};
 ghost use Rattle.kpn_desk.specs.Desk.{halted, IsReason, ready_in, share_in};
+ghost use Rattle.kpn_desk.specs.Seat.{AreNewSeats};
 ghost use Rattle.kpn_desk.specs.Waiting.{IsMet};
 ghost use Rattle.kpn_run_state.specs.Snapshot.{ShowsARun, ShowsJournals, IsBelowKahn, IsKahnAtRest};
 ghost use Rattle.kpn_desk.specs.Invariant.{AreBelowLeast, AreReadThenQueued, AreWithinCapacity, AreBlockedCounts, AreOwedGrowths, AreLeastWhenQuiet, HasNoneLeftToGrow, HasNoneLeftAtStop};
@@ -13,14 +15,14 @@ ghost use Rattle.kpn_desk.specs.Invariant.{AreBelowLeast, AreReadThenQueued, Are
 use crate::crew::{Awaited, Crew, Need, share};
 use crate::job::Job;
 use crate::outside_seats::SinkSeat;
-use crate::seat::Why;
+use crate::seat::{Why, WorkerSeat};
 use kpn_net::Network;
 use kpn_run_state::laws::{a_quiet_book, growths, journals, the_history};
 use kpn_run_state::{Book, Counts, Done, Event, Refused, View};
 use std::alloc::{AllocError, Allocator, Global};
 use std::marker::Model;
 use std::sync::ledger;
-use std::sync::ledger::Share;
+use std::sync::ledger::Blank;
 
 /// The book of a run, the mark that the workers have to end, and the total of the ledger in which commits are counted.
 #[derive(Drop)]
@@ -64,8 +66,30 @@ impl<'n, J: Job, A: Allocator> Model for Desk<'n, J, A> {
 }
 
 impl<'n, J: Job, A: Allocator + Copy> Desk<'n, J, A> {
+    /// The desk of a run in which nothing has happened yet, and a seat for each of its workers, in order of number. The
+    /// error is that memory ran out.
+    pub fn with_seats(
+        alloc: A,
+        blank: Blank,
+        network: &'n Network,
+        workers: usize,
+    ) -> Result<(Self, Vec<WorkerSeat<J>, A>), AllocError>
+        requires ledger { (blank.name ≡ J.name) × (blank.parts ≡ J.parts) }
+        requires network { network.now ≡ J.network }
+        requires workers { workers ≡ J.parts }
+        ensures workers { IfOk result (λ opened. AreNewSeats workers opened.1.items) }
+    {
+        let mut seats = Vec::with_capacity(alloc, workers)?;
+        let (total, mut shares) = blank.open::<J>();
+        for number in 0..workers {
+            seats.push(WorkerSeat::new(number, shares.split_off(1, 0)))?;
+        }
+        let desk = Desk::new(alloc, network, total, workers)?;
+        Ok((desk, seats))
+    }
+
     /// The desk of a run in which nothing has happened yet. The error is that memory ran out.
-    pub(crate) fn new(
+    fn new(
         alloc: A,
         network: &'n Network,
         total: ledger::Book<J>,
@@ -166,6 +190,11 @@ impl<'n, J: Job, A: Allocator> Desk<'n, J, A> {
         None
     }
 
+    /// Whether all workers have ended.
+    pub(crate) fn has_ended(&self) -> bool {
+        self.crew.has_ended()
+    }
+
     /// Whether the workers have to end.
     pub(crate) fn has_to_end(&self) -> bool {
         self.halts
@@ -183,11 +212,6 @@ impl<'n, J: Job, A: Allocator> Desk<'n, J, A> {
         ensures { result ≡ share_in self.now.workers self.now.book }
     {
         share(self.workers, self.ready())
-    }
-
-    /// Whether a worker has a place here, or a reason to end.
-    pub(crate) fn has_work(&self, most: u64) -> bool {
-        self.crew.has_place(self.ready(), false) || self.reason_to_end(most).is_some()
     }
 
     /// Whether a channel is a sink that is half full, or, if one item is enough, has that.
@@ -308,19 +332,26 @@ impl<'n, J: Job, A: Allocator> Desk<'n, J, A> {
         self.halts = true;
     }
 
-    /// The book of the run, for a share that has every part: its commits are those of the share.
-    pub(crate) fn into_book(self, all: Share<J>) -> Book<'n, A>
-        requires { all.parts ≡ J.parts }
+    /// The book of the run, for the seats of all its workers: its commits are the sum of theirs.
+    pub fn into_book(self, workers: Vec<WorkerSeat<J>, A>) -> Book<'n, A>
+        requires { (length workers.items ≡ J.parts) × (0 < J.parts) }
         ensures network { result.tables ≡ J.network }
         ensures book { IsBook result }
-        ensures commits { result.commits ≡ all.amount }
+        ensures commits { result.commits ≡ sum_by (λ seat. seat.commits) workers.items }
     {
+        let mut workers = workers;
+        let Some(last) = workers.pop() else {
+            unreachable!()
+        };
+        let mut all = last.into_share();
+        while let Some(seat) = workers.pop() {
+            all.merge(seat.into_share());
+        }
         let Desk {
             book,
             mut total,
             ..
         } = self;
-        let mut all = all;
         total.audit(&mut all);
         book
     }

@@ -1,5 +1,5 @@
 //! The seats of the outside, which feeds sources and takes from sinks.
-ghost use Rattle.std.specs.Prelude.{◌≡◌, ◌<◌, true, [], ◌++◌, length, IfOk, IfErr, OnErr, OnOk};
+ghost use Rattle.std.specs.Prelude.{◌≡◌, ◌≢◌, ◌<◌, ◌≤◌, ℤ, true, [], ◌++◌, length, take, Some, Err, IfOk, IfErr, OnErr, OnOk, IsTrue};
 ghost use Rattle.kpn_lang.specs.Prefix.{IsPrefix};
 ghost use Rattle.kpn_net.specs.Tables.{channel_at, is_source, is_sink};
 ghost use Rattle.kpn_chan.specs.Channel.{unread};
@@ -8,13 +8,39 @@ ghost use Rattle.kpn_configuration.specs.Configuration.{channel_in};
 ghost use Rattle.kpn_run_state.specs.Appending.{AppendsAll};
 ghost use Rattle.kpn_run_state.specs.Refusals.{RefusesFeed, RefusesClose, RefusesTake, RefusesLeave, Feeds, Closes, Takes, Leaves};
 ghost use Rattle.kpn_desk.specs.Desk.{with_book};
-ghost use Rattle.kpn_desk.specs.OutsideSeats.{with_item, with_taken, HaveTaken, new_end, AreRecorded, FeedsUntil, TakesFirst, MayRefuseFeed, MayRefuseEnd, MayRefuseTake, MayRefuseTakes, AreSinks};
+ghost use Rattle.kpn_run_state.specs.Snapshot.{ShowsARun, shown_on, IsBelowKahn, IsKahnAtRest};
+ghost use Rattle.kpn_run_state.specs.declared.answers.Refused.TheVariants.{Full};
+ghost use Rattle.kpn_desk.specs.declared.crew.Awaited.TheVariants.{There};
+ghost use Rattle.kpn_desk.specs.declared.outside_seats.SnapFault.TheVariants.{NoMemory};
+ghost use Rattle.kpn_desk.specs.Waiting.{IsFullSource};
+ghost use Rattle.kpn_desk.specs.OutsideSeats.{with_item, with_taken, HaveTaken, TakesMore, new_end, AreRecorded, FeedsUntil, TakesFirst, MayRefuseFeed, MayRefuseEnd, MayRefuseTake, MayRefuseTakes, MayRefuseSnapshot, AreSinks};
 
+use crate::crew::Awaited;
 use crate::desk::Desk;
 use crate::job::Job;
-use kpn_run_state::Refused;
-use std::alloc::{Allocator, Global};
+use kpn_run_state::{Refused, View};
+use std::alloc::{AllocError, Allocator, Global};
 use std::marker::Model;
+use thiserror::Error;
+
+/// Why a seat is given no snapshot, with its number.
+#[derive(Clone, Copy, Debug, PartialEq, Eq, Error)]
+pub enum SnapFault {
+    /// 47: there is no such source, or what the seat fed does not begin its journal: the seat is one of another run.
+    #[error("the seat is one of another run")]
+    Foreign,
+    /// 42: memory ran out.
+    #[error("memory ran out")]
+    NoMemory,
+}
+
+impl From<AllocError> for SnapFault {
+    ghost from_gives = { λ _ fault. fault ≡ NoMemory };
+
+    fn from(_error: AllocError) -> SnapFault {
+        SnapFault::NoMemory
+    }
+}
 
 /// A seat that feeds a source: the channel's number, and the list of what this seat fed.
 #[derive(Drop)]
@@ -113,6 +139,36 @@ impl<A: Allocator> SourceSeat<A> {
         Ok(())
     }
 
+    /// Feeds the first ones of these items, as many as there is room for. Returns how many it fed: of some items none
+    /// only if all workers have ended. It is refused as the book refuses a feed, but never as full, and then the items
+    /// before that were fed.
+    pub fn feed_first<J: Job, B: Allocator + Copy>(
+        &mut self,
+        desk: &mut Desk<'_, J, B>,
+        items: &[i64],
+        bound: usize,
+    ) -> Result<usize, Refused>
+        requires room { IsFullSource self.old.channel bound desk.old.book
+            → desk.old.working ≡ 0 }
+        ensures channel { self.new.channel ≡ self.old.channel }
+        ensures fed { IfOk result (λ count. (count ≤ length items.now)
+            × (self.new.items ≡ self.old.items ++ take count items.now)) }
+        ensures before { IsPrefix self.old.items self.new.items }
+        ensures none { IfOk result (λ count. (count ≡ 0) → 0 < length items.now
+            → desk.old.working ≡ 0) }
+        ensures source { OnOk result (0 < length items.now
+            → is_source (channel_at J.network self.old.channel) ≡ true) }
+        ensures refused { IfErr result (λ cause. FeedsUntil items.now self.old self.new (λ item.
+            MayRefuseFeed (is_source (channel_at J.network self.old.channel)) item cause)) }
+        ensures never_full { (item : ℤ) → result ≢ Err (Full item) }
+    {
+        let before = self.fed().len();
+        match self.feed_all(desk, items, bound) {
+            Ok(()) | Err(Refused::Full(_)) => Ok(self.fed().len() - before),
+            Err(refused) => Err(refused),
+        }
+    }
+
     /// Closes the source. A second time it changes nothing.
     #[tactic(auto, using(crate::proofs::Keeping::closes, crate::proofs::Keeping::there, crate::proofs::Keeping::close_refused))]
     pub fn close<J: Job, B: Allocator>(&self, desk: &mut Desk<'_, J, B>) -> Result<(), Refused>
@@ -128,6 +184,29 @@ impl<A: Allocator> SourceSeat<A> {
         desk.book.close_source(self.channel)?;
         desk.book.known();
         Ok(())
+    }
+
+    /// The run as it is seen at this moment, with all that the seat has fed, or why the seat is given none.
+    pub fn snapshot<J: Job, B: Allocator, C: Allocator + Copy>(
+        &self,
+        alloc: C,
+        desk: &Desk<'_, J, B>,
+    ) -> Result<View<C>, SnapFault>
+        ensures run { IfOk result (λ view. ShowsARun J.network view) }
+        ensures below { IfOk result (λ view. IsBelowKahn J.network view) }
+        ensures quiet { IfOk result (λ view. IsKahnAtRest J.network view) }
+        ensures source { IfOk result (λ _.
+            IsTrue (is_source (channel_at J.network self.now.channel))) }
+        ensures fresh { IfOk result (λ view.
+            IsPrefix self.now.items (shown_on view self.now.channel)) }
+        ensures refused { IfErr result
+            (MayRefuseSnapshot (is_source (channel_at J.network self.now.channel)) self.now.items) }
+    {
+        let source = self.channel();
+        if !desk.book.network().is_source(source) || !desk.book.journal_begins(source, self.fed()) {
+            return Err(SnapFault::Foreign);
+        }
+        Ok(desk.snapshot(alloc)?)
     }
 }
 
@@ -225,6 +304,32 @@ impl<A: Allocator> SinkSeat<A> {
         Ok(())
     }
 
+    /// Takes all that is unread at the sink. Returns what a wait for an item has come to by that, or `None` if it goes
+    /// on. If it is refused, what was taken before that stays with the seat.
+    pub fn take_there<J: Job, B: Allocator>(
+        &mut self,
+        desk: &mut Desk<'_, J, B>,
+    ) -> Result<Option<Awaited>, Refused>
+        ensures taken { TakesMore self.old self.new }
+        ensures all { OnOk result (self.new.items ≡ self.old.items
+            ++ unread (channel_in desk.old.book.configuration self.old.channel)) }
+        ensures there { IfOk result (λ found. (found ≡ Some There)
+            → length self.old.items < length self.new.items) }
+        ensures sink { OnOk result (is_sink (channel_at J.network self.old.channel) ≡ true) }
+        ensures refused { IfErr result (λ cause.
+            MayRefuseTake (is_sink (channel_at J.network self.old.channel)) cause) }
+    {
+        let before = self.taken().len();
+        self.take_all(desk)?;
+        if desk.has_ended() {
+            return Ok(Some(Awaited::Ended));
+        }
+        if self.taken().len() > before {
+            return Ok(Some(Awaited::There));
+        }
+        Ok(None)
+    }
+
     /// Leaves the sink: nothing is taken from it any more, and it is never full. A second time it changes nothing.
     #[tactic(auto, using(crate::proofs::Keeping::leaves, crate::proofs::Keeping::there, crate::proofs::Keeping::leave_refused))]
     pub fn leave<J: Job, B: Allocator>(&self, desk: &mut Desk<'_, J, B>) -> Result<(), Refused>
@@ -243,12 +348,12 @@ impl<A: Allocator> SinkSeat<A> {
     }
 }
 
-/// Takes all that is unread at the sinks of these seats, one after the other. If one is refused, as the book refuses
-/// it, what was taken before that stays with the seats.
-pub(crate) fn take_from_each<J: Job, A: Allocator, B: Allocator>(
+/// Takes all that is unread at the sinks of these seats, one after the other. Returns whether the run goes on: not if
+/// all workers have ended. If one is refused, as the book refuses it, what was taken before that stays with the seats.
+pub fn take_from_each<J: Job, A: Allocator, B: Allocator>(
     desk: &mut Desk<'_, J, B>,
     seats: &mut [SinkSeat<A>],
-) -> Result<(), Refused>
+) -> Result<bool, Refused>
     ensures seats { HaveTaken seats.old seats.new }
     ensures sinks { OnOk result (AreSinks J.network seats.old) }
     ensures may_refuse { IfErr result (MayRefuseTakes J.network seats.old) }
@@ -258,5 +363,5 @@ pub(crate) fn take_from_each<J: Job, A: Allocator, B: Allocator>(
         let seat = &mut seats[i];
         seat.take_all(desk)?;
     }
-    Ok(())
+    Ok(!desk.has_ended())
 }

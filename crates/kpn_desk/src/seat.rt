@@ -5,11 +5,12 @@ ghost use Rattle.kpn_step.specs.Stops.{IsAdvance, IsAtPort, advanced_of};
 ghost use Rattle.kpn_run_state.specs.AtOnce.{CommitsAtOnce};
 ghost use Rattle.kpn_run_state.specs.Commits.{Commits};
 ghost use Rattle.kpn_run_state.specs.Refusals.{RefusesCommit};
-ghost use Rattle.kpn_desk.specs.Desk.{with_commit};
+ghost use Rattle.kpn_desk.specs.Desk.{with_commit, without_worker};
 ghost use Rattle.kpn_desk.specs.Seat.{new_seat, ended, with_commits};
 
 use crate::desk::Desk;
 use crate::job::Job;
+use crate::phases::{Notices, Workers};
 use kpn_run_state::laws::what_a_commit_does;
 use kpn_run_state::{Done, Refused};
 use kpn_step::{Frame, Stop};
@@ -157,10 +158,17 @@ impl<J: Job> WorkerSeat<J> {
         share
     }
 
-    /// The worker has ended.
-    pub(crate) fn end(&mut self, why: Why)
-        ensures { self.new ≡ ended why self.old }
+    /// The worker ends, for this reason. All workers that rest are notified, since the reason may be theirs, and the
+    /// outside is called.
+    pub fn end<A: Allocator>(&mut self, desk: &mut Desk<'_, J, A>, why: Why) -> Notices
+        ensures seat { self.new ≡ ended why self.old }
+        ensures desk { desk.new ≡ without_worker desk.old }
     {
         self.why = Some(why);
+        desk.crew.end();
+        Notices {
+            workers: Workers::All,
+            outside: desk.crew.call(),
+        }
     }
 }

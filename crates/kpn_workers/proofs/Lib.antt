@@ -2,3 +2,4 @@ mod Feeding
 mod Emptying
 mod Concluding
 mod Recorded
+pub mod Sharing

@@ -5,8 +5,9 @@ ghost use Rattle.kpn_run_state.specs.Kept.{IsBook};
 ghost use Rattle.kpn_workers.specs.Causes.{is_out_of_memory, is_abandoned, ran_out, all_abandoned, cause_of};
 
 use crate::fault::RunFault;
+use crate::shared::{Opened, Shared, gather};
 use crate::threads::{Ended, work_side_by_side};
-use kpn_desk::{EndSeats, Gate, Job, Opened, Shared, SourceSeat, Why, WorkerSeat, gather};
+use kpn_desk::{EndSeats, Gate, Job, SourceSeat, Why, WorkerSeat};
 use kpn_limits::MAX_WORKERS;
 use kpn_net::Network;
 use kpn_run_here::Limits;
@@ -18,7 +19,7 @@ use std::sync::ledger::Blank;
 use std::thread::Threads;
 use std::time::Clock;
 
-/// The outside of a run while its workers step: the shared desk, on which the calls of `kpn_desk` work, and the seats
+/// The outside of a run while its workers step: the shared desk, on which the calls of the outside work, and the seats
 /// of the sinks, and of the sources that no feeder serves.
 #[derive(Drop)]
 pub struct Outside<'l, 'n, J: Job> {

@@ -1,4 +1,5 @@
-//! A run of a network by several workers at once, which promises the report of a run on one thread.
+//! A run of a network by several workers at once, which promises the report of a run on one thread; and its parts: the
+//! lock round a desk, what a worker does, and the calls of the outside, which wait for the lock.
 #![tactic(auto)]
 
 mod beside;
@@ -6,9 +7,19 @@ mod by_workers;
 mod ending;
 mod fault;
 mod fed;
+mod outside_calls;
+mod pace;
 mod serving;
+mod shared;
 mod threads;
+mod working;
 
 pub use beside::{Client, Feeder, Outside, Ran, Worked, run_beside};
 pub use by_workers::run;
 pub use fault::RunFault;
+pub use outside_calls::{
+    close, feed, feed_all, feed_when_room, leave, snapshot, take, take_each, take_when_due,
+    take_when_there,
+};
+pub use shared::{Look, Opened, Shared, gather};
+pub use working::work;

@@ -1,8 +1,8 @@
 //! What the calling thread does while the workers run: it feeds the sources and takes from the sinks.
 use crate::beside::{Client, Feeder, Outside};
-use kpn_desk::{
-    Job, Refused, Shared, SinkSeat, SourceSeat, close, feed_all, take_each, take_when_due,
-};
+use crate::outside_calls::{close, feed_all, take_each, take_when_due};
+use crate::shared::Shared;
+use kpn_desk::{Job, Refused, SinkSeat, SourceSeat};
 use kpn_lang::Sequence;
 use std::sync::Wait;
 use std::time::Clock;

@@ -2,7 +2,9 @@
 ghost use Rattle.std.specs.Prelude.{◌≡◌, ◌+◌, ◌<◌, ◌≤◌, IfOk, vec_len, vec_capacity};
 
 use crate::beside::{Client, Feeder, Outside};
-use kpn_desk::{EndSeats, Gate, Job, Shared, SourceSeat, WorkerSeat, work};
+use crate::shared::Shared;
+use crate::working::work;
+use kpn_desk::{EndSeats, Gate, Job, SourceSeat, WorkerSeat};
 use std::alloc::{AllocError, Global};
 use std::sync::Wait;
 use std::thread;

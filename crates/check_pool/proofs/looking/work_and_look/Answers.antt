@@ -1,6 +1,6 @@
 use denote.Param.Send.{sendable}
 use Rattle.std.proofs.Crossing.{crosses}
-use Rattle.kpn_desk.proofs.Sharing.{shared_sync, seat_send}
+use Rattle.kpn_workers.proofs.Sharing.{shared_sync, seat_send}
 use Rattle.commit_gates.proofs.always.Always.TheSendSync as gate
 use Rattle.check_pool.proofs.looking.work_and_look.Goals as goal
 

@@ -1,6 +1,6 @@
 use denote.Param.Send.{sendable}
 use Rattle.std.proofs.Crossing.{crosses}
-use Rattle.kpn_desk.proofs.Sharing.{shared_sync, seat_send}
+use Rattle.kpn_workers.proofs.Sharing.{shared_sync, seat_send}
 use Rattle.kpn_workers.proofs.threads.start.Goals as goal
 
 pub spawn-requires-send-F : goal.spawn-requires-send-F

@@ -3,7 +3,7 @@ use Rattle.std.proofs.Crossing.{crosses}
 use Rattle.std.specs.contracts.alloc.Global as heap
 use Rattle.std.specs.contracts.impls.GlobalAllocator.TheImpl.{ghosts}
 use Rattle.kpn_desk.specs.contracts.outside_seats.SourceSeat as SourceSeat
-use Rattle.kpn_desk.proofs.Sharing.{shared_sync}
+use Rattle.kpn_workers.proofs.Sharing.{shared_sync}
 use Rattle.kpn_workers.proofs.threads.start_feeder.Goals as goal
 
 source_send : IsSend (SourceSeat.the_field heap.the_row ghosts).row

@@ -1,7 +1,7 @@
 use Rattle.std.proofs.Common.{◌≡◌, ◌+◌, vec_len}
 use Rattle.std.specs.List.{sum_by}
 use Rattle.kpn_desk.specs.Seat.{Seat}
-use Rattle.kpn_desk.proofs.shared.gather.Given as goal
+use Rattle.kpn_desk.proofs.desk.Desk.into_book.Given as goal
 
 abbrev pub invariant-loop-seat : goal.invariant-loop-seat
 invariant-loop-seat g l =

@@ -35,7 +35,7 @@ use Rattle.kpn_schedule.specs.contracts.schedule.Schedule as Schedule
 use Rattle.kpn_run_state.specs.contracts.book.Book as Book
 use Rattle.kpn_desk.specs.contracts.desk.Desk as Desk
 use Rattle.kpn_desk.specs.contracts.seat.WorkerSeat as WorkerSeat
-use Rattle.kpn_desk.specs.contracts.shared.Shared as Shared
+use Rattle.kpn_workers.specs.contracts.shared.Shared as Shared
 use Rattle.kpn_desk.specs.declared.job.Job as job
 
 -- ---- a network, of which threads read

@@ -1,4 +1,4 @@
-use Rattle.kpn_desk.proofs.shared.Shared.lock_when.Given as goal
+use Rattle.kpn_workers.proofs.shared.Shared.lock_when.Given as goal
 
 abbrev pub invariant-loop : goal.invariant-loop
 invariant-loop g l =

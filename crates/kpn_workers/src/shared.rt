@@ -10,12 +10,10 @@ ghost use Rattle.kpn_desk.specs.Seat.{AreNewSeats};
 ghost use Rattle.kpn_desk.specs.Waiting.{IsMet};
 ghost use Rattle.std.specs.Sync.Mutex.{mutex_guard_value};
 
-use crate::crew::{Awaited, MOMENT, Need};
-use crate::desk::Desk;
-use crate::job::Job;
-use crate::opening::{EndSeats, end_seats};
-use crate::outside_seats::{SinkSeat, SourceSeat};
-use crate::seat::WorkerSeat;
+use kpn_desk::{
+    Awaited, Desk, EndSeats, Job, Need, Notices, SinkSeat, SourceSeat, WorkerSeat, Workers,
+    end_seats,
+};
 use kpn_limits::MAX_WORKERS;
 use kpn_net::Network;
 use kpn_run_state::{Book, View};
@@ -28,6 +26,9 @@ mod holds;
 
 // so many tries to take the lock take some microseconds
 const TRIES: u32 = 400;
+
+// For how many microseconds somebody looks on: some times as long as it takes to sleep and to be woken.
+const MOMENT: u64 = 20;
 
 /// A desk under its lock.
 #[derive(Drop)]
@@ -85,12 +86,7 @@ impl<'n, J: Job, A: Allocator + Copy> Shared<'n, J, A> {
             opened.sinks.items ≡ new_ends is_sink network.now) }
     {
         let EndSeats { sources, sinks } = end_seats(alloc, network)?;
-        let mut seats = Vec::with_capacity(alloc, workers)?;
-        let (total, mut shares) = blank.open::<J>();
-        for number in 0..workers {
-            seats.push(WorkerSeat::new(number, shares.split_off(1, 0)))?;
-        }
-        let desk = Desk::new(alloc, network, total, workers)?;
+        let (desk, workers) = Desk::with_seats(alloc, blank, network, workers)?;
         Ok(Opened {
             shared: Shared {
                 desk: Mutex::new(desk),
@@ -98,7 +94,7 @@ impl<'n, J: Job, A: Allocator + Copy> Shared<'n, J, A> {
                 called: Condvar::new(),
                 max_commits,
             },
-            workers: seats,
+            workers,
             sources,
             sinks,
         })
@@ -163,11 +159,7 @@ impl<'n, J: Job, A: Allocator> Shared<'n, J, A> {
                 return self.lock(rt);
             }
             if let Some(desk) = self.desk.try_lock() {
-                let is_due = match seats {
-                    Some(seats) => desk.are_due(seats),
-                    None => desk.has_work(self.max_commits),
-                };
-                if is_due {
+                if desk.has_work(seats, self.max_commits) {
                     return desk;
                 }
             }
@@ -183,8 +175,7 @@ impl<'n, J: Job, A: Allocator> Shared<'n, J, A> {
         seats: &[SinkSeat<B>],
     ) -> MutexGuard<'_, Desk<'n, J, A>> {
         let mut desk = self.lock_in_moment(rt, Some(seats));
-        if !desk.are_due(seats) {
-            let most = desk.crew.await_call();
+        if let Some(most) = desk.await_due(seats) {
             desk = self.called.wait_timeout(rt, desk, most).0;
         }
         desk
@@ -203,28 +194,31 @@ impl<'n, J: Job, A: Allocator> Shared<'n, J, A> {
     {
         let mut desk = self.lock(rt);
         for _ in rt.forever() {
-            let look = desk.awaited(need);
-            if let Some(awaited) = look {
-                return (desk, awaited);
+            match desk.await_need(need) {
+                Ok(awaited) => return (desk, awaited),
+                Err(most) => desk = self.called.wait_timeout(rt, desk, most).0,
             }
-            let most = desk.crew.await_need(need);
-            desk = self.called.wait_timeout(rt, desk, most).0;
         }
         unreachable!()
     }
 
-    /// Lets the desk go after a call of the outside. Notifies a worker if the call has made a process ready, and all if
-    /// the run is settled.
+    /// Lets the desk go after a call of the outside.
     pub(crate) fn tell<'l>(&'l self, desk: MutexGuard<'l, Desk<'n, J, A>>) {
         let mut desk = desk;
-        let ready = desk.ready();
-        let notifies = desk.crew.notify(ready, true);
-        let is_settled = desk.book.verdict().is_some();
+        let notices = desk.tell();
+        self.let_go(desk, notices);
+    }
+
+    /// Lets the desk go, and notifies once the lock is free.
+    fn let_go<'l>(&'l self, desk: MutexGuard<'l, Desk<'n, J, A>>, notices: Notices) {
         drop(desk);
-        if is_settled {
-            self.changed.notify_all();
-        } else if notifies {
-            self.changed.notify_one();
+        match notices.workers {
+            Workers::Nobody => {}
+            Workers::One => self.changed.notify_one(),
+            Workers::All => self.changed.notify_all(),
+        }
+        if notices.outside {
+            self.called.notify_all();
         }
     }
 }
@@ -239,14 +233,6 @@ pub fn gather<'n, J: Job, A: Allocator>(
     ensures book { IsBook result }
     ensures commits { result.commits ≡ sum_by (λ seat. seat.commits) workers.items }
 {
-    let mut workers = workers;
-    let Some(last) = workers.pop() else {
-        unreachable!()
-    };
-    let mut all = last.into_share();
-    while let Some(seat) = workers.pop() {
-        all.merge(seat.into_share());
-    }
     let Shared { desk, .. } = shared;
-    desk.into_inner().into_book(all)
+    desk.into_inner().into_book(workers)
 }

@@ -1,5 +1,5 @@
 use Rattle.std.proofs.Common.{◌≡◌}
-use Rattle.kpn_desk.proofs.shared.Shared.wait_for_work.Given as goal
+use Rattle.kpn_workers.proofs.shared.Shared.wait_for_work.Given as goal
 
 abbrev pub invariant-loop : goal.invariant-loop
 invariant-loop g l =

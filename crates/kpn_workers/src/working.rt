@@ -1,12 +1,9 @@
 //! What a worker does.
 ghost use Rattle.std.specs.Prelude.{◌≡◌, ◌<◌, ◌≤◌, IsSome};
 
-use crate::batch::Batch;
-use crate::crew::Pace;
-use crate::gate::Gate;
-use crate::job::Job;
-use crate::seat::WorkerSeat;
+use crate::pace::Pace;
 use crate::shared::Shared;
+use kpn_desk::{Batch, Gate, Job, WorkerSeat};
 use std::alloc::Allocator;
 use std::sync::Wait;
 use std::time::Clock;
@@ -20,7 +17,7 @@ use std::time::Clock;
 ///
 /// It returns only once there is such a reason. So a thread that calls this hangs if it also has to take from a sink:
 /// once the sink is full, the run waits for a take that does not come. Take on another thread, or call
-/// `run_beside` of `kpn_workers`, which gives each worker a thread of its own.
+/// `run_beside`, which gives each worker a thread of its own.
 pub fn work<'n, J: Job, A: Allocator + Copy, G: Gate, R: Wait + Clock>(
     rt: &R,
     shared: &Shared<'n, J, A>,

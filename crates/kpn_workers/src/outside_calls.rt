@@ -1,46 +1,22 @@
 //! The calls of the outside on a shared desk. Each waits for the lock, and only those that say so wait for more.
-ghost use Rattle.std.specs.Prelude.{◌≡◌, ◌≢◌, ◌<◌, ◌≤◌, ℤ, ◌++◌, length, take, IfOk, IfErr, OnErr, OnOk, IsTrue, true, Err};
+ghost use Rattle.std.specs.Prelude.{◌≡◌, ◌≢◌, ◌<◌, ◌≤◌, ℤ, ◌++◌, length, take, IfOk, IfErr, OnErr, OnOk, IsTrue, true, Some, Err};
 ghost use Rattle.kpn_lang.specs.Prefix.{IsPrefix};
 ghost use Rattle.kpn_net.specs.Tables.{channel_at, is_source, is_sink};
 ghost use Rattle.kpn_chan.specs.Channel.{unread};
 ghost use Rattle.kpn_configuration.specs.Configuration.{channel_in};
 ghost use Rattle.kpn_desk.specs.declared.crew.Awaited.TheVariants.{There};
-ghost use Rattle.kpn_desk.specs.declared.outside_calls.SnapFault.TheVariants.{NoMemory};
 ghost use Rattle.kpn_desk.specs.OutsideSeats.{with_item, with_taken, HaveTaken, TakesMore, FeedsUntil, MayRefuseFeed, MayRefuseEnd, MayRefuseTake, MayRefuseTakes, MayRefuseSnapshot, AreSinks};
 ghost use Rattle.kpn_run_state.specs.declared.answers.Refused.TheVariants.{Full};
-ghost use Rattle.kpn_desk.specs.Waiting.{IsFullSource};
 ghost use Rattle.std.specs.Sync.Mutex.{mutex_guard_value};
 ghost use Rattle.kpn_run_state.specs.Snapshot.{ShowsARun, shown_on, IsBelowKahn, IsKahnAtRest};
 
-use crate::crew::{Awaited, Need};
-use crate::desk::Desk;
-use crate::job::Job;
-use crate::outside_seats::{SinkSeat, SourceSeat, take_from_each};
 use crate::shared::Shared;
-use kpn_run_state::{Refused, View};
-use std::alloc::{AllocError, Allocator};
+use kpn_desk::{
+    Awaited, Desk, Job, Need, Refused, SinkSeat, SnapFault, SourceSeat, View, take_from_each,
+};
+use std::alloc::Allocator;
 use std::sync::{MutexGuard, Wait};
 use std::time::Clock;
-use thiserror::Error;
-
-/// Why a seat is given no snapshot, with its number.
-#[derive(Clone, Copy, Debug, PartialEq, Eq, Error)]
-pub enum SnapFault {
-    /// 47: there is no such source, or what the seat fed does not begin its journal: the seat is one of another run.
-    #[error("the seat is one of another run")]
-    Foreign,
-    /// 42: memory ran out.
-    #[error("memory ran out")]
-    NoMemory,
-}
-
-impl From<AllocError> for SnapFault {
-    ghost from_gives = { λ _ fault. fault ≡ NoMemory };
-
-    fn from(_error: AllocError) -> SnapFault {
-        SnapFault::NoMemory
-    }
-}
 
 /// Feeds an item to the source of the seat. It is refused as the book refuses it: with the seat of another network
 /// there may be no such source.
@@ -134,7 +110,8 @@ pub fn take_each<J: Job, A: Allocator, B: Allocator, R: Wait>(
     let mut desk = shared.lock(rt);
     let taken = take_from_each(&mut desk, seats);
     shared.tell(desk);
-    taken
+    taken?;
+    Ok(())
 }
 
 /// Waits until it is time to take from a sink, and does what `take_each` does. Returns whether the run goes on: not if
@@ -152,11 +129,9 @@ pub fn take_when_due<J: Job, A: Allocator, B: Allocator, R: Wait + Clock>(
     ensures refused { IfErr result (MayRefuseTakes J.network seats.old) }
 {
     let mut desk = shared.lock_when_due(rt, seats);
-    let goes_on = !desk.crew.has_ended();
-    let taken = take_from_each(&mut desk, seats);
+    let goes_on = take_from_each(&mut desk, seats);
     shared.tell(desk);
-    taken?;
-    Ok(goes_on)
+    goes_on
 }
 
 /// Waits until the sink of the seat has an item or all workers have ended, and then takes all that is unread there,
@@ -176,16 +151,10 @@ pub fn take_when_there<J: Job, A: Allocator, B: Allocator, R: Wait + Clock>(
     ensures refused { IfErr result (λ cause.
         MayRefuseTake (is_sink (channel_at J.network seat.old.channel)) cause) }
 {
-    let before = seat.taken().len();
     // a sink that was left refuses here, and does not keep its seat waiting
     let desk = shared.lock(rt);
-    let has_ended = desk.crew.has_ended();
-    take_from(shared, desk, seat)?;
-    if has_ended {
-        return Ok(Awaited::Ended);
-    }
-    if seat.taken().len() > before {
-        return Ok(Awaited::There);
+    if let Some(awaited) = take_from(shared, desk, seat)? {
+        return Ok(awaited);
     }
     let sink = seat.channel();
     let (desk, awaited) = shared.lock_when(rt, Need::Item { sink });
@@ -193,13 +162,16 @@ pub fn take_when_there<J: Job, A: Allocator, B: Allocator, R: Wait + Clock>(
     Ok(awaited)
 }
 
-/// Takes all that is unread at the sink of the seat, and lets the desk go.
+/// Takes all that is unread at the sink of the seat, and lets the desk go. Returns what a wait for an item has come to
+/// by that, or `None` if it goes on.
 fn take_from<'l, 'n, J: Job, A: Allocator, B: Allocator>(
     shared: &'l Shared<'n, J, A>,
     desk: MutexGuard<'l, Desk<'n, J, A>>,
     seat: &mut SinkSeat<B>,
-) -> Result<(), Refused>
+) -> Result<Option<Awaited>, Refused>
     ensures taken { TakesMore seat.old seat.new }
+    ensures there { IfOk result (λ found. (found ≡ Some There)
+        → length seat.old.items < length seat.new.items) }
     ensures all { OnOk result (seat.new.items ≡ seat.old.items
         ++ unread (channel_in (mutex_guard_value desk.entry).book.configuration seat.old.channel)) }
     ensures sink { OnOk result (is_sink (channel_at J.network seat.old.channel) ≡ true) }
@@ -207,9 +179,9 @@ fn take_from<'l, 'n, J: Job, A: Allocator, B: Allocator>(
         MayRefuseTake (is_sink (channel_at J.network seat.old.channel)) cause) }
 {
     let mut desk = desk;
-    let taken = seat.take_all(&mut desk);
+    let found = seat.take_there(&mut desk);
     shared.tell(desk);
-    taken
+    found
 }
 
 /// Waits until the source of the seat has room for an item under the bound or all workers have ended, and then feeds
@@ -236,41 +208,10 @@ pub fn feed_when_room<J: Job, A: Allocator + Copy, B: Allocator, R: Wait + Clock
     ensures never_full { (item : ℤ) → result ≢ Err (Full item) }
 {
     let source = seat.channel();
-    let (desk, _) = shared.lock_when(rt, Need::Room { source, bound });
-    feed_first(shared, desk, seat, items, bound)
-}
-
-/// Feeds the first ones of these items, as many as there is room for, and lets the desk go. Returns how many it fed: of
-/// some items none only if all workers have ended.
-fn feed_first<'l, 'n, J: Job, A: Allocator + Copy, B: Allocator>(
-    shared: &'l Shared<'n, J, A>,
-    desk: MutexGuard<'l, Desk<'n, J, A>>,
-    seat: &mut SourceSeat<B>,
-    items: &[i64],
-    bound: usize,
-) -> Result<usize, Refused>
-    requires room { IsFullSource seat.old.channel bound (mutex_guard_value desk).book
-        → (mutex_guard_value desk).working ≡ 0 }
-    ensures channel { seat.new.channel ≡ seat.old.channel }
-    ensures fed { IfOk result (λ count. (count ≤ length items.now)
-        × (seat.new.items ≡ seat.old.items ++ take count items.now)) }
-    ensures before { IsPrefix seat.old.items seat.new.items }
-    ensures none { IfOk result (λ count. (count ≡ 0) → 0 < length items.now
-        → (mutex_guard_value desk.entry).working ≡ 0) }
-    ensures source { OnOk result (0 < length items.now
-        → is_source (channel_at J.network seat.old.channel) ≡ true) }
-    ensures refused { IfErr result (λ cause. FeedsUntil items.now seat.old seat.new (λ item.
-        MayRefuseFeed (is_source (channel_at J.network seat.old.channel)) item cause)) }
-    ensures never_full { (item : ℤ) → result ≢ Err (Full item) }
-{
-    let mut desk = desk;
-    let before = seat.fed().len();
-    let fed = seat.feed_all(&mut desk, items, bound);
+    let (mut desk, _) = shared.lock_when(rt, Need::Room { source, bound });
+    let fed = seat.feed_first(&mut desk, items, bound);
     shared.tell(desk);
-    match fed {
-        Ok(()) | Err(Refused::Full(_)) => Ok(seat.fed().len() - before),
-        Err(refused) => Err(refused),
-    }
+    fed
 }
 
 /// Leaves the sink of the seat: nothing is taken from it any more, and it is never full. A second time it changes
@@ -308,10 +249,5 @@ pub fn snapshot<J: Job, A: Allocator, B: Allocator, C: Allocator + Copy, R: Wait
         (MayRefuseSnapshot (is_source (channel_at J.network seat.now.channel)) seat.now.items) }
 {
     let look = shared.look(rt);
-    let desk = look.desk();
-    let source = seat.channel();
-    if !desk.book.network().is_source(source) || !desk.book.journal_begins(source, seat.fed()) {
-        return Err(SnapFault::Foreign);
-    }
-    Ok(desk.snapshot(alloc)?)
+    seat.snapshot(alloc, look.desk())
 }

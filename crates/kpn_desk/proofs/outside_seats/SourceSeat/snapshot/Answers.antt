@@ -3,12 +3,12 @@ use Rattle.kpn_lang.specs.Prefix.{IsPrefix}
 use Rattle.kpn_net.specs.Tables.{channel_at, is_source}
 use Rattle.kpn_configuration.specs.Configuration.{channel_in}
 use Rattle.kpn_run_state.proofs.Snapshots.{begins_shown}
-use Rattle.kpn_desk.proofs.outside_calls.snapshot.Goals as goal
+use Rattle.kpn_desk.proofs.outside_seats.SourceSeat.snapshot.Goals as goal
 
 pub returns-clause-fresh : goal.returns-clause-fresh
 returns-clause-fresh g c =
-    let seat = c.args.seat.now in
-    let b = c.desk-desk.result.now.book in
+    let seat = c.args.self.now in
+    let b = c.args.desk.now.book in
     let same : c.desk.inside.book ≡ b = ap (λ d. d.book) c.desk.view_is in
     let source : is_source (channel_at b.tables seat.channel) ≡ true = search rules in
     let begins : IsPrefix seat.items (channel_in b.configuration seat.channel).journal = search rules in

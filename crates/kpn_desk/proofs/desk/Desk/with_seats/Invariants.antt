@@ -1,7 +1,7 @@
 use Rattle.std.proofs.Common.{◌≡◌, ◌<◌, ◌+◌, ℕ, length, Some}
 use Rattle.std.specs.Prelude.{slice_get}
 use Rattle.kpn_desk.specs.Seat.{new_seat}
-use Rattle.kpn_desk.proofs.shared.Shared.new.Given as goal
+use Rattle.kpn_desk.proofs.desk.Desk.with_seats.Given as goal
 
 abbrev pub invariant-loop-number : goal.invariant-loop-number
 invariant-loop-number g l =
