@@ -1,14 +1,18 @@
 #!/usr/bin/env python3
 """Lists the functions on which the first check of a crate by `tools/check.py CRATE --jobs 1` spent most of its time.
 
-usage: tools/slowest.py CRATE [N]
+usage: tools/slowest.py CRATE [N] [--goals]
 
 Such a check keeps a file for each part that it has proved, one after the other. So the time between two files is that
 of the second. The N functions with the longest times follow (20 without N), in seconds of the clock and as a part of the
 whole. For a second look at the whole crate, remove the folder that the last line names, and check again.
+
+With --goals it lists single goals and lemmas, in millions of steps of the prover: these do not depend on what else the
+machine does. An `S` marks those that `search` has answered. An answer by hand takes a hundredth of the steps.
 """
 import collections
 import itertools
+import json
 import re
 import sys
 
@@ -18,6 +22,23 @@ from check import KEPT
 NAME = re.compile(r'Rattle-\w+[-.](?:specs|proofs)\.(?:contracts\.|declared\.)?(.+)\.oantt')
 # What a part is called begins with a capital, but so do the names of types, which a function's name follows.
 PART = re.compile(r'\.(Answers|Code|Given|Goals|Invariants|Layout|Lts|Met|Mir|Proof|Reads|Statement|TheImpl|TheLink|Tie)\b.*')
+
+
+# Where a kept file begins to tell what declarations took.
+TOLD = re.compile(rb'\[\{"aux":')
+
+
+def goals_in(folder):
+    """The steps of each goal and lemma, with whether `search` has answered it."""
+    found = collections.Counter()
+    for file in folder.rglob('*.decls.oantt'):
+        named, text = NAME.fullmatch(file.name.replace('.decls', '')), file.read_bytes()
+        starts = [it.start() for it in TOLD.finditer(text)]
+        for start, end in zip(starts, [*starts[1:], len(text)]):
+            rows, _ = json.JSONDecoder().raw_decode(text[start:end].decode(errors='ignore'))
+            for row in rows:
+                found[row['name'], named[1] if named else file.name, bool(row['spent'])] += sum(row['phases'])
+    return found
 
 
 def times_in(folder):
@@ -30,17 +51,30 @@ def times_in(folder):
     return found
 
 
-def main():
-    if len(sys.argv) not in (2, 3):
-        sys.exit(__doc__)
-    folder = KEPT / sys.argv[1]
-    if not folder.is_dir():
-        sys.exit(f'there is no check of {sys.argv[1]} yet: call tools/check.py {sys.argv[1]} --jobs 1 first')
+def show_times(folder, n):
     found = times_in(folder)
     whole = found.total()
-    for name, seconds in found.most_common(int(sys.argv[2]) if len(sys.argv) == 3 else 20):
+    for name, seconds in found.most_common(n):
         print(f'{seconds:8.1f} {seconds / whole:6.1%}  {name}')
     print(f'{whole:8.1f} in all, from {folder}')
+
+
+def show_goals(folder, n):
+    found = goals_in(folder)
+    for (goal, module, searched), steps in found.most_common(n):
+        print(f'{steps / 1e6:8.2f} {"S" if searched else " "}  {goal}  {module}')
+    print(f'{found.total() / 1e6:8.1f} in all, from {folder}')
+
+
+def main():
+    words = [it for it in sys.argv[1:] if it != '--goals']
+    if len(words) not in (1, 2):
+        sys.exit(__doc__)
+    folder = KEPT / words[0]
+    if not folder.is_dir():
+        sys.exit(f'there is no check of {words[0]} yet: call tools/check.py {words[0]} --jobs 1 first')
+    show = show_goals if '--goals' in sys.argv else show_times
+    show(folder, int(words[1]) if len(words) == 2 else 20)
 
 
 if __name__ == '__main__':

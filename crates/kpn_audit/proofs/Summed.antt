@@ -4,7 +4,7 @@ use Rattle.std.specs.List.{range_with_len}
 use Rattle.std.proofs.lemmas.List.FromFn.{get_or-map-range_with_len, length-map-range_with_len}
 use Rattle.kpn_chan.specs.Channel.{ChannelState}
 use Rattle.kpn_net.specs.Tables.{Tables}
-use Rattle.kpn_net.specs.Faults.{IsNetwork, channel_numbers}
+use Rattle.kpn_net.specs.Faults.{IsNetwork}
 use Rattle.kpn_net.specs.Iteration.{IsLeast}
 use Rattle.kpn_history.specs.declared.event.Event.{Event}
 use Rattle.kpn_history.specs.Channels.{written_on, read_on, capacity_after, fed}
@@ -15,7 +15,7 @@ use Rattle.kpn_history.proofs.Kahn.{least_if_quiet}
 use Rattle.kpn_configuration.specs.Configuration.{Configuration, channel_in, wait_in, end_in}
 use Rattle.kpn_configuration.specs.Run.{IsEndOf, IsRun}
 use Rattle.kpn_configuration.proofs.Numbered.{by_number}
-use Rattle.kpn_audit.specs.Complete.{TellsComplete}
+use Rattle.kpn_audit.specs.Shown.{ShowsLists}
 use Rattle.kpn_audit.specs.declared.findings.Audit.{Audit}
 use Rattle.kpn_audit.specs.Audit.{IsAudit, AreLeast}
 
@@ -30,13 +30,8 @@ same_entries f g a (suc n) m fits same =
 -- the entries of a configuration are those of the history
 pub shown : {A : Type 0} (t : Tables) (H : List Event) (s : Configuration) → IsRun t H s → (audit : Audit A)
     → audit.journals ≡ map (λ (channel : ChannelState). channel.journal) s.channels
-    → audit.reads ≡ map (λ c. (channel_in s c).read) (channel_numbers t)
-    → audit.caps ≡ map (λ c. (channel_in s c).capacity) (channel_numbers t)
-    → TellsComplete t H audit.complete
-    → audit.waits ≡ map (wait_in s) (range_with_len 0 (length t.instances))
-    → audit.ends ≡ map (end_in s) (range_with_len 0 (length t.instances))
-    → ((audit.exact ≡ true) ↔ IsQuiet t H) → IsAudit t H audit
-shown t H s run audit journals reads caps complete waits ends exact =
+    → ShowsLists t H s audit → ((audit.exact ≡ true) ↔ IsQuiet t H) → IsAudit t H audit
+shown t H s run audit journals lists exact =
     record {
       legal = run.legal;
       journals =
@@ -45,21 +40,21 @@ shown t H s run audit journals reads caps complete waits ends exact =
           ∙ same_entries (λ c. (channel_in s c).journal) (written_on H) 0 (length t.channels)
           (length t.channels) (omega arith) (λ c below. (run.leads.channels c below).journal);
       reads =
-          reads ∙ same_entries (λ c. (channel_in s c).read) (λ c. length (read_on H c)) 0 (length t.channels)
+          lists.reads ∙ same_entries (λ c. (channel_in s c).read) (λ c. length (read_on H c)) 0 (length t.channels)
           (length t.channels) (omega arith) (λ c below. (run.leads.channels c below).read);
       caps =
-          caps ∙ same_entries (λ c. (channel_in s c).capacity) (capacity_after t H) 0 (length t.channels)
+          lists.caps ∙ same_entries (λ c. (channel_in s c).capacity) (capacity_after t H) 0 (length t.channels)
           (length t.channels) (omega arith) (λ c below. (run.leads.channels c below).capacity);
-      complete = complete;
+      complete = lists.complete;
       waits =
-          waits ∙ same_entries (wait_in s) (wait_of t H) 0 (length t.instances) (length t.instances) (omega arith)
+          lists.waits ∙ same_entries (wait_in s) (wait_of t H) 0 (length t.instances) (length t.instances) (omega arith)
           run.leads.waits;
       process_count =
-          ap (λ (xs : List (Option How)). length xs) ends
+          ap (λ (xs : List (Option How)). length xs) lists.ends
           ∙ length-map-range_with_len (end_in s) 0 (length t.instances);
       ends = λ p below.
           subst (IsEndOf H p)
-          (sym (ap (λ (xs : List (Option How)). slice_index_or xs p None) ends
+          (sym (ap (λ (xs : List (Option How)). slice_index_or xs p None) lists.ends
           ∙ get_or-map-range_with_len (end_in s) 0 (length t.instances) p p None below (omega arith)))
           (run.leads.ends p below);
       exact = exact;

@@ -4,3 +4,4 @@ pub mod Audit
 pub mod Judged
 pub mod Scene
 pub mod Complete
+pub mod Shown

@@ -1,11 +1,12 @@
 //! What stands after a history.
-ghost use Rattle.std.specs.Prelude.{◌≡◌, List, length, map, IfOk};
+ghost use Rattle.std.specs.Prelude.{◌≡◌, List, length, map, IfOk, OnOk};
 ghost use Rattle.std.specs.List.{range_with_len};
 ghost use Rattle.kpn_net.specs.Faults.{channel_numbers};
 ghost use Rattle.kpn_history.specs.declared.event.Event.{Event};
 ghost use Rattle.kpn_configuration.specs.Configuration.{channel_in, wait_in, end_in, IsConfiguration};
 ghost use Rattle.kpn_configuration.specs.Run.{IsRun};
 ghost use Rattle.kpn_audit.specs.Audit.{IsAudit};
+ghost use Rattle.kpn_audit.specs.Shown.{ShowsLists};
 
 use crate::complete::complete_channels;
 use crate::findings::Audit;
@@ -26,22 +27,39 @@ pub(crate) fn summary<A: Allocator + Copy>(
         → IfOk result (λ audit. IsAudit network.now H audit) }
 {
     network.known();
-    let reads = read_counts(alloc, network, &configuration)?;
-    let caps = capacities(alloc, network, &configuration)?;
-    let complete = complete_channels(alloc, network, &configuration)?;
-    let waits = waits(alloc, network, &configuration)?;
-    let ends = ends(alloc, network, &configuration)?;
-    let exact = configuration.is_quiet(network);
-    let journals = configuration.into_journals(alloc)?;
-    Ok(Audit {
-        journals,
-        reads,
-        caps,
-        complete,
-        waits,
-        ends,
-        exact,
-    })
+    let mut audit = Audit {
+        journals: Sequence::new(alloc),
+        reads: Sequence::new(alloc),
+        caps: Sequence::new(alloc),
+        complete: Sequence::new(alloc),
+        waits: Sequence::new(alloc),
+        ends: Sequence::new(alloc),
+        exact: false,
+    };
+    fill_in(alloc, network, &configuration, &mut audit)?;
+    audit.exact = configuration.is_quiet(network);
+    audit.journals = configuration.into_journals(alloc)?;
+    Ok(audit)
+}
+
+/// Puts all lists but the journals into an audit.
+// It owns nothing, so an error on its way drops nothing.
+fn fill_in<A: Allocator + Copy>(
+    alloc: A,
+    network: &Network,
+    configuration: &Configuration<A>,
+    audit: &mut Audit<A>,
+) -> Result<(), AllocError>
+    requires { IsConfiguration network.now configuration.now }
+    ensures { (H : List Event) → IsRun network.now H configuration.now
+        → OnOk result (ShowsLists network.now H configuration.now audit.new) }
+{
+    audit.reads = read_counts(alloc, network, configuration)?;
+    audit.caps = capacities(alloc, network, configuration)?;
+    audit.complete = complete_channels(alloc, network, configuration)?;
+    audit.waits = waits(alloc, network, configuration)?;
+    audit.ends = ends(alloc, network, configuration)?;
+    Ok(())
 }
 
 /// How many items were read from each channel.

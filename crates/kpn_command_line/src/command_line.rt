@@ -1,7 +1,8 @@
 //! The description of the command line for `clap`, and what help says of it.
 ghost use Rattle.std.specs.Prelude.{IfOk};
+ghost use Rattle.clap.specs.Walk.{Rule};
 ghost use Rattle.clap.specs.Words.{App, new_app};
-ghost use Rattle.clap.specs.Simple.{with_subcommand};
+ghost use Rattle.clap.specs.Simple.{with_rule, with_subcommand};
 ghost use Rattle.kpn_command_line.specs.CommandLine.{IsArg, IsCommand, command_line};
 ghost use Rattle.kpn_command_line.specs.CommandLine.{optional_word, word, option, count, alone_words, check_words};
 ghost use Rattle.kpn_command_line.specs.CommandLine.{explain_words, print_words, draw_words, rounds_words, run_words};
@@ -61,30 +62,46 @@ pub(crate) const ACROSS: &str = "ACROSS";
 pub(crate) fn program<'a>(alloc: Global) -> Result<Command<'a>, AllocError>
     ensures { IfOk result (IsCommand command_line) }
 {
-    let program = with(bare_program(alloc), alone_words(alloc))?;
-    let program = with(program, check_words(alloc))?;
-    let program = with(program, explain_words(alloc))?;
-    let program = with(program, print_words(alloc))?;
-    let program = with(program, draw_words(alloc))?;
-    let program = with(program, rounds_words(alloc))?;
-    let program = with(program, run_words(alloc))?;
-    let program = with(program, stream_words(alloc))?;
-    let program = with(program, audit_words(alloc))?;
-    let program = with(program, stats_words(alloc))?;
+    let program = with(Ok(bare_program(alloc)), alone_words(alloc));
+    let program = with(program, check_words(alloc));
+    let program = with(program, explain_words(alloc));
+    let program = with(program, print_words(alloc));
+    let program = with(program, draw_words(alloc));
+    let program = with(program, rounds_words(alloc));
+    let program = with(program, run_words(alloc));
+    let program = with(program, stream_words(alloc));
+    let program = with(program, audit_words(alloc));
+    let program = with(program, stats_words(alloc));
     with(program, timeline_words(alloc))
 }
 
-// The program with one more command, unless there was no memory for the words of that.
+// The program with one more command, unless there was no memory for one of them.
+// The two are results, so that a chain of calls takes no program apart.
 fn with<'a>(
-    program: Command<'a>,
+    program: Result<Command<'a>, AllocError>,
     words: Result<Command<'a>, AllocError>,
 ) -> Result<Command<'a>, AllocError>
-    ensures { (before command : App) → IsCommand before program.entry
+    ensures { (before command : App) → IfOk program.entry (IsCommand before)
         → IfOk words.entry (IsCommand command)
         → IfOk result (IsCommand (with_subcommand before command.top)) }
 {
+    let program = program?;
     match words {
         Ok(words) => program.subcommand(words),
+        Err(error) => Err(error),
+    }
+}
+
+// The command with one more word, unless there was no memory for one of them.
+fn and<'a>(
+    command: Result<Command<'a>, AllocError>,
+    word: Arg<'a>,
+) -> Result<Command<'a>, AllocError>
+    ensures { (before : App) (rule : Rule) → IfOk command.entry (IsCommand before)
+        → IsArg rule word.entry → IfOk result (IsCommand (with_rule before rule)) }
+{
+    match command {
+        Ok(command) => command.arg(word),
         Err(error) => Err(error),
     }
 }
@@ -180,11 +197,10 @@ fn explain_words<'a>(alloc: Global) -> Result<Command<'a>, AllocError>
         "The file of the description, or of items with --items",
     );
     let trace = "The file of a trace; without it only the description is explained";
-    command(alloc, "explain", about, EXPLAIN_HELP)
-        .arg(file)?
-        .arg(optional_word(alloc, TRACE, trace))?
-        .arg(items_word(alloc))?
-        .arg(steps_word(alloc))
+    let words = command(alloc, "explain", about, EXPLAIN_HELP).arg(file);
+    let words = and(words, optional_word(alloc, TRACE, trace));
+    let words = and(words, items_word(alloc));
+    and(words, steps_word(alloc))
 }
 
 const PRINT_HELP: &str = "\
@@ -223,10 +239,9 @@ fn draw_words<'a>(alloc: Global) -> Result<Command<'a>, AllocError>
 {
     let about = "Draws a network, alone or after the run of a trace";
     let trace = "The file of a trace; without it the network is drawn before any run";
-    command(alloc, "draw", about, DRAW_HELP)
-        .arg(file_word(alloc))?
-        .arg(optional_word(alloc, TRACE, trace))?
-        .arg(across_word(alloc))
+    let words = command(alloc, "draw", about, DRAW_HELP).arg(file_word(alloc));
+    let words = and(words, optional_word(alloc, TRACE, trace));
+    and(words, across_word(alloc))
 }
 
 // What help says of `--source`, if sources have files.
@@ -250,10 +265,9 @@ fn rounds_words<'a>(alloc: Global) -> Result<Command<'a>, AllocError>
     ensures { IfOk result (IsCommand rounds_words) }
 {
     let about = "Computes the lists of all channels by Kahn's iteration";
-    command(alloc, "rounds", about, ROUNDS_HELP)
-        .arg(file_word(alloc))?
-        .arg(rounds_word(alloc))?
-        .arg(source_word(alloc, "NAME=FILE", SOURCE_HELP))
+    let words = command(alloc, "rounds", about, ROUNDS_HELP).arg(file_word(alloc));
+    let words = and(words, rounds_word(alloc));
+    and(words, source_word(alloc, "NAME=FILE", SOURCE_HELP))
 }
 
 const RUN_HELP: &str = "\
@@ -295,10 +309,12 @@ fn run_words<'a>(alloc: Global) -> Result<Command<'a>, AllocError>
     let commits = "Stops after N commits: 1 to 1000000000, and 10000000 without it";
     let trace =
         "Stores all events of the run in the file OUT, which is no input of it, before the report is written";
-    run_inputs(alloc)?
-        .arg(count(alloc, TAKE, "take", "K", take))?
-        .arg(count(alloc, MAX_COMMITS, "max-commits", "N", commits))?
-        .arg(option(alloc, TRACE, "trace", "OUT", trace))
+    let words = and(run_inputs(alloc), count(alloc, TAKE, "take", "K", take));
+    let words = and(
+        words,
+        count(alloc, MAX_COMMITS, "max-commits", "N", commits),
+    );
+    and(words, option(alloc, TRACE, "trace", "OUT", trace))
 }
 
 // The words of `kpn run` for the network, its sources and sinks, and its workers.
@@ -308,11 +324,10 @@ fn run_inputs<'a>(alloc: Global) -> Result<Command<'a>, AllocError>
     let about = "Runs a network, and writes what it has come to";
     let sink =
         "Stores what a sink received in the file OUT, which is no input, before the report is written; may be repeated";
-    command(alloc, "run", about, RUN_HELP)
-        .arg(file_word(alloc))?
-        .arg(source_word(alloc, "NAME=FILE", SOURCE_HELP))?
-        .arg(sink_word(alloc, sink))?
-        .arg(workers_word(alloc))
+    let words = command(alloc, "run", about, RUN_HELP).arg(file_word(alloc));
+    let words = and(words, source_word(alloc, "NAME=FILE", SOURCE_HELP));
+    let words = and(words, sink_word(alloc, sink));
+    and(words, workers_word(alloc))
 }
 
 const STREAM_HELP: &str = "\
@@ -347,11 +362,13 @@ fn stream_words<'a>(alloc: Global) -> Result<Command<'a>, AllocError>
     let trace =
         "Stores all events in the file OUT at the end; it is no input and no output of the stream";
     let quiet = "Says nothing of the end on standard error, but for what is wrong";
-    stream_ends(alloc)?
-        .arg(count(alloc, TAKE, "take", "K", take))?
-        .arg(count(alloc, MAX_COMMITS, "max-commits", "N", commits))?
-        .arg(option(alloc, TRACE, "trace", "OUT", trace))?
-        .arg(flag(alloc, QUIET, "quiet", quiet))
+    let words = and(stream_ends(alloc), count(alloc, TAKE, "take", "K", take));
+    let words = and(
+        words,
+        count(alloc, MAX_COMMITS, "max-commits", "N", commits),
+    );
+    let words = and(words, option(alloc, TRACE, "trace", "OUT", trace));
+    and(words, flag(alloc, QUIET, "quiet", quiet))
 }
 
 // The words of `kpn stream` for the network, its sources and sinks, and how the items are written.
@@ -363,11 +380,10 @@ fn stream_ends<'a>(alloc: Global) -> Result<Command<'a>, AllocError>
         "Reads the items of a source from IN, or from standard input for `-`; may be repeated";
     let sink = "Writes the items of a sink to OUT, or to standard output for `-`; may be repeated";
     let format = "How all items are written: lines, s16le, s32le or s64le; lines without it";
-    command(alloc, "stream", about, STREAM_HELP)
-        .arg(file_word(alloc))?
-        .arg(source_word(alloc, "NAME=IN", source))?
-        .arg(sink_word(alloc, sink))?
-        .arg(option(alloc, FORMAT, "format", "FORMAT", format))
+    let words = command(alloc, "stream", about, STREAM_HELP).arg(file_word(alloc));
+    let words = and(words, source_word(alloc, "NAME=IN", source));
+    let words = and(words, sink_word(alloc, sink));
+    and(words, option(alloc, FORMAT, "format", "FORMAT", format))
 }
 
 const AUDIT_HELP: &str = "\
@@ -384,10 +400,9 @@ fn audit_words<'a>(alloc: Global) -> Result<Command<'a>, AllocError>
     ensures { IfOk result (IsCommand audit_words) }
 {
     let about = "Checks a trace against the network of a description";
-    command(alloc, "audit", about, AUDIT_HELP)
-        .arg(file_word(alloc))?
-        .arg(trace_word(alloc))?
-        .arg(steps_word(alloc))
+    let words = command(alloc, "audit", about, AUDIT_HELP).arg(file_word(alloc));
+    let words = and(words, trace_word(alloc));
+    and(words, steps_word(alloc))
 }
 
 const STATS_HELP: &str = "\
@@ -415,11 +430,10 @@ fn stats_words<'a>(alloc: Global) -> Result<Command<'a>, AllocError>
 {
     let about = "Counts what a run did on each channel and in each process, from its trace";
     let table = "Writes one table for other programs: channels or processes";
-    command(alloc, "stats", about, STATS_HELP)
-        .arg(file_word(alloc))?
-        .arg(trace_word(alloc))?
-        .arg(steps_word(alloc))?
-        .arg(option(alloc, TABLE, "tsv", "TABLE", table))
+    let words = command(alloc, "stats", about, STATS_HELP).arg(file_word(alloc));
+    let words = and(words, trace_word(alloc));
+    let words = and(words, steps_word(alloc));
+    and(words, option(alloc, TABLE, "tsv", "TABLE", table))
 }
 
 const TIMELINE_HELP: &str = "\
@@ -441,10 +455,9 @@ number; 6 for want of memory.";
 fn timeline_words<'a>(alloc: Global) -> Result<Command<'a>, AllocError>
     ensures { IfOk result (IsCommand timeline_words) }
 {
-    timeline_inputs(alloc)?
-        .arg(svg_word(alloc))?
-        .arg(from_word(alloc))?
-        .arg(to_word(alloc))
+    let words = and(timeline_inputs(alloc), svg_word(alloc));
+    let words = and(words, from_word(alloc));
+    and(words, to_word(alloc))
 }
 
 // The words of `kpn timeline` for the network and its trace.
@@ -452,10 +465,9 @@ fn timeline_inputs<'a>(alloc: Global) -> Result<Command<'a>, AllocError>
     ensures { IfOk result (IsCommand timeline_inputs) }
 {
     let about = "Shows when the gets and puts of a run take place, from its trace";
-    command(alloc, "timeline", about, TIMELINE_HELP)
-        .arg(file_word(alloc))?
-        .arg(trace_word(alloc))?
-        .arg(steps_word(alloc))
+    let words = command(alloc, "timeline", about, TIMELINE_HELP).arg(file_word(alloc));
+    let words = and(words, trace_word(alloc));
+    and(words, steps_word(alloc))
 }
 
 // The word for the number of rounds.

@@ -6,7 +6,8 @@ use Rattle.kpn_net.specs.Tables.{Tables, instance_at, program_of, channel_at, is
 use Rattle.kpn_step.specs.Frame.{Frame}
 use Rattle.kpn_step.specs.declared.stop.Stop.{Stop}
 use Rattle.kpn_step.specs.declared.stop.Stop.TheVariants as stop
-use Rattle.kpn_step.specs.Stops.{Advanced, IsAdvance, IsAtPort, IsWithinQuota}
+use Rattle.kpn_lang.specs.Parts.{Parts}
+use Rattle.kpn_step.specs.Stops.{Advanced, IsAdvance, IsAtPort, IsWithinQuota, advanced_of}
 use Rattle.kpn_history.specs.declared.event.Event.{Event}
 use Rattle.kpn_history.specs.declared.state.State.TheVariants.{Ready, Held}
 use Rattle.kpn_history.specs.Talks.{is_of_process, process_events}
@@ -25,6 +26,7 @@ use Rattle.kpn_run_state.specs.Book.{Book, IsHeld, held_count, standing_at, put_
 use Rattle.kpn_run_state.specs.Commits.{IsWriteTo, HandlesStop, IsOwnAdvance, Commits}
 use Rattle.kpn_run_state.specs.Kept.{IsStateBy, IsKept}
 use Rattle.kpn_run_state.specs.Open.{Follows, GrowsAtStop, of_process, claims_by, reserves_by, IsReserved, is_but_reserved, reserved_on}
+use Rattle.kpn_configuration.specs.Due.{Stands, ReadsFrom, WritesTo}
 use Rattle.kpn_run_state.proofs.Counting.{held_in, held_more}
 use Rattle.kpn_run_state.specs.Stepping.{ClaimsAndSteps, StepsNext, StepsInVain}
 use Rattle.kpn_run_state.proofs.Appended.{claimed_is_held}
@@ -388,3 +390,23 @@ reserves_item p s port v c b H o room (Err _) is at below two same after = (
   λ paused. no_pause s port v is paused,
   ap (λ z. recorded b z o b.schedule) same ∙ ap (λ z. recorded b b.history z b.schedule) after,
 )
+
+-- ---- a process at its stop
+
+pub reads_from : (t : Tables) (s : Configuration) (p c port : ℕ) (z : Stop) → z ≡ stop.WantRead port
+    → IsChannelAt (instance_at t p).ins port c → Stands t s p z → ReadsFrom t s p c
+reads_from t s p c port z is channel stands =
+    record { port = port; channel = channel; stands = subst (λ x. Stands t s p x) is stands }
+
+pub writes_to : (t : Tables) (s : Configuration) (p c port : ℕ) (v w : ℤ) (z : Stop) → z ≡ stop.WantWrite port v
+    → w ≡ v → IsChannelAt (instance_at t p).outs port c → Stands t s p z → WritesTo t s p c w
+writes_to t s p c port v w z is same channel stands = record {
+  port = port;
+  channel = channel;
+  stands = subst (λ x. Stands t s p x) (is ∙ ap (stop.WantWrite port) (sym same)) stands;
+}
+
+-- these steps, part by part
+pub advance_is : (a : Advanced) (program : Parts) (from to : Frame) (steps : ℕ) (z : Stop) → program ≡ a.program
+    → from ≡ a.from → to ≡ a.to → steps ≡ a.steps → z ≡ a.stop → advanced_of program from to steps z ≡ a
+advance_is a program from to steps z is begins ends made stops = rw (is, begins, ends, made, stops) refl

@@ -30,8 +30,19 @@ fed b o a c v bound source not_closed below there is follows = record {
       (subst (λ x. Appends (event.Feed c v) x a) is follows.appends);
 }
 
+-- a channel of the network is one of the configuration, and has a mark there
+module _ (b : Book) (kept : IsKept b) (c : ℕ) (there : c < length b.tables.channels) where
+  pub in_channels : c < length b.configuration.channels
+  in_channels = subst (λ n. c < n) (sym kept.in_step.run.shape.channels) there
+
+  pub in_closed : c < length b.configuration.closed
+  in_closed = subst (λ n. c < n) (sym kept.in_step.run.shape.closed) there
+
 -- a book with room for more events is the same book
 module _ (b : Book) (H : List Event) (same : H ≡ b.history) where
+  pub kept_with_memory : IsKept b → IsKept (recorded b H b.configuration b.schedule)
+  kept_with_memory kept = subst (λ x. IsKept (recorded b x b.configuration b.schedule)) (sym same) kept
+
   pub sound_reserved : IsKept b → IsSound (recorded b H b.configuration b.schedule)
   sound_reserved kept =
       subst (λ x. IsSound (recorded b x b.configuration b.schedule)) (sym same)

@@ -1,8 +1,10 @@
 -- What holds of the events under their rules holds of the trace.
-use Rattle.std.proofs.Common.{length, Result, Ok, Err, IfOk, IfErr, refl}
+use Rattle.std.proofs.Common.{◌≡◌, ◌⊎◌, ℕ, length, true, Result, Ok, Err, IfOk, IfErr, refl}
 use Rattle.std.proofs.lemmas.Result.{IfErr-weaker}
 use Rattle.kpn_history.specs.declared.stored.Version.TheVariants.{One, Two}
-use Rattle.kpn_audit.specs.Audit.{AreWithinSteps, IsFault}
+use Rattle.kpn_history.specs.Legal.{Legal}
+use Rattle.kpn_audit.specs.declared.findings.AuditFault.TheVariants.{NoMemory, Budget}
+use Rattle.kpn_audit.specs.Audit.{IsAudit, AreLeast, AreWithinSteps, IsFault}
 use Rattle.kpn_audit.proofs.Telling.{of_trace, one_agrees, plain_tables, refuses_trace}
 use Rattle.kpn_audit.proofs.auditor.audit.Goals as goal
 
@@ -77,3 +79,44 @@ returns-in_ok-plain-in-One-clause-refused g c =
     c.in_ok-plain-in-One.ensures c.as_slice-events.result.now c.as_slice-events.ensures
     (λ u H. IfErr r (IsFault u H c.args.quota))
     c.audit_events-in-One.ensures.refused)
+
+pub returns-then-has_rules-clause-legal : goal.returns-then-has_rules-clause-legal
+returns-then-has_rules-clause-legal g c =
+    let t = c.args.network.now in
+    let same = c.has_rules-in-One.ensures.0 c.if-has_rules.true in
+    of_trace t c.args.trace.now One c.in-One.is t (plain_tables t same.0 same.1) c.as_slice-events.result.now
+    c.as_slice-events.ensures (λ u H. IfOk c.audit_events-then-has_rules.result (λ audit. IsAudit u H audit))
+    c.audit_events-then-has_rules.ensures.legal
+
+pub returns-then-has_rules-clause-least : goal.returns-then-has_rules-clause-least
+returns-then-has_rules-clause-least g c =
+    let t = c.args.network.now in
+    let same = c.has_rules-in-One.ensures.0 c.if-has_rules.true in
+    of_trace t c.args.trace.now One c.in-One.is t (plain_tables t same.0 same.1) c.as_slice-events.result.now
+    c.as_slice-events.ensures
+    (λ u H. IfOk c.audit_events-then-has_rules.result (λ audit. audit.exact ≡ true → AreLeast u H audit))
+    c.audit_events-then-has_rules.ensures.least
+
+pub returns-then-has_rules-clause-accepted : goal.returns-then-has_rules-clause-accepted
+returns-then-has_rules-clause-accepted g c agrees =
+    let t = c.args.network.now in
+    let same = c.has_rules-in-One.ensures.0 c.if-has_rules.true in
+    of_trace t c.args.trace.now One c.in-One.is t (plain_tables t same.0 same.1) c.as_slice-events.result.now
+    c.as_slice-events.ensures
+    (λ u H. Legal u H → IfErr c.audit_events-then-has_rules.result
+    (λ fault. (fault ≡ NoMemory) ⊎ ((k : ℕ) × (fault ≡ Budget k))))
+    c.audit_events-then-has_rules.ensures.accepted
+
+pub returns-else-not-has_rules-clause-least : goal.returns-else-not-has_rules-clause-least
+returns-else-not-has_rules-clause-least g c =
+    of_trace c.args.network.now c.args.trace.now Two c.in-Two.is c.args.network.now refl
+    c.as_slice-events.result.now c.as_slice-events.ensures
+    (λ u H. IfOk c.audit_events.result (λ audit. audit.exact ≡ true → AreLeast u H audit))
+    c.audit_events.ensures.least
+
+pub returns-in_ok-plain-in-One-clause-least : goal.returns-in_ok-plain-in-One-clause-least
+returns-in_ok-plain-in-One-clause-least g c =
+    of_trace c.args.network.now c.args.trace.now One c.in-One.is c.in_ok-plain-in-One.plain
+    c.in_ok-plain-in-One.ensures c.as_slice-events.result.now c.as_slice-events.ensures
+    (λ u H. IfOk c.audit_events-in-One.result (λ audit. audit.exact ≡ true → AreLeast u H audit))
+    c.audit_events-in-One.ensures.least

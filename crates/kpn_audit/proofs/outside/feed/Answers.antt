@@ -29,3 +29,6 @@ returns-clause-judged g c H run owes =
     (goes_outside t c.args.configuration.now c.feed.new.self (Feed c.args.c c.args.item) refl
     (frames_from t (Feed c.args.c c.args.item) c.args.configuration.now c.reserve_one.new.self c.feed.new.self kept
     c.feed.ensures.changes.frames))
+
+pub feed-requires-clause-shape : goal.feed-requires-clause-shape
+feed-requires-clause-shape g c = c.reserve_one.ensures.shape c.args.network.now c.requires.shape

@@ -42,3 +42,6 @@ returns-clause-judged g c H run owes =
     (frames_from t e s c.reserve_one.new.self c.put.new.self kept
     (subst (λ v. FramesAfter t (Put c.args.p c.args.c v) c.reserve_one.new.self c.put.new.self)
     (to_z-of_z w64 c.args.item c.ranges.item) c.put.ensures.changes.frames)))
+
+pub put-requires-clause-shape : goal.put-requires-clause-shape
+put-requires-clause-shape g c = c.reserve_one.ensures.shape c.args.network.now c.requires.shape

@@ -31,3 +31,6 @@ returns-clause-judged g c H run owes =
     c.after_wait.ensures H e s refl (c.wait_on_full.ensures.run H (c.reserve_one.ensures.run t H run) owes)
     (goes_made t s c.wait_on_full.new.self c.args.p c.args.stop c.requires.stopped e (eq-eqb c.args.p c.args.p refl)
     (frames_from t e s c.reserve_one.new.self c.wait_on_full.new.self kept c.wait_on_full.ensures.changes.frames))
+
+pub wait_on_full-requires-clause-shape : goal.wait_on_full-requires-clause-shape
+wait_on_full-requires-clause-shape g c = c.reserve_one.ensures.shape c.args.network.now c.requires.shape

@@ -3,16 +3,14 @@ use Rattle.kpn_audit.proofs.summary.summary.Goals as goal
 
 pub returns : goal.returns
 returns g c H run =
+    let lists = c.in_ok-fill_in.ensures H run in
     shown c.args.network.now H c.args.configuration run
+    (record c.fill_in.new.audit { journals = c.in_ok-audit.field-0; exact = c.is_quiet.result })
+    c.in_ok-audit.ensures
     (record {
-      journals = c.in_ok-journals.journals;
-      reads = c.in_ok-reads.reads;
-      caps = c.in_ok-caps.caps;
-      complete = c.in_ok-complete.complete;
-      waits = c.in_ok-waits.waits;
-      ends = c.in_ok-ends.ends;
-      exact = c.is_quiet-exact.result;
-    })
-    c.in_ok-journals.ensures c.in_ok-reads.ensures c.in_ok-caps.ensures
-    (c.in_ok-complete.ensures H run) c.in_ok-waits.ensures c.in_ok-ends.ensures
-    (c.is_quiet-exact.ensures.history H run)
+      reads = lists.reads;
+      caps = lists.caps;
+      complete = lists.complete;
+      waits = lists.waits;
+      ends = lists.ends;
+    }) (c.is_quiet.ensures.history H run)

@@ -1,7 +1,10 @@
-use Rattle.std.proofs.Common.{sym, ◌∙◌, subst}
+use Rattle.std.proofs.Common.{sym, ◌∙◌, subst, ◌≡◌, map, arith}
 use Rattle.kpn_history.specs.Views.{AreCounts}
 use Rattle.kpn_configuration.specs.Configuration.{channel_in}
 use Rattle.kpn_configuration.proofs.Numbered.{one_more}
+use Rattle.std.specs.List.{range_with_len}
+use Rattle.kpn_run_state.proofs.view.view_without_journals.Goals.{After-channels}
+use Rattle.kpn_run_state.proofs.view.view_without_journals.Given as given
 use Rattle.kpn_run_state.proofs.view.view_without_journals.Goals as goal
 
 pub channels-preserved : goal.channels-preserved
@@ -17,3 +20,32 @@ channels-preserved g c =
       states = added.states ∙ so_far.states;
       counts = subst (AreCounts c.args.schedule.now.states) (sym added.counts) so_far.counts;
     }
+
+-- the loop has gone through all channels
+all_seen : (g : given.Over) (c : After-channels g) → c.channels.c ≡ c.args.channels
+all_seen g c =
+    let low = c.channels-test.false in
+    let high = c.channels.auto.c-end in
+    omega (arith, low, high)
+
+pub returns-clause-read : goal.returns-clause-read
+returns-clause-read g c =
+    let s = c.args.configuration.now in
+    subst (λ n. c.channels.view.read ≡ map (λ d. (channel_in s d).read) (range_with_len 0 n)) (all_seen g c)
+    c.channels.invariant.read
+
+pub returns-clause-caps : goal.returns-clause-caps
+returns-clause-caps g c =
+    let s = c.args.configuration.now in
+    subst (λ n. c.channels.view.caps ≡ map (λ d. (channel_in s d).capacity) (range_with_len 0 n)) (all_seen g c)
+    c.channels.invariant.caps
+
+pub returns-clause-retired : goal.returns-clause-retired
+returns-clause-retired g c =
+    let s = c.args.configuration.now in
+    subst (λ n. c.channels.view.retired ≡ map (λ d. (channel_in s d).is_retired) (range_with_len 0 n)) (all_seen g c)
+    c.channels.invariant.retired
+
+pub returns-clause-counts : goal.returns-clause-counts
+returns-clause-counts g c =
+    subst (λ xs. AreCounts xs c.channels.view.counts) (sym c.channels.invariant.states) c.channels.invariant.counts

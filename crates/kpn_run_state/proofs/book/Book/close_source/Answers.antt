@@ -1,4 +1,4 @@
-use Rattle.std.proofs.Common.{◌≡◌, true, false, refl, subst, rules}
+use Rattle.std.proofs.Common.{◌≡◌, true, false, refl, subst, rules, sym}
 use Rattle.kpn_net.specs.Tables.{channel_at, is_source}
 use Rattle.kpn_history.specs.declared.event.Event.TheVariants as event
 use Rattle.kpn_configuration.specs.Configuration.{closed_in}
@@ -6,8 +6,8 @@ use Rattle.kpn_run_state.specs.Refusals.{Closes}
 use Rattle.kpn_run_state.specs.Open.{book_of}
 use Rattle.kpn_run_state.proofs.Following.{recorded}
 use Rattle.kpn_run_state.proofs.Answering.{no_cycle_then, happens}
-use Rattle.kpn_run_state.proofs.Committing.{kept_grown}
-use Rattle.kpn_run_state.proofs.Outside.{sound_reserved, follows_reserved, closed}
+use Rattle.kpn_run_state.proofs.Committing.{kept_grown, source_there}
+use Rattle.kpn_run_state.proofs.Outside.{sound_reserved, follows_reserved, closed, in_closed, kept_with_memory}
 use Rattle.kpn_run_state.proofs.book.Book.close_source.Goals as goal
 
 pub close-requires-clause-sound : goal.close-requires-clause-sound
@@ -41,3 +41,13 @@ returns-clause-done g c =
     (follows_reserved b c.reserve.new.self.events c.in_ok-reserve.ensures.events (event.Close c.args.source)
     (book_of c.close.new.self)
     c.close.ensures.follows) c.grow_at_stop-grown.ensures.grows))
+
+pub is_closed-requires : goal.is_closed-requires
+is_closed-requires g c =
+    let b = book_of c.self.inside.parts in
+    in_closed b c.self.invariant c.args.source
+    (source_there b.tables c.args.source (sym c.if-not-is_source.ensures))
+
+pub invariant_of-self : goal.invariant_of-self
+invariant_of-self g c =
+    kept_with_memory (book_of c.self.inside.parts) c.reserve.new.self.events c.reserve.ensures.events c.self.invariant

@@ -11,7 +11,7 @@ use Rattle.kpn_run_state.specs.Kept.{IsKept}
 use Rattle.kpn_run_state.specs.Open.{book_of}
 use Rattle.kpn_run_state.proofs.Following.{recorded}
 use Rattle.kpn_run_state.proofs.Answering.{IsAtStop, is_counted}
-use Rattle.kpn_run_state.proofs.Committing.{own_reserved, port_reserved, goes_to_stop}
+use Rattle.kpn_run_state.proofs.Committing.{own_reserved, port_reserved, goes_to_stop, kept_reserved}
 use Rattle.kpn_run_state.proofs.book.Book.commit_own.Given as given
 use Rattle.kpn_run_state.proofs.book.Book.commit_own.Goals as goal
 use Rattle.kpn_run_state.proofs.book.Book.commit_own.Goals.{After-step_to}
@@ -98,3 +98,8 @@ invariant_of-self-2 g c =
 pub returns-clause-done : goal.returns-clause-done
 returns-clause-done g c =
     (is_counted _ _ _ _ _ _ (at_stop g (goal.at.returns-clause-done g c).After-step_to) c.handle_stop-done.ensures).is
+
+pub step_to-requires-clause-shape : goal.step_to-requires-clause-shape
+step_to-requires-clause-shape g c =
+    (kept_reserved c.args.made.1 (book_of c.self.inside.parts) (book_of c.reserve.new.self) c.in_ok-reserve.ensures.1
+    c.self.invariant).in_step.run.shape

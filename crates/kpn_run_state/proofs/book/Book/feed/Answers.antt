@@ -1,4 +1,4 @@
-use Rattle.std.proofs.Common.{◌<◌, length, refl, sym, ap, subst, ◌∙◌, ◌∷◌, ◌++◌, [], arith, w64, SFits, to_z, of_z, rules}
+use Rattle.std.proofs.Common.{◌<◌, length, refl, sym, ap, subst, ◌∙◌, ◌∷◌, ◌++◌, [], arith, w64, SFits, to_z, of_z, rules, IsTrue}
 use Rattle.std.proofs.lemmas.Int.{to_z-of_z}
 use Rattle.std.specs.Option.{option_to_list}
 use Rattle.kpn_history.specs.declared.event.Event.TheVariants as event
@@ -6,9 +6,11 @@ use Rattle.kpn_configuration.specs.Changes.{Changes}
 use Rattle.kpn_run_state.specs.Kept.{IsKept}
 use Rattle.kpn_run_state.specs.Refusals.{AcceptsItem, Feeds}
 use Rattle.kpn_run_state.specs.Open.{book_of}
+use Rattle.kpn_configuration.specs.Configuration.{channel_in}
+use Rattle.kpn_run_state.proofs.Reserved.{is_reserved_here}
 use Rattle.kpn_run_state.proofs.Following.{own_none, may_be_woken, channel_fits, recorded}
 use Rattle.kpn_run_state.proofs.Committing.{kept_outside, source_there}
-use Rattle.kpn_run_state.proofs.Outside.{kept_with_item, fed_follows, fed}
+use Rattle.kpn_run_state.proofs.Outside.{kept_with_item, fed_follows, fed, in_channels, kept_with_memory}
 use Rattle.kpn_run_state.proofs.book.Book.feed.Given as given
 use Rattle.kpn_run_state.proofs.book.Book.feed.Goals as goal
 use Rattle.kpn_run_state.proofs.book.Book.feed.Goals.{After-wake}
@@ -68,3 +70,36 @@ invariant_of-self-2 g c = (feeds g (goal.at.invariant_of-self-2 g c).After-wake)
 
 pub returns-clause-done : goal.returns-clause-done
 returns-clause-done g c = (feeds g (goal.at.returns-clause-done g c).After-wake).1
+
+pub reserve_one-requires : goal.reserve_one-requires
+reserve_one-requires g c =
+    let b = book_of c.self.inside.parts in
+    let may = subst (AcceptsItem c.args.source c.args.bound) (sym c.self.view_is) c.in_default.ensures.none in
+    in_channels b c.self.invariant c.args.source (source_there b.tables c.args.source may.0.source)
+
+pub feed-woken-requires-clause-shape : goal.feed-woken-requires-clause-shape
+feed-woken-requires-clause-shape g c = c.reserve_one.ensures.shape _ c.self.invariant.in_step.run.shape
+
+pub feed-woken-requires-clause-channel : goal.feed-woken-requires-clause-channel
+feed-woken-requires-clause-channel g c =
+    let b = book_of c.self.inside.parts in
+    let may = subst (AcceptsItem c.args.source c.args.bound) (sym c.self.view_is) c.in_default.ensures.none in
+    source_there b.tables c.args.source may.0.source
+
+pub feed-woken-requires-clause-reserved : goal.feed-woken-requires-clause-reserved
+feed-woken-requires-clause-reserved g c =
+    let b = book_of c.self.inside.parts in
+    let may = subst (AcceptsItem c.args.source c.args.bound) (sym c.self.view_is) c.in_default.ensures.none in
+    subst (λ s. IsTrue (channel_in s c.args.source).is_reserved) (sym c.in_ok-reserve_one.ensures.after)
+    (is_reserved_here b c.args.source
+    (in_channels b c.self.invariant c.args.source (source_there b.tables c.args.source may.0.source)))
+
+pub invariant_of-self : goal.invariant_of-self
+invariant_of-self g c =
+    kept_with_memory (book_of c.self.inside.parts) c.reserve.new.self.events c.reserve.ensures.events c.self.invariant
+
+pub invariant_of-self-in_err-reserve_one : goal.invariant_of-self-in_err-reserve_one
+invariant_of-self-in_err-reserve_one g c =
+    let b = book_of c.self.inside.parts in
+    subst (λ s. IsKept (recorded b c.reserve.new.self.events s b.schedule)) (sym c.in_err-reserve_one.ensures.after)
+    (kept_with_memory b c.reserve.new.self.events c.reserve.ensures.events c.self.invariant)

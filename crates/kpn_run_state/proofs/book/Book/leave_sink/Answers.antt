@@ -1,13 +1,14 @@
-use Rattle.std.proofs.Common.{◌≡◌, true, false, refl, subst, rules}
+use Rattle.std.proofs.Common.{◌≡◌, true, false, refl, subst, rules, sym}
 use Rattle.kpn_net.specs.Tables.{channel_at, is_sink}
 use Rattle.kpn_history.specs.declared.event.Event.TheVariants as event
 use Rattle.kpn_configuration.specs.Configuration.{channel_in}
 use Rattle.kpn_run_state.specs.Refusals.{Leaves}
 use Rattle.kpn_run_state.specs.Open.{book_of}
+use Rattle.kpn_net.proofs.Networks.{sink_there}
 use Rattle.kpn_run_state.proofs.Following.{recorded}
 use Rattle.kpn_run_state.proofs.Answering.{no_cycle_then, happens}
 use Rattle.kpn_run_state.proofs.Committing.{kept_grown}
-use Rattle.kpn_run_state.proofs.Outside.{sound_reserved, follows_reserved, left}
+use Rattle.kpn_run_state.proofs.Outside.{sound_reserved, follows_reserved, left, in_channels, kept_with_memory}
 use Rattle.kpn_run_state.proofs.book.Book.leave_sink.Goals as goal
 
 pub leave-requires-clause-sound : goal.leave-requires-clause-sound
@@ -41,3 +42,12 @@ returns-clause-done g c =
     (follows_reserved b c.reserve.new.self.events c.in_ok-reserve.ensures.events (event.Leave c.args.sink)
     (book_of c.leave.new.self)
     c.leave.ensures.follows) c.grow_at_stop-grown.ensures.grows))
+
+pub channel-requires : goal.channel-requires
+channel-requires g c =
+    let b = book_of c.self.inside.parts in
+    in_channels b c.self.invariant c.args.sink (sink_there b.tables c.args.sink (sym c.if-not-is_sink.ensures))
+
+pub invariant_of-self : goal.invariant_of-self
+invariant_of-self g c =
+    kept_with_memory (book_of c.self.inside.parts) c.reserve.new.self.events c.reserve.ensures.events c.self.invariant

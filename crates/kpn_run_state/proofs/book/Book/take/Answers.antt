@@ -5,10 +5,11 @@ use Rattle.kpn_history.specs.declared.event.Event.TheVariants as event
 use Rattle.kpn_configuration.specs.Configuration.{channel_in}
 use Rattle.kpn_run_state.specs.Refusals.{Takes}
 use Rattle.kpn_run_state.specs.Open.{book_of}
+use Rattle.kpn_net.proofs.Networks.{sink_there}
 use Rattle.kpn_run_state.proofs.Following.{recorded}
 use Rattle.kpn_run_state.proofs.Answering.{no_cycle_then, happens}
 use Rattle.kpn_run_state.proofs.Committing.{kept_grown}
-use Rattle.kpn_run_state.proofs.Outside.{sound_reserved, follows_reserved, nothing_to_take, taken}
+use Rattle.kpn_run_state.proofs.Outside.{sound_reserved, follows_reserved, nothing_to_take, taken, in_channels, kept_with_memory}
 use Rattle.kpn_run_state.proofs.book.Book.take.Goals as goal
 
 pub returns-then-not-has_item-clause-done : goal.returns-then-not-has_item-clause-done
@@ -61,3 +62,17 @@ returns-clause-done g c =
     (happens e b (book_of c.take-item.new.self) a c.grow_at_stop-grown.result
     (follows_reserved b c.reserve.new.self.events c.in_ok-reserve.ensures.events e (book_of c.take-item.new.self)
     c.take-item.ensures.follows) c.grow_at_stop-grown.ensures.grows)))
+
+pub channel-requires : goal.channel-requires
+channel-requires g c =
+    let b = book_of c.self.inside.parts in
+    in_channels b c.self.invariant c.args.sink (sink_there b.tables c.args.sink (sym c.if-not-is_sink.ensures))
+
+pub has_item-requires : goal.has_item-requires
+has_item-requires g c =
+    let b = book_of c.self.inside.parts in
+    in_channels b c.self.invariant c.args.sink (sink_there b.tables c.args.sink (sym c.if-not-is_sink.ensures))
+
+pub invariant_of-self : goal.invariant_of-self
+invariant_of-self g c =
+    kept_with_memory (book_of c.self.inside.parts) c.reserve.new.self.events c.reserve.ensures.events c.self.invariant

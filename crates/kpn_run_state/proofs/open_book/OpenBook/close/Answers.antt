@@ -21,3 +21,6 @@ returns-clause-follows g c =
     (source_there b.tables c.args.c c.requires.source) (c.requires.source, c.requires.not_closed))
     (event.Close c.number.result) c.push.new.self.events b.schedule b.schedule []
     (ap (λ x. event.Close x) c.number.ensures) c.push.ensures.events refl refl refl
+
+pub close-requires-clause-channel : goal.close-requires-clause-channel
+close-requires-clause-channel g c = source_there (book_of c.args.self.now).tables c.args.c c.requires.source

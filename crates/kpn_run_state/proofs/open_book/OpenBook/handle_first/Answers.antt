@@ -1,4 +1,4 @@
-use Rattle.std.proofs.Common.{◌≡◌, ◌<◌, length, IsTrue, refl, sym, ap, subst, ◌∙◌, inl, inr, arith, w64, SFits, rules}
+use Rattle.std.proofs.Common.{◌≡◌, ◌<◌, length, IsTrue, refl, sym, ap, subst, ◌∙◌, inl, inr, arith, w64, SFits, rules, to_z, of_z}
 use Rattle.std.proofs.lemmas.Int.{to_z-of_z}
 use Rattle.std.proofs.lemmas.List.Elements.{Contains-get_or}
 use Rattle.std.specs.List.{Contains}
@@ -9,14 +9,15 @@ use Rattle.kpn_step.specs.Stops.{IsAtPort}
 use Rattle.kpn_step.specs.declared.stop.Stop.{Stop}
 use Rattle.kpn_step.specs.declared.stop.Stop.TheVariants as stop
 use Rattle.kpn_configuration.specs.Configuration.{channel_in}
-use Rattle.kpn_configuration.specs.Due.{stop_of}
+use Rattle.kpn_configuration.specs.Due.{stop_of, WritesTo}
 use Rattle.kpn_run_state.specs.declared.answers.Done.TheVariants as done
 use Rattle.kpn_run_state.specs.Book.{put_back}
 use Rattle.kpn_run_state.specs.Commits.{IsReadFrom, IsWriteTo}
 use Rattle.kpn_run_state.specs.Open.{book_of, first_claimed, reserved_on, sink_by, Answered, AnsweredFirst}
+use Rattle.kpn_run_state.specs.Kept.{IsKept}
 use Rattle.kpn_run_state.proofs.Following.{held_is_there, recorded}
 use Rattle.kpn_run_state.proofs.Answering.{asked_otherwise, answered_paused}
-use Rattle.kpn_run_state.proofs.Committing.{no_pause}
+use Rattle.kpn_run_state.proofs.Committing.{no_pause, kept_reserved_on, reads_from, writes_to}
 use Rattle.kpn_run_state.proofs.Reserved.{is_reserved_here}
 use Rattle.kpn_run_state.proofs.FirstOfQueue.{held_first, handles_write}
 use Rattle.kpn_run_state.proofs.open_book.OpenBook.handle_first.Given as given
@@ -191,3 +192,37 @@ returns-in-Paused-clause-handles g c =
         sink_is = λ s is. sym (ap (λ z. sink_by b.tables c.args.p z done.Paused) (is ∙ c.in-Paused.is));
       };
     }
+
+pub read_first-requires-clause-reads : goal.read_first-requires-clause-reads
+read_first-requires-clause-reads g c =
+    reads_from c.args.self.now.network.now c.args.self.now.configuration c.args.p c.in_channel-c.result
+    c.in-WantRead.port c.args.stop c.in-WantRead.is c.in_channel-c.ensures c.requires.stands
+
+pub put_first-requires-clause-writes : goal.put_first-requires-clause-writes
+put_first-requires-clause-writes g c =
+    let v = c.in-WantWrite.item in
+    let fits : SFits w64 v = search rules in
+    writes_to c.args.self.now.network.now c.args.self.now.configuration c.args.p c.out_channel-c.result
+    c.in-WantWrite.port v (to_z w64 (of_z w64 v)) c.args.stop c.in-WantWrite.is (to_z-of_z w64 v fits)
+    c.out_channel-c.ensures c.requires.stands
+
+pub write_first-requires-clause-writes : goal.write_first-requires-clause-writes
+write_first-requires-clause-writes g c =
+    let t = c.args.self.now.network.now in
+    let d = c.out_channel-c.result in
+    let v = c.in-WantWrite.item in
+    let fits : SFits w64 v = search rules in
+    subst (λ s. WritesTo t s c.args.p d (to_z w64 (of_z w64 v))) (sym c.in_ok-reserve_one-in-WantWrite.ensures.after)
+    (writes_to t (reserved_on d (book_of c.args.self.now)).configuration c.args.p d c.in-WantWrite.port v
+    (to_z w64 (of_z w64 v)) c.args.stop c.in-WantWrite.is (to_z-of_z w64 v fits) c.out_channel-c.ensures
+    c.requires.stands)
+
+pub write_first-requires-clause-sound : goal.write_first-requires-clause-sound
+write_first-requires-clause-sound g c =
+    let o = first_claimed c.args.p (book_of c.args.self.now) in
+    let d = c.out_channel-c.result in
+    let below = out_there g (goal.at.write_first-requires-clause-sound g c).After-out_channel-c in
+    let kept =
+    subst (λ s. IsKept (recorded o o.history s o.schedule)) (sym c.in_ok-reserve_one-in-WantWrite.ensures.after)
+    (kept_reserved_on o c.requires.kept d below) in
+    record { in_step = kept.in_step; nothing_owed = kept.nothing_owed }

@@ -30,3 +30,6 @@ returns-clause-follows g c =
     (event.Leave c.number.result) c.push.new.self.events b.schedule c.wake.new.schedule
     (option_to_list c.leave-woken.result) (ap (λ x. event.Leave x) c.number.ensures) c.push.ensures.events refl
     c.wake.ensures (ap option_to_list c.leave-woken.ensures.woken)
+
+pub leave-woken-requires-clause-channel : goal.leave-woken-requires-clause-channel
+leave-woken-requires-clause-channel g c = sink_there (book_of c.args.self.now).tables c.args.c c.requires.sink

@@ -39,3 +39,6 @@ returns-clause-follows g c =
     (ap (λ x. event.Take x (to_z w64 (of_z w64 c.take-got.result.item))) c.number.ensures
     ∙ ap (λ x. event.Take c.args.c x) (to_z-of_z w64 c.take-got.result.item fits))
     c.push.ensures.events refl c.wake.ensures (ap option_to_list c.take-got.ensures.woken))
+
+pub take-got-requires-clause-channel : goal.take-got-requires-clause-channel
+take-got-requires-clause-channel g c = sink_there (book_of c.args.self.now).tables c.args.c c.requires.sink
