@@ -1,5 +1,5 @@
 -- Which kind of fault a fault of a description is.
-use Rattle.std.specs.Prelude.{ℕ, Bool, nat_eq, nat_lt, if◌then◌else◌, List, length, Option, Some, None, codes}
+use Rattle.std.specs.Prelude.{ℕ, Bool, ◌&&◌, ◌||◌, not, nat_eq, nat_lt, if◌then◌else◌, List, length, take, drop, Option, Some, None, codes}
 use Rattle.std.specs.Str.{bytes_eq}
 use Rattle.kpn_lang.specs.declared.program.ProgramFault.{ProgramFault}
 use Rattle.kpn_lang.specs.declared.program.ProgramFault.TheVariants as program
@@ -14,7 +14,9 @@ use Rattle.kpn_places.specs.declared.spots.Spot.{Spot}
 use Rattle.kpn_places.specs.declared.spots.Spot.TheVariants as spot
 use Rattle.kpn_places.specs.Names.{name_at}
 use Rattle.kpn_places.specs.Spots.{spot_at, is_port}
+use Rattle.kpn_explain_command.specs.Choices.{may_stand}
 use Rattle.kpn_explain_command.specs.Excess.{process_excess, network_excess}
+use Rattle.kpn_explain_command.specs.Habits.{assigns_next, begins_name}
 use Rattle.kpn_explain_command.specs.declared.sentences.Case.{Case}
 use Rattle.kpn_explain_command.specs.declared.sentences.Case.TheVariants as case
 
@@ -27,8 +29,22 @@ long_case text = if nat_lt MAX_TEXT_BYTES (length text) then case.LongText else 
 abbrev pub token_case : (name : List ℕ) → Case
 token_case name = if nat_eq (length name) 0 then case.NoToken else case.BadNumber
 
+-- a word of the language that is meant as a name, if `here` begins with a token that may not stand there: where a
+-- name may stand, a word that may not is one of the language. Where a brace may stand too, that may be what is
+-- missing, so an `=` has to come next
+abbrev pub is_reserved : (here : List ℕ) (takes_name takes_brace : Bool) → Bool
+is_reserved here takes_name takes_brace = takes_name && begins_name here && (not takes_brace || assigns_next here)
+
+-- a token that may not stand there
+abbrev pub misplaced_case : (here : List ℕ) (takes_name takes_brace : Bool) → Case
+misplaced_case here takes_name takes_brace =
+    if is_reserved here takes_name takes_brace then case.Reserved else case.Misplaced
+
 abbrev pub grammar_case : (text : List ℕ) (at : ℕ) → Case
-grammar_case text at = if nat_lt at (length text) then case.Misplaced else case.EarlyEnd
+grammar_case text at =
+    if nat_lt at (length text)
+    then misplaced_case (drop at text) (may_stand (take at text) (codes "x")) (may_stand (take at text) (codes "}"))
+    else case.EarlyEnd
 
 -- ---- names, by where they stand
 

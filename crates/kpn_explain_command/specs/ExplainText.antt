@@ -13,7 +13,7 @@ use Rattle.kpn_places.specs.Excerpt.{where_text, excerpt}
 use Rattle.kpn_places.specs.Names.{name_at}
 use Rattle.kpn_explain_command.specs.declared.habits.Habit.{Habit}
 use Rattle.kpn_explain_command.specs.declared.sentences.Case.{Case}
-use Rattle.kpn_explain_command.specs.declared.sentences.Case.TheVariants.{Misplaced, EarlyEnd, LargeProgram, LargeNetwork}
+use Rattle.kpn_explain_command.specs.declared.sentences.Case.TheVariants.{Reserved, Misplaced, EarlyEnd, LargeProgram, LargeNetwork}
 use Rattle.kpn_explain_command.specs.Cases.{case_of}
 use Rattle.kpn_explain_command.specs.Choices.{choices, may_stand}
 use Rattle.kpn_explain_command.specs.Excess.{excess_text}
@@ -44,6 +44,7 @@ listed found = if nat_eq (length found) 0 then [] else some_listed found
 
 -- a token stands at a wrong place, or none is left
 abbrev pub is_grammar : Case → Bool
+is_grammar Reserved = true
 is_grammar Misplaced = true
 is_grammar EarlyEnd = true
 is_grammar rest = false

@@ -1,7 +1,7 @@
 -- The sentences for each kind of fault.
 use Rattle.std.specs.Prelude.{ℕ, Bool, true, false, List, [], codes}
 use Rattle.kpn_explain_command.specs.declared.sentences.Case.{Case}
-use Rattle.kpn_explain_command.specs.declared.sentences.Case.TheVariants.{LongText, LongName, BadNumber, NoToken, Misplaced, EarlyEnd, UnknownVariable, LateVariable, PortAsVariable, UnknownInPort, UnknownOutPort, UnknownProcess, UnknownChannel, DoubleProcess, DoublePort, AssignedPort, DoubleInstance, DoubleChannel, LargeProgram, DeepProgram, BrokenProgram, LargeNetwork, PortCount, NoWriter, TwoWriters, NoReader, TwoReaders, BadCapacity, BadLimit, BrokenNetwork, NoMemory}
+use Rattle.kpn_explain_command.specs.declared.sentences.Case.TheVariants.{LongText, LongName, BadNumber, NoToken, Reserved, Misplaced, EarlyEnd, UnknownVariable, LateVariable, PortAsVariable, UnknownInPort, UnknownOutPort, UnknownProcess, UnknownChannel, DoubleProcess, DoublePort, AssignedPort, DoubleInstance, DoubleChannel, LargeProgram, DeepProgram, BrokenProgram, LargeNetwork, PortCount, NoWriter, TwoWriters, NoReader, TwoReaders, BadCapacity, BadLimit, BrokenNetwork, NoMemory}
 
 -- whether the sentence begins with the name at the place
 abbrev pub is_named : Case → Bool
@@ -22,10 +22,11 @@ said LongText = codes "the text has more than 1048576 bytes"
 said LongName = codes "this name has more than 32 bytes"
 said BadNumber = codes "this number has more than 19 digits or is above 9223372036854775807"
 said NoToken = codes "no name, number or mark begins with this byte"
+said Reserved = codes " is a word of the language, and no name"
 said Misplaced = codes "this may not stand here"
 said EarlyEnd = codes "the text ends too early"
-said UnknownVariable = codes " is read before anything is assigned to it"
-said LateVariable = codes " is read here, and first gets a value further down"
+said UnknownVariable = codes " is used before anything is assigned to it"
+said LateVariable = codes " is used here, and first gets a value further down"
 said PortAsVariable = codes " is a port of this process, and no variable"
 said UnknownInPort = codes " is no in port of this process"
 said UnknownOutPort = codes " is no out port of this process"
@@ -56,6 +57,7 @@ advice LongText = codes "Cut the text down: leave out comments, or make two netw
 advice LongName = codes "Choose a shorter name."
 advice BadNumber = codes "Write a smaller number. The least value is that of `(-9223372036854775807 - 1)`."
 advice NoToken = codes "Names have letters, digits and `_`. A comment goes from `#` to the end of its line."
+advice Reserved = codes "Choose another name, or write the name that is missing just before it."
 advice Misplaced = codes "Look also at what stands just before it: something may be missing there."
 advice EarlyEnd = codes "Close each `{` by a `}`. Behind all processes has to come a network."
 advice UnknownVariable = codes "Assign to it first, or make it a parameter. An item comes by `read PORT VARIABLE;`."

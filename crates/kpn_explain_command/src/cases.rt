@@ -4,12 +4,14 @@ ghost use Rattle.kpn_explain_command.specs.Cases as spec;
 ghost use Rattle.kpn_explain_command.specs.Excess as excess;
 ghost use Rattle.kpn_explain_command.specs.declared.sentences.Case.TheVariants.{LargeProgram, LargeNetwork};
 
+use crate::choices::may_stand;
 use crate::excess::{network_excess, process_excess};
 use crate::sentences::Case;
+use crate::words::{assigns_next, begins_name};
 use kpn_lang::ProgramFault;
 use kpn_limits::MAX_TEXT_BYTES;
 use kpn_net::NetFault;
-use kpn_places::{Places, Spot, is_port, name_at, spot_at};
+use kpn_places::{Places, Spot, back, front, is_port, name_at, spot_at};
 use kpn_text::TextFault;
 use kpn_tokens::Lexeme;
 use std::alloc::{AllocError, Global};
@@ -27,7 +29,7 @@ pub(crate) fn case_of<'a>(
     match fault {
         TextFault::TooLong(_) => Ok(long_case(text)),
         TextFault::Token(_) => Ok(token_case(name_at(text, places.first))),
-        TextFault::Grammar(at) => Ok(grammar_case(text, at)),
+        TextFault::Grammar(at) => grammar_case(alloc, text, at),
         TextFault::UnknownName(at) => {
             let is_port = is_port(text, tokens, at);
             Ok(unknown_case(spot_at(tokens, at), is_port, places.second))
@@ -61,14 +63,34 @@ fn token_case(name: &[u8]) -> Case
     }
 }
 
-fn grammar_case(text: &[u8], at: usize) -> Case
-    ensures { result ≡ spec.grammar_case text.now at }
+fn grammar_case(alloc: Global, text: &[u8], at: usize) -> Result<Case, AllocError>
+    ensures { IfOk result (λ case. case ≡ spec.grammar_case text.now at) }
 {
+    let front = front(text, at);
+    let takes_name = may_stand(alloc, front, b"x")?;
+    let takes_brace = may_stand(alloc, front, b"}")?;
     if at < text.len() {
-        Case::Misplaced
+        Ok(misplaced_case(back(text, at), takes_name, takes_brace))
     } else {
-        Case::EarlyEnd
+        Ok(Case::EarlyEnd)
     }
+}
+
+fn misplaced_case(here: &[u8], takes_name: bool, takes_brace: bool) -> Case
+    ensures { result ≡ spec.misplaced_case here.now takes_name takes_brace }
+{
+    if is_reserved(here, takes_name, takes_brace) {
+        Case::Reserved
+    } else {
+        Case::Misplaced
+    }
+}
+
+// Whether a token that may not stand there is a word of the language, and is meant as a name.
+fn is_reserved(here: &[u8], takes_name: bool, takes_brace: bool) -> bool
+    ensures { result ≡ spec.is_reserved here.now takes_name takes_brace }
+{
+    takes_name && begins_name(here) && (!takes_brace || assigns_next(here))
 }
 
 fn unknown_case(spot: Spot, is_port: bool, second: Option<usize>) -> Case

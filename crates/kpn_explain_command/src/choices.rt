@@ -123,8 +123,8 @@ pub(crate) fn may_stand(alloc: Global, front: &[u8], word: &[u8]) -> Result<bool
     tried(alloc, &text, front.len() + 1)
 }
 
-// Whether a text is not refused at this byte.
-fn tried(alloc: Global, text: &[u8], at: usize) -> Result<bool, AllocError>
+/// Whether a text is not refused at this byte.
+pub(crate) fn tried(alloc: Global, text: &[u8], at: usize) -> Result<bool, AllocError>
     ensures { IfOk result (λ may. may ≡ spec.tried text.now at) }
 {
     match lexemes(alloc, text) {

@@ -205,7 +205,7 @@ fn push_alternatives(
 fn is_grammar(case: Case) -> bool
     ensures { result ≡ spec.is_grammar case }
 {
-    matches!(case, Case::Misplaced | Case::EarlyEnd)
+    matches!(case, Case::Reserved | Case::Misplaced | Case::EarlyEnd)
 }
 
 // What may stand behind a text. Nothing may, if it is whole.

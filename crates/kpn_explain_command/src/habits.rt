@@ -1,12 +1,14 @@
 //! Ways of writing that other languages have and this one has not.
-ghost use Rattle.std.specs.Prelude.{◌≡◌, IfOk};
+ghost use Rattle.std.specs.Prelude.{◌≡◌, take, IfOk};
+ghost use Rattle.kpn_tokens.specs.Lexing.{lexemes_of};
 ghost use Rattle.kpn_explain_command.specs.Habits as spec;
 
-use crate::choices::may_stand;
+use crate::choices::{may_stand, tried};
 use crate::sentences::Case;
 use crate::stands::{Stand, begins, stand_of};
-use kpn_places::{back, front, name_at, start_before};
-use kpn_tokens::Lexeme;
+use crate::words::is_fraction;
+use kpn_places::{Spot, back, front, name_at, spot_at, start_before};
+use kpn_tokens::{LexFault, Lexeme, lexemes};
 use std::alloc::{AllocError, Global};
 
 /// A way of writing that this language has not.
@@ -26,6 +28,8 @@ pub(crate) enum Habit {
     Slashes,
     /// `for`
     For,
+    /// `break`
+    Break,
     /// `else if`, `elif` and the like.
     ElseIf,
     /// An `if` without `else`.
@@ -52,6 +56,14 @@ pub(crate) enum Habit {
     Truth,
     /// `let`, `var` or `int` before a variable.
     Declares,
+    /// `read` in an expression.
+    Reads,
+    /// `in`, `out` or `par` before each port.
+    Ports,
+    /// A channel or a sink without `cap`.
+    NoCapacity,
+    /// A number with a point.
+    Fraction,
 }
 
 /// The way of writing at the first place of a fault of this kind.
@@ -66,7 +78,11 @@ pub(crate) fn habit_of(
 {
     match case {
         Case::Misplaced => misplaced_habit(alloc, text, tokens, at),
-        Case::NoToken => byte_habit(alloc, front(text, at), back(text, at)),
+        Case::Reserved => {
+            let last = back(text, start_before(tokens, at));
+            Ok(reserved_habit(spot_at(tokens, at), last, back(text, at)))
+        }
+        Case::NoToken => token_habit(alloc, text, at),
         Case::UnknownVariable => Ok(truth_habit(back(text, at))),
         _ => Ok(None),
     }
@@ -96,6 +112,7 @@ fn habit_at(stand: Stand, last: &[u8], here: &[u8]) -> Option<Habit>
         Stand::Operand => operand_habit(last),
         Stand::Statement => statement_habit(here),
         Stand::BeforeElse => else_habit(here),
+        Stand::BeforeCapacity => capacity_habit(here),
         Stand::Elsewhere => other_habit(last, here),
     }
 }
@@ -188,6 +205,8 @@ fn assigning_habit(last: &[u8], here: &[u8]) -> Option<Habit>
         Some(Habit::Assigns)
     } else if is_word(last, b"for") {
         Some(Habit::For)
+    } else if is_word(last, b"break") {
+        Some(Habit::Break)
     } else if declares(last) && name_at(here, 0).len() != 0 {
         Some(Habit::Declares)
     } else {
@@ -302,6 +321,16 @@ fn else_habit(here: &[u8]) -> Option<Habit>
     }
 }
 
+fn capacity_habit(here: &[u8]) -> Option<Habit>
+    ensures { result ≡ spec.capacity_habit here.now }
+{
+    if begins_comment(here) {
+        Some(Habit::Comment)
+    } else {
+        Some(Habit::NoCapacity)
+    }
+}
+
 fn other_habit(last: &[u8], here: &[u8]) -> Option<Habit>
     ensures { result ≡ spec.other_habit last.now here.now }
 {
@@ -314,7 +343,84 @@ fn other_habit(last: &[u8], here: &[u8]) -> Option<Habit>
     }
 }
 
-// A byte with which no token begins, if the mark that the advice names may stand there.
+// A word of the language, where a name is meant.
+fn reserved_habit(spot: Spot, last: &[u8], here: &[u8]) -> Option<Habit>
+    ensures { result ≡ spec.reserved_habit spot last.now here.now }
+{
+    match spot {
+        Spot::Port => ports_habit(last, here),
+        Spot::Variable => read_habit(here),
+        _ => None,
+    }
+}
+
+fn begins_ports(text: &[u8]) -> bool
+    ensures { result ≡ spec.begins_ports text.now }
+{
+    is_word(text, b"in") || is_word(text, b"out") || is_word(text, b"par")
+}
+
+// Behind a comma such a word is meant to stand before each port.
+fn ports_habit(last: &[u8], here: &[u8]) -> Option<Habit>
+    ensures { result ≡ spec.ports_habit last.now here.now }
+{
+    if begins(last, b",") && begins_ports(here) {
+        Some(Habit::Ports)
+    } else {
+        None
+    }
+}
+
+fn read_habit(here: &[u8]) -> Option<Habit>
+    ensures { result ≡ spec.read_habit here.now }
+{
+    if is_word(here, b"read") {
+        Some(Habit::Reads)
+    } else {
+        None
+    }
+}
+
+// A byte with which no token begins.
+fn token_habit(alloc: Global, text: &[u8], at: usize) -> Result<Option<Habit>, AllocError>
+    ensures { IfOk result (λ found. found ≡ spec.token_habit text.now at) }
+{
+    if begins(back(text, at), b".") {
+        point_habit(alloc, text, at)
+    } else {
+        byte_habit(alloc, front(text, at), back(text, at))
+    }
+}
+
+// A point: the last token before it may be a number.
+fn point_habit(alloc: Global, text: &[u8], at: usize) -> Result<Option<Habit>, AllocError>
+    ensures { IfOk result (λ found.
+        found ≡ spec.point_habit text.now at (lexemes_of (take at text.now))) }
+{
+    match lexemes(alloc, front(text, at)) {
+        Ok(tokens) => fraction_habit(alloc, text, at, start_before(tokens.as_slice(), at)),
+        Err(LexFault::NoMemory) => Err(AllocError),
+        Err(_) => Ok(None),
+    }
+}
+
+// A number with a point behind it, if a number may stand there.
+fn fraction_habit(
+    alloc: Global,
+    text: &[u8],
+    at: usize,
+    before: usize,
+) -> Result<Option<Habit>, AllocError>
+    ensures { IfOk result (λ found. found ≡ spec.fraction_habit text.now at before) }
+{
+    if is_fraction(back(text, before)) && tried(alloc, front(text, at), before)? {
+        Ok(Some(Habit::Fraction))
+    } else {
+        Ok(None)
+    }
+}
+
+// Another byte than a point, if the mark that the advice names may stand there.
 fn byte_habit(alloc: Global, front: &[u8], here: &[u8]) -> Result<Option<Habit>, AllocError>
     ensures { IfOk result (λ found. found ≡ spec.byte_habit front.now here.now) }
 {

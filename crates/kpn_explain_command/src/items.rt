@@ -8,10 +8,12 @@ ghost use Rattle.kpn_places.specs.Lines as lines;
 
 use crate::explained::push_bracket;
 use crate::loading::load;
+use crate::stands::begins;
+use crate::words::is_fraction;
 use kpn_conclusion::Conclusion;
 use kpn_items::{ItemFault, items_of};
 use kpn_pieces::push_number;
-use kpn_places::{line_start, push_excerpt, push_where};
+use kpn_places::{back, line_start, push_excerpt, push_where};
 use kpn_refusals::Refusal;
 use kpn_shelf::Shelf;
 use std::alloc::{AllocError, Global};
@@ -57,7 +59,7 @@ fn wrong(alloc: Global, file: &str, bytes: &[u8], line: usize) -> Result<Conclus
 {
     let mut text = Vec::new(alloc);
     push_item_place(alloc, &mut text, file.as_bytes(), bytes, line)?;
-    push_item_advice(&mut text)?;
+    push_item_advice(&mut text, back(bytes, line_start(bytes, line)))?;
     Ok(Conclusion {
         text,
         status: 1,
@@ -96,10 +98,29 @@ fn push_line_at(
     Ok(())
 }
 
-fn push_item_advice(told: &mut Vec<u8>) -> Result<(), AllocError>
-    ensures { OnOk result (told.new.items ≡ told.old.items ++ spec.item_advice) }
+fn push_item_advice(told: &mut Vec<u8>, here: &[u8]) -> Result<(), AllocError>
+    ensures { OnOk result (told.new.items ≡ told.old.items ++ spec.item_advice here.now) }
 {
-    told.extend_from_slice(
-        b"Write one item on each line: an optional `-` and 1 to 19 digits, and nothing else.\n",
-    )
+    told.extend_from_slice(item_advice(here))
+}
+
+// What helps with a line that is the front of this text.
+fn item_advice(here: &[u8]) -> &'static [u8]
+    ensures { result.now ≡ spec.item_advice here.now }
+{
+    if is_fraction(behind_sign(here)) {
+        b"Items are whole numbers: scale them first, as 2.5 to 25 tenths.\n"
+    } else {
+        b"Write one item on each line: an optional `-` and 1 to 19 digits, and nothing else.\n"
+    }
+}
+
+fn behind_sign(line: &[u8]) -> &[u8]
+    ensures { result.now ≡ spec.behind_sign line.now }
+{
+    if begins(line, b"-") {
+        back(line, 1)
+    } else {
+        line
+    }
 }

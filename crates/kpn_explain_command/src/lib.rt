@@ -13,6 +13,7 @@ mod loading;
 mod remedies;
 mod sentences;
 mod stands;
+mod words;
 
 pub use description::explain_command;
 pub use items::explain_items_command;

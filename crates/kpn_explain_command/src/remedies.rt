@@ -18,6 +18,7 @@ pub(crate) fn remedy(habit: Habit) -> &'static [u8]
         Habit::Slashes =>
             b"A comment begins with `#` and ends with its line. A quotient is written `(x / 2)`.",
         Habit::For => b"There is no `for`: use `while`, and count in a variable.",
+        Habit::Break => b"There is no `break`: let the condition of the loop end it.",
         Habit::ElseIf => b"Open a block behind `else`, and close it: `else { if x { } else { } }`.",
         Habit::NoElse => b"Each `if` has an `else`, whose block may be empty: `else { }`.",
         Habit::Changes => b"A variable changes only by an assignment of its own: `x = (x + 1);`.",
@@ -32,5 +33,9 @@ pub(crate) fn remedy(habit: Habit) -> &'static [u8]
         Habit::Truth => b"Write 1 for true and 0 for false.",
         Habit::Declares =>
             b"The first assignment makes a variable: `x = 0;`, with no word before it.",
+        Habit::Reads => b"An item comes by a statement of its own: `read PORT VARIABLE;`.",
+        Habit::Ports => b"Write `in`, `out` and `par` once each, as in `in a, b; out c, d; par k`.",
+        Habit::NoCapacity => b"Write a capacity behind the name, as in `channel a cap 1;`.",
+        Habit::Fraction => b"Numbers are whole: scale them first, or divide, as in `(x / 2)`.",
     }
 }

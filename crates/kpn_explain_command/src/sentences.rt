@@ -34,7 +34,9 @@ pub(crate) enum Case {
     BadNumber,
     /// No token begins at a byte.
     NoToken,
-    /// A token may not stand there.
+    /// A word of the language stands where a name is meant.
+    Reserved,
+    /// Another token may not stand there.
     Misplaced,
     /// The text ends too early.
     EarlyEnd,
@@ -111,10 +113,11 @@ pub(crate) fn said(case: Case) -> &'static [u8]
         Case::LongName => b"this name has more than 32 bytes",
         Case::BadNumber => b"this number has more than 19 digits or is above 9223372036854775807",
         Case::NoToken => b"no name, number or mark begins with this byte",
+        Case::Reserved => b" is a word of the language, and no name",
         Case::Misplaced => b"this may not stand here",
         Case::EarlyEnd => b"the text ends too early",
-        Case::UnknownVariable => b" is read before anything is assigned to it",
-        Case::LateVariable => b" is read here, and first gets a value further down",
+        Case::UnknownVariable => b" is used before anything is assigned to it",
+        Case::LateVariable => b" is used here, and first gets a value further down",
         Case::PortAsVariable => b" is a port of this process, and no variable",
         Case::UnknownInPort => b" is no in port of this process",
         Case::UnknownOutPort => b" is no out port of this process",
@@ -153,6 +156,7 @@ pub(crate) fn advice(case: Case) -> &'static [u8]
             b"Write a smaller number. The least value is that of `(-9223372036854775807 - 1)`.",
         Case::NoToken =>
             b"Names have letters, digits and `_`. A comment goes from `#` to the end of its line.",
+        Case::Reserved => b"Choose another name, or write the name that is missing just before it.",
         Case::Misplaced =>
             b"Look also at what stands just before it: something may be missing there.",
         Case::EarlyEnd => b"Close each `{` by a `}`. Behind all processes has to come a network.",

@@ -22,7 +22,9 @@ pub(crate) enum Stand {
     Statement,
     /// Behind a whole expression.
     Whole,
-    /// At another place, or outside of all blocks.
+    /// Behind the name of a channel or a sink: `cap` may stand there.
+    BeforeCapacity,
+    /// At another place.
     Elsewhere,
 }
 
@@ -44,6 +46,17 @@ pub(crate) fn stand_of(
 {
     if is_in_block(spot_at(tokens, at)) {
         stand_in(alloc, text, start_before(tokens, at), at)
+    } else {
+        stand_outside(alloc, front(text, at))
+    }
+}
+
+// The place outside of all blocks.
+fn stand_outside(alloc: Global, front: &[u8]) -> Result<Stand, AllocError>
+    ensures { IfOk result (λ found. found ≡ spec.stand_outside front.now) }
+{
+    if may_stand(alloc, front, b"cap")? {
+        Ok(Stand::BeforeCapacity)
     } else {
         Ok(Stand::Elsewhere)
     }
