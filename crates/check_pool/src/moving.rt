@@ -5,7 +5,9 @@ use crate::networks::copying;
 use commit_gates::Always;
 use kpn_desk::{Awaited, Go, Job, Refused, SinkSeat};
 use kpn_net::Network;
-use kpn_workers::{Opened, Shared, feed_when_room, take_each, take_when_due, take_when_there, work};
+use kpn_workers::{
+    Opened, Shared, feed_when_room, take_each, take_when_due, take_when_there, work,
+};
 use std::alloc::{AllocError, Global};
 use std::marker::Brand;
 use std::sync::Wait;
