@@ -7,106 +7,51 @@
 //! - `file NAME TEXT` makes a file. In the text `\n`, `\r` and `\0` are bytes that no line can have.
 //! - `many NAME COUNT TEXT` puts such a text so often behind what the file holds.
 //! - `cat NAME`: what the file holds follows.
+//! - `fail PLACE AT`: in each command line below, a call fails of its `input`, its `output` or its place for `errors`.
+//!   AT is how many calls succeed before that one, or `each` if all fail. Then an input gives its bytes one by one.
+//!   `interrupt PLACE AT` is a failure by a signal, and `leave PLACE AT` one since the reader has gone.
+//! - `fail CALL NAME`: this call for files fails for this name, `load`, `store` or `ready`, which asks whether a file
+//!   can be stored. `fail same NAME`: each name is taken for one file with this one. `fail nothing` ends all that.
+//!   Until then error lines stand below a line `errors:`, also if the command succeeds.
+//! - `keep NAME TEXT` makes a file on a shelf in memory. What that then holds under the name `a` follows.
+//! - `tell refusals`: how each refusal is reported that no command line causes here.
 //! - `# TEXT`, a heading, which stands without `$ `.
 //!
 //! Another program (tools/examples.py) computed what the lines below the heading `# The examples` must write. For those
 //! above it the answers were written or checked by hand.
 #![tactic(auto)]
 
+mod devices;
+mod files;
+mod memory;
+mod refusals;
+mod shelf;
+mod stage;
+
+use crate::files::{bytes_of, extend_file, make_file};
+use crate::memory::keep;
+use crate::refusals::tell_refusals;
+use crate::stage::{Stage, fail, run};
 use anyhow::Result;
-use kpn_cli::{FileShelf, Ports, Shelf, command};
+use kpn_cli::{FileShelf, Ports};
 use std::alloc::Global;
-use std::io::Write;
+use std::io::{ErrorKind, Write};
 use std::sync::Wait;
 use std::thread::Threads;
 use std::time::Clock;
-
-/// The words of a command line.
-fn words_of(alloc: Global, line: &str) -> Result<Vec<String>> {
-    let mut words = Vec::new(alloc);
-    for word in line.split_whitespace() {
-        words.push(String::from_str(alloc, word)?)?;
-    }
-    Ok(words)
-}
-
-/// The bytes that a text of a line means.
-fn unescaped(alloc: Global, text: &str) -> Result<String> {
-    let text = text.replace(alloc, "\\n", "\n")?;
-    let text = text.replace(alloc, "\\r", "\r")?;
-    Ok(text.replace(alloc, "\\0", "\0")?)
-}
-
-/// Makes the file that `NAME TEXT` says.
-fn make_file<S: Shelf>(alloc: Global, shelf: &mut S, line: &str) -> Result<()> {
-    let Some((name, text)) = line.split_once(' ') else {
-        return Ok(());
-    };
-    let text = unescaped(alloc, text)?;
-    shelf.store(name, text.as_bytes())?;
-    Ok(())
-}
-
-/// Makes the file longer that `NAME COUNT TEXT` says.
-fn extend_file<S: Shelf>(alloc: Global, shelf: &mut S, line: &str) -> Result<()> {
-    let Some((name, rest)) = line.split_once(' ') else {
-        return Ok(());
-    };
-    let Some((count, text)) = rest.split_once(' ') else {
-        return Ok(());
-    };
-    let count = count.parse::<u32>()?;
-    let text = unescaped(alloc, text)?;
-    let mut bytes = bytes_of(alloc, shelf, name);
-    bytes.reserve(text.len().saturating_mul(count as usize))?;
-    for _time in 0..count {
-        bytes.extend_from_slice(text.as_bytes())?;
-    }
-    shelf.store(name, &bytes)?;
-    Ok(())
-}
-
-/// What a file holds, and nothing if it can't be read.
-fn bytes_of<S: Shelf>(alloc: Global, shelf: &S, name: &str) -> Vec<u8> {
-    match shelf.load(alloc, name) {
-        Ok(bytes) => bytes,
-        Err(_) => Vec::new(alloc),
-    }
-}
-
-/// Runs a command line, and returns what it wrote and, if it failed, its error line and its status. A list in memory is
-/// its one type of output, so that the program is compiled once.
-fn run<R: Threads + Wait + Clock + Sync, S: Ports>(
-    rt: &R,
-    alloc: Global,
-    shelf: &mut S,
-    line: &str,
-) -> Result<Vec<u8>> {
-    let words = words_of(alloc, line)?;
-    let input = bytes_of(alloc, shelf, "input");
-    let mut input = input.as_slice();
-    let mut out = Vec::new(alloc);
-    let mut errors = Vec::new(alloc);
-    let status = command(rt, alloc, &words, shelf, &mut input, &mut out, &mut errors);
-    if status != 0 {
-        out.write_all(&errors)?;
-        writeln!(out, "status {status}")?;
-    }
-    Ok(out)
-}
 
 /// Runs the command line of `COUNT kpn WORDS`, and writes the first lines of what it wrote.
 fn run_first<R: Threads + Wait + Clock + Sync, S: Ports, O: Write>(
     rt: &R,
     alloc: Global,
-    shelf: &mut S,
+    stage: &mut Stage<S>,
     out: &mut O,
     rest: &str,
 ) -> Result<()> {
     let Some((count, line)) = rest.split_once(' ') else {
         return Ok(());
     };
-    let text = run(rt, alloc, shelf, line)?;
+    let text = run(rt, alloc, stage, line)?;
     let text = str::from_utf8(&text)?;
     for line in text.lines().take(count.parse()?) {
         writeln!(out, "{line}")?;
@@ -114,9 +59,32 @@ fn run_first<R: Threads + Wait + Clock + Sync, S: Ports, O: Write>(
     Ok(())
 }
 
+/// Does what a line says, and writes what follows.
+fn happen<R: Threads + Wait + Clock + Sync, S: Ports, O: Write>(
+    rt: &R,
+    alloc: Global,
+    stage: &mut Stage<S>,
+    out: &mut O,
+    line: &str,
+) -> Result<()> {
+    match line.split_once(' ') {
+        Some(("file", rest)) => make_file(alloc, &mut stage.shelf.files, rest)?,
+        Some(("many", rest)) => extend_file(alloc, &mut stage.shelf.files, rest)?,
+        Some(("cat", name)) => out.write_all(&bytes_of(alloc, &stage.shelf.files, name))?,
+        Some(("first", rest)) => run_first(rt, alloc, stage, out, rest)?,
+        Some(("fail", rest)) => fail(alloc, stage, rest, ErrorKind::Other)?,
+        Some(("interrupt", rest)) => fail(alloc, stage, rest, ErrorKind::Interrupted)?,
+        Some(("leave", rest)) => fail(alloc, stage, rest, ErrorKind::BrokenPipe)?,
+        Some(("keep", rest)) => keep(alloc, out, rest)?,
+        Some(("tell", _)) => tell_refusals(alloc, out)?,
+        _ => out.write_all(&run(rt, alloc, stage, line)?)?,
+    }
+    Ok(())
+}
+
 fn main(rt: HostRuntime) -> Result<()> {
     let mut out = rt.stdout();
-    let mut shelf = FileShelf::new(&rt);
+    let mut stage = Stage::new(FileShelf::new(&rt));
     for line in rt.lines(rt.alloc()) {
         let line = line?;
         if line.starts_with('#') {
@@ -124,13 +92,7 @@ fn main(rt: HostRuntime) -> Result<()> {
             continue;
         }
         writeln!(out, "$ {line}")?;
-        match line.split_once(' ') {
-            Some(("file", rest)) => make_file(rt.alloc(), &mut shelf, rest)?,
-            Some(("many", rest)) => extend_file(rt.alloc(), &mut shelf, rest)?,
-            Some(("cat", name)) => out.write_all(&bytes_of(rt.alloc(), &shelf, name))?,
-            Some(("first", rest)) => run_first(&rt, rt.alloc(), &mut shelf, &mut out, rest)?,
-            _ => out.write_all(&run(&rt, rt.alloc(), &mut shelf, line.as_str())?)?,
-        }
+        happen(&rt, rt.alloc(), &mut stage, &mut out, line.as_str())?;
     }
     Ok(())
 }

@@ -6,3 +6,5 @@
 mod language;
 #[cfg(test)]
 mod stepper;
+#[cfg(test)]
+mod worked;

@@ -1,33 +1,64 @@
-//! Channels: a worked row, and calls that get no memory, because a heap is full for a while.
+//! Channels as rows of calls, each with its answer. For a while a heap is full, and calls get no memory.
 use kpn_chan::Channel;
+use kpn_limits::MAX_CAPACITY;
 use linked_list_allocator::LocalHeap;
-use std::alloc::{AllocError, Allocator, Global};
+use std::alloc::{AllocError, Global};
+use std::process::Abort;
 use std::test::Fail;
 
+/// A call, and what it has to answer.
+#[derive(Clone, Copy)]
+enum Call<'a> {
+    /// Puts items, each into room that is reserved for it.
+    Put(&'a [i64]),
+    /// Puts the numbers from the first to before the second.
+    PutNumbers(i64, i64),
+    Get(Option<i64>),
+    /// The next reads return the numbers from the first to before the second.
+    GetNumbers(i64, i64),
+    /// Grows by one, if there is memory.
+    Grow(bool),
+    /// Grows so far, if there is memory.
+    GrowTo(u32, bool),
+    Retire,
+    IsRetired,
+    Cap(Option<u32>),
+    HasRoom(bool),
+    IsFull(bool),
+    At(usize, Option<i64>),
+    /// How many items were read, and how many are unread.
+    Counts(usize, usize),
+    Journal(&'a [i64]),
+    /// The journal, copied into the heap.
+    HeldJournal(&'a [i64]),
+    /// The heap has no memory for an item, for a copy of the journal, or for another channel.
+    NoMemory,
+}
+
 /// Puts items, each into room that is reserved for it.
-fn put_all<A: Allocator + Copy>(channel: &mut Channel<A>, items: &[i64]) -> Result<(), AllocError> {
+fn put_all(channel: &mut Channel<&LocalHeap>, items: &[i64]) -> Result<bool, AllocError> {
     for item in items {
         channel.reserve_one()?;
         channel.put(*item);
     }
-    Ok(())
+    Ok(true)
 }
 
 /// Puts the numbers from `first` to before `end`.
-fn put_numbers<A: Allocator + Copy>(
-    channel: &mut Channel<A>,
+fn put_numbers(
+    channel: &mut Channel<&LocalHeap>,
     first: i64,
     end: i64,
-) -> Result<(), AllocError> {
+) -> Result<bool, AllocError> {
     for item in first..end {
         channel.reserve_one()?;
         channel.put(item);
     }
-    Ok(())
+    Ok(true)
 }
 
 /// Whether the next reads return the numbers from `first` to before `end`.
-fn gives_numbers<A: Allocator>(channel: &mut Channel<A>, first: i64, end: i64) -> bool {
+fn gives_numbers(channel: &mut Channel<&LocalHeap>, first: i64, end: i64) -> bool {
     for item in first..end {
         if channel.get() != Some(item) {
             return false;
@@ -36,114 +67,253 @@ fn gives_numbers<A: Allocator>(channel: &mut Channel<A>, first: i64, end: i64) -
     true
 }
 
-/// Whether items keep their order if the ring gets more places while they wrap around its end.
-fn keeps_order(alloc: Global) -> Result<bool, AllocError> {
-    let mut channel = Channel::new(alloc, None)?;
-    put_numbers(&mut channel, 0, 64)?;
-    let are_first = gives_numbers(&mut channel, 0, 10);
-    put_numbers(&mut channel, 64, 200)?;
-    Ok(are_first && gives_numbers(&mut channel, 10, 200) && channel.is_empty())
+/// Whether a channel may grow by one, and does so as is wanted.
+fn grows(channel: &mut Channel<&LocalHeap>, wanted: bool) -> bool {
+    match channel.cap() {
+        Some(cap) if cap < MAX_CAPACITY => channel.grow().is_ok() == wanted,
+        _ => false,
+    }
 }
 
-/// Whether the items at the ends of the chunks of 4,096 are the numbers of their places.
-fn goes_on_past_chunks<A: Allocator>(channel: &Channel<A>) -> bool {
-    channel.at(4_095) == Some(4_095)
-        && channel.at(4_096) == Some(4_096)
-        && channel.at(8_192) == Some(8_192)
-        && channel.at(8_193).is_none()
+/// Whether a channel may grow so far, and does so as is wanted.
+fn grows_to(channel: &mut Channel<&LocalHeap>, to: u32, wanted: bool) -> bool {
+    match channel.cap() {
+        Some(cap) if cap < to && to <= MAX_CAPACITY => channel.grow_to(to).is_ok() == wanted,
+        _ => false,
+    }
 }
 
-/// Whether a channel has this journal, of which so many items were read.
-fn holds<A: Allocator>(
+/// Whether there is no memory for an item, for a copy of the journal, or for another channel.
+fn lacks_memory<'h>(heap: &'h LocalHeap, channel: &mut Channel<&'h LocalHeap>) -> bool {
+    let is_refused = channel.reserve_one().is_err();
+    is_refused && channel.copy_journal(heap).is_err() && Channel::new(heap, None).is_err()
+}
+
+/// Whether a channel has this journal.
+fn holds(
     alloc: Global,
-    channel: &Channel<A>,
+    channel: &Channel<&LocalHeap>,
     journal: &[i64],
-    read: usize,
 ) -> Result<bool, AllocError> {
-    let copied = channel.copy_journal(alloc)?;
-    let unread = journal.len().saturating_sub(read);
-    Ok(copied.as_slice() == journal && channel.read_count() == read && channel.len() == unread)
+    Ok(channel.copy_journal(alloc)?.as_slice() == journal)
 }
 
-#[test]
-fn fills_grows_gives_and_retires(rt: HostRuntime) -> Result<(), Fail> {
-    let mut channel = Channel::new(rt.alloc(), Some(2))?;
-    put_all(&mut channel, &[5])?;
-    assert!(rt; !channel.is_full());
-    put_all(&mut channel, &[6])?;
-    assert!(rt; channel.is_full());
-    assert_eq!(rt; channel.cap(), Some(2));
-    channel.grow()?;
-    assert!(rt; !channel.is_full());
-    assert_eq!(rt; channel.get(), Some(5));
-    channel.retire();
-    assert_eq!(rt; channel.get(), None);
-    assert!(rt; channel.is_retired() && channel.cap() == Some(3));
-    assert!(rt; channel.at(1) == Some(6) && channel.at(2).is_none());
-    let same = holds(rt.alloc(), &channel, &[5, 6], 1)?;
-    assert!(rt; same);
+/// Whether it has this journal, and the heap has memory for a copy.
+fn holds_in<'h>(
+    heap: &'h LocalHeap,
+    channel: &Channel<&'h LocalHeap>,
+    journal: &[i64],
+) -> Result<bool, AllocError> {
+    Ok(channel.copy_journal(heap)?.as_slice() == journal)
+}
+
+/// Makes a call: whether it answers so.
+fn answers<'h>(
+    alloc: Global,
+    heap: &'h LocalHeap,
+    channel: &mut Channel<&'h LocalHeap>,
+    call: Call<'_>,
+) -> Result<bool, AllocError> {
+    match call {
+        Call::Put(items) => put_all(channel, items),
+        Call::PutNumbers(first, end) => put_numbers(channel, first, end),
+        Call::GetNumbers(first, end) => Ok(gives_numbers(channel, first, end)),
+        Call::Grow(wanted) => Ok(grows(channel, wanted)),
+        Call::GrowTo(cap, wanted) => Ok(grows_to(channel, cap, wanted)),
+        Call::Journal(journal) => holds(alloc, channel, journal),
+        Call::HeldJournal(journal) => holds_in(heap, channel, journal),
+        Call::NoMemory => Ok(lacks_memory(heap, channel)),
+        call => Ok(shows(channel, call)),
+    }
+}
+
+/// Makes a call that takes no memory: whether it answers so.
+fn shows(channel: &mut Channel<&LocalHeap>, call: Call<'_>) -> bool {
+    match call {
+        Call::Get(wanted) => channel.get() == wanted,
+        Call::Retire => {
+            channel.retire();
+            true
+        }
+        Call::IsRetired => channel.is_retired(),
+        Call::Cap(wanted) => channel.cap() == wanted,
+        Call::HasRoom(wanted) => channel.room() == wanted,
+        Call::IsFull(wanted) => channel.is_full() == wanted,
+        Call::At(place, wanted) => channel.at(place) == wanted,
+        Call::Counts(read, unread) => {
+            channel.read_count() == read
+                && channel.len() == unread
+                && channel.is_empty() == (unread == 0)
+        }
+        _ => false,
+    }
+}
+
+/// Calls on a channel of a heap.
+#[derive(Clone, Copy)]
+struct Row<'a> {
+    /// How many bytes the heap has.
+    size: usize,
+    capacity: Option<u32>,
+    before: &'a [Call<'a>],
+    /// How many bytes something else takes for a while.
+    filling: usize,
+    meanwhile: &'a [Call<'a>],
+    after: &'a [Call<'a>],
+}
+
+const FILLS_GROWS_GIVES_AND_RETIRES: Row<'static> = Row {
+    size: 4_096,
+    capacity: Some(2),
+    before: &[
+        Call::Put(&[5]),
+        Call::IsFull(false),
+        Call::Put(&[6]),
+        Call::IsFull(true),
+        Call::Cap(Some(2)),
+        Call::Grow(true),
+        Call::IsFull(false),
+        Call::Get(Some(5)),
+        Call::Retire,
+        Call::Get(None),
+        Call::IsRetired,
+        Call::Cap(Some(3)),
+        Call::At(1, Some(6)),
+        Call::At(2, None),
+        Call::Journal(&[5, 6]),
+        Call::Counts(1, 1),
+    ],
+    filling: 16,
+    meanwhile: &[],
+    after: &[],
+};
+
+const REFUSED_CALLS_CHANGE_NOTHING: Row<'static> = Row {
+    size: 256,
+    capacity: Some(8),
+    before: &[Call::Put(&[5, 6, 7, 8]), Call::Get(Some(5))],
+    filling: 160,
+    meanwhile: &[
+        Call::NoMemory,
+        Call::HasRoom(false),
+        Call::Cap(Some(8)),
+        Call::Journal(&[5, 6, 7, 8]),
+        Call::Counts(1, 3),
+    ],
+    after: &[Call::Put(&[9]), Call::HeldJournal(&[5, 6, 7, 8, 9])],
+};
+
+const A_GROWTH_THAT_IS_REFUSED_CHANGES_NOTHING: Row<'static> = Row {
+    size: 512,
+    capacity: Some(2),
+    before: &[Call::Put(&[5, 6])],
+    filling: 464,
+    meanwhile: &[
+        Call::Cap(Some(2)),
+        Call::Grow(false),
+        Call::Cap(Some(2)),
+        Call::GrowTo(5, false),
+        Call::Counts(0, 2),
+    ],
+    after: &[
+        Call::Cap(Some(2)),
+        Call::Grow(true),
+        Call::Cap(Some(3)),
+        Call::GrowTo(5, true),
+        Call::Cap(Some(5)),
+        Call::IsFull(false),
+        Call::PutNumbers(7, 10),
+        Call::IsFull(true),
+        Call::GetNumbers(5, 10),
+    ],
+};
+
+// A chunk has 4,096 items.
+const A_JOURNAL_GOES_ON_PAST_ITS_CHUNKS: Row<'static> = Row {
+    size: 1_048_576,
+    capacity: None,
+    before: &[
+        Call::PutNumbers(0, 8_193),
+        Call::At(4_095, Some(4_095)),
+        Call::At(4_096, Some(4_096)),
+        Call::At(8_192, Some(8_192)),
+        Call::At(8_193, None),
+        Call::GetNumbers(0, 3),
+        Call::Counts(3, 8_190),
+        Call::Retire,
+        Call::PutNumbers(9, 10),
+        Call::Get(None),
+        Call::Counts(3, 8_191),
+        Call::At(8_193, Some(9)),
+    ],
+    filling: 16,
+    meanwhile: &[],
+    after: &[],
+};
+
+// The ring gets more places while items wrap around its end.
+const ITEMS_KEEP_THEIR_ORDER: Row<'static> = Row {
+    size: 65_536,
+    capacity: None,
+    before: &[
+        Call::PutNumbers(0, 64),
+        Call::GetNumbers(0, 10),
+        Call::PutNumbers(64, 200),
+        Call::GetNumbers(10, 200),
+        Call::Counts(200, 0),
+    ],
+    filling: 16,
+    meanwhile: &[],
+    after: &[],
+};
+
+const ROWS: [(&str, Row<'static>); 5] = [
+    (
+        "fills, grows, gives and retires",
+        FILLS_GROWS_GIVES_AND_RETIRES,
+    ),
+    ("refused calls change nothing", REFUSED_CALLS_CHANGE_NOTHING),
+    (
+        "a growth that is refused changes nothing",
+        A_GROWTH_THAT_IS_REFUSED_CHANGES_NOTHING,
+    ),
+    (
+        "a journal goes on past its chunks",
+        A_JOURNAL_GOES_ON_PAST_ITS_CHUNKS,
+    ),
+    ("items keep their order", ITEMS_KEEP_THEIR_ORDER),
+];
+
+/// Makes calls, each of which has to answer so.
+fn make<'h>(
+    rt: &impl Abort,
+    alloc: Global,
+    heap: &'h LocalHeap,
+    channel: &mut Channel<&'h LocalHeap>,
+    calls: &[Call<'_>],
+    name: &str,
+) -> Result<(), AllocError> {
+    for (k, call) in calls.iter().enumerate() {
+        let answered = answers(alloc, heap, channel, *call)?;
+        assert!(rt; answered, "{name}: call {k}");
+    }
     Ok(())
 }
 
-#[test]
-fn refused_calls_change_nothing(rt: HostRuntime) -> Result<(), Fail> {
-    let heap = LocalHeap::new(rt.alloc(), 256)?;
-    let mut channel = Channel::new(&heap, Some(8))?;
-    put_all(&mut channel, &[5, 6, 7, 8])?;
-    assert_eq!(rt; channel.get(), Some(5));
-
-    let filling = Vec::<u8, &LocalHeap>::with_capacity(&heap, 160)?;
-    assert!(rt; Channel::new(&heap, None).is_err());
-    assert!(rt; channel.reserve_one().is_err());
-    assert!(rt; channel.copy_journal(&heap).is_err());
-    assert!(rt; !channel.room() && channel.cap() == Some(8));
-    let same = holds(rt.alloc(), &channel, &[5, 6, 7, 8], 1)?;
-    assert!(rt; same);
-
+fn make_all(rt: &impl Abort, alloc: Global, row: &Row<'_>, name: &str) -> Result<(), AllocError> {
+    let heap = LocalHeap::new(alloc, row.size)?;
+    let mut channel = Channel::new(&heap, row.capacity)?;
+    make(rt, alloc, &heap, &mut channel, row.before, name)?;
+    let filling = Vec::<u8, &LocalHeap>::with_capacity(&heap, row.filling)?;
+    make(rt, alloc, &heap, &mut channel, row.meanwhile, name)?;
     filling.destroy_empty();
-    put_all(&mut channel, &[9])?;
-    let copied = channel.copy_journal(&heap)?;
-    assert_eq!(rt; copied.as_slice(), [5, 6, 7, 8, 9].as_slice());
-    Ok(())
+    make(rt, alloc, &heap, &mut channel, row.after, name)
 }
 
 #[test]
-fn a_journal_goes_on_past_its_chunks(rt: HostRuntime) -> Result<(), Fail> {
-    let mut channel = Channel::new(rt.alloc(), None)?;
-    put_numbers(&mut channel, 0, 8_193)?;
-    assert!(rt; goes_on_past_chunks(&channel));
-    assert!(rt; gives_numbers(&mut channel, 0, 3));
-    assert!(rt; channel.read_count() == 3 && channel.len() == 8_190);
-    channel.retire();
-    put_numbers(&mut channel, 9, 10)?;
-    assert_eq!(rt; channel.get(), None);
-    assert!(rt; channel.len() == 8_191 && channel.at(8_193) == Some(9));
-    let kept = keeps_order(rt.alloc())?;
-    assert!(rt; kept);
-    Ok(())
-}
-
-#[test]
-fn a_growth_that_is_refused_changes_nothing(rt: HostRuntime) -> Result<(), Fail> {
-    let heap = LocalHeap::new(rt.alloc(), 512)?;
-    let mut channel = Channel::new(&heap, Some(2))?;
-    put_all(&mut channel, &[5, 6])?;
-
-    let filling = Vec::<u8, &LocalHeap>::with_capacity(&heap, 464)?;
-    assert_eq!(rt; channel.cap(), Some(2));
-    assert!(rt; channel.grow().is_err());
-    assert_eq!(rt; channel.cap(), Some(2));
-    assert!(rt; channel.grow_to(5).is_err());
-    assert_eq!(rt; channel.len(), 2);
-
-    filling.destroy_empty();
-    assert_eq!(rt; channel.cap(), Some(2));
-    channel.grow()?;
-    assert_eq!(rt; channel.cap(), Some(3));
-    channel.grow_to(5)?;
-    assert!(rt; channel.cap() == Some(5) && !channel.is_full());
-    put_numbers(&mut channel, 7, 10)?;
-    assert!(rt; channel.is_full());
-    assert!(rt; gives_numbers(&mut channel, 5, 10));
+fn channels_answer_as_these_rows_say(rt: HostRuntime) -> Result<(), Fail> {
+    for (name, row) in &ROWS {
+        make_all(&rt, rt.alloc(), row, name)?;
+    }
     Ok(())
 }

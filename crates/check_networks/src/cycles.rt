@@ -44,39 +44,49 @@ fn table(
 /// Waits and capacities, what the search from each process in order finds, and what a scan finds.
 type Row<'a> = (&'a [Wait], &'a [u32], &'a [Found], Found);
 
-// Whether the searches and the scan find what a row says.
-fn is_found(
+// Whether the searches and the scan along these waits find what a row says.
+fn finds(rt: &impl Abort, network: &Network, waits: &Waits, row: &Row<'_>) -> bool
+    requires { AreWaits network.now waits.now }
+{
+    let (_, caps, wanted, scanned) = row;
+    assert_eq!(rt; caps.len(), network.channels());
+    assert_eq!(rt; wanted.len(), network.instances());
+    let mut all = scan_all(network, waits, caps) == *scanned;
+    for (p, want) in wanted.iter().enumerate() {
+        all = all && cycle_through(network, waits, caps, p) == *want;
+    }
+    all
+}
+
+// Asserts that they do for each row.
+fn assert_rows(
     rt: &impl Abort,
     alloc: Global,
     network: &Network,
-    row: &Row<'_>,
-) -> Result<bool, AllocError> {
-    let (list, caps, wanted, scanned) = row;
-    let waits = table(rt, alloc, network, list)?;
-    assert_eq!(rt; caps.len(), network.channels());
-    assert_eq!(rt; wanted.len(), network.instances());
-    let mut all = scan_all(network, &waits, caps) == *scanned;
-    for (p, want) in wanted.iter().enumerate() {
-        all = all && cycle_through(network, &waits, caps, p) == *want;
-    }
-    Ok(all)
-}
-
-// Asserts that they do for each row, on a network of processes with these ports that do nothing.
-fn assert_found(
-    rt: &impl Abort,
-    alloc: Global,
-    ports: &[(&[usize], &[usize])],
-    channels: &[ChannelSpec],
-    limit: u32,
     rows: &[Row<'_>],
-) -> Result<(), Fail> {
-    let network = idle_network(alloc, ports, channels, limit, Policy::Cycles, Growth::One)?;
+) -> Result<(), AllocError> {
     for (k, row) in rows.iter().enumerate() {
-        let found = is_found(rt, alloc, &network, row)?;
-        assert!(rt; found, "row {k}");
+        let waits = table(rt, alloc, network, row.0)?;
+        assert!(rt; finds(rt, network, &waits, row), "row {k}");
     }
     Ok(())
+}
+
+/// A network of processes with these ports that do nothing: its channels, its limit, and rows.
+type Worked<'a> = (
+    &'a [(&'a [usize], &'a [usize])],
+    &'a [ChannelSpec],
+    u32,
+    &'a [Row<'a>],
+);
+
+// Asserts that they do for each row of a network.
+fn assert_found(rt: &impl Abort, alloc: Global, worked: &Worked<'_>) -> Result<(), Fail> {
+    let (ports, channels, limit, rows) = worked;
+    let network = idle_network(alloc, ports, channels, *limit, Policy::Cycles, Growth::One)?;
+    let found = assert_rows(rt, alloc, &network, rows);
+    drop(network);
+    Ok(found?)
 }
 
 // The writer of the full channel 0 and the reader of the empty channel 1.
@@ -200,33 +210,60 @@ const SMALLEST_OF_RING: [Row<'static>; 8] = [
     (RING, &[3, 2, 2, 1, 1], &[Found::Full(3); 5], Found::Full(3)),
 ];
 
-#[test]
-fn cycles_are_found(rt: HostRuntime) -> Result<(), Fail> {
-    let a = rt.alloc();
-    let pair: [(&[usize], &[usize]); 2] = [(&[], &[0, 1]), (&[0, 1], &[2])];
-    let tail: [(&[usize], &[usize]); 3] = [(&[], &[0]), (&[0, 1], &[2]), (&[2], &[1])];
-    let itself: [(&[usize], &[usize]); 1] = [(&[0], &[0, 1])];
-    let pairs: [(&[usize], &[usize]); 4] = [(&[1], &[0]), (&[0], &[1]), (&[3], &[2]), (&[2], &[3])];
-    let ring: [(&[usize], &[usize]); 5] = [
-        (&[4], &[0]),
-        (&[0], &[1]),
-        (&[1], &[2]),
-        (&[2], &[3]),
-        (&[3], &[4]),
-    ];
-    assert_found(&rt, a, &pair, &[Inner(1), Inner(1), Sink(1)], 9, &PAIR)?;
-    assert_found(
-        &rt,
-        a,
-        &pair,
+const NETWORKS: [Worked<'static>; 6] = [
+    (
+        &[(&[], &[0, 1]), (&[0, 1], &[2])],
+        &[Inner(1), Inner(1), Sink(1)],
+        9,
+        &PAIR,
+    ),
+    (
+        &[(&[], &[0, 1]), (&[0, 1], &[2])],
         &[Inner(1), Inner(1), Sink(1)],
         1,
         &PAIR_AT_LIMIT,
-    )?;
-    assert_found(&rt, a, &tail, &[Inner(1); 3], 9, &TAIL)?;
-    assert_found(&rt, a, &itself, &[Inner(1), Sink(1)], 9, &SELF_LOOP)?;
-    assert_found(&rt, a, &pairs, &[Inner(1); 4], 9, &TWO_PAIRS)?;
-    assert_found(&rt, a, &ring, &[Inner(1); 5], 9, &SMALLEST_OF_RING)
+    ),
+    (
+        &[(&[], &[0]), (&[0, 1], &[2]), (&[2], &[1])],
+        &[Inner(1); 3],
+        9,
+        &TAIL,
+    ),
+    (&[(&[0], &[0, 1])], &[Inner(1), Sink(1)], 9, &SELF_LOOP),
+    (
+        &[(&[1], &[0]), (&[0], &[1]), (&[3], &[2]), (&[2], &[3])],
+        &[Inner(1); 4],
+        9,
+        &TWO_PAIRS,
+    ),
+    (
+        &[
+            (&[4], &[0]),
+            (&[0], &[1]),
+            (&[1], &[2]),
+            (&[2], &[3]),
+            (&[3], &[4]),
+        ],
+        &[Inner(1); 5],
+        9,
+        &SMALLEST_OF_RING,
+    ),
+];
+
+#[test]
+fn cycles_are_found(rt: HostRuntime) -> Result<(), Fail> {
+    for worked in &NETWORKS {
+        assert_found(&rt, rt.alloc(), worked)?;
+    }
+    Ok(())
+}
+
+// Whether a table takes waits.
+fn is_made(heap: &LocalHeap) -> Result<bool, AllocError> {
+    let mut waits = Waits::new(heap, 3)?;
+    waits.set(1, Full(7));
+    waits.set(2, Empty(4));
+    Ok(waits.get(0) == Nobody && waits.get(1) == Full(7) && waits.get(2) == Empty(4))
 }
 
 // While the heap is full, the first table gets no memory. After that the second one is made.
@@ -234,11 +271,9 @@ fn cycles_are_found(rt: HostRuntime) -> Result<(), Fail> {
 fn table_of_waits_is_refused_memory(rt: HostRuntime) -> Result<(), Fail> {
     let heap = LocalHeap::new(rt.alloc(), 256)?;
     let filling = Vec::<u8, &LocalHeap>::with_capacity(&heap, 256)?;
-    assert!(rt; Waits::new(&heap, 3).is_err());
+    assert!(rt; is_made(&heap).is_err());
     filling.destroy_empty();
-    let mut waits = Waits::new(&heap, 3)?;
-    waits.set(1, Full(7));
-    waits.set(2, Empty(4));
-    assert!(rt; waits.get(0) == Nobody && waits.get(1) == Full(7) && waits.get(2) == Empty(4));
+    let made = is_made(&heap)?;
+    assert!(rt; made);
     Ok(())
 }

@@ -32,6 +32,22 @@ fn keeps_events_in_order(rt: HostRuntime) -> Result<(), Fail> {
     Ok(())
 }
 
+// Whether a history that holds one event is refused room, and stays as it is.
+fn is_refused(history: &mut History<&LocalHeap>) -> bool {
+    let room = history.room();
+    let refused = history.reserve(7).is_err() && history.reserve(usize::MAX).is_err();
+    refused && history.room() == room && holds(history, &[Event::Feed(3, 9)])
+}
+
+// Whether it has memory for seven more, and keeps one.
+fn goes_on(history: &mut History<&LocalHeap>) -> bool {
+    if history.reserve(7).is_err() || history.room() < 7 {
+        return false;
+    }
+    history.push(Event::Close(6));
+    holds(history, &[Event::Feed(3, 9), Event::Close(6)])
+}
+
 // The heap has 256 bytes and an event takes 16: room for 4 events leaves 192 bytes, of which something else takes 128
 // for a while.
 #[test]
@@ -40,17 +56,10 @@ fn reserves_again_after_a_refusal(rt: HostRuntime) -> Result<(), Fail> {
     let mut history = History::new(&heap);
     history.reserve(4)?;
     history.push(Event::Feed(3, 9));
-    let room = history.room();
-
     let filling = Vec::<u8, &LocalHeap>::with_capacity(&heap, 128)?;
-    assert!(rt; history.reserve(7).is_err());
-    assert!(rt; history.reserve(usize::MAX).is_err());
-    assert!(rt; history.room() == room && holds(&history, &[Event::Feed(3, 9)]));
-
+    let refused = is_refused(&mut history);
     filling.destroy_empty();
-    history.reserve(7)?;
-    assert!(rt; history.room() >= 7);
-    history.push(Event::Close(6));
-    assert!(rt; holds(&history, &[Event::Feed(3, 9), Event::Close(6)]));
+    assert!(rt; refused);
+    assert!(rt; goes_on(&mut history));
     Ok(())
 }

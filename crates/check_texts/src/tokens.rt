@@ -69,7 +69,7 @@ fn cuts_texts_into_tokens(rt: HostRuntime) -> Result<(), Fail> {
     for (text, wanted) in &ROWS {
         let found = lexemes(rt.alloc(), text)?;
         let words = described(rt.alloc(), &found)?;
-        assert_eq!(rt; words.as_str(), *wanted);
+        assert!(rt; words.as_str() == *wanted, "{words}");
     }
     Ok(())
 }
