@@ -6,7 +6,8 @@ use Rattle.kpn_command_line.proofs.command_line.program.Goals as goal
 
 pub returns : goal.returns
 returns c =
-    let with_alone = c.with-program.ensures bare_command_line alone_words c.bare_program.ensures c.alone_words.ensures in
+    let bare = c.bare_program.ensures in
+    let with_alone = c.with-program.ensures bare_command_line alone_words bare c.alone_words.ensures in
     let with_check = c.with-program-2.ensures _ check_words with_alone c.check_words.ensures in
     let with_explain = c.with-program-3.ensures _ explain_words with_check c.explain_words.ensures in
     let with_print = c.with-program-4.ensures _ print_words with_explain c.print_words.ensures in
