@@ -20,3 +20,8 @@ pub returns-clause-at_stop : goal.returns-clause-at_stop
 returns-clause-at_stop g c = λ all settled p d there waits.
     c.growths.ensures.at_stop c.args.self.now.book
     (subst (λ (x : Desk). IsBook x.book) c.self.view_is c.self.invariant.book) all settled p d there waits
+
+pub returns-clause-below : goal.returns-clause-below
+returns-clause-below g c =
+    c.journals.ensures.below c.args.self.now.book
+    (subst (λ (x : Desk). IsBook x.book) c.self.view_is c.self.invariant.book)
