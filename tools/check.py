@@ -78,7 +78,7 @@ def verdict_on(crate, edit, kit, room):
         done = subprocess.run(words('check', crate, kit, room, kept_of(crate.name, [])), capture_output=True,
                               cwd=folder, text=True)
     lines = (done.stdout + done.stderr).splitlines()
-    said = [it for it in lines if 'note:' in it or 'error' in it]
+    said = [it for it in lines if ': error' in it or it.startswith('note: ')]
     if done.returncode == 0:
         return 'NOT REFUSED', said
     # A text that does not compile is refused before any contract is looked at.
