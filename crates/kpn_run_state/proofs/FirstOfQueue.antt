@@ -23,7 +23,9 @@ use Rattle.kpn_run_state.specs.Commits.{IsWriteTo, IsAnswer, IsOwnAdvance, ready
 use Rattle.kpn_run_state.specs.Kept.{IsKept, IsBook}
 use Rattle.kpn_run_state.specs.Stepping.{StepsNext}
 use Rattle.kpn_run_state.specs.InARow.{PutsOnNoSink, puts_on, StepsInRow, no_step, one_step_more, RunsOn}
-use Rattle.kpn_run_state.specs.Open.{first_claimed, IsSound, if_sink, sink_of, sink_by, is_but_reserved, grows_if_owed, AnsweredFirst, HandlesFirst, IsTurn}
+use Rattle.kpn_run_state.specs.declared.open_book.Hold.{Hold}
+use Rattle.kpn_run_state.specs.declared.open_book.Hold.TheVariants as hold
+use Rattle.kpn_run_state.specs.Open.{first_claimed, IsHeldBy, held_by, IsSound, if_sink, sink_of, sink_by, is_but_reserved, grows_if_owed, AnsweredFirst, HandlesFirst, IsTurn}
 use Rattle.kpn_run_state.proofs.Counting.{held_more}
 use Rattle.kpn_run_state.proofs.Appended.{claimed_is_held, tables_stay, history_then, commits_stay, base_tables, base_history, base_commits}
 use Rattle.kpn_run_state.proofs.Following.{recorded}
@@ -36,22 +38,12 @@ pub holds_first : (s : Schedule) → IsSchedule s → (p : ℕ) → slice_get s.
     → HoldsFirst p s (first_held p s)
 holds_first s is p first = HoldsFirst-popped s.states s.queue p (drop 1 s.queue) is (first_taken s.queue 0 p first)
 
--- the schedule does so
-pub held_is_first : (s after : Schedule) (p : ℕ) → HoldsFirst p s (first_held p s) → (r : Option ℕ)
-    → IfSome r (λ q. HoldsFirst q s after) → IfNone r ((s.queue ≡ []) × (after ≡ s)) → after ≡ first_held p s
-held_is_first s after p holds None some none =
-    let clash : (p ∷ drop 1 s.queue) ≡ [] = sym holds.queue ∙ none.0 in absurd cc
-held_is_first s after p holds (Some q) some none =
-    let queues : (q ∷ after.queue) ≡ (p ∷ drop 1 s.queue) = sym some.queue ∙ holds.queue in
-    let same : q ≡ p = cc in
-    let rest : after.queue ≡ drop 1 s.queue = cc in
-    scheduled_same after (first_held p s) (some.states ∙ ap (λ z. set s.states z Held) same) rest
-  where
-    scheduled_same : (x y : Schedule) → x.states ≡ y.states → x.queue ≡ y.queue → x ≡ y
-    scheduled_same x y states queue = ap (λ xs. scheduled xs x.queue) states ∙ ap (scheduled y.states) queue
-
 pub held_first : (b : Book) (p : ℕ) → HoldsFirst p b.schedule (first_held p b.schedule) → IsHeld (first_claimed p b) p
 held_first b p holds = claimed_is_held p b (first_claimed p b) (record { holds = holds; same = refl })
+
+pub held_so : (hold : Hold) (p : ℕ) (b : Book) → IsHeldBy hold p b.schedule → IsHeld (held_by hold p b) p
+held_so hold.First p b holds = held_first b p holds
+held_so hold.Taken p b held = record { there = held.0; held = held.1 }
 
 module _ (b : Book) (kept : IsKept b) (p : ℕ) (holds : HoldsFirst p b.schedule (first_held p b.schedule))
     (more : b.commits + held_count b + 1 < 2 ^ 64) where
@@ -63,17 +55,29 @@ module _ (b : Book) (kept : IsKept b) (p : ℕ) (holds : HoldsFirst p b.schedule
 
 -- ---- on which sink it has put an item
 
--- one that has to wait has put an item on no sink
-pub waits_on_no_sink : (t : Tables) (c p : ℕ) (b a : Book) (answer : Done) → grows_if_owed p answer b a
-    → sink_of t c answer ≡ None
-waits_on_no_sink t c p b a done.Blocked grows = refl
-waits_on_no_sink t c p b a (done.Grew d) grows = refl
-waits_on_no_sink t c p b a other grows = absurd grows
+-- the sink is that of the channel on which it is put
+pub puts_on_it : (t : Tables) (p c : ℕ) (v : ℤ) (s : Stop) → IsWriteTo t p s c v → (sink : Option ℕ)
+    → sink ≡ if_sink t c → sink ≡ sink_by t p s done.Put
+puts_on_it t p c v s asks sink is =
+    is ∙ ap (if_sink t) (sym asks.channel.1) ∙ ap (λ z. sink_by t p z done.Put) (sym asks.asks)
 
 none_by : (t : Tables) (p : ℕ) (answer : Done) → ((c : ℕ) → sink_of t c answer ≡ None) → (s : Stop)
     → sink_by t p s answer ≡ None
 none_by t p answer none (stop.WantWrite port v) = none (slice_index (instance_at t p).outs port)
 none_by t p answer none s = refl
+
+-- any other answer puts on no sink
+pub puts_on_none : (t : Tables) (p : ℕ) (answer : Done) → (answer ≡ done.Put → ⊥) → (s : Stop)
+    → sink_by t p s answer ≡ None
+puts_on_none t p answer other = none_by t p answer (λ c. no_sink c answer other)
+  where
+    no_sink : (c : ℕ) (answer : Done) → (answer ≡ done.Put → ⊥) → sink_of t c answer ≡ None
+    no_sink c done.Put other = absurd (other refl)
+    no_sink c (done.Got v) other = refl
+    no_sink c done.Blocked other = refl
+    no_sink c (done.Grew d) other = refl
+    no_sink c done.Ended other = refl
+    no_sink c done.Paused other = refl
 
 module _ (b a o : Book) (p : ℕ) (s : Stop) (sink : Option ℕ) (events : List Event) (same : o.tables ≡ b.tables)
     (history : a.history ≡ b.history ++ events) where

@@ -12,7 +12,10 @@ use Rattle.kpn_history.specs.Views.{is_ready}
 use Rattle.kpn_history.specs.Legal.{OwesGrowth, growth_after, waiter}
 use Rattle.kpn_history.specs.Stops.{OwesNothing}
 use Rattle.kpn_configuration.specs.Configuration.{channel_in, with_channel}
-use Rattle.kpn_schedule.specs.Schedule.{Schedule, state_at, first_held}
+use Rattle.kpn_history.specs.declared.state.State.TheVariants.{Held}
+use Rattle.kpn_schedule.specs.Schedule.{Schedule, HoldsFirst, state_at, first_held}
+use Rattle.kpn_run_state.specs.declared.open_book.Hold.{Hold}
+use Rattle.kpn_run_state.specs.declared.open_book.Hold.TheVariants as hold
 use Rattle.kpn_run_state.specs.declared.open_book.OpenBook.{OpenBook}
 use Rattle.kpn_run_state.specs.declared.answers.Done.{Done}
 use Rattle.kpn_run_state.specs.declared.answers.Done.TheVariants as done
@@ -42,6 +45,21 @@ reserved_on c b =
 -- the book whose first ready process, p, is held
 abbrev pub first_claimed : (p : ℕ) → Book → Book
 first_claimed p b = record b { schedule = first_held p b.schedule }
+
+-- ---- a process that is held while it is committed
+
+-- process p is held so
+abbrev pub IsHeldBy : Hold → (p : ℕ) → Schedule → Type 0
+IsHeldBy hold.First p s = HoldsFirst p s (first_held p s)
+IsHeldBy hold.Taken p s = (p < length s.states) × (state_at s.states p ≡ Held)
+
+-- the schedule in which its state says so
+abbrev pub holding : Hold → (p : ℕ) → Schedule → Schedule
+holding hold.First p s = first_held p s
+holding hold.Taken p s = s
+
+abbrev pub held_by : Hold → (p : ℕ) → Book → Book
+held_by hold p b = record b { schedule = holding hold p b.schedule }
 
 -- ---- conditions within a call
 
@@ -113,6 +131,18 @@ pub record Answered (p : ℕ) (asks : Stop → Type 0) (answer : Done) (before a
   pub answers : (s : Stop) → asks s → AnswersAt p s answer before after
   pub sound : IsSound after
   pub released : held_count after + 1 ≡ held_count before
+
+-- process p, which is held so, may be committed: the book is sound, and there is room for two events
+pub record MayCommit {A : Type 0} (hold : Hold) (p : ℕ) (parts : OpenBook A) : Type 0 where
+  pub held : IsHeldBy hold p parts.schedule
+  pub sound : IsSound (held_by hold p (book_of parts))
+  pub room : 2 ≤ parts.history.room
+
+-- it is committed at a stop of this kind, and makes at most two events
+pub record IsCommit {A : Type 0} (hold : Hold) (p : ℕ) (asks : Stop → Type 0) (answer : Done)
+    (before after : OpenBook A) : Type 0 where
+  pub answered : Answered p asks answer (held_by hold p (book_of before)) (book_of after)
+  pub room : before.history.room ≤ after.history.room + 2
 
 -- the growth that is owed, if one is, happens, and the book is sound again
 pub record GrowsIfOwed (p : ℕ) (answer : Done) (before after : Book) : Type 0 where

@@ -19,6 +19,15 @@ mod commits;
 mod outside;
 mod turns;
 
+/// How a process is held that is committed.
+#[derive(Clone, Copy)]
+pub(crate) enum Hold {
+    /// It stays the first of the queue, and no state says that it is held.
+    First,
+    /// It was taken out of the queue.
+    Taken,
+}
+
 /// The network, the history so far, the configuration to which it leads, the schedule of the processes, and how many
 /// commits were made.
 #[derive(Debug, Drop)]

@@ -1,25 +1,27 @@
 //! The commit of a held process at its stop. One function for each kind of stop makes the event that is due there, and
 //! after a wait or an end the growth that is owed.
-ghost use Rattle.std.specs.Prelude.{◌≡◌, ◌≢◌, ◌<◌, ◌≤◌, ◌+◌, ℕ, ℤ, [], true, length, IsTrue};
+ghost use Rattle.std.specs.Prelude.{◌≡◌, ◌≢◌, ◌<◌, ◌≤◌, ◌+◌, ℕ, ℤ, [], true, false, length, option_to_list, IsTrue};
 ghost use Rattle.kpn_net.specs.Tables.{program_of};
 ghost use Rattle.kpn_step.specs.declared.stop.Stop.{Stop as Place};
 ghost use Rattle.kpn_step.specs.declared.stop.Stop.TheVariants.{Faulted, Paused};
 ghost use Rattle.kpn_step.specs.Frame.{Frame};
 ghost use Rattle.kpn_step.specs.Stops.{IsAtPort};
 ghost use Rattle.kpn_chan.specs.Channel.{is_full, unread};
-ghost use Rattle.kpn_history.specs.declared.event.Event.TheVariants as event;
+ghost use Rattle.kpn_history.specs.Legal.{OwesGrowth, growth_after};
+ghost use Rattle.kpn_history.specs.Stops.{OwesNoCycleGrowth};
+ghost use Rattle.kpn_history.specs.Views.{is_ready};
 ghost use Rattle.kpn_configuration.specs.Configuration.{channel_in};
 ghost use Rattle.kpn_configuration.specs.Due.{Stands, ReadsFrom, WritesTo, stop_of};
+ghost use Rattle.kpn_configuration.specs.Owed.{IsAwaitedBelowLimit};
+ghost use Rattle.kpn_schedule.specs.Schedule.{made_ready, with_state};
+ghost use Rattle.kpn_run_state.specs.declared.answers.Done.TheVariants as done;
+ghost use Rattle.kpn_run_state.specs.Appending.{all_made_ready};
 ghost use Rattle.kpn_run_state.specs.Book.{IsHeld};
 ghost use Rattle.kpn_run_state.specs.Commits.{IsReadFrom, IsWriteTo};
 ghost use Rattle.kpn_run_state.specs.Kept.{IsInStep};
-ghost use Rattle.kpn_run_state.specs.Open.{book_of, reserves_by, IsSound, Follows, EndsWithWait, GrowsIfOwed, GrowsAtStop, Answered, MayBeReady};
-ghost use Rattle.kpn_history.specs.Legal.{OwesGrowth, growth_after};
-ghost use Rattle.kpn_history.specs.Stops.{OwesNoCycleGrowth};
-ghost use Rattle.kpn_configuration.specs.Owed.{IsAwaitedBelowLimit};
-ghost use Rattle.kpn_run_state.specs.Appending.{all_made_ready};
+ghost use Rattle.kpn_run_state.specs.Open.{book_of, reserves_by, IsSound, IsHeldBy, holding, MayCommit, IsCommit, Follows, EndsWithWait, GrowsIfOwed, GrowsAtStop, Answered, MayBeReady};
 
-use super::{OpenBook, number, wake};
+use super::{Hold, OpenBook, number, wake};
 use crate::answers::Done;
 use kpn_configuration::{in_channel, out_channel};
 use kpn_history::{Event, How, State};
@@ -69,14 +71,14 @@ impl<'n, A: Allocator> OpenBook<'n, A> {
         match stop {
             Stop::WantRead(port) => {
                 let c = in_channel(network, p, port);
-                self.read(p, c)
+                self.read(Hold::Taken, p, c)
             }
             Stop::WantWrite(port, item) => {
                 let c = out_channel(network, p, port);
-                self.write(p, c, item)
+                self.write(Hold::Taken, p, c, item)
             }
-            Stop::Done => self.finish(p, How::Done),
-            Stop::Faulted(fault) => self.finish(p, how_of(fault)),
+            Stop::Done => self.finish(Hold::Taken, p, How::Done),
+            Stop::Faulted(fault) => self.finish(Hold::Taken, p, how_of(fault)),
             Stop::Paused => {
                 self.schedule.put_back(p);
                 Done::Paused
@@ -85,76 +87,87 @@ impl<'n, A: Allocator> OpenBook<'n, A> {
     }
 
     /// Process `p`, which is at a read from channel `c`, gets its next item, or waits if there is none.
-    pub(super) fn read(&mut self, p: usize, c: usize) -> Done
-        requires room { 2 ≤ self.old.history.room }
-        requires sound { IsSound (book_of self.old) }
-        requires held { IsHeld (book_of self.old) p }
+    #[inline(always)]
+    pub(super) fn read(&mut self, hold: Hold, p: usize, c: usize) -> Done
+        requires may { MayCommit hold p self.old }
         requires reads { ReadsFrom self.old.network.now self.old.configuration p c }
         ensures { let t = self.old.network.now in
-            Answered p (λ s. IsReadFrom t p s c) result (book_of self.old) (book_of self.new) }
+            IsCommit hold p (λ s. IsReadFrom t p s c) result self.old self.new }
     {
         let network = self.network;
         network.known();
         if !self.configuration.has_item(c) {
-            self.wait_on_empty(p, c);
-            return self.grow_if_owed(p);
+            return self.wait_on_empty(hold, p, c);
         }
         let got = self.configuration.get(network, p, c);
+        go_on(&mut self.schedule, hold, p, got.woken);
         self.history
             .push(Event::Get(number(p), number(c), got.item));
-        self.schedule.put_back(p);
-        wake(&mut self.schedule, got.woken);
         Done::Got(got.item)
     }
 
     /// Process `p`, which is at a write of this item to channel `c`, puts it there, or waits if the channel is full.
-    pub(super) fn write(&mut self, p: usize, c: usize, item: i64) -> Done
-        requires room { 2 ≤ self.old.history.room }
-        requires sound { IsSound (book_of self.old) }
-        requires held { IsHeld (book_of self.old) p }
+    pub(super) fn write(&mut self, hold: Hold, p: usize, c: usize, item: i64) -> Done
+        requires may { MayCommit hold p self.old }
         requires writes { WritesTo self.old.network.now self.old.configuration p c item }
         requires reserved { IsTrue (channel_in self.old.configuration c).is_reserved }
         ensures { let t = self.old.network.now in
-            Answered p (λ s. IsWriteTo t p s c item) result (book_of self.old) (book_of self.new) }
+            IsCommit hold p (λ s. IsWriteTo t p s c item) result self.old self.new }
     {
         let network = self.network;
         network.known();
         if self.configuration.channel(c).is_full() {
-            self.wait_on_full(p, c, item);
-            return self.grow_if_owed(p);
+            return self.wait_on_full(hold, p, c, item);
         }
-        let woken = self.configuration.put(network, p, c, item);
-        self.history.push(Event::Put(number(p), number(c), item));
-        self.schedule.put_back(p);
-        wake(&mut self.schedule, woken);
+        self.put(hold, p, c, item);
         Done::Put
     }
 
-    fn wait_on_empty(&mut self, p: usize, c: usize)
-        requires room { 0 < self.old.history.room }
-        requires sound { IsSound (book_of self.old) }
-        requires held { IsHeld (book_of self.old) p }
+    /// The same if the channel is not full.
+    #[inline(always)]
+    pub(super) fn put(&mut self, hold: Hold, p: usize, c: usize, item: i64)
+        requires may { MayCommit hold p self.old }
+        requires writes { WritesTo self.old.network.now self.old.configuration p c item }
+        requires ready { is_full (channel_in self.old.configuration c) ≡ false }
+        requires reserved { IsTrue (channel_in self.old.configuration c).is_reserved }
+        ensures { let t = self.old.network.now in
+            IsCommit hold p (λ s. IsWriteTo t p s c item) done.Put self.old self.new }
+    {
+        let network = self.network;
+        network.known();
+        let woken = self.configuration.put(network, p, c, item);
+        go_on(&mut self.schedule, hold, p, woken);
+        self.history.push(Event::Put(number(p), number(c), item));
+    }
+
+    // The next three are rare. They write the state of the process once: a ready one goes from there to its wait or end.
+
+    #[cold]
+    #[inline(never)]
+    fn wait_on_empty(&mut self, hold: Hold, p: usize, c: usize) -> Done
+        requires may { MayCommit hold p self.old }
         requires reads { ReadsFrom self.old.network.now self.old.configuration p c }
         requires ready { unread (channel_in self.old.configuration c) ≡ [] }
-        ensures follows { Follows (event.WaitEmpty p c) (book_of self.old) (book_of self.new) }
-        ensures room { self.old.history.room ≤ self.new.history.room + 1 }
+        ensures { let t = self.old.network.now in
+            IsCommit hold p (λ s. IsReadFrom t p s c) result self.old self.new }
     {
         let network = self.network;
         network.known();
         self.configuration.wait_on_empty(network, p, c);
         self.history.push(Event::WaitEmpty(number(p), number(c)));
-        self.schedule.set(p, State::WaitsEmpty(c));
+        set_state(&mut self.schedule, hold, p, State::WaitsEmpty(c));
+        self.grow_if_owed(p)
     }
 
-    fn wait_on_full(&mut self, p: usize, c: usize, item: i64)
-        requires room { 0 < self.old.history.room }
-        requires sound { IsSound (book_of self.old) }
-        requires held { IsHeld (book_of self.old) p }
+    #[cold]
+    #[inline(never)]
+    fn wait_on_full(&mut self, hold: Hold, p: usize, c: usize, item: i64) -> Done
+        requires may { MayCommit hold p self.old }
         requires writes { WritesTo self.old.network.now self.old.configuration p c item }
         requires ready { is_full (channel_in self.old.configuration c) ≡ true }
         requires reserved { IsTrue (channel_in self.old.configuration c).is_reserved }
-        ensures follows { Follows (event.WaitFull p c) (book_of self.old) (book_of self.new) }
-        ensures room { self.old.history.room ≤ self.new.history.room + 1 }
+        ensures { let t = self.old.network.now in
+            IsCommit hold p (λ s. IsWriteTo t p s c item) result self.old self.new }
     {
         // Only the contract names the item.
         let _item = item;
@@ -162,7 +175,27 @@ impl<'n, A: Allocator> OpenBook<'n, A> {
         network.known();
         self.configuration.wait_on_full(network, p, c);
         self.history.push(Event::WaitFull(number(p), number(c)));
-        self.schedule.set(p, State::WaitsFull(c));
+        set_state(&mut self.schedule, hold, p, State::WaitsFull(c));
+        self.grow_if_owed(p)
+    }
+
+    /// Ends process `p`, which is at this end. The processes that this wakes become ready. Then it makes the growth that
+    /// is owed.
+    #[cold]
+    #[inline(never)]
+    pub(super) fn finish(&mut self, hold: Hold, p: usize, how: How) -> Done
+        requires may { MayCommit hold p self.old }
+        requires stands { Stands self.old.network.now self.old.configuration p (stop_of how) }
+        ensures { IsCommit hold p (λ (s : Place). s ≡ stop_of how) result self.old self.new }
+    {
+        let network = self.network;
+        network.known();
+        let woken = self.configuration.end(network, p, how);
+        self.history.push(Event::Ended(number(p), how));
+        set_state(&mut self.schedule, hold, p, State::Ended(how));
+        wake_all(&mut self.schedule, woken.as_slice());
+        let _grown = self.grow_at_stop();
+        Done::Ended
     }
 
     /// Makes the growth that is owed after a wait of process `p`, if one is: for a cycle through `p`, or else for a
@@ -245,36 +278,47 @@ impl<'n, A: Allocator> OpenBook<'n, A> {
             .push(Event::Grow(number(p), number(d), grown.capacity));
         wake(&mut self.schedule, grown.woken);
     }
+}
 
-    /// Ends process `p`, which is at this end, and makes the growth that is then owed.
-    pub(super) fn finish(&mut self, p: usize, how: How) -> Done
-        requires room { 2 ≤ self.old.history.room }
-        requires sound { IsSound (book_of self.old) }
-        requires held { IsHeld (book_of self.old) p }
-        requires stands { Stands self.old.network.now self.old.configuration p (stop_of how) }
-        ensures answered { Answered p (λ (s : Place). s ≡ stop_of how) result (book_of self.old) (book_of self.new) }
-        ensures room { self.old.history.room ≤ self.new.history.room + 2 }
-    {
-        self.end(p, how);
-        let _grown = self.grow_at_stop();
-        Done::Ended
+/// Puts process `p`, which is held, to the tail of the queue, and a process that was woken behind it.
+// It tests first whether there is one. So where the channel has no mark, no value says that nobody was woken.
+#[inline(always)]
+fn go_on<A: Allocator>(schedule: &mut Schedule<A>, hold: Hold, p: usize, woken: Option<usize>)
+    requires held { IsHeldBy hold p schedule.old }
+    requires woken { MayBeReady (made_ready p (holding hold p schedule.old)) (option_to_list woken) }
+    ensures { schedule.new ≡ all_made_ready (option_to_list woken)
+        (made_ready p (holding hold p schedule.old)) }
+{
+    let Some(q) = woken else {
+        put_back(schedule, hold, p);
+        return;
+    };
+    put_back(schedule, hold, p);
+    schedule.make_ready(q);
+}
+
+/// Puts process `p`, which is held, to the tail of the queue.
+#[inline(always)]
+pub(super) fn put_back<A: Allocator>(schedule: &mut Schedule<A>, hold: Hold, p: usize)
+    requires { IsHeldBy hold p schedule.old }
+    ensures { schedule.new ≡ made_ready p (holding hold p schedule.old) }
+{
+    match hold {
+        Hold::First => schedule.rotate(p),
+        Hold::Taken => schedule.put_back(p),
     }
+}
 
-    /// Ends process `p`, which is at this end. The processes that this wakes become ready.
-    fn end(&mut self, p: usize, how: How)
-        requires room { 0 < self.old.history.room }
-        requires sound { IsSound (book_of self.old) }
-        requires held { IsHeld (book_of self.old) p }
-        requires stands { Stands self.old.network.now self.old.configuration p (stop_of how) }
-        ensures follows { Follows (event.Ended p how) (book_of self.old) (book_of self.new) }
-        ensures room { self.old.history.room ≤ self.new.history.room + 1 }
-    {
-        let network = self.network;
-        network.known();
-        let woken = self.configuration.end(network, p, how);
-        self.history.push(Event::Ended(number(p), how));
-        self.schedule.set(p, State::Ended(how));
-        wake_all(&mut self.schedule, woken.as_slice());
+/// Puts process `p`, which is held, into this state, which is not ready.
+#[inline(always)]
+fn set_state<A: Allocator>(schedule: &mut Schedule<A>, hold: Hold, p: usize, state: State)
+    requires held { IsHeldBy hold p schedule.old }
+    requires state { is_ready state ≡ false }
+    ensures { schedule.new ≡ with_state p state (holding hold p schedule.old) }
+{
+    match hold {
+        Hold::First => schedule.set_first(p, state),
+        Hold::Taken => schedule.set(p, state),
     }
 }
 

@@ -1,30 +1,27 @@
 //! Turns in a row: the first process of the queue makes steps and is committed, again and again. A process that gets or
 //! puts an item stays ready, so its state is not written: the queue is rotated.
-ghost use Rattle.std.specs.Prelude.{◌≡◌, ◌<◌, ◌≤◌, ◌+◌, ◌*◌, ◌^◌, ℕ, [], true, false, length, slice_get, option_to_list, Some, None, IfOk, OnErr, IsTrue};
-ghost use Rattle.kpn_chan.specs.Channel.{is_full, unread};
-ghost use Rattle.kpn_history.specs.declared.event.Event.TheVariants as event;
+ghost use Rattle.std.specs.Prelude.{◌≡◌, ◌<◌, ◌≤◌, ◌+◌, ◌*◌, ◌^◌, true, false, length, slice_get, Some, IfOk, OnErr, IsTrue};
+ghost use Rattle.kpn_chan.specs.Channel.{is_full};
 ghost use Rattle.kpn_net.specs.Tables.{program_of};
-ghost use Rattle.kpn_step.specs.declared.stop.Stop.{Stop as Place};
 ghost use Rattle.kpn_step.specs.Frame.{Frame};
 ghost use Rattle.kpn_step.specs.Stops.{IsAtPort};
 ghost use Rattle.kpn_configuration.specs.Configuration.{channel_in};
-ghost use Rattle.kpn_configuration.specs.Due.{Stands, ReadsFrom, WritesTo, stop_of};
-ghost use Rattle.kpn_schedule.specs.Schedule.{HoldsFirst, first_held, made_ready};
+ghost use Rattle.kpn_configuration.specs.Due.{Stands, WritesTo};
+ghost use Rattle.kpn_schedule.specs.Schedule.{HoldsFirst, first_held};
+ghost use Rattle.kpn_run_state.specs.declared.open_book.Hold.TheVariants as hold;
 ghost use Rattle.kpn_run_state.specs.Book.{held_count};
-ghost use Rattle.kpn_run_state.specs.Commits.{IsReadFrom, IsWriteTo};
+ghost use Rattle.kpn_run_state.specs.Commits.{IsWriteTo};
 ghost use Rattle.kpn_run_state.specs.Kept.{IsKept};
 ghost use Rattle.kpn_run_state.specs.InARow.{RunsOn};
-ghost use Rattle.kpn_run_state.specs.Appending.{all_made_ready};
-ghost use Rattle.kpn_run_state.specs.Open.{MayBeReady, book_of, first_claimed, IsSound, Answered, if_sink, Follows, AnsweredFirst, HandlesFirst, IsTurn};
+ghost use Rattle.kpn_run_state.specs.Open.{book_of, first_claimed, MayCommit, if_sink, AnsweredFirst, HandlesFirst, IsTurn};
 
-use super::commits::how_of;
-use super::{OpenBook, number};
+use super::commits::{how_of, put_back};
+use super::{Hold, OpenBook};
 use crate::answers::Done;
 use kpn_chan::Channel;
 use kpn_configuration::{in_channel, out_channel};
-use kpn_history::{Event, How, State};
+use kpn_history::How;
 use kpn_net::Network;
-use kpn_schedule::Schedule;
 use kpn_step::Stop;
 use std::alloc::{AllocError, Allocator};
 
@@ -104,104 +101,38 @@ impl<'n, A: Allocator> OpenBook<'n, A> {
         match stop {
             Stop::WantRead(port) => {
                 let c = in_channel(network, p, port);
-                self.read_first(p, c);
+                self.read(Hold::First, p, c);
                 Ok(None)
             }
             Stop::WantWrite(port, item) => {
                 let c = out_channel(network, p, port);
                 if is_open(self.configuration.channel(c)) {
-                    return Ok(self.put_first(p, c, item));
+                    self.put(Hold::First, p, c, item);
+                    return Ok(if_sink(network, c));
                 }
                 self.configuration.reserve_one(c)?;
-                Ok(self.write_first(p, c, item))
+                Ok(self.write_later(p, c, item))
             }
             Stop::Done => {
-                self.finish_held(p, How::Done);
+                self.finish(Hold::First, p, How::Done);
                 Ok(None)
             }
             Stop::Faulted(fault) => {
-                self.finish_held(p, how_of(fault));
+                self.finish(Hold::First, p, how_of(fault));
                 Ok(None)
             }
             Stop::Paused => {
-                self.schedule.rotate(p);
+                put_back(&mut self.schedule, Hold::First, p);
                 Ok(None)
             }
         }
     }
 
-    /// Process `p`, the first of the queue, which is at a read from channel `c`, gets its next item, or waits if there
-    /// is none.
-    #[inline(always)]
-    fn read_first(&mut self, p: usize, c: usize)
-        requires first { HoldsFirst p self.old.schedule (first_held p self.old.schedule) }
-        requires sound { IsSound (first_claimed p (book_of self.old)) }
-        requires room { 2 ≤ self.old.history.room }
-        requires reads { ReadsFrom self.old.network.now self.old.configuration p c }
-        ensures answered { let t = self.old.network.now in (answer : Done) × Answered p
-            (λ s. IsReadFrom t p s c) answer (first_claimed p (book_of self.old)) (book_of self.new) }
-        ensures room { self.old.history.room ≤ self.new.history.room + 2 }
-    {
-        let network = self.network;
-        network.known();
-        if !self.configuration.has_item(c) {
-            self.read_later(p, c);
-            return;
-        }
-        let got = self.configuration.get(network, p, c);
-        rotate_and_wake(&mut self.schedule, p, got.woken);
-        self.history
-            .push(Event::Get(number(p), number(c), got.item));
-    }
-
-    /// Process `p`, the first of the queue, which is at a write of this item to channel `c`, puts it there. It returns
-    /// the channel, if it is a sink.
-    #[inline(always)]
-    fn put_first(&mut self, p: usize, c: usize, item: i64) -> Option<usize>
-        requires first { HoldsFirst p self.old.schedule (first_held p self.old.schedule) }
-        requires sound { IsSound (first_claimed p (book_of self.old)) }
-        requires room { 2 ≤ self.old.history.room }
-        requires writes { WritesTo self.old.network.now self.old.configuration p c item }
-        requires ready { is_full (channel_in self.old.configuration c) ≡ false }
-        requires reserved { IsTrue (channel_in self.old.configuration c).is_reserved }
-        ensures answered { let t = self.old.network.now in AnsweredFirst p (λ s. IsWriteTo t p s c item)
-            result (first_claimed p (book_of self.old)) (book_of self.new) }
-        ensures room { self.old.history.room ≤ self.new.history.room + 2 }
-    {
-        let network = self.network;
-        network.known();
-        let woken = self.configuration.put(network, p, c, item);
-        rotate_and_wake(&mut self.schedule, p, woken);
-        self.history.push(Event::Put(number(p), number(c), item));
-        if_sink(network, c)
-    }
-
-    // The next three are rare, and the first two write the state of the process once: it goes from ready to its wait.
-
+    /// Puts an item as `write` does, and returns the channel if it is a sink that got it.
     #[cold]
     #[inline(never)]
-    fn read_later(&mut self, p: usize, c: usize)
-        requires first { HoldsFirst p self.old.schedule (first_held p self.old.schedule) }
-        requires sound { IsSound (first_claimed p (book_of self.old)) }
-        requires room { 2 ≤ self.old.history.room }
-        requires reads { ReadsFrom self.old.network.now self.old.configuration p c }
-        requires ready { unread (channel_in self.old.configuration c) ≡ [] }
-        ensures answered { let t = self.old.network.now in (answer : Done) × Answered p
-            (λ s. IsReadFrom t p s c) answer (first_claimed p (book_of self.old)) (book_of self.new) }
-        ensures room { self.old.history.room ≤ self.new.history.room + 2 }
-    {
-        self.first_waits_on_empty(p, c);
-        self.grow_if_owed(p);
-    }
-
-    /// Process `p`, the first of the queue, which is at a write of this item to channel `c`, puts it there, or waits if
-    /// the channel is full.
-    #[cold]
-    #[inline(never)]
-    fn write_first(&mut self, p: usize, c: usize, item: i64) -> Option<usize>
-        requires first { HoldsFirst p self.old.schedule (first_held p self.old.schedule) }
-        requires sound { IsSound (first_claimed p (book_of self.old)) }
-        requires room { 2 ≤ self.old.history.room }
+    fn write_later(&mut self, p: usize, c: usize, item: i64) -> Option<usize>
+        requires may { MayCommit hold.First p self.old }
         requires writes { WritesTo self.old.network.now self.old.configuration p c item }
         requires reserved { IsTrue (channel_in self.old.configuration c).is_reserved }
         ensures answered { let t = self.old.network.now in AnsweredFirst p (λ s. IsWriteTo t p s c item)
@@ -210,64 +141,10 @@ impl<'n, A: Allocator> OpenBook<'n, A> {
     {
         let network = self.network;
         network.known();
-        if !self.configuration.channel(c).is_full() {
-            return self.put_first(p, c, item);
+        match self.write(Hold::First, p, c, item) {
+            Done::Put => if_sink(network, c),
+            _ => None,
         }
-        self.first_waits_on_full(p, c, item);
-        self.grow_if_owed(p);
-        None
-    }
-
-    #[cold]
-    #[inline(never)]
-    fn finish_held(&mut self, p: usize, how: How)
-        requires first { HoldsFirst p self.old.schedule (first_held p self.old.schedule) }
-        requires sound { IsSound (first_claimed p (book_of self.old)) }
-        requires room { 2 ≤ self.old.history.room }
-        requires stands { Stands self.old.network.now self.old.configuration p (stop_of how) }
-        ensures answered { (answer : Done) × Answered p (λ (s : Place). s ≡ stop_of how)
-            answer (first_claimed p (book_of self.old)) (book_of self.new) }
-        ensures room { self.old.history.room ≤ self.new.history.room + 2 }
-    {
-        self.schedule.hold_next();
-        self.finish(p, how);
-    }
-
-    fn first_waits_on_empty(&mut self, p: usize, c: usize)
-        requires first { HoldsFirst p self.old.schedule (first_held p self.old.schedule) }
-        requires sound { IsSound (first_claimed p (book_of self.old)) }
-        requires room { 0 < self.old.history.room }
-        requires reads { ReadsFrom self.old.network.now self.old.configuration p c }
-        requires ready { unread (channel_in self.old.configuration c) ≡ [] }
-        ensures follows { Follows (event.WaitEmpty p c)
-            (first_claimed p (book_of self.old)) (book_of self.new) }
-        ensures room { self.old.history.room ≤ self.new.history.room + 1 }
-    {
-        let network = self.network;
-        network.known();
-        self.configuration.wait_on_empty(network, p, c);
-        self.history.push(Event::WaitEmpty(number(p), number(c)));
-        self.schedule.set_first(p, State::WaitsEmpty(c));
-    }
-
-    fn first_waits_on_full(&mut self, p: usize, c: usize, item: i64)
-        requires first { HoldsFirst p self.old.schedule (first_held p self.old.schedule) }
-        requires sound { IsSound (first_claimed p (book_of self.old)) }
-        requires room { 0 < self.old.history.room }
-        requires writes { WritesTo self.old.network.now self.old.configuration p c item }
-        requires ready { is_full (channel_in self.old.configuration c) ≡ true }
-        requires reserved { IsTrue (channel_in self.old.configuration c).is_reserved }
-        ensures follows { Follows (event.WaitFull p c)
-            (first_claimed p (book_of self.old)) (book_of self.new) }
-        ensures room { self.old.history.room ≤ self.new.history.room + 1 }
-    {
-        // Only the contract names the item.
-        let _item = item;
-        let network = self.network;
-        network.known();
-        self.configuration.wait_on_full(network, p, c);
-        self.history.push(Event::WaitFull(number(p), number(c)));
-        self.schedule.set_first(p, State::WaitsFull(c));
     }
 }
 
@@ -281,23 +158,6 @@ fn turns_for(room: usize, left: u64) -> u64
 {
     let turns = room as u64 / 2;
     if turns < left { turns } else { left }
-}
-
-/// Moves process `p`, the first of the queue, to its tail, and makes a process that was woken ready behind it.
-// It tests first whether there is one. So where the channel has no mark, no value says that nobody was woken.
-#[inline(always)]
-fn rotate_and_wake<A: Allocator>(schedule: &mut Schedule<A>, p: usize, woken: Option<usize>)
-    requires first { slice_get schedule.old.queue 0 ≡ Some p }
-    requires woken { MayBeReady (made_ready p (first_held p schedule.old)) (option_to_list woken) }
-    ensures { schedule.new
-        ≡ all_made_ready (option_to_list woken) (made_ready p (first_held p schedule.old)) }
-{
-    let Some(q) = woken else {
-        schedule.rotate(p);
-        return;
-    };
-    schedule.rotate(p);
-    schedule.make_ready(q);
 }
 
 /// Whether an item can be put on a channel at once: its reader is there, it is not full, and the item is reserved.

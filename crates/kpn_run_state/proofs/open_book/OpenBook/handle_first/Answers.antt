@@ -13,16 +13,35 @@ use Rattle.kpn_configuration.specs.Due.{stop_of, WritesTo}
 use Rattle.kpn_run_state.specs.declared.answers.Done.TheVariants as done
 use Rattle.kpn_run_state.specs.Book.{put_back}
 use Rattle.kpn_run_state.specs.Commits.{IsReadFrom, IsWriteTo}
-use Rattle.kpn_run_state.specs.Open.{book_of, first_claimed, reserved_on, sink_by, Answered, AnsweredFirst}
+use Rattle.kpn_run_state.specs.Open.{book_of, first_claimed, reserved_on, sink_by, Answered, AnsweredFirst, IsSound}
 use Rattle.kpn_run_state.specs.Kept.{IsKept}
 use Rattle.kpn_run_state.proofs.Following.{held_is_there, recorded}
 use Rattle.kpn_run_state.proofs.Answering.{asked_otherwise, answered_paused}
 use Rattle.kpn_run_state.proofs.Committing.{no_pause, kept_reserved_on, reads_from, writes_to}
 use Rattle.kpn_run_state.proofs.Reserved.{is_reserved_here}
-use Rattle.kpn_run_state.proofs.FirstOfQueue.{held_first, handles_write}
+use Rattle.kpn_run_state.proofs.FirstOfQueue.{held_first, puts_on_it, handles_write}
 use Rattle.kpn_run_state.proofs.open_book.OpenBook.handle_first.Given as given
 use Rattle.kpn_run_state.proofs.open_book.OpenBook.handle_first.Goals as goal
-use Rattle.kpn_run_state.proofs.open_book.OpenBook.handle_first.Goals.{After-out_channel-c}
+use Rattle.kpn_run_state.proofs.open_book.OpenBook.handle_first.Goals.{After-known, After-out_channel-c}
+
+sound : (g : given.Over) (c : After-known g) → IsSound (first_claimed c.args.p (book_of c.args.self.now))
+sound g c = record { in_step = c.requires.kept.in_step; nothing_owed = c.requires.kept.nothing_owed }
+
+pub read-requires-clause-may : goal.read-requires-clause-may
+read-requires-clause-may g c =
+    record { held = c.requires.first; sound = sound g (goal.at.read-requires-clause-may g c).After-known; room = c.requires.room }
+
+pub put-requires-clause-may : goal.put-requires-clause-may
+put-requires-clause-may g c =
+    record { held = c.requires.first; sound = sound g (goal.at.put-requires-clause-may g c).After-known; room = c.requires.room }
+
+pub finish-requires-clause-may : goal.finish-requires-clause-may
+finish-requires-clause-may g c =
+    record { held = c.requires.first; sound = sound g (goal.at.finish-requires-clause-may g c).After-known; room = c.requires.room }
+
+pub finish-requires-in-Faulted-clause-may : goal.finish-requires-in-Faulted-clause-may
+finish-requires-in-Faulted-clause-may g c =
+    record { held = c.requires.first; sound = sound g (goal.at.finish-requires-in-Faulted-clause-may g c).After-known; room = c.requires.room }
 
 pub in_channel-c-requires-clause-port : goal.in_channel-c-requires-clause-port
 in_channel-c-requires-clause-port g c =
@@ -65,17 +84,17 @@ channel-requires g c = out_there g (goal.at.channel-requires g c).After-out_chan
 pub reserve_one-requires : goal.reserve_one-requires
 reserve_one-requires g c = out_there g (goal.at.reserve_one-requires g c).After-out_channel-c
 
-pub write_first-requires-clause-reserved : goal.write_first-requires-clause-reserved
-write_first-requires-clause-reserved g c =
+pub write_later-requires-clause-reserved : goal.write_later-requires-clause-reserved
+write_later-requires-clause-reserved g c =
     subst (λ s. IsTrue (channel_in s c.out_channel-c.result).is_reserved)
     (sym c.in_ok-reserve_one-in-WantWrite.ensures.after)
     (is_reserved_here (book_of c.args.self.now) c.out_channel-c.result
-    (out_there g (goal.at.write_first-requires-clause-reserved g c).After-out_channel-c))
+    (out_there g (goal.at.write_later-requires-clause-reserved g c).After-out_channel-c))
 
 pub returns-in-WantRead-clause-handles : goal.returns-in-WantRead-clause-handles
 returns-in-WantRead-clause-handles g c =
     let b = book_of c.args.self.now in
-    let answer = c.read_first.ensures.answered.0 in
+    let answer = c.read.result in
     record {
       reserved = first_claimed c.args.p b;
       but = inl refl;
@@ -83,12 +102,12 @@ returns-in-WantRead-clause-handles g c =
         answer = answer;
         answered =
             asked_otherwise c.args.p (λ s. IsReadFrom b.tables c.args.p s c.in_channel-c.result)
-            (λ s. s ≡ c.args.stop) answer (first_claimed c.args.p b) (book_of c.read_first.new.self)
+            (λ s. s ≡ c.args.stop) answer (first_claimed c.args.p b) (book_of c.read.new.self)
             (λ s is. record {
               port = c.in-WantRead.port;
               asks = is ∙ c.in-WantRead.is;
               channel = c.in_channel-c.ensures;
-            }) c.read_first.ensures.answered.1;
+            }) c.read.ensures.answered;
         sink_is = λ s is. sym (ap (λ z. sink_by b.tables c.args.p z answer) (is ∙ c.in-WantRead.is));
       };
     }
@@ -99,15 +118,19 @@ returns-then-is_open-clause-handles g c =
     let o = first_claimed c.args.p b in
     let d = c.out_channel-c.result in
     let fits : SFits w64 c.in-WantWrite.item = search rules in
-    handles_write o o (book_of c.put_first.new.self) c.args.p d c.in-WantWrite.item c.args.stop c.put_first.result
-    (inl refl)
+    handles_write o o (book_of c.put.new.self) c.args.p d c.in-WantWrite.item c.args.stop c.if_sink.result (inl refl)
     (λ s is. record {
       port = c.in-WantWrite.port;
       asks = is ∙ c.in-WantWrite.is;
       channel = c.out_channel-c.ensures;
     })
-    (subst (λ v. AnsweredFirst c.args.p (λ s. IsWriteTo b.tables c.args.p s d v) c.put_first.result o
-    (book_of c.put_first.new.self)) (to_z-of_z w64 c.in-WantWrite.item fits) c.put_first.ensures.answered)
+    (record {
+      answer = done.Put;
+      answered =
+          subst (λ v. Answered c.args.p (λ s. IsWriteTo b.tables c.args.p s d v) done.Put o (book_of c.put.new.self))
+          (to_z-of_z w64 c.in-WantWrite.item fits) c.put.ensures.answered;
+      sink_is = λ s asks. puts_on_it b.tables c.args.p d c.in-WantWrite.item s asks c.if_sink.result c.if_sink.ensures;
+    })
 
 pub returns-in_ok-reserve_one-in-WantWrite-clause-handles :
     goal.returns-in_ok-reserve_one-in-WantWrite-clause-handles
@@ -121,12 +144,12 @@ returns-in_ok-reserve_one-in-WantWrite-clause-handles g c =
     let same : reserved ≡ reserved_on d o =
     ap (λ s. recorded o b.history s o.schedule) c.in_ok-reserve_one-in-WantWrite.ensures.after in
     let fits : SFits w64 c.in-WantWrite.item = search rules in
-    let made : AnsweredFirst c.args.p (λ s. IsWriteTo b.tables c.args.p s d c.in-WantWrite.item) c.write_first.result
-    reserved (book_of c.write_first.new.self) =
-    subst (λ v. AnsweredFirst c.args.p (λ s. IsWriteTo b.tables c.args.p s d v) c.write_first.result reserved
-    (book_of c.write_first.new.self)) (to_z-of_z w64 c.in-WantWrite.item fits) c.write_first.ensures.answered in
-    handles_write o reserved (book_of c.write_first.new.self) c.args.p d c.in-WantWrite.item c.args.stop
-    c.write_first.result
+    let made : AnsweredFirst c.args.p (λ s. IsWriteTo b.tables c.args.p s d c.in-WantWrite.item) c.write_later.result
+    reserved (book_of c.write_later.new.self) =
+    subst (λ v. AnsweredFirst c.args.p (λ s. IsWriteTo b.tables c.args.p s d v) c.write_later.result reserved
+    (book_of c.write_later.new.self)) (to_z-of_z w64 c.in-WantWrite.item fits) c.write_later.ensures.answered in
+    handles_write o reserved (book_of c.write_later.new.self) c.args.p d c.in-WantWrite.item c.args.stop
+    c.write_later.result
     (inr (
       λ paused. no_pause c.args.stop c.in-WantWrite.port c.in-WantWrite.item c.in-WantWrite.is paused,
       (d, below, same),
@@ -140,7 +163,7 @@ returns-in_ok-reserve_one-in-WantWrite-clause-handles g c =
 pub returns-in-Done-clause-handles : goal.returns-in-Done-clause-handles
 returns-in-Done-clause-handles g c =
     let b = book_of c.args.self.now in
-    let answer = c.finish_held.ensures.answered.0 in
+    let answer = c.finish.result in
     record {
       reserved = first_claimed c.args.p b;
       but = inl refl;
@@ -148,8 +171,8 @@ returns-in-Done-clause-handles g c =
         answer = answer;
         answered =
             asked_otherwise c.args.p (λ (s : Stop). s ≡ stop.Done) (λ s. s ≡ c.args.stop) answer
-            (first_claimed c.args.p b) (book_of c.finish_held.new.self) (λ s is. is ∙ c.in-Done.is)
-            c.finish_held.ensures.answered.1;
+            (first_claimed c.args.p b) (book_of c.finish.new.self) (λ s is. is ∙ c.in-Done.is)
+            c.finish.ensures.answered;
         sink_is = λ s is. sym (ap (λ z. sink_by b.tables c.args.p z answer) (is ∙ c.in-Done.is));
       };
     }
@@ -157,7 +180,7 @@ returns-in-Done-clause-handles g c =
 pub returns-in-Faulted-clause-handles : goal.returns-in-Faulted-clause-handles
 returns-in-Faulted-clause-handles g c =
     let b = book_of c.args.self.now in
-    let answer = c.finish_held-in-Faulted.ensures.answered.0 in
+    let answer = c.finish-in-Faulted.result in
     record {
       reserved = first_claimed c.args.p b;
       but = inl refl;
@@ -165,8 +188,8 @@ returns-in-Faulted-clause-handles g c =
         answer = answer;
         answered =
             asked_otherwise c.args.p (λ (s : Stop). s ≡ stop_of c.how_of.result) (λ s. s ≡ c.args.stop) answer
-            (first_claimed c.args.p b) (book_of c.finish_held-in-Faulted.new.self)
-            (λ s is. is ∙ c.in-Faulted.is ∙ sym c.how_of.ensures) c.finish_held-in-Faulted.ensures.answered.1;
+            (first_claimed c.args.p b) (book_of c.finish-in-Faulted.new.self)
+            (λ s is. is ∙ c.in-Faulted.is ∙ sym c.how_of.ensures) c.finish-in-Faulted.ensures.answered;
         sink_is = λ s is. sym (ap (λ z. sink_by b.tables c.args.p z answer) (is ∙ c.in-Faulted.is));
       };
     }
@@ -183,7 +206,7 @@ returns-in-Paused-clause-handles g c =
         answer = done.Paused;
         answered =
             subst (λ z. Answered c.args.p (λ (s : Stop). s ≡ c.args.stop) done.Paused o
-            (recorded b b.history b.configuration z)) (sym c.rotate.ensures)
+            (recorded b b.history b.configuration z)) (sym c.put_back.ensures)
             (asked_otherwise c.args.p (λ s. s ≡ stop.Paused) (λ s. s ≡ c.args.stop) done.Paused o
             (put_back c.args.p o) (λ s is. is ∙ c.in-Paused.is)
             (answered_paused o
@@ -193,21 +216,21 @@ returns-in-Paused-clause-handles g c =
       };
     }
 
-pub read_first-requires-clause-reads : goal.read_first-requires-clause-reads
-read_first-requires-clause-reads g c =
+pub read-requires-clause-reads : goal.read-requires-clause-reads
+read-requires-clause-reads g c =
     reads_from c.args.self.now.network.now c.args.self.now.configuration c.args.p c.in_channel-c.result
     c.in-WantRead.port c.args.stop c.in-WantRead.is c.in_channel-c.ensures c.requires.stands
 
-pub put_first-requires-clause-writes : goal.put_first-requires-clause-writes
-put_first-requires-clause-writes g c =
+pub put-requires-clause-writes : goal.put-requires-clause-writes
+put-requires-clause-writes g c =
     let v = c.in-WantWrite.item in
     let fits : SFits w64 v = search rules in
     writes_to c.args.self.now.network.now c.args.self.now.configuration c.args.p c.out_channel-c.result
     c.in-WantWrite.port v (to_z w64 (of_z w64 v)) c.args.stop c.in-WantWrite.is (to_z-of_z w64 v fits)
     c.out_channel-c.ensures c.requires.stands
 
-pub write_first-requires-clause-writes : goal.write_first-requires-clause-writes
-write_first-requires-clause-writes g c =
+pub write_later-requires-clause-writes : goal.write_later-requires-clause-writes
+write_later-requires-clause-writes g c =
     let t = c.args.self.now.network.now in
     let d = c.out_channel-c.result in
     let v = c.in-WantWrite.item in
@@ -217,12 +240,16 @@ write_first-requires-clause-writes g c =
     (to_z w64 (of_z w64 v)) c.args.stop c.in-WantWrite.is (to_z-of_z w64 v fits) c.out_channel-c.ensures
     c.requires.stands)
 
-pub write_first-requires-clause-sound : goal.write_first-requires-clause-sound
-write_first-requires-clause-sound g c =
+pub write_later-requires-clause-may : goal.write_later-requires-clause-may
+write_later-requires-clause-may g c =
     let o = first_claimed c.args.p (book_of c.args.self.now) in
     let d = c.out_channel-c.result in
-    let below = out_there g (goal.at.write_first-requires-clause-sound g c).After-out_channel-c in
+    let below = out_there g (goal.at.write_later-requires-clause-may g c).After-out_channel-c in
     let kept =
     subst (λ s. IsKept (recorded o o.history s o.schedule)) (sym c.in_ok-reserve_one-in-WantWrite.ensures.after)
     (kept_reserved_on o c.requires.kept d below) in
-    record { in_step = kept.in_step; nothing_owed = kept.nothing_owed }
+    record {
+      held = c.requires.first;
+      sound = record { in_step = kept.in_step; nothing_owed = kept.nothing_owed };
+      room = c.requires.room;
+    }

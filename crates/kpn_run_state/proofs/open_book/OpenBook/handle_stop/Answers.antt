@@ -46,7 +46,7 @@ returns-in-WantRead g c =
     asked_otherwise c.args.p (λ s. IsReadFrom b.tables c.args.p s c.in_channel-c.result)
     (λ s. s ≡ c.args.stop) c.read.result b (book_of c.read.new.self)
     (λ s is. record { port = c.in-WantRead.port; asks = is ∙ c.in-WantRead.is; channel = c.in_channel-c.ensures })
-    c.read.ensures
+    c.read.ensures.answered
 
 pub returns-in-Paused : goal.returns-in-Paused
 returns-in-Paused g c =
@@ -80,7 +80,7 @@ returns-in-WantWrite g c =
       port = c.in-WantWrite.port;
       asks = is ∙ c.in-WantWrite.is ∙ ap (WantWrite c.in-WantWrite.port) (sym (to_z-of_z w64 v fits));
       channel = c.out_channel-c.ensures;
-    }) c.write.ensures
+    }) c.write.ensures.answered
 
 pub returns-in-Done : goal.returns-in-Done
 returns-in-Done g c =
