@@ -17,21 +17,6 @@ impl<'n, A: Allocator> OpenBook<'n, A> {
         ensures as_before { OnErr result (book_of self.new ≡ book_of self.old) }
         ensures kept { IsKept (book_of self.new) }
     {
-        self.history.reserve(2)?;
-        self.turn_at_once()
-    }
-
-    /// The same if there is room for two events.
-    #[inline(always)]
-    fn turn_at_once(&mut self) -> Result<bool, AllocError>
-    where
-        A: Copy,
-        requires kept { IsKept (book_of self.old) }
-        requires room { 2 ≤ self.old.history.room }
-        ensures at_once { IfOk result (λ made. at_once_by made (book_of self.old) (book_of self.new)) }
-        ensures as_before { OnErr result (book_of self.new ≡ book_of self.old) }
-        ensures kept { IsKept (book_of self.new) }
-    {
         let network = self.network;
         network.known();
         self.schedule.known();
@@ -44,6 +29,7 @@ impl<'n, A: Allocator> OpenBook<'n, A> {
         let Some(stop) = self.configuration.stop_at_once(network, p) else {
             return Ok(false);
         };
+        self.history.reserve(2)?;
         self.handle_first(p, stop)?;
         self.commits += 1;
         self.schedule.known();
