@@ -1,5 +1,5 @@
 -- A turn at once is a turn with no step.
-use Rattle.std.proofs.Common.{◌≡◌, ℕ, ◌+◌, ◌-◌, ◌<◌, ◌^◌, true, false, slice_get, Option, Some, Result, Ok, refl, sym, ap, ◌∙◌, subst, arith, IfOk, inl, inr}
+use Rattle.std.proofs.Common.{◌≡◌, ℕ, ◌+◌, ◌-◌, ◌<◌, ◌^◌, slice_get, Option, Some, refl, sym, ap, arith, inl, inr}
 use Rattle.std.proofs.lemmas.Bool.{cases_eq}
 use Rattle.std.proofs.lemmas.List.{set-get_or}
 use Rattle.kpn_net.specs.Tables.{program_of}

@@ -1,5 +1,5 @@
 -- The first process of the queue makes steps and is committed. It is held in between, though no state says so.
-use Rattle.std.proofs.Common.{◌≡◌, ℕ, ◌+◌, ◌-◌, ◌<◌, ◌≤◌, ◌^◌, ℤ, Bool, true, false, cond, is_some, List, [], ◌∷◌, ◌++◌, drop, set, slice_get, slice_index, Option, Some, None, refl, sym, ap, ◌∙◌, subst, arith, IfSome, IfNone, inl, inr}
+use Rattle.std.proofs.Common.{◌≡◌, ℕ, ◌+◌, ◌<◌, ◌≤◌, ◌^◌, ℤ, Bool, true, false, cond, is_some, List, [], ◌∷◌, ◌++◌, drop, slice_get, slice_index, Option, Some, None, refl, sym, ap, ◌∙◌, subst, arith, inl, inr}
 use Rattle.std.specs.List.{last_or}
 use Rattle.std.proofs.lemmas.Bool.{cases_eq, false≢true}
 use Rattle.kpn_net.specs.Tables.{Tables, instance_at, channel_at, is_sink}
@@ -9,13 +9,12 @@ use Rattle.kpn_step.specs.declared.stop.Stop.TheVariants as stop
 use Rattle.kpn_step.specs.Stops.{Advanced, IsAdvance, IsWithinQuota}
 use Rattle.kpn_history.specs.declared.event.Event.{Event}
 use Rattle.kpn_history.specs.declared.event.Event.TheVariants as event
-use Rattle.kpn_history.specs.declared.state.State.TheVariants.{Held}
 use Rattle.kpn_history.specs.Views.{is_held}
 use Rattle.kpn_history.proofs.Events.{last_or-push}
 use Rattle.kpn_configuration.specs.Configuration.{Configuration, with_frame}
 use Rattle.kpn_schedule.specs.Schedule.{Schedule, IsSchedule, HoldsFirst, first_held}
 use Rattle.kpn_schedule.proofs.Waiting.{first_taken}
-use Rattle.kpn_schedule.proofs.Queueing.{scheduled, HoldsFirst-popped}
+use Rattle.kpn_schedule.proofs.Queueing.{HoldsFirst-popped}
 use Rattle.kpn_run_state.specs.declared.answers.Done.{Done}
 use Rattle.kpn_run_state.specs.declared.answers.Done.TheVariants as done
 use Rattle.kpn_run_state.specs.Book.{Book, IsHeld, held_count, IsClaimed, standing_at, counted}
@@ -25,7 +24,7 @@ use Rattle.kpn_run_state.specs.Stepping.{StepsNext}
 use Rattle.kpn_run_state.specs.InARow.{PutsOnNoSink, puts_on, StepsInRow, no_step, one_step_more, RunsOn}
 use Rattle.kpn_run_state.specs.declared.open_book.Hold.{Hold}
 use Rattle.kpn_run_state.specs.declared.open_book.Hold.TheVariants as hold
-use Rattle.kpn_run_state.specs.Open.{first_claimed, IsHeldBy, held_by, IsSound, if_sink, sink_of, sink_by, is_but_reserved, grows_if_owed, AnsweredFirst, HandlesFirst, IsTurn}
+use Rattle.kpn_run_state.specs.Open.{first_claimed, IsHeldBy, held_by, IsSound, if_sink, sink_of, sink_by, is_but_reserved, AnsweredFirst, HandlesFirst, IsTurn}
 use Rattle.kpn_run_state.proofs.Counting.{held_more}
 use Rattle.kpn_run_state.proofs.Appended.{claimed_is_held, tables_stay, history_then, commits_stay, base_tables, base_history, base_commits}
 use Rattle.kpn_run_state.proofs.Following.{recorded}
@@ -78,6 +77,12 @@ puts_on_none t p answer other = none_by t p answer (λ c. no_sink c answer other
     no_sink c (done.Grew d) other = refl
     no_sink c done.Ended other = refl
     no_sink c done.Paused other = refl
+
+-- nor does one that is at no write
+pub puts_nowhere : (t : Tables) (p : ℕ) (s : Stop) (answer : Done)
+    → ((port : ℕ) (v : ℤ) → s ≡ stop.WantWrite port v → ⊥) → sink_by t p s answer ≡ None
+puts_nowhere t p (stop.WantWrite port v) answer other = absurd (other port v refl)
+puts_nowhere t p s answer other = refl
 
 module _ (b a o : Book) (p : ℕ) (s : Stop) (sink : Option ℕ) (events : List Event) (same : o.tables ≡ b.tables)
     (history : a.history ≡ b.history ++ events) where

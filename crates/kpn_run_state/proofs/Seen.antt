@@ -1,6 +1,6 @@
 -- What the counts of the schedule show: if some process has not stopped, the run is not settled, and if nobody waits on
 -- a full channel, no growth is owed.
-use Rattle.std.proofs.Common.{◌≡◌, ℕ, zero, suc, ◌<◌, cond, List, [], ◌∷◌, length, get_or, count_by, Some, ap, sym, ◌∙◌, arith}
+use Rattle.std.proofs.Common.{◌≡◌, ℕ, zero, suc, ◌<◌, cond, List, [], ◌∷◌, length, get_or, count_by, Some, sym, ◌∙◌, arith}
 use Rattle.std.specs.List.{Contains, range_with_len}
 use Rattle.std.proofs.lemmas.List.Sums.{sum_by-cons}
 use Rattle.kpn_net.specs.declared.wait.Wait.{Wait}

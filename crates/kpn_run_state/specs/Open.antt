@@ -6,7 +6,6 @@ use Rattle.kpn_step.specs.declared.stop.Stop.{Stop}
 use Rattle.kpn_step.specs.declared.stop.Stop.TheVariants as stop
 use Rattle.kpn_chan.specs.Channel.{with_room}
 use Rattle.kpn_history.specs.declared.event.Event.{Event}
-use Rattle.kpn_history.specs.declared.event.Event.TheVariants as event
 use Rattle.kpn_history.specs.Talks.{is_of_process}
 use Rattle.kpn_history.specs.Views.{is_ready}
 use Rattle.kpn_history.specs.Legal.{OwesGrowth, growth_after, waiter}

@@ -14,6 +14,7 @@ ghost use Rattle.kpn_run_state.specs.AtOnce.{at_once_by};
 use super::Book;
 use crate::answers::{Done, Refused};
 use crate::claim::Claim;
+use crate::open_book::Hold;
 use kpn_history::State;
 use kpn_lang::same;
 use kpn_step::{Advance, Frame, Stop};
@@ -122,7 +123,7 @@ impl<'n, A: Allocator> Book<'n, A> {
         self.parts.reserve(p, stop)?;
         let network = self.parts.network;
         self.parts.configuration.step_to(network, p, to, made);
-        let done = self.parts.handle_stop(p, stop);
+        let done = self.parts.handle_stop(Hold::Taken, p, stop);
         self.parts.commits += 1;
         Ok(done)
     }
@@ -171,7 +172,7 @@ impl<'n, A: Allocator> Book<'n, A> {
             self.parts.schedule.put_back(p);
             return Err(error);
         }
-        let done = self.parts.handle_stop(p, stop);
+        let done = self.parts.handle_stop(Hold::Taken, p, stop);
         self.parts.commits += 1;
         Ok(Some(done))
     }

@@ -19,7 +19,7 @@ ghost use Rattle.kpn_run_state.specs.Appending.{all_made_ready};
 ghost use Rattle.kpn_run_state.specs.Book.{IsHeld};
 ghost use Rattle.kpn_run_state.specs.Commits.{IsReadFrom, IsWriteTo};
 ghost use Rattle.kpn_run_state.specs.Kept.{IsInStep};
-ghost use Rattle.kpn_run_state.specs.Open.{book_of, reserves_by, IsSound, IsHeldBy, holding, MayCommit, IsCommit, Follows, EndsWithWait, GrowsIfOwed, GrowsAtStop, Answered, MayBeReady};
+ghost use Rattle.kpn_run_state.specs.Open.{book_of, reserves_by, IsSound, IsHeldBy, holding, held_by, MayCommit, IsCommit, Follows, EndsWithWait, GrowsIfOwed, GrowsAtStop, Answered, MayBeReady};
 
 use super::{Hold, OpenBook, number, wake};
 use crate::answers::Done;
@@ -56,31 +56,33 @@ impl<'n, A: Allocator> OpenBook<'n, A> {
         }
     }
 
-    pub(crate) fn handle_stop(&mut self, p: usize, stop: Stop) -> Done
-        requires sound { IsSound (book_of self.old) }
-        requires held { IsHeld (book_of self.old) p }
+    /// Commits process `p`, which is held, at this stop.
+    #[inline(always)]
+    pub(crate) fn handle_stop(&mut self, hold: Hold, p: usize, stop: Stop) -> Done
+        requires held { IsHeldBy hold p self.old.schedule }
+        requires sound { IsSound (held_by hold p (book_of self.old)) }
         requires room { stop ≢ Paused → 2 ≤ self.old.history.room }
         requires stands { Stands self.old.network.now self.old.configuration p stop }
         requires port { (f : Frame) × IsAtPort (program_of self.old.network.now p) f stop }
         requires reserved { (c : ℕ) (v : ℤ) → IsWriteTo self.old.network.now p stop c v
             → IsTrue (channel_in self.old.configuration c).is_reserved }
-        ensures { Answered p (λ (s : Place). s ≡ stop) result (book_of self.old) (book_of self.new) }
+        ensures { IsCommit hold p (λ (s : Place). s ≡ stop) result self.old self.new }
     {
         let network = self.network;
         network.known();
         match stop {
             Stop::WantRead(port) => {
                 let c = in_channel(network, p, port);
-                self.read(Hold::Taken, p, c)
+                self.read(hold, p, c)
             }
             Stop::WantWrite(port, item) => {
                 let c = out_channel(network, p, port);
-                self.write(Hold::Taken, p, c, item)
+                self.write(hold, p, c, item)
             }
-            Stop::Done => self.finish(Hold::Taken, p, How::Done),
-            Stop::Faulted(fault) => self.finish(Hold::Taken, p, how_of(fault)),
+            Stop::Done => self.finish(hold, p, How::Done),
+            Stop::Faulted(fault) => self.finish(hold, p, how_of(fault)),
             Stop::Paused => {
-                self.schedule.put_back(p);
+                put_back(&mut self.schedule, hold, p);
                 Done::Paused
             }
         }
@@ -88,7 +90,7 @@ impl<'n, A: Allocator> OpenBook<'n, A> {
 
     /// Process `p`, which is at a read from channel `c`, gets its next item, or waits if there is none.
     #[inline(always)]
-    pub(super) fn read(&mut self, hold: Hold, p: usize, c: usize) -> Done
+    fn read(&mut self, hold: Hold, p: usize, c: usize) -> Done
         requires may { MayCommit hold p self.old }
         requires reads { ReadsFrom self.old.network.now self.old.configuration p c }
         ensures { let t = self.old.network.now in
@@ -183,7 +185,7 @@ impl<'n, A: Allocator> OpenBook<'n, A> {
     /// is owed.
     #[cold]
     #[inline(never)]
-    pub(super) fn finish(&mut self, hold: Hold, p: usize, how: How) -> Done
+    fn finish(&mut self, hold: Hold, p: usize, how: How) -> Done
         requires may { MayCommit hold p self.old }
         requires stands { Stands self.old.network.now self.old.configuration p (stop_of how) }
         ensures { IsCommit hold p (λ (s : Place). s ≡ stop_of how) result self.old self.new }
@@ -299,7 +301,7 @@ fn go_on<A: Allocator>(schedule: &mut Schedule<A>, hold: Hold, p: usize, woken: 
 
 /// Puts process `p`, which is held, to the tail of the queue.
 #[inline(always)]
-pub(super) fn put_back<A: Allocator>(schedule: &mut Schedule<A>, hold: Hold, p: usize)
+fn put_back<A: Allocator>(schedule: &mut Schedule<A>, hold: Hold, p: usize)
     requires { IsHeldBy hold p schedule.old }
     ensures { schedule.new ≡ made_ready p (holding hold p schedule.old) }
 {
@@ -332,7 +334,7 @@ fn wake_all<A: Allocator>(schedule: &mut Schedule<A>, woken: &[usize])
     }
 }
 
-pub(super) fn how_of(fault: Fault) -> How
+fn how_of(fault: Fault) -> How
     ensures { stop_of result ≡ Faulted fault }
 {
     match fault {

@@ -15,12 +15,10 @@ ghost use Rattle.kpn_run_state.specs.Kept.{IsKept};
 ghost use Rattle.kpn_run_state.specs.InARow.{RunsOn};
 ghost use Rattle.kpn_run_state.specs.Open.{book_of, first_claimed, MayCommit, if_sink, AnsweredFirst, HandlesFirst, IsTurn};
 
-use super::commits::{how_of, put_back};
 use super::{Hold, OpenBook};
 use crate::answers::Done;
 use kpn_chan::Channel;
-use kpn_configuration::{in_channel, out_channel};
-use kpn_history::How;
+use kpn_configuration::out_channel;
 use kpn_net::Network;
 use kpn_step::Stop;
 use std::alloc::{AllocError, Allocator};
@@ -98,34 +96,17 @@ impl<'n, A: Allocator> OpenBook<'n, A> {
     {
         let network = self.network;
         network.known();
-        match stop {
-            Stop::WantRead(port) => {
-                let c = in_channel(network, p, port);
-                self.read(Hold::First, p, c);
-                Ok(None)
-            }
-            Stop::WantWrite(port, item) => {
-                let c = out_channel(network, p, port);
-                if is_open(self.configuration.channel(c)) {
-                    self.put(Hold::First, p, c, item);
-                    return Ok(if_sink(network, c));
-                }
-                self.configuration.reserve_one(c)?;
-                Ok(self.write_later(p, c, item))
-            }
-            Stop::Done => {
-                self.finish(Hold::First, p, How::Done);
-                Ok(None)
-            }
-            Stop::Faulted(fault) => {
-                self.finish(Hold::First, p, how_of(fault));
-                Ok(None)
-            }
-            Stop::Paused => {
-                put_back(&mut self.schedule, Hold::First, p);
-                Ok(None)
-            }
+        let Stop::WantWrite(port, item) = stop else {
+            self.handle_stop(Hold::First, p, stop);
+            return Ok(None);
+        };
+        let c = out_channel(network, p, port);
+        if is_open(self.configuration.channel(c)) {
+            self.put(Hold::First, p, c, item);
+            return Ok(if_sink(network, c));
         }
+        self.configuration.reserve_one(c)?;
+        Ok(self.write_later(p, c, item))
     }
 
     /// Puts an item as `write` does, and returns the channel if it is a sink that got it.

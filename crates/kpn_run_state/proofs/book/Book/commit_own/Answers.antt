@@ -69,7 +69,8 @@ handle_stop-done-requires-clause-sound g c =
 
 pub handle_stop-done-requires-clause-held : goal.handle_stop-done-requires-clause-held
 handle_stop-done-requires-clause-held g c =
-    (at_stop g (goal.at.handle_stop-done-requires-clause-held g c).After-step_to).held
+    let held = (at_stop g (goal.at.handle_stop-done-requires-clause-held g c).After-step_to).held in
+    (held.there, held.held)
 
 pub handle_stop-done-requires-clause-port : goal.handle_stop-done-requires-clause-port
 handle_stop-done-requires-clause-port g c =
@@ -88,16 +89,16 @@ invariant_of-self g c = subst IsKept (sym c.in_err-reserve.ensures.1) c.self.inv
 pub overflow_add-self : goal.overflow_add-self
 overflow_add-self g c =
     let below : c.handle_stop-done.new.self.commits + 1 < 2 ^ 64 =
-    (is_counted _ _ _ _ _ _ (at_stop g (goal.at.overflow_add-self g c).After-step_to) c.handle_stop-done.ensures).fits in
+    (is_counted _ _ _ _ _ _ (at_stop g (goal.at.overflow_add-self g c).After-step_to) c.handle_stop-done.ensures.answered).fits in
     search rules
 
 pub invariant_of-self-2 : goal.invariant_of-self-2
 invariant_of-self-2 g c =
-    (is_counted _ _ _ _ _ _ (at_stop g (goal.at.invariant_of-self-2 g c).After-step_to) c.handle_stop-done.ensures).kept
+    (is_counted _ _ _ _ _ _ (at_stop g (goal.at.invariant_of-self-2 g c).After-step_to) c.handle_stop-done.ensures.answered).kept
 
 pub returns-clause-done : goal.returns-clause-done
 returns-clause-done g c =
-    (is_counted _ _ _ _ _ _ (at_stop g (goal.at.returns-clause-done g c).After-step_to) c.handle_stop-done.ensures).is
+    (is_counted _ _ _ _ _ _ (at_stop g (goal.at.returns-clause-done g c).After-step_to) c.handle_stop-done.ensures.answered).is
 
 pub step_to-requires-clause-shape : goal.step_to-requires-clause-shape
 step_to-requires-clause-shape g c =

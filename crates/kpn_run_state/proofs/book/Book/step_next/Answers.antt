@@ -50,7 +50,8 @@ handle_stop-done-requires-clause-sound g c =
 pub handle_stop-done-requires-clause-held : goal.handle_stop-done-requires-clause-held
 handle_stop-done-requires-clause-held g c =
     let is = stepped g (goal.at.handle_stop-done-requires-clause-held g c).After-step-stop in
-    (is.at_stop (book_of c.reserve.new.self) c.in_default-reserve.ensures.1).held
+    let held = (is.at_stop (book_of c.reserve.new.self) c.in_default-reserve.ensures.1).held in
+    (held.there, held.held)
 
 pub handle_stop-done-requires-clause-port : goal.handle_stop-done-requires-clause-port
 handle_stop-done-requires-clause-port g c =
@@ -75,17 +76,17 @@ overflow_add-self g c =
     let is = stepped g (goal.at.overflow_add-self g c).After-step-stop in
     let at = is.at_stop (book_of c.reserve.new.self) c.in_default-reserve.ensures.1 in
     let below : c.handle_stop-done.new.self.commits + 1 < 2 ^ 64 =
-    (is_counted _ _ _ _ _ _ at c.handle_stop-done.ensures).fits in
+    (is_counted _ _ _ _ _ _ at c.handle_stop-done.ensures.answered).fits in
     search rules
 
 pub invariant_of-self-2 : goal.invariant_of-self-2
 invariant_of-self-2 g c =
     let is = stepped g (goal.at.invariant_of-self-2 g c).After-step-stop in
     let at = is.at_stop (book_of c.reserve.new.self) c.in_default-reserve.ensures.1 in
-    (is_counted _ _ _ _ _ _ at c.handle_stop-done.ensures).kept
+    (is_counted _ _ _ _ _ _ at c.handle_stop-done.ensures.answered).kept
 
 pub returns-clause-step : goal.returns-clause-step
 returns-clause-step g c =
     let is = stepped g (goal.at.returns-clause-step g c).After-step-stop in
     let at = is.at_stop (book_of c.reserve.new.self) c.in_default-reserve.ensures.1 in
-    (is_counted _ _ _ _ _ _ at c.handle_stop-done.ensures).is
+    (is_counted _ _ _ _ _ _ at c.handle_stop-done.ensures.answered).is

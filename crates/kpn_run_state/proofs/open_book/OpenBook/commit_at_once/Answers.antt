@@ -1,4 +1,4 @@
-use Rattle.std.proofs.Common.{◌≡◌, ◌+◌, ◌-◌, ◌<◌, ◌^◌, slice_get, Some, sym, ap, subst, arith, rules}
+use Rattle.std.proofs.Common.{◌≡◌, ◌+◌, ◌<◌, ◌^◌, slice_get, Some, sym, ap, subst, arith, rules}
 use Rattle.kpn_run_state.specs.AtOnce.{CommitsAtOnce}
 use Rattle.kpn_run_state.specs.Book.{held_count, counted}
 use Rattle.kpn_run_state.specs.Kept.{IsKept}

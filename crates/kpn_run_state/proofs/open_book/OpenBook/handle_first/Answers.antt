@@ -6,20 +6,16 @@ use Rattle.kpn_net.specs.Tables.{instance_at, program_of}
 use Rattle.kpn_net.proofs.Networks.{IsInstance-of}
 use Rattle.kpn_net.proofs.PortsApart.{out_is_there}
 use Rattle.kpn_step.specs.Stops.{IsAtPort}
-use Rattle.kpn_step.specs.declared.stop.Stop.{Stop}
-use Rattle.kpn_step.specs.declared.stop.Stop.TheVariants as stop
 use Rattle.kpn_configuration.specs.Configuration.{channel_in}
-use Rattle.kpn_configuration.specs.Due.{stop_of, WritesTo}
+use Rattle.kpn_configuration.specs.Due.{WritesTo}
 use Rattle.kpn_run_state.specs.declared.answers.Done.TheVariants as done
-use Rattle.kpn_run_state.specs.Book.{put_back}
-use Rattle.kpn_run_state.specs.Commits.{IsReadFrom, IsWriteTo}
+use Rattle.kpn_run_state.specs.Commits.{IsWriteTo}
 use Rattle.kpn_run_state.specs.Open.{book_of, first_claimed, reserved_on, sink_by, Answered, AnsweredFirst, IsSound}
 use Rattle.kpn_run_state.specs.Kept.{IsKept}
 use Rattle.kpn_run_state.proofs.Following.{held_is_there, recorded}
-use Rattle.kpn_run_state.proofs.Answering.{asked_otherwise, answered_paused}
-use Rattle.kpn_run_state.proofs.Committing.{no_pause, kept_reserved_on, reads_from, writes_to}
+use Rattle.kpn_run_state.proofs.Committing.{no_pause, kept_reserved_on, writes_to}
 use Rattle.kpn_run_state.proofs.Reserved.{is_reserved_here}
-use Rattle.kpn_run_state.proofs.FirstOfQueue.{held_first, puts_on_it, handles_write}
+use Rattle.kpn_run_state.proofs.FirstOfQueue.{held_first, puts_on_it, puts_nowhere, handles_write}
 use Rattle.kpn_run_state.proofs.open_book.OpenBook.handle_first.Given as given
 use Rattle.kpn_run_state.proofs.open_book.OpenBook.handle_first.Goals as goal
 use Rattle.kpn_run_state.proofs.open_book.OpenBook.handle_first.Goals.{After-known, After-out_channel-c}
@@ -27,32 +23,9 @@ use Rattle.kpn_run_state.proofs.open_book.OpenBook.handle_first.Goals.{After-kno
 sound : (g : given.Over) (c : After-known g) → IsSound (first_claimed c.args.p (book_of c.args.self.now))
 sound g c = record { in_step = c.requires.kept.in_step; nothing_owed = c.requires.kept.nothing_owed }
 
-pub read-requires-clause-may : goal.read-requires-clause-may
-read-requires-clause-may g c =
-    record { held = c.requires.first; sound = sound g (goal.at.read-requires-clause-may g c).After-known; room = c.requires.room }
-
 pub put-requires-clause-may : goal.put-requires-clause-may
 put-requires-clause-may g c =
     record { held = c.requires.first; sound = sound g (goal.at.put-requires-clause-may g c).After-known; room = c.requires.room }
-
-pub finish-requires-clause-may : goal.finish-requires-clause-may
-finish-requires-clause-may g c =
-    record { held = c.requires.first; sound = sound g (goal.at.finish-requires-clause-may g c).After-known; room = c.requires.room }
-
-pub finish-requires-in-Faulted-clause-may : goal.finish-requires-in-Faulted-clause-may
-finish-requires-in-Faulted-clause-may g c =
-    record { held = c.requires.first; sound = sound g (goal.at.finish-requires-in-Faulted-clause-may g c).After-known; room = c.requires.room }
-
-pub in_channel-c-requires-clause-port : goal.in_channel-c-requires-clause-port
-in_channel-c-requires-clause-port g c =
-    let b = first_claimed c.args.p (book_of c.args.self.now) in
-    let held = held_first (book_of c.args.self.now) c.args.p c.requires.first in
-    let there = held_is_there b c.requires.kept.in_step c.args.p held in
-    let at = subst (λ s. IsAtPort (program_of b.tables c.args.p) c.requires.port.0 s) c.in-WantRead.is
-    c.requires.port.1 in
-    let below = at.0 in
-    let long = (IsInstance-of b.tables c.known.ensures c.args.p there).ins in
-    omega (arith, below, long)
 
 pub out_channel-c-requires-clause-port : goal.out_channel-c-requires-clause-port
 out_channel-c-requires-clause-port g c =
@@ -87,30 +60,9 @@ reserve_one-requires g c = out_there g (goal.at.reserve_one-requires g c).After-
 pub write_later-requires-clause-reserved : goal.write_later-requires-clause-reserved
 write_later-requires-clause-reserved g c =
     subst (λ s. IsTrue (channel_in s c.out_channel-c.result).is_reserved)
-    (sym c.in_ok-reserve_one-in-WantWrite.ensures.after)
+    (sym c.in_ok-reserve_one.ensures.after)
     (is_reserved_here (book_of c.args.self.now) c.out_channel-c.result
     (out_there g (goal.at.write_later-requires-clause-reserved g c).After-out_channel-c))
-
-pub returns-in-WantRead-clause-handles : goal.returns-in-WantRead-clause-handles
-returns-in-WantRead-clause-handles g c =
-    let b = book_of c.args.self.now in
-    let answer = c.read.result in
-    record {
-      reserved = first_claimed c.args.p b;
-      but = inl refl;
-      answered = record {
-        answer = answer;
-        answered =
-            asked_otherwise c.args.p (λ s. IsReadFrom b.tables c.args.p s c.in_channel-c.result)
-            (λ s. s ≡ c.args.stop) answer (first_claimed c.args.p b) (book_of c.read.new.self)
-            (λ s is. record {
-              port = c.in-WantRead.port;
-              asks = is ∙ c.in-WantRead.is;
-              channel = c.in_channel-c.ensures;
-            }) c.read.ensures.answered;
-        sink_is = λ s is. sym (ap (λ z. sink_by b.tables c.args.p z answer) (is ∙ c.in-WantRead.is));
-      };
-    }
 
 pub returns-then-is_open-clause-handles : goal.returns-then-is_open-clause-handles
 returns-then-is_open-clause-handles g c =
@@ -132,17 +84,17 @@ returns-then-is_open-clause-handles g c =
       sink_is = λ s asks. puts_on_it b.tables c.args.p d c.in-WantWrite.item s asks c.if_sink.result c.if_sink.ensures;
     })
 
-pub returns-in_ok-reserve_one-in-WantWrite-clause-handles :
-    goal.returns-in_ok-reserve_one-in-WantWrite-clause-handles
-returns-in_ok-reserve_one-in-WantWrite-clause-handles g c =
+pub returns-clause-handles :
+    goal.returns-clause-handles
+returns-clause-handles g c =
     let b = book_of c.args.self.now in
     let o = first_claimed c.args.p b in
     let d = c.out_channel-c.result in
     let below =
-    out_there g (goal.at.returns-in_ok-reserve_one-in-WantWrite-clause-handles g c).After-out_channel-c in
+    out_there g (goal.at.returns-clause-handles g c).After-out_channel-c in
     let reserved = recorded o b.history c.reserve_one.new.self o.schedule in
     let same : reserved ≡ reserved_on d o =
-    ap (λ s. recorded o b.history s o.schedule) c.in_ok-reserve_one-in-WantWrite.ensures.after in
+    ap (λ s. recorded o b.history s o.schedule) c.in_ok-reserve_one.ensures.after in
     let fits : SFits w64 c.in-WantWrite.item = search rules in
     let made : AnsweredFirst c.args.p (λ s. IsWriteTo b.tables c.args.p s d c.in-WantWrite.item) c.write_later.result
     reserved (book_of c.write_later.new.self) =
@@ -160,67 +112,6 @@ returns-in_ok-reserve_one-in-WantWrite-clause-handles g c =
       channel = c.out_channel-c.ensures;
     }) made
 
-pub returns-in-Done-clause-handles : goal.returns-in-Done-clause-handles
-returns-in-Done-clause-handles g c =
-    let b = book_of c.args.self.now in
-    let answer = c.finish.result in
-    record {
-      reserved = first_claimed c.args.p b;
-      but = inl refl;
-      answered = record {
-        answer = answer;
-        answered =
-            asked_otherwise c.args.p (λ (s : Stop). s ≡ stop.Done) (λ s. s ≡ c.args.stop) answer
-            (first_claimed c.args.p b) (book_of c.finish.new.self) (λ s is. is ∙ c.in-Done.is)
-            c.finish.ensures.answered;
-        sink_is = λ s is. sym (ap (λ z. sink_by b.tables c.args.p z answer) (is ∙ c.in-Done.is));
-      };
-    }
-
-pub returns-in-Faulted-clause-handles : goal.returns-in-Faulted-clause-handles
-returns-in-Faulted-clause-handles g c =
-    let b = book_of c.args.self.now in
-    let answer = c.finish-in-Faulted.result in
-    record {
-      reserved = first_claimed c.args.p b;
-      but = inl refl;
-      answered = record {
-        answer = answer;
-        answered =
-            asked_otherwise c.args.p (λ (s : Stop). s ≡ stop_of c.how_of.result) (λ s. s ≡ c.args.stop) answer
-            (first_claimed c.args.p b) (book_of c.finish-in-Faulted.new.self)
-            (λ s is. is ∙ c.in-Faulted.is ∙ sym c.how_of.ensures) c.finish-in-Faulted.ensures.answered;
-        sink_is = λ s is. sym (ap (λ z. sink_by b.tables c.args.p z answer) (is ∙ c.in-Faulted.is));
-      };
-    }
-
-pub returns-in-Paused-clause-handles : goal.returns-in-Paused-clause-handles
-returns-in-Paused-clause-handles g c =
-    let b = book_of c.args.self.now in
-    let o = first_claimed c.args.p b in
-    let held = held_first b c.args.p c.requires.first in
-    record {
-      reserved = o;
-      but = inl refl;
-      answered = record {
-        answer = done.Paused;
-        answered =
-            subst (λ z. Answered c.args.p (λ (s : Stop). s ≡ c.args.stop) done.Paused o
-            (recorded b b.history b.configuration z)) (sym c.put_back.ensures)
-            (asked_otherwise c.args.p (λ s. s ≡ stop.Paused) (λ s. s ≡ c.args.stop) done.Paused o
-            (put_back c.args.p o) (λ s is. is ∙ c.in-Paused.is)
-            (answered_paused o
-            (record { in_step = c.requires.kept.in_step; nothing_owed = c.requires.kept.nothing_owed }) c.args.p
-            held));
-        sink_is = λ s is. sym (ap (λ z. sink_by b.tables c.args.p z done.Paused) (is ∙ c.in-Paused.is));
-      };
-    }
-
-pub read-requires-clause-reads : goal.read-requires-clause-reads
-read-requires-clause-reads g c =
-    reads_from c.args.self.now.network.now c.args.self.now.configuration c.args.p c.in_channel-c.result
-    c.in-WantRead.port c.args.stop c.in-WantRead.is c.in_channel-c.ensures c.requires.stands
-
 pub put-requires-clause-writes : goal.put-requires-clause-writes
 put-requires-clause-writes g c =
     let v = c.in-WantWrite.item in
@@ -235,7 +126,7 @@ write_later-requires-clause-writes g c =
     let d = c.out_channel-c.result in
     let v = c.in-WantWrite.item in
     let fits : SFits w64 v = search rules in
-    subst (λ s. WritesTo t s c.args.p d (to_z w64 (of_z w64 v))) (sym c.in_ok-reserve_one-in-WantWrite.ensures.after)
+    subst (λ s. WritesTo t s c.args.p d (to_z w64 (of_z w64 v))) (sym c.in_ok-reserve_one.ensures.after)
     (writes_to t (reserved_on d (book_of c.args.self.now)).configuration c.args.p d c.in-WantWrite.port v
     (to_z w64 (of_z w64 v)) c.args.stop c.in-WantWrite.is (to_z-of_z w64 v fits) c.out_channel-c.ensures
     c.requires.stands)
@@ -246,10 +137,30 @@ write_later-requires-clause-may g c =
     let d = c.out_channel-c.result in
     let below = out_there g (goal.at.write_later-requires-clause-may g c).After-out_channel-c in
     let kept =
-    subst (λ s. IsKept (recorded o o.history s o.schedule)) (sym c.in_ok-reserve_one-in-WantWrite.ensures.after)
+    subst (λ s. IsKept (recorded o o.history s o.schedule)) (sym c.in_ok-reserve_one.ensures.after)
     (kept_reserved_on o c.requires.kept d below) in
     record {
       held = c.requires.first;
       sound = record { in_step = kept.in_step; nothing_owed = kept.nothing_owed };
       room = c.requires.room;
+    }
+
+pub returns-in_default : goal.returns-in_default
+returns-in_default g c =
+    let b = book_of c.args.self.now in
+    let o = first_claimed c.args.p b in
+    record {
+      handles = record {
+        reserved = o;
+        but = inl refl;
+        answered = record {
+          answer = c.handle_stop.result;
+          answered = c.handle_stop.ensures.answered;
+          sink_is = λ s is.
+              sym (ap (λ z. sink_by b.tables c.args.p z c.handle_stop.result) is
+              ∙ puts_nowhere b.tables c.args.p c.args.stop c.handle_stop.result c.in_default.not-WantWrite);
+        };
+      };
+      as_before = tt;
+      room = c.handle_stop.ensures.room;
     }
