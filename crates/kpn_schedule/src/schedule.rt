@@ -131,6 +131,22 @@ impl<A: Allocator> Schedule<A> {
         self.queue.put(p);
     }
 
+    /// Makes process `p`, which is held, ready, at the tail of the queue. Its state is known, so it is not looked up.
+    pub fn put_back(&mut self, p: usize)
+        requires process { p < length self.old.states }
+        requires held { state_at self.old.states p ≡ State.Held }
+        ensures { self.new ≡ made_ready p self.old }
+    {
+        change(
+            &mut self.states,
+            &mut self.tally,
+            p,
+            State::Held,
+            State::Ready,
+        );
+        self.queue.put(p);
+    }
+
     /// Puts process `p`, which is the first of the queue, into this state, which is not ready, as if it were held
     /// before.
     #[inline(always)]
