@@ -278,6 +278,16 @@ module _ (states : List State) (queue : List ℕ) (p : ℕ)
   pub first_is_ready : get_or states p Ready ≡ Ready
   first_is_ready = first_ready states p (drop 1 queue) apart
 
+  -- it leaves the queue and is held
+  pub HoldsFirst-left :
+      HoldsFirst p (scheduled states queue) (with_state p Held (first_held p (scheduled states queue)))
+  HoldsFirst-left = record {
+    there = first_is_there;
+    was_ready = first_is_ready;
+    queue = first_taken queue 0 p first;
+    states = set-set states p Held Held;
+  }
+
   -- it leaves the queue for another state
   pub IsSchedule-left : (state : State) → is_ready state ≡ false
       → IsSchedule (record { states = set states p state; queue = drop 1 queue })
@@ -288,9 +298,12 @@ module _ (states : List State) (queue : List ℕ) (p : ℕ)
       (IsSchedule-set (set states p Held) (drop 1 queue) (IsSchedule-held states p (drop 1 queue) apart) p still
       (ap is_ready (get_or-set_same states p Held Ready there)) state neither)
 
-  -- no more are in the queue than there are processes
-  pub few_wait : length queue ≤ length states
-  few_wait = let long = is.count in let most = count_by-le-length is_ready states in omega (arith, long, most)
+  -- behind it, the queue has room for it
+  pub few_wait : length (drop 1 queue) < length states
+  few_wait =
+      let long : suc (length (drop 1 queue)) ≡ count_by is_ready states = apart.count in
+      let most = count_by-le-length is_ready states in
+      omega (arith, long, most)
 
 pub left_first : (states : List State) (queue : List ℕ) (p : ℕ) (state : State) (states_after : List State)
     (after : List ℕ) → states_after ≡ set states p state → after ≡ drop 1 queue

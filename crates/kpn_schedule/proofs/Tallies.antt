@@ -7,7 +7,6 @@ use Rattle.std.proofs.lemmas.List.Folds.{sum_by-replicate}
 use Rattle.kpn_history.specs.declared.state.State.{State}
 use Rattle.kpn_history.specs.declared.state.State.TheVariants.{Ready, Held}
 use Rattle.kpn_history.specs.Views.{AreCounts, is_ready, is_held, waits_empty, waits_full, is_ended}
-use Rattle.kpn_schedule.specs.declared.counting.Tally.{Tally}
 use Rattle.kpn_schedule.specs.Counting.{goes, IsTally}
 use Rattle.kpn_schedule.specs.Schedule.{HaveStopped}
 
@@ -51,23 +50,6 @@ IsTally-ready n =
     let are = AreCounts-ready n in
     let going = going_apart (replicate n Ready) in
     record { going = omega (arith, are.ready, are.held); empty = are.empty; full = are.full; ended = are.ended }
-
--- the tally stays if a ready or held state is replaced by the other of the two
-pub IsTally-goes : (xs : List State) (tally : Tally) (i : ℕ) (y : State) → i < length xs
-    → ((f : State → Bool) → f Ready ≡ f Held → f (get_or xs i Ready) ≡ f y)
-    → IsTally xs tally → IsTally (set xs i y) tally
-IsTally-goes xs tally i y there alike is = record {
-  going = is.going ∙ same goes refl;
-  empty = is.empty ∙ same waits_empty refl;
-  full = is.full ∙ same waits_full refl;
-  ended = is.ended ∙ same is_ended refl;
-}
-  where
-    same : (f : State → Bool) → f Ready ≡ f Held → count_by f xs ≡ count_by f (set xs i y)
-    same f both =
-        let moved = count_set f xs i y there in
-        let one : cond {A = ℕ} (f (get_or xs i Ready)) 1 0 ≡ cond (f y) 1 0 = ap (λ b. cond b 1 0) (alike f both) in
-        omega arith
 
 -- ---- all have stopped if no process is ready or held
 

@@ -1,5 +1,5 @@
 //! The queue of the ready processes. A process leaves at its head and another joins at its tail in a few instructions.
-ghost use Rattle.std.specs.Prelude.{◌≡◌, ◌<◌, ◌≤◌, ℕ, [], ◌∷◌, ◌++◌, length, drop, IfOk, Some, IfSome, IfNone, slice_get, vec_len, vec_capacity};
+ghost use Rattle.std.specs.Prelude.{◌≡◌, ◌<◌, ◌≤◌, ℕ, [], ◌∷◌, ◌++◌, length, drop, IfOk, slice_get, vec_capacity};
 ghost use Rattle.std.specs.List.{range_with_len};
 ghost use Rattle.kpn_schedule.specs.Queue.{waiting, IsQueue};
 
@@ -40,18 +40,6 @@ impl<A: Allocator> Queue<A> {
         self.numbers.get(self.taken).copied()
     }
 
-    pub(crate) fn take_first(&mut self) -> Option<usize>
-        ensures some { IfSome result (λ p. waiting self.old ≡ p ∷ waiting self.new) }
-        ensures none { IfNone result ((waiting self.old ≡ []) × (self.new ≡ self.old)) }
-        ensures queue { (room : ℕ) → IsQueue room self.old → IsQueue room self.new }
-    {
-        let Some(p) = self.first() else {
-            return None;
-        };
-        self.taken += 1;
-        Some(p)
-    }
-
     /// Takes the first number, which is there.
     pub(crate) fn drop_first(&mut self)
         requires { self.old.taken < length self.old.numbers.items }
@@ -67,32 +55,10 @@ impl<A: Allocator> Queue<A> {
         ensures numbers { waiting self.new ≡ waiting self.old ++ p ∷ [] }
         ensures queue { (room : ℕ) → IsQueue room self.old → IsQueue room self.new }
     {
-        self.make_room();
-        self.numbers.push_reserved(p);
-    }
-
-    /// Moves `p`, which is the first number, behind the others.
-    pub(crate) fn rotate(&mut self, p: usize)
-        requires first { slice_get self.old.numbers.items self.old.taken ≡ Some p }
-        requires room { (room : ℕ) × IsQueue room self.old × (length (waiting self.old) ≤ room) }
-        ensures numbers { waiting self.new ≡ drop 1 (waiting self.old) ++ p ∷ [] }
-        ensures queue { (room : ℕ) → IsQueue room self.old → IsQueue room self.new }
-    {
-        self.taken += 1;
-        self.put(p);
-    }
-
-    /// Makes sure that there is a place for one more number.
-    fn make_room(&mut self)
-        requires { (room : ℕ) × IsQueue room self.old × (length (waiting self.old) < room) }
-        ensures numbers { waiting self.new ≡ waiting self.old }
-        ensures queue { (room : ℕ) → IsQueue room self.old → IsQueue room self.new }
-        ensures place { vec_len self.new.numbers < vec_capacity self.new.numbers }
-    {
-        if self.numbers.len() < self.numbers.capacity() {
-            return;
+        if self.numbers.len() == self.numbers.capacity() {
+            self.drop_taken();
         }
-        self.drop_taken();
+        self.numbers.push_reserved(p);
     }
 
     #[cold]

@@ -115,8 +115,8 @@ impl<A: Allocator> Schedule<A> {
         ensures held { IfSome result (λ p. HoldsFirst p self.old self.new) }
         ensures none { IfNone result ((self.old.queue ≡ []) × (self.new ≡ self.old)) }
     {
-        let p = self.queue.take_first()?;
-        self.states[p] = State::Held;
+        let p = self.queue.first()?;
+        self.set_first(p, State::Held);
         Some(p)
     }
 
@@ -127,28 +127,23 @@ impl<A: Allocator> Schedule<A> {
         ensures { self.new ≡ made_ready p self.old }
     {
         let from = self.states[p];
-        self.wake(p, from);
+        change(&mut self.states, &mut self.tally, p, from, State::Ready);
+        self.queue.put(p);
     }
 
-    /// Makes process `p`, which is held, ready, at the tail of the queue.
+    /// Makes process `p`, which is held, ready, at the tail of the queue. Its state is known, so it is not looked up.
     pub fn put_back(&mut self, p: usize)
         requires process { p < length self.old.states }
         requires held { state_at self.old.states p ≡ State.Held }
         ensures { self.new ≡ made_ready p self.old }
     {
-        self.wake(p, State::Held);
-    }
-
-    /// Makes process `p`, which is in this state, ready, at the tail of the queue. The caller knows the state, so it is
-    /// not looked up.
-    #[inline(always)]
-    pub fn wake(&mut self, p: usize, from: State)
-        requires process { p < length self.old.states }
-        requires state { state_at self.old.states p ≡ from }
-        requires waits { is_ready from ≡ false }
-        ensures { self.new ≡ made_ready p self.old }
-    {
-        change(&mut self.states, &mut self.tally, p, from, State::Ready);
+        change(
+            &mut self.states,
+            &mut self.tally,
+            p,
+            State::Held,
+            State::Ready,
+        );
         self.queue.put(p);
     }
 
@@ -170,7 +165,8 @@ impl<A: Allocator> Schedule<A> {
         requires { slice_get self.old.queue 0 ≡ Some p }
         ensures { self.new ≡ made_ready p (first_held p self.old) }
     {
-        self.queue.rotate(p);
+        self.queue.drop_first();
+        self.queue.put(p);
     }
 
     /// Puts process `p`, which is not ready, into this state, which is not ready either.
