@@ -147,13 +147,7 @@ fn turns_for(room: usize, left: u64) -> u64
 fn is_open<A: Allocator>(channel: &Channel<A>) -> bool
     ensures { result ≡ true → IsTrue channel.now.is_reserved × (is_full channel.now ≡ false) }
 {
-    if channel.is_retired() {
-        return false;
-    }
-    if channel.is_full() {
-        return false;
-    }
-    channel.room()
+    !channel.is_retired() && !channel.is_full() && channel.room()
 }
 
 /// The channel, if it is a sink.
