@@ -6,7 +6,6 @@ use Rattle.kpn_lang.specs.declared.talk.Said.{Said}
 use Rattle.kpn_lang.specs.declared.talk.Said.TheVariants as said
 use Rattle.kpn_lang.specs.declared.talk.Ending.{Ending}
 use Rattle.kpn_lang.specs.declared.talk.Ending.TheVariants as ending
-use Rattle.kpn_lang.specs.declared.value.Fault.TheVariants as fault
 use Rattle.kpn_lang.specs.Prefix.{IsPrefix}
 use Rattle.kpn_lang.specs.Run.{Lists}
 use Rattle.kpn_lang.specs.Alone.{alone}
@@ -45,6 +44,24 @@ use Rattle.kpn_configuration.specs.Due.{Stands, ReadsFrom, WritesTo, stop_of, Is
 use Rattle.kpn_configuration.proofs.Due.{unread_same, full_same}
 use Rattle.kpn_configuration.proofs.Ports.{reads_below, reads_own}
 use Rattle.kpn_configuration.proofs.Talking.{IsRestAfter-more}
+
+-- ---- how a process ends, as a stop
+
+-- the stop of a process that ends so; a pause if it does not end
+abbrev pub stop_at : Ending → Stop
+stop_at ending.Done = stop.Done
+stop_at (ending.Faulted f) = stop.Faulted f
+stop_at other = stop.Paused
+
+stop_at-how : (h : How) → stop_at (ending_of h) ≡ stop_of h
+stop_at-how how.Done = refl
+stop_at-how how.Overflow = refl
+stop_at-how how.ZeroDivisor = refl
+
+no_how_pauses : (h : How) → stop.Paused ≡ stop_of h → ⊥
+no_how_pauses how.Done e = cc
+no_how_pauses how.Overflow e = cc
+no_how_pauses how.ZeroDivisor e = cc
 
 -- ---- what is said on channels was said at ports
 
@@ -254,21 +271,12 @@ module _ (t : Tables) (network : IsNetwork t) (H : List Event) (s : Configuratio
     ended_at : (at : Stop) (mine : Ending) (rest : Lists) (how : How)
         → Stands t s p at → ends_at_channel (instance_at t p) mine ≡ ending_of how → EndsThere at rest mine
         → Stands t s p (stop_of how)
-    ended_at stop.Done ending.Done rest how.Done stands own ends = stands
-    ended_at (stop.Faulted f) (ending.Faulted other) rest how.Overflow stands own ends =
-        let same : other ≡ fault.Overflow = cc in subst (λ x. Stands t s p (stop.Faulted x)) (sym ends ∙ same) stands
-    ended_at (stop.Faulted f) (ending.Faulted other) rest how.ZeroDivisor stands own ends =
-        let same : other ≡ fault.ZeroDivisor =
-        cc in subst (λ x. Stands t s p (stop.Faulted x)) (sym ends ∙ same) stands
-    ended_at stop.Done ending.Done rest how.Overflow stands own ends = absurd cc
-    ended_at stop.Done ending.Done rest how.ZeroDivisor stands own ends = absurd cc
-    ended_at (stop.Faulted f) (ending.Faulted other) rest how.Done stands own ends = absurd cc
-    ended_at at (ending.Starved i) rest how.Done stands own ends = absurd cc
-    ended_at at (ending.Starved i) rest how.Overflow stands own ends = absurd cc
-    ended_at at (ending.Starved i) rest how.ZeroDivisor stands own ends = absurd cc
-    ended_at at ending.Cut rest how.Done stands own ends = absurd cc
-    ended_at at ending.Cut rest how.Overflow stands own ends = absurd cc
-    ended_at at ending.Cut rest how.ZeroDivisor stands own ends = absurd cc
+    ended_at stop.Done ending.Done rest h stands own ends =
+        subst (λ x. Stands t s p x) (ap stop_at own ∙ stop_at-how h) stands
+    ended_at (stop.Faulted f) (ending.Faulted other) rest h stands own ends =
+        subst (λ x. Stands t s p x) (ap stop.Faulted (sym ends) ∙ ap stop_at own ∙ stop_at-how h) stands
+    ended_at at (ending.Starved i) rest h stands own ends = absurd (no_how_pauses h (ap stop_at own ∙ stop_at-how h))
+    ended_at at ending.Cut rest h stands own ends = absurd (no_how_pauses h (ap stop_at own ∙ stop_at-how h))
     ended_at at mine rest how stands own ends = absurd ends
 
     module _ (at : Stop) (stands : Stands t s p at) (no_pause : at ≢ stop.Paused) where

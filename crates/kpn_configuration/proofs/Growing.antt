@@ -1,7 +1,7 @@
 -- Growth: the search along the waits finds the growth that is owed, and the channel becomes what the event makes of it.
 use Rattle.std.proofs.Common.{◌≡◌, ◌↔◌, ℕ, ◌<◌, ◌≤◌, Bool, true, false, not, cond, eq-eqb, ltb, IsTrue, List, [], ◌∷◌, ◌++◌, length, Option, Some, None, is_some, refl, sym, ap, ◌∙◌, subst, inl, inr, arith, IsSomeAnd, ◌||◌, append-nil, add-zero, slice_set}
 use Rattle.std.specs.Option.{unwrap_or, option_map}
-use Rattle.std.proofs.lemmas.Bool.{cases_lt, ltb-true, ltb-false, ne_eqb}
+use Rattle.std.proofs.lemmas.Bool.{false≢true, cases_lt, ltb-true, ltb-false, ne_eqb}
 use Rattle.std.proofs.lemmas.List.{get_or_past, get_or-map, ext_get_or, length-map}
 use Rattle.std.proofs.lemmas.List.FromFn.{length-map-range_with_len}
 use Rattle.kpn_net.specs.declared.found.Found.{Found}
@@ -231,8 +231,8 @@ module _ (t : Tables) (network : IsNetwork t) (s : Configuration) (shape : IsCon
         capacity = λ cap. ap (λ b. cond b (option_map (larger_capacity t) cap) cap) (ne_eqb d c (λ e. differ (sym e)));
         reader = keeps_reader t (Grow p d n) c (λ r. refl) refl;
       })
-      (λ c. refl) (λ q end. refl) (λ e. absurd cc) (wakes-grow t p d n) refl (λ q is. absurd cc) refl (λ q. refl) waits
-      woke after is
+      (λ c. refl) (λ q end. refl) (λ e. absurd cc) (wakes-grow t p d n) refl (λ q is. absurd (false≢true is)) refl
+      (λ q. refl) waits woke after is
 
   -- the history gives the same larger capacity
   pub larger_by_history : (H : List Event) → IsRun t H s

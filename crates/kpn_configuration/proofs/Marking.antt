@@ -1,5 +1,5 @@
 -- The marks on channels as the table of waits changes.
-use Rattle.std.proofs.Common.{◌≡◌, ◌≢◌, ℕ, ◌<◌, Bool, true, false, cond, List, [], ◌∷◌, length, replicate, set, get_or, Option, Some, None, refl, sym, ap, ◌∙◌, subst, inl, inr, arith}
+use Rattle.std.proofs.Common.{◌≡◌, ◌≢◌, ℕ, ◌<◌, Bool, true, false, cond, List, [], ◌∷◌, length, replicate, set, Some, None, refl, sym, ap, ◌∙◌, subst, inl, inr, arith}
 use Rattle.std.specs.List.{Contains}
 use Rattle.std.proofs.lemmas.Bool.{both_ways, cases_eq, cases_lt}
 use Rattle.std.proofs.lemmas.List.Elements.{Contains-get_or}
@@ -12,7 +12,7 @@ use Rattle.kpn_net.specs.Tables.{Tables, instance_at, writer_of, reader_of}
 use Rattle.kpn_net.specs.Waits.{wait_at, awaited, process_at, AreWaits, WaitsFor, WaitInTurn, IsCycle}
 use Rattle.kpn_net.proofs.Networks.{StandsAt, Writes-writer_of, Reads-reader_of}
 use Rattle.kpn_configuration.specs.Marks.{is_marked, AreMarked}
-use Rattle.kpn_configuration.specs.Woken.{is_wait, waiting_at, free_now, woken_at}
+use Rattle.kpn_configuration.specs.Woken.{is_wait, waiting_at, woken_at}
 use Rattle.kpn_configuration.proofs.Woken.{is_that, is_itself, process_woken}
 
 -- ---- at the start

@@ -1,6 +1,6 @@
 -- The second list of capacities: it stays the same if one channel becomes another of the same capacity.
-use Rattle.std.proofs.Common.{◌≡◌, ℕ, ap, sym, ◌∙◌, refl, Bool, true, false, cond, Result, Ok, Err, IsOk, is_ok, IsSomeAnd, List, map, set, get_or, Option, Some, None}
-use Rattle.std.proofs.lemmas.List.{map-set}
+use Rattle.std.proofs.Common.{◌≡◌, ℕ, ap, sym, ◌∙◌, refl, Bool, true, false, cond, Result, Ok, Err, IsOk, is_ok, IsSomeAnd, List, length, map, set, get_or, Option, Some, None}
+use Rattle.std.proofs.lemmas.List.{map-set, length-map}
 use Rattle.std.specs.Option.{unwrap_or}
 use Rattle.std.proofs.lemmas.Bool.{false≢true}
 use Rattle.std.proofs.Math.Seq.{map-set_same}
@@ -20,6 +20,10 @@ room_same false channel = refl
 pub there_is : {E : Type 0} {X : Type 0} (r : Result Unit E) (a b : X) → IsOk r → cond (is_ok r) a b ≡ a
 there_is (Ok x) a b h = refl
 there_is (Err e) a b h = absurd (false≢true h)
+
+pub mirror_length : (channels : List ChannelState) (caps : List ℕ)
+    → caps ≡ map (λ x. unwrap_or x.capacity 0) channels → length caps ≡ length channels
+mirror_length channels caps mirror = ap length mirror ∙ length-map channels (λ x. unwrap_or x.capacity 0)
 
 -- the list after the channel and its capacity in the list have grown
 pub mirror_grows : (channels : List ChannelState) (caps : List ℕ) (d larger : ℕ) (channel : ChannelState)

@@ -1,5 +1,5 @@
 -- At the start: the empty history leads to the configuration in which nothing has happened.
-use Rattle.std.proofs.Common.{◌≡◌, ℕ, ◌+◌, ◌<◌, true, false, not, IsTrue, List, [], ◌∷◌, ◌++◌, length, get_or, map, replicate, Option, Some, None, is_some, refl, sym, ap, ◌∙◌, subst, inl, inr, arith}
+use Rattle.std.proofs.Common.{◌≡◌, ℕ, ◌+◌, ◌<◌, length-append, true, false, not, IsTrue, List, [], ◌∷◌, ◌++◌, length, get_or, map, replicate, Option, Some, None, is_some, refl, sym, ap, ◌∙◌, subst, inl, inr, arith}
 use Rattle.std.specs.Option.{unwrap_or, option_map}
 use Rattle.std.proofs.lemmas.Bool.{cases_eq}
 use Rattle.std.proofs.lemmas.List.{length-replicate, get_or-replicate, get_or_append_left, get_or_push, get_or-map, length-map, ext_get_or}
@@ -23,16 +23,21 @@ use Rattle.kpn_history.proofs.Legality.{Legal-nil}
 use Rattle.kpn_configuration.specs.Configuration.{Configuration, channel_in, wait_in, frame_in}
 use Rattle.kpn_configuration.specs.Run.{HoldsChannel, IsEndOf, StandsAfter, IsRun}
 
--- one more at the end of a list of things by number
-pub each_push : {X : Type 0} (Q : ℕ → X → Type 0) (xs : List X) (x d : X) (n : ℕ) → length xs ≡ n
-    → ((k : ℕ) → k < n → Q k (get_or xs k d)) → Q n x → (k : ℕ) → k < n + 1 → Q k (get_or (xs ++ x ∷ []) k d)
-each_push Q xs x d n len each last k below =
-    elim (cases_eq k n) [
+-- one more at the end of a list
+pub len_push : {X : Type 0} (xs ys : List X) (x : X) (n : ℕ) → ys ≡ xs ++ x ∷ [] → length xs ≡ n → length ys ≡ n + 1
+len_push xs ys x n is len = ap length is ∙ length-append xs (x ∷ []) ∙ ap (λ n. n + 1) len
+
+-- of things by number
+pub each_push : {X : Type 0} (Q : ℕ → X → Type 0) (xs ys : List X) (x d : X) (n : ℕ) → ys ≡ xs ++ x ∷ []
+    → length xs ≡ n → ((k : ℕ) → k < n → Q k (get_or xs k d)) → Q n x → (k : ℕ) → k < n + 1 → Q k (get_or ys k d)
+each_push Q xs ys x d n is len each last k below =
+    subst (λ zs. Q k (get_or zs k d)) (sym is)
+    (elim (cases_eq k n) [
       | inl same ↦ subst (λ m. Q m (get_or (xs ++ x ∷ []) m d)) (sym same)
           (subst (λ y. Q n y) (sym (get_or_push xs x d n len)) last)
       | inr differ ↦ let less : k < n =
           omega arith in subst (λ y. Q k y) (sym (get_or_append_left xs (x ∷ []) d k (omega arith))) (each k less)
-    ]
+    ])
 
 module _ (t : Tables) (network : IsNetwork t) (s : Configuration)
     (channels : length s.channels ≡ length t.channels)

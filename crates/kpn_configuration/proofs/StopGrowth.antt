@@ -1,5 +1,5 @@
 -- The growth that is owed at a stop: the configuration and the history agree on it.
-use Rattle.std.proofs.Common.{◌≡◌, ◌↔◌, ℕ, ◌<◌, ◌≤◌, Bool, true, false, cond, ltb, List, length, Option, Some, None, refl, sym, ap, ◌∙◌, subst, inl, inr, arith}
+use Rattle.std.proofs.Common.{◌≡◌, ◌↔◌, ℕ, ◌<◌, ◌≤◌, Bool, true, false, cond, ltb, List, length, Option, Some, None, refl, sym, ◌∙◌, subst, arith}
 use Rattle.std.specs.Prelude.{Contains, IfSome}
 use Rattle.std.proofs.lemmas.Bool.{ltb-true, ltb-false}
 use Rattle.kpn_net.specs.declared.wait.Wait.TheVariants.{Full}
@@ -97,6 +97,9 @@ none_by_smallest t s (Some c) finds at_limit p d owed =
     let most = subst (λ x. t.limit ≤ cap_in (capacities s) x) same at_limit in
     let below = owed.below_limit in
     omega arith
+
+pub full_number : (c d : ℕ) → found.Full c ≡ found.Full d → c ≡ d
+full_number c d is = cc
 
 -- a channel that was found may grow if and only if it is below the limit
 pub to_grow : (cap : ℕ → ℕ) (limit c d : ℕ) → channel_to_grow cap limit (found.Full c) ≡ Some d

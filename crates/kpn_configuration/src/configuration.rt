@@ -131,7 +131,7 @@ impl<A: Allocator> Configuration<A> {
         requires { p < length self.now.waits }
         ensures { result ≡ wait_in self.now p }
     {
-        self.waits.get(p)
+        self.waits.table().get(p)
     }
 
     /// How a process has ended, or `None` if it has not.

@@ -142,13 +142,10 @@ impl<A: Allocator> Configuration<A> {
             → IsRun network.now (H ++ event.Grow p d result.capacity ∷ []) self.new }
     {
         network.known();
-        let cap = self.larger_capacity(network, d);
+        let capacity = self.larger_capacity(network, d);
         let woken = self.waits.wake_writer(network, d);
-        self.enlarge(d, cap);
-        Grown {
-            capacity: cap,
-            woken,
-        }
+        self.enlarge(d, capacity);
+        Grown { capacity, woken }
     }
 
     fn larger_capacity(&self, network: &Network, d: usize) -> u32

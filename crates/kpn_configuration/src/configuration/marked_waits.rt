@@ -4,7 +4,7 @@ ghost use Rattle.std.specs.Prelude.{◌≡◌, ℕ, ◌<◌, Bool, false, true, 
 ghost use Rattle.kpn_net.specs.declared.wait.Wait.TheVariants.{Nobody, Empty, Full};
 ghost use Rattle.kpn_net.specs.declared.tables.End.TheVariants.{Process};
 ghost use Rattle.kpn_net.specs.Tables.{writer_of, reader_of};
-ghost use Rattle.kpn_net.specs.Waits.{wait_at, AreWaits, WaitsFor};
+ghost use Rattle.kpn_net.specs.Waits.{AreWaits, WaitsFor};
 ghost use Rattle.kpn_configuration.specs.Marks.{is_marked};
 ghost use Rattle.kpn_configuration.specs.Woken.{is_wait, waiting_at, waiting_writer, waiting_reader, woken_at};
 
@@ -47,19 +47,11 @@ impl<A: Allocator + Copy> MarkedWaits<A> {
 }
 
 impl<A: Allocator> MarkedWaits<A> {
-    /// The table of waits, for a search.
+    /// The table of waits.
     pub(super) fn table(&self) -> &Waits<A>
         ensures { result.now ≡ self.now }
     {
         &self.waits
-    }
-
-    /// What process `p` waits for.
-    pub(super) fn get(&self, p: usize) -> Wait
-        requires { p < length self.now }
-        ensures { result ≡ wait_at self.now p }
-    {
-        self.waits.get(p)
     }
 
     /// From now on process `p` waits on channel `c` as empty.
@@ -92,7 +84,8 @@ impl<A: Allocator> MarkedWaits<A> {
         if !is_marked(&self.full, c) {
             return None;
         }
-        self.wake_marked_writer(network, c)
+        set_mark(&mut self.full, c, false);
+        wake(&mut self.waits, network.writer_of(c), Wait::Full(c))
     }
 
     /// Wakes the reader of a channel, if it waits on it as empty: then it waits for nobody. It returns the process.
@@ -107,29 +100,6 @@ impl<A: Allocator> MarkedWaits<A> {
         if !is_marked(&self.empty, c) {
             return None;
         }
-        self.wake_marked_reader(network, c)
-    }
-
-    #[inline(never)]
-    fn wake_marked_writer(&mut self, network: &Network, c: usize) -> Option<usize>
-        requires channel { c < length network.now.channels }
-        requires waits { AreWaits network.now self.old }
-        ensures who { result ≡ waiting_writer network.now self.old c }
-        ensures after { self.new
-            ≡ woken_at (is_wait (Full c)) self.old (writer_of network.now c) }
-    {
-        set_mark(&mut self.full, c, false);
-        wake(&mut self.waits, network.writer_of(c), Wait::Full(c))
-    }
-
-    #[inline(never)]
-    fn wake_marked_reader(&mut self, network: &Network, c: usize) -> Option<usize>
-        requires channel { c < length network.now.channels }
-        requires waits { AreWaits network.now self.old }
-        ensures who { result ≡ waiting_reader network.now self.old c }
-        ensures after { self.new
-            ≡ woken_at (is_wait (Empty c)) self.old (reader_of network.now c) }
-    {
         set_mark(&mut self.empty, c, false);
         wake(&mut self.waits, network.reader_of(c), Wait::Empty(c))
     }
@@ -147,6 +117,8 @@ impl<A: Allocator> MarkedWaits<A> {
 }
 
 /// Wakes the process at this end of a channel, if it waits for this: then it waits for nobody. It returns the process.
+// The marks are no argument, since with them and the channel one would go over the stack.
+#[inline(never)]
 fn wake<A: Allocator>(waits: &mut Waits<A>, end: End, wait: Wait) -> Option<usize>
     requires { (q : ℕ) → end ≡ Process q → q < length waits.old }
     ensures who { result ≡ waiting_at (is_wait wait) waits.old end }
@@ -162,6 +134,7 @@ fn wake<A: Allocator>(waits: &mut Waits<A>, end: End, wait: Wait) -> Option<usiz
     Some(q)
 }
 
+#[inline(always)]
 fn set_mark<A: Allocator>(marks: &mut Vec<bool, A>, c: usize, mark: bool)
     ensures { marks.new.items ≡ slice_set marks.old.items c mark }
 {

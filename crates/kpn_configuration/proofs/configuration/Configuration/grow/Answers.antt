@@ -18,8 +18,8 @@ pub wake_writer-woken-requires-clause-waits : goal.wake_writer-woken-requires-cl
 wake_writer-woken-requires-clause-waits g c =
     subst (λ s. AreWaits c.args.network.now s.waits) (sym c.self.view_is) c.requires.shape.waits
 
-pub larger_capacity-cap-requires-clause-channel : goal.larger_capacity-cap-requires-clause-channel
-larger_capacity-cap-requires-clause-channel g c =
+pub larger_capacity-capacity-requires-clause-channel : goal.larger_capacity-capacity-requires-clause-channel
+larger_capacity-capacity-requires-clause-channel g c =
     let below =
     owed_below c.args.network.now c.known.ensures c.args.self.now c.requires.shape c.args.p c.args.d
     c.requires.awaited in
@@ -35,8 +35,8 @@ enlarge-requires-clause-channel g c =
 
 pub enlarge-requires-clause-capacity : goal.enlarge-requires-clause-capacity
 enlarge-requires-clause-capacity g c =
-    subst (λ x. MayGrowTo c.larger_capacity-cap.result (channel_in x c.args.d)) (sym c.self.view_is)
-    (subst (λ cap. MayGrowTo cap (channel_in c.args.self.now c.args.d)) (sym c.larger_capacity-cap.ensures)
+    subst (λ x. MayGrowTo c.larger_capacity-capacity.result (channel_in x c.args.d)) (sym c.self.view_is)
+    (subst (λ cap. MayGrowTo cap (channel_in c.args.self.now c.args.d)) (sym c.larger_capacity-capacity.ensures)
     (owed_may_grow c.args.network.now c.known.ensures c.args.self.now c.requires.shape c.args.p c.args.d
     c.requires.awaited))
 
@@ -66,7 +66,7 @@ returns g c =
     (λ (x : Configuration).
     record x {
       channels = slice_set x.channels c.args.d
-          (grown_to c.larger_capacity-cap.result reserved (channel_in x c.args.d));
+          (grown_to c.larger_capacity-capacity.result reserved (channel_in x c.args.d));
       waits = c.wake_writer-woken.new.self;
     }) c.self.view_is
     ∙ ap
@@ -74,11 +74,11 @@ returns g c =
     record s {
       channels = slice_set s.channels c.args.d (grown_to cap reserved (channel_in s c.args.d));
       waits = c.wake_writer-woken.new.self;
-    }) c.larger_capacity-cap.ensures)
-    c.larger_capacity-cap.result in
+    }) c.larger_capacity-capacity.ensures)
+    c.larger_capacity-capacity.result in
     record {
-      capacity = c.larger_capacity-cap.ensures;
-      told = λ H run. c.larger_capacity-cap.ensures
+      capacity = c.larger_capacity-capacity.ensures;
+      told = λ H run. c.larger_capacity-capacity.ensures
           ∙ larger_by_history t c.known.ensures s c.requires.shape c.args.p c.args.d c.requires.awaited H run;
       woken =
           told_same (is_wait (Full c.args.d)) (writer_of t c.args.d) _
@@ -89,6 +89,6 @@ returns g c =
       run = λ H run owes. IsRun-next t c.known.ensures H _ s after run
           (Legal-grown t c.known.ensures s c.requires.shape c.args.p c.args.d c.requires.awaited H c.requires.process
           run
-          owes c.larger_capacity-cap.result c.larger_capacity-cap.ensures)
+          owes c.larger_capacity-capacity.result c.larger_capacity-capacity.ensures)
           made.changes made.shape;
     }

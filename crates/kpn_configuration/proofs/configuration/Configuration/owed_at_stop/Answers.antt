@@ -1,15 +1,30 @@
-use Rattle.std.proofs.Common.{◌≡◌, ◌≤◌, ◌<◌, ℕ, Some, None, sym, ap, ◌∙◌, subst}
+use Rattle.std.proofs.Common.{◌≡◌, ◌<◌, length, Some, None, sym, ap, ◌∙◌, subst}
 use Rattle.std.proofs.lemmas.Bool.{both_ways}
 use Rattle.kpn_net.specs.declared.found.Found.TheVariants.{Full}
-use Rattle.kpn_net.specs.declared.tables.End.TheVariants.{Process}
 use Rattle.kpn_net.specs.Tables.{writer_of}
 use Rattle.kpn_net.specs.Waits.{IsSmallest, awaited_as_full}
 use Rattle.kpn_net.proofs.Cycles.{smallest_unique}
 use Rattle.kpn_cycle.specs.Scan.{cap_in}
 use Rattle.kpn_configuration.specs.Configuration.{capacities}
 use Rattle.kpn_configuration.specs.Owed.{channel_to_grow}
-use Rattle.kpn_configuration.proofs.StopGrowth.{stop_by_history, stop_now, awaited_at_stop, owed_by_smallest, none_by_smallest, to_grow, not_to_grow, owed_writer}
+use Rattle.kpn_configuration.proofs.StopGrowth.{full_number, stop_by_history, stop_now, awaited_at_stop, owed_by_smallest, none_by_smallest, to_grow, not_to_grow, owed_writer}
 use Rattle.kpn_configuration.proofs.configuration.Configuration.owed_at_stop.Goals as goal
+
+pub channel_to_grow-requires : goal.channel_to_grow-requires
+channel_to_grow-requires g c = λ d is.
+    let same : c.in-Some.smallest ≡ d = full_number c.in-Some.smallest d is in
+    subst (λ x. x < length c.args.self.now.channels) same c.in-Some.ensures.channel
+
+pub writer_of-requires : goal.writer_of-requires
+writer_of-requires g c =
+    let t = c.args.network.now in
+    let cap = cap_in (capacities c.args.self.now) in
+    let grows : channel_to_grow cap t.limit (Full c.in-Some.smallest) ≡ Some c.in-Some-channel_to_grow.channel =
+    ap (λ n. channel_to_grow cap n (Full c.in-Some.smallest)) (sym c.limit.ensures) ∙ sym c.channel_to_grow.ensures
+    ∙ c.in-Some-channel_to_grow.is in
+    subst (λ d. d < length t.channels)
+    (to_grow cap t.limit c.in-Some.smallest c.in-Some-channel_to_grow.channel grows).0
+    (subst (λ n. c.in-Some.smallest < n) c.requires.shape.channels c.in-Some.ensures.channel)
 
 pub returns-then-not-is_settled-clause-nothing : goal.returns-then-not-is_settled-clause-nothing
 returns-then-not-is_settled-clause-nothing g c = λ H run none p d owes.

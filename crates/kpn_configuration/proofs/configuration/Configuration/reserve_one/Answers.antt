@@ -1,10 +1,15 @@
-use Rattle.std.proofs.Common.{is_ok, None, false, IsTrue, sym, ap, ◌∙◌, subst}
+use Rattle.std.proofs.Common.{◌<◌, length, is_ok, None, false, IsTrue, sym, ap, ◌∙◌, subst}
 use Rattle.kpn_chan.specs.Channel.{opened}
 use Rattle.kpn_configuration.specs.Configuration.{with_channel}
 use Rattle.kpn_configuration.proofs.Calls.{element}
 use Rattle.kpn_configuration.proofs.Mirror.{mirror_kept, room_same}
 use Rattle.kpn_configuration.proofs.Reserving.{IsConfiguration-reserved, IsRun-reserved, room_made}
 use Rattle.kpn_configuration.proofs.configuration.Configuration.reserve_one.Goals as goal
+
+pub index_mut-channel-requires : goal.index_mut-channel-requires
+index_mut-channel-requires g c =
+    subst (λ n. c.args.c < n) (sym c.self.inside.channels.ok.0)
+    (subst (λ s. c.args.c < length s.channels) (sym c.self.view_is) c.requires)
 
 pub invariant_of-self : goal.invariant_of-self
 invariant_of-self g c =
