@@ -3,7 +3,6 @@ pub mod After
 pub mod Along
 pub mod AtOnce
 pub mod Blocks
-pub mod Elementwise
 pub mod Going
 pub mod Leaving
 pub mod MayStep
