@@ -1,15 +1,16 @@
 -- Tables row by row.
-use Rattle.std.proofs.Common.{◌≡◌, ℕ, suc, ◌+◌, ◌<◌, ◌≤◌, max, List, [], ◌∷◌, ◌++◌, length, map, drop, get_or, codes, drop-cons, drop_of_length-le, sym, ap, ◌∙◌, arith}
-use Rattle.std.specs.List.{range_with_len}
+use Rattle.std.proofs.Common.{◌≡◌, ℕ, suc, ◌+◌, ◌<◌, ◌≤◌, max, List, [], ◌∷◌, ◌++◌, length, map, replicate, take, drop, get_or, codes, drop-cons, take_all, drop_of_length-le, sym, ap, ◌∙◌, arith}
+use Rattle.std.specs.List.{flat_map, range_with_len}
 use Rattle.std.proofs.lemmas.List.FromFn.{map-range_with_len_more}
 use Rattle.kpn_stats_command.specs.declared.table.Row.{Row}
 use Rattle.kpn_stats_command.specs.declared.times.Times.{Times}
 use Rattle.kpn_stats_command.specs.Layout.{longest, aligned_table}
-use Rattle.std.proofs.lemmas.List.{append_assoc}
+use Rattle.std.proofs.lemmas.List.{append_assoc, append-nil, map-append, take_more, drop_more, replicate_more}
 use Rattle.kpn_text.specs.Document.{Document}
 use Rattle.kpn_audit.specs.declared.findings.Audit.{Audit}
 use Rattle.kpn_stats_command.specs.declared.figures.ChannelFigures.{ChannelFigures}
 use Rattle.kpn_stats_command.specs.declared.figures.ProcessFigures.{ProcessFigures}
+use Rattle.kpn_stats_command.specs.BoundText.{Line, line_with, with_next}
 use Rattle.kpn_stats_command.specs.StatsText.{channel_rows, process_rows, advice, tables_text}
 
 -- one entry more
@@ -25,6 +26,24 @@ pub one_more_row : (heading : Row) (f : ℕ → Row) (n : ℕ) (xs more : List R
 one_more_row heading f n xs more so_far added =
     added ∙ ap (λ ys. ys ++ f n ∷ []) so_far
     ∙ ap (λ ys. heading ∷ ys) (sym (map-range_with_len_more f 0 n n (omega arith)))
+
+-- one element more of those that a list is made from
+pub mapped_next : {A B : Type 0} (f : A → B) (xs : List A) (k : ℕ) (d : A) (ys more : List B) (y : B) → k < length xs
+    → ys ≡ map f (take k xs) → y ≡ f (get_or xs k d) → more ≡ ys ++ y ∷ [] → more ≡ map f (take (k + 1) xs)
+mapped_next f xs k d ys more y below so_far made added =
+    added ∙ ap (λ zs. zs ++ y ∷ []) so_far ∙ ap (λ z. map f (take k xs) ++ z ∷ []) made
+    ∙ sym (ap (map f) (take_more xs k d below) ∙ map-append f (take k xs) (get_or xs k d ∷ []))
+
+pub mapped_all : {A B : Type 0} (f : A → B) (xs : List A) (k : ℕ) (ys : List B) → length xs ≤ k
+    → ys ≡ map f (take k xs) → ys ≡ map f xs
+mapped_all f xs k ys past so_far = so_far ∙ ap (map f) (take_all k xs past)
+
+-- one share more
+pub more_shares : (names : List (List ℕ)) (first : Line) (n : ℕ) (line new : Line) → line ≡ line_with names first n
+    → new ≡ with_next names line → new ≡ line_with names first (n + 1)
+more_shares names first n line new so_far told =
+    let step : suc n ≡ n + 1 = omega arith in
+    told ∙ ap (with_next names) so_far ∙ ap (line_with names first) step
 
 -- the longest text of a column, among the rows so far
 pub longest_next : (f : Row → List ℕ) (rows : List Row) (k : ℕ) (row : Row) (width wider all : ℕ) → k < length rows
@@ -70,3 +89,27 @@ head_told lengths bound told first more whole is added says end =
     end
     ∙ ap (λ x. x ++ codes "\n")
     (added ∙ ap (λ x. x ++ told) is ∙ ap (λ x. lengths ++ x) says)
+
+-- ---- a text that grows by what is written of one thing more
+
+pub flat_next : {A : Type 0} (f : A → List ℕ) (n : ℕ) (xs : List A) (x : A) (text more : List ℕ) → n < length xs
+    → x ≡ get_or xs n x → more ≡ text ++ f x
+    → more ++ flat_map f (drop (n + 1) xs) ≡ text ++ flat_map f (drop n xs)
+flat_next f n xs x text more below is added =
+    let rest = drop (n + 1) xs in
+    ap (λ t. t ++ flat_map f rest) added ∙ append_assoc text (f x) (flat_map f rest)
+    ∙ ap (λ y. text ++ (f y ++ flat_map f rest)) is
+    ∙ ap (λ ys. text ++ flat_map f ys) (sym (drop_more xs n x below))
+
+pub spaces_next : (n : ℕ) (start so_far more : List ℕ) → so_far ≡ start ++ replicate n 32 → more ≡ so_far ++ 32 ∷ []
+    → more ≡ start ++ replicate (n + 1) 32
+spaces_next n start so_far more is added =
+    added ∙ ap (λ t. t ++ 32 ∷ []) is ∙ append_assoc start (replicate n 32) (32 ∷ [])
+    ∙ ap (λ t. start ++ t) (replicate_more n 32)
+
+-- nothing is left
+pub nothing_left : {A : Type 0} (rest : List A → List ℕ) (xs : List A) (n : ℕ) (text whole : List ℕ) → rest [] ≡ []
+    → length xs ≤ n → text ++ rest (drop n xs) ≡ whole → text ≡ whole
+nothing_left rest xs n text whole none past is =
+    sym (append-nil text) ∙ ap (λ ys. text ++ ys) (sym none)
+    ∙ ap (λ ys. text ++ rest ys) (sym (drop_of_length-le xs past)) ∙ is
