@@ -109,6 +109,7 @@ impl<'n, A: Allocator> OpenBook<'n, A> {
     }
 
     /// Process `p`, which is at a write of this item to channel `c`, puts it there, or waits if the channel is full.
+    #[inline(always)]
     pub(super) fn write(&mut self, hold: Hold, p: usize, c: usize, item: i64) -> Done
         requires may { MayCommit hold p self.old }
         requires writes { WritesTo self.old.network.now self.old.configuration p c item }
