@@ -409,6 +409,7 @@ const STATS_HELP: &str = "\
 Counts the events of a trace that `kpn run --trace` has stored. Writes how long the run is if each get
 and put takes one tick, with the capacities and without any, which processes bind it to this length, a
 table of the channels, a table of the processes, and which capacities keep the run as short as it can be.
+They are for speed: clogged runs may need more.
 
 Of each channel: the items that were put and read, those that are left unread, the most that lay
 unread, the capacity at first and at last, how often it grew, how often its reader came to wait for an
