@@ -1,5 +1,6 @@
-/* Runs a network on lists, in one call and then in a session, and prints what came of both. tools/clib.py compares it
-   with the program and with drivers in other languages.
+/* Runs a network on lists, in one call, in one that wants two items of each sink, and then in a session, and prints
+   what came of each. Then it prints what wrong numbers and a closed source lead to if nothing is to feed or take.
+   tools/clib.py compares it with the program and with drivers in other languages.
 
    usage: driver DESCRIPTION TRACE COMMITS SINKS [SOURCE=FILE ..]
 
@@ -11,7 +12,7 @@
 #include <string.h>
 #include "kpn.h"
 
-enum { MOST_SOURCES = 2048, TURN = 1000 };
+enum { MOST_SOURCES = 2048, TURN = 1000, FEW = 2 };
 
 typedef struct {
   char *bytes;
@@ -63,8 +64,8 @@ static void print_items(const int64_t *items, size_t count) {
   printf("\n");
 }
 
-/* The run in one call: first without room, which tells the sizes, and then with it. */
-static void run(text_of_file net, const list *lists, size_t sources, uint64_t commits, const char *trace) {
+/* The run in one call: first without room, which tells the sizes, and then with it. TRACE may be null. */
+static void run(text_of_file net, const list *lists, size_t sources, kpn_limits limits, const char *trace) {
   size_t lengths[MOST_SOURCES] = {0}, total = 0, at = 0;
   for (size_t k = 0; k < sources; k++) total += lengths[k] = lists[k].count;
   int64_t *items = room(total, sizeof *items);
@@ -73,7 +74,6 @@ static void run(text_of_file net, const list *lists, size_t sources, uint64_t co
     at += lengths[k];
   }
   kpn_lists given = {items, total, lengths, sources};
-  kpn_limits limits = {commits, false, 0, TURN};
   kpn_room none = {NULL, 0, NULL, 0, NULL, 0};
   kpn_ran ran;
   kpn_place place;
@@ -88,7 +88,7 @@ static void run(text_of_file net, const list *lists, size_t sources, uint64_t co
       printf("sink");
       print_items(space.items + at, space.lengths[k]);
     }
-    store(trace, space.trace, fault == KPN_OK ? ran.trace_length : 0);
+    if (trace) store(trace, space.trace, fault == KPN_OK ? ran.trace_length : 0);
     free(space.items);
     free(space.lengths);
     free(space.trace);
@@ -148,6 +148,24 @@ static void tell(kpn_session *session, size_t sinks, const size_t *channels, lis
   free(text);
 }
 
+/* Nothing is to feed or to take: of numbers that no channel has, of the sinks as sources, and of closed sources. */
+static void ask_for_nothing(kpn_session *session, char *const *words, size_t sources, size_t sinks,
+                            const size_t *channels) {
+  size_t channel = SIZE_MAX, count;
+  printf("wrong %" PRIu32, kpn_feed(session, channel, NULL, 0, &count));
+  printf(" %" PRIu32, kpn_take(session, channel, NULL, 0, &count));
+  for (size_t k = 0; k < sinks; k++) {
+    printf(" %" PRIu32, kpn_feed(session, channels[k], NULL, 0, &count));
+    printf(" %" PRIu32, kpn_take(session, channels[k], NULL, 0, &count));
+  }
+  for (size_t k = 0; k < sources; k++) {
+    if (kpn_channel(session, words[k], strcspn(words[k], "="), &channel)) continue;
+    printf(" %" PRIu32, kpn_feed(session, channel, NULL, 0, &count));
+    printf(" %" PRIu32, kpn_take(session, channel, NULL, 0, &count));
+  }
+  printf("\n");
+}
+
 static void serve(text_of_file net, char *names, char *const *words, const list *lists, size_t sources, uint64_t most,
                   const char *trace) {
   kpn_session session;
@@ -162,6 +180,7 @@ static void serve(text_of_file net, char *names, char *const *words, const list 
   if (!fault) fault = go(&session, sinks, channels, taken, most);
   printf("served %" PRIu32 "\n", fault);
   tell(&session, fault ? 0 : sinks, channels, taken, trace);
+  ask_for_nothing(&session, words, fault ? 0 : sources, fault ? 0 : sinks, channels);
   for (size_t k = 0; k < MOST_SOURCES; k++) free(taken[k].items);
   kpn_free(&session);
   printf("freed %" PRIu32 "\n", kpn_close_source(&session, 0));
@@ -177,9 +196,11 @@ int main(int count, char **words) {
   text_of_file net = load(words[1]);
   uint32_t fault = kpn_check(net.bytes, net.length, &place);
   printf("check %" PRIu32 " %d %zu\n", fault, place.has_place, place.place);
-  run(net, lists, sources, strtoull(words[3], NULL, 10), words[2]);
+  const uint64_t commits = strtoull(words[3], NULL, 10);
+  run(net, lists, sources, (kpn_limits){commits, false, 0, TURN}, words[2]);
+  run(net, lists, sources, (kpn_limits){commits, true, FEW, TURN}, NULL);
   snprintf(trace, sizeof trace, "%s.session", words[2]);
-  serve(net, words[4], words + 5, lists, sources, strtoull(words[3], NULL, 10), trace);
+  serve(net, words[4], words + 5, lists, sources, commits, trace);
   for (size_t k = 0; k < sources; k++) free(lists[k].items);
   free(net.bytes);
   return 0;

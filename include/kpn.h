@@ -23,7 +23,8 @@
 
      - The same items come to the sinks as under `kpn run` and every other order of steps.
      - No call keeps a pointer of yours once it has returned. What is told as a text has no 0 at its end.
-     - A null pointer, a wrong number and a session that was freed are faults. (A pointer to 0 items may be null.)
+     - A null pointer, a wrong number and a session that was freed are faults, also if there is nothing to feed or take.
+       (A pointer to 0 items may be null.)
      - A buffer that is too small is a fault. The call then changes no buffer, and tells the sizes that are needed.
      - Memory that is refused is a fault. `kpn_feed`, `kpn_step` and `kpn_take` tell how much they had done before; all
        other calls leave the session as it was. A process whose commit was refused is ready again.
@@ -95,7 +96,8 @@ typedef struct {
   size_t source_count;
 } kpn_lists;
 
-/* Where a run puts what it tells: the items of the sinks, sink by sink, how many are of each sink, and the trace. */
+/* Where a run puts what it tells: the items of the sinks, sink by sink, how many are of each sink, and the trace. If
+   `take` items are enough, it tells no more of any sink. The trace may have more. */
 typedef struct {
   int64_t *items;
   size_t item_room;
@@ -126,7 +128,8 @@ typedef struct {
 uint32_t kpn_open(const char *text, size_t length, kpn_session *session, kpn_place *place);
 uint32_t kpn_channel(kpn_session *session, const char *name, size_t length, size_t *channel);
 
-/* Feeds items, and tells how many: all of them, unless it returns a fault. */
+/* Feeds items, and tells how many: all of them, unless it returns a fault. A source that was closed is one, also if
+   there are no items. */
 uint32_t kpn_feed(kpn_session *session, size_t source, const int64_t *items, size_t count, size_t *fed);
 uint32_t kpn_close_source(kpn_session *session, size_t source);
 

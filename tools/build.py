@@ -1,6 +1,10 @@
 #!/usr/bin/env python3
 """Proves and builds the program `kpn` and the libraries below it, and reports on standard error how far it is.
 
+usage: tools/build.py [--below CRATE]
+
+With --below it makes the libraries below a crate, and no program: those of `kpn_c` are what the C library needs.
+
 It calls the prover itself, side by side for crates that do not depend on one another, first for those with the longest
 chain of crates above. It makes a library with its statements only, which crates above read in less time than its
 proofs. `rt check` needs the proofs, so this script has a folder of its own, out/ at the top, apart from each crate's
@@ -9,6 +13,7 @@ crates/kpn/out/kpn. It proves a crate anew if its contents have changed, or if a
 interrupted build goes on where it was. The launcher `kpn` calls this script. Afterwards out/needed says which folders
 the program was made from.
 """
+import argparse
 import fcntl
 import hashlib
 import json
@@ -22,7 +27,7 @@ import sys
 import tempfile
 import time
 
-from prover import Crate, find_kit, link_words, needed_by, read_crates, words_of
+from prover import Crate, could_not, find_kit, link_words, needed_by, read_crates, words_of
 
 TOP = pathlib.Path(__file__).resolve().parent.parent
 OUT = TOP / 'out'
@@ -217,9 +222,10 @@ def last_build():
 
 def make(kit, crates, number):
     """Makes what is not current, and returns whether all of it was proved."""
-    progress = Progress(number)
-    progress.line(f'kpn: the program is proved and built first, {counted(number)}; {last_build()}')
-    if number == len(crates):
+    progress, is_program = Progress(number), crates[-1].is_program
+    what = 'the program is proved and built' if is_program else 'libraries are proved'
+    progress.line(f'kpn: {what} first, {counted(number)}; {last_build()}')
+    if is_program and number == len(crates):
         progress.line('kpn: `./kpn --unproved` builds it without proofs, in some three minutes')
     room = pathlib.Path(tempfile.mkdtemp(prefix='kpn-build-'))
     try:
@@ -239,20 +245,22 @@ def make(kit, crates, number):
     return True
 
 
-def build():
-    began, kit, program = time.time(), find_kit(), read_crates(TOP, Target)[PROGRAM]
-    crates = [*program.below, program]
+def build(crates):
+    """Makes these crates, each of which comes after those below it. If the program is the last one, it notes what that
+    was made from. Returns the status to end with."""
+    began, kit, last = time.time(), find_kit(), crates[-1]
     number = sum(not it.look(kit) for it in crates)
     if number and not make(kit, crates, number):
         return 1
-    (OUT / 'needed').write_text('\n'.join(needed_by(crates)) + '\n')
-    # Then a source that has changed since is newer.
-    os.utime(program.made, (began, began))
+    if last.is_program:
+        (OUT / 'needed').write_text('\n'.join(needed_by(crates)) + '\n')
+        # Then a source that has changed since is newer.
+        os.utime(last.made, (began, began))
     return 0
 
 
-def main():
-    signal.signal(signal.SIGTERM, signal.default_int_handler)
+def build_alone(crates):
+    """Builds while no other one does."""
     for name in ('libraries', 'logs'):
         (OUT / name).mkdir(parents=True, exist_ok=True)
     with open(OUT / 'lock', 'w') as lock:
@@ -261,11 +269,26 @@ def main():
         except BlockingIOError:
             print('kpn: waiting for another build of it to end', file=sys.stderr)
             fcntl.flock(lock, fcntl.LOCK_EX)
-        try:
-            return build()
-        except KeyboardInterrupt:
-            print('\nkpn: interrupted; the next start goes on from here', file=sys.stderr)
-            return 130
+        return build(crates)
+
+
+def main():
+    parser = argparse.ArgumentParser(description=__doc__, formatter_class=argparse.RawDescriptionHelpFormatter)
+    known = read_crates(TOP, Target)
+    parser.add_argument('--below', metavar='CRATE', choices=known, help='makes the libraries below this crate')
+    below = parser.parse_args().below
+    crates = known[below].below if below else [*known[PROGRAM].below, known[PROGRAM]]
+    if not crates:
+        return 0
+    signal.signal(signal.SIGTERM, signal.default_int_handler)
+    try:
+        return build_alone(crates)
+    except KeyboardInterrupt:
+        print('\nkpn: interrupted; the next start goes on from here', file=sys.stderr)
+        return 130
+    except OSError as error:
+        print(could_not(error), file=sys.stderr)
+        return 1
 
 
 if __name__ == '__main__':

@@ -34,7 +34,10 @@ def view_of(crate, room):
         elif any(it.name in own for it in low.below):
             sys.exit(f'{low.name} stands on a library made here: call tools/check.py {low.name} --library first')
         else:
-            shutil.unpack_archive(BASE / 'out/libraries' / f'{low.name}.tar', room)
+            made = BASE / 'out/libraries' / f'{low.name}.tar'
+            if not made.exists():
+                sys.exit(f'{made} is missing: call tools/build.py --below {crate.name} in {BASE}')
+            shutil.unpack_archive(made, room)
     return room
 
 

@@ -3,8 +3,9 @@
 
 usage: tools/clib.py build [FOLDER] | headers | test [FOLDER] [--networks N] [--program KPN] [--seed N]
 
-`build` proves `kpn_c` over the libraries of `tools/build.py`, here or in the tree of KPN_BASE, and makes an archive and
-a shared object of it in FOLDER, by default out/c. `headers` compares include/kpn.h, c/kpn.c and the exports of `kpn_c`,
+`build` proves `kpn_c` and makes an archive and a shared object of it in FOLDER, by default out/c, if they are not there
+yet. The libraries below it are those of the tree of KPN_BASE, or else of this tree: `tools/build.py` first makes those
+that lack. `headers` compares include/kpn.h, c/kpn.c and the exports of `kpn_c`,
 and needs no build. `test` does that too, and then compares drivers in C, in Rust by cargo and in Python by ctypes with
 the program: on the examples, on N random networks, under AddressSanitizer and valgrind, with each memory request
 refused in turn, and with a million items. It is no part of the gate.
@@ -19,6 +20,7 @@ import resource
 import subprocess
 import sys
 import tempfile
+import time
 
 import check
 import prover
@@ -29,8 +31,10 @@ sys.path += [str(TOP / 'bench/stress'), str(TOP / 'bench')]
 import histories  # noqa: E402
 import random_networks  # noqa: E402
 
-COMMITS, TURN = 500, 1000
+COMMITS, TURN, FEW = 500, 1000, 2
 TOO_SMALL = 61
+# The name that programs linked to the shared object look for. Raise it if kpn.h takes anything away.
+SHARED = 'libkpn.so.0'
 STRICT = ['-std=c11', '-O2', '-fPIC', '-Wall', '-Wextra', '-Werror', '-I', str(TOP / 'include')]
 
 
@@ -41,21 +45,48 @@ def call(*words, **more):
 # ---- the build
 
 def build(folder):
-    """The archive and the shared object."""
+    """Makes the archive and the shared object, and returns whether they are there."""
+    shared, needed, crate = folder / SHARED, folder / 'needed', prover.read_crates(TOP)['kpn_c']
+    if prover.is_current(shared, needed, TOP):
+        return True
+    if 'KPN_BASE' not in os.environ:
+        made = subprocess.run([sys.executable, TOP / 'tools/build.py', '--below', crate.name], stdin=subprocess.DEVNULL)
+        if made.returncode:
+            return False
+    began = time.time()
     folder.mkdir(parents=True, exist_ok=True)
-    crate, kit = prover.read_crates(TOP)['kpn_c'], prover.find_kit()
-    made = folder / 'libkpn_c.a'
+    prove(crate, folder / 'libkpn_c.a')
+    link(folder / 'libkpn_c.a', folder)
+    needed.write_text('\n'.join([*prover.needed_by([*crate.below, crate]), 'c/kpn.c', 'include/kpn.h']) + '\n')
+    # Then a source that has changed since is newer.
+    os.utime(shared, (began, began))
+    return True
+
+
+def prove(crate, made):
+    """Proves the crate and makes an archive of it."""
+    kit = prover.find_kit()
+    print(f'kpn: {crate.name} is proved', file=sys.stderr, flush=True)
     with tempfile.TemporaryDirectory(prefix='kpn-clib-') as name:
         room = check.view_of(crate, pathlib.Path(name))
         words = ['--logic-built', kit / 'logic_built', '--toolchain', kit / 'toolchain', '--jobs', '1', '-o', made]
         words = prover.words_of('build', crate, kit, room, *check.kept_of(crate.name, []), *words)
         call(*words, cwd=crate.folder)
+
+
+def link(made, folder):
+    """Puts what is proved, the kit's part in C, and c/kpn.c into the library."""
     call('cc', *STRICT, '-c', TOP / 'c/kpn.c', '-o', folder / 'kpn.o')
     archive = folder / 'libkpn.a'
     archive.unlink(missing_ok=True)
-    parts = [f'addlib {made}', f'addlib {kit}/c/liblibc_c.a', f'addmod {folder}/kpn.o']
+    parts = [f'addlib {made}', f'addlib {prover.find_kit()}/c/liblibc_c.a', f'addmod {folder}/kpn.o']
     call('ar', '-M', input='\n'.join([f'create {archive}', *parts, 'save', 'end', '']), text=True)
-    call('cc', '-shared', '-o', folder / 'libkpn.so', '-Wl,--whole-archive', archive, '-Wl,--no-whole-archive')
+    # The shared object hands out what kpn.h declares, and nothing of what that calls.
+    call('cc', '-shared', f'-Wl,-soname,{SHARED}', '-Wl,--exclude-libs,ALL', '-o', folder / SHARED, folder / 'kpn.o',
+         archive)
+    plain = folder / 'libkpn.so'
+    plain.unlink(missing_ok=True)
+    plain.symlink_to(SHARED)
     print(f'{archive}: {archive.stat().st_size:,} bytes')
 
 
@@ -171,7 +202,9 @@ class Driver:
         place, session, self.lines = Place(), Session(), []
         fault = self.library.kpn_check(net, ctypes.c_size_t(len(net)), ctypes.byref(place))
         self.say('check', fault, int(place.has_place), place.place)
-        self.run(net, trace, commits, [items for _, items in sources])
+        lists = [items for _, items in sources]
+        self.run(net, trace, Limits(commits, False, 0, TURN), lists)
+        self.run(net, None, Limits(commits, True, FEW, TURN), lists)
         fault = self.library.kpn_open(net, ctypes.c_size_t(len(net)), ctypes.byref(session), ctypes.byref(place))
         self.say('open', fault, int(place.has_place), place.place)
         channels, taken = [], []
@@ -183,15 +216,16 @@ class Driver:
             fault = faulty.args[0]
         self.say('served', fault)
         self.tell(session, channels, taken, pathlib.Path(f'{trace}.session'))
+        self.ask_for_nothing(session, channels, [] if fault else [name for name, _ in sources])
         self.library.kpn_free(ctypes.byref(session))
         self.say('freed', self.library.kpn_close_source(ctypes.byref(session), ctypes.c_size_t(0)))
         return '\n'.join(self.lines) + '\n'
 
-    def run(self, net, trace, commits, lists):
+    def run(self, net, trace, limits, lists):
         items = [it for list in lists for it in list]
         flat, lengths = (ctypes.c_int64 * len(items))(*items), (ctypes.c_size_t * len(lists))(*map(len, lists))
         given = Lists(address(flat), len(items), address(lengths), len(lists))
-        limits, ran, place = Limits(commits, False, 0, TURN), Ran(), Place()
+        ran, place = Ran(), Place()
 
         def ask(room):
             given_too = map(ctypes.byref, (given, limits, room, ran, place))
@@ -210,7 +244,15 @@ class Driver:
         for length in lengths:
             self.lines.append(f'sink{spelled(rest[:length])}')
             rest = rest[length:]
-        pathlib.Path(trace).write_bytes(text.raw[:ran.trace_length])
+        if trace:
+            pathlib.Path(trace).write_bytes(text.raw[:ran.trace_length])
+
+    def ask_for_nothing(self, session, sinks, sources):
+        one, said = ctypes.byref(session), []
+        for channel in [ctypes.c_size_t(2**64 - 1), *sinks, *(self.channel(session, it) for it in sources)]:
+            for call in (self.library.kpn_feed, self.library.kpn_take):
+                said.append(call(one, channel, None, ctypes.c_size_t(0), ctypes.byref(ctypes.c_size_t())))
+        self.say('wrong', *said)
 
     def ask(self, name, session, *words):
         fault = getattr(self.library, f'kpn_{name}')(ctypes.byref(session), *words)
@@ -324,18 +366,32 @@ class Tests:
         status, report, error = self.kpn('run', 'net', '--max-commits', commits, '--trace', 'kpn.trace', *sources)
         if error:
             number = error.split()[1]
-            found = [' '.join(it.split()[:2]) for it in (lines[0], lines[2])]
+            found = [' '.join(it.split()[:2]) for it in (lines[0], lines[3])]
             same('refused', [f'check {number}', f'open {number}'], found)
             return
         ran = lines[1].split()
         same('outcome', report.splitlines()[-1].split()[0], OUTCOMES[int(ran[2])])
         same('trace', (self.room / 'kpn.trace').read_bytes(), wanted[2])
         served = [it for it in lines if it.startswith('sink')]
-        one, session = served[:len(sinks)], [' '.join(it.split()[3:]) for it in served[len(sinks):]]
-        if lines[-2 - len(sinks) - 1] != 'verdict 0 0' and int(ran[2]) != 5:
-            same('items', [' '.join(it.split()[1:]) for it in one], session)
+        one, few, session = (served[k * len(sinks):(k + 1) * len(sinks)] for k in range(3))
+        one, few = ([' '.join(it.split()[1:]) for it in part] for part in (one, few))
+        session = [' '.join(it.split()[3:]) for it in session]
+        if lines[-3 - len(sinks) - 1] != 'verdict 0 0' and int(ran[2]) != 5:
+            same('items', one, session)
+        same('wrong numbers', ['43', '43', *['43', '0'] * len(sinks), *['44', '43'] * (len(sources) // 2)],
+             lines[-2].split()[1:])
+        self.few_beside_the_program(lines[2 + len(sinks)].split(), few, commits, sources)
         (self.room / 'kpn.trace').write_bytes(wanted[3])
         same('audit', 0, self.kpn('audit', 'net', 'kpn.trace')[0])
+
+    def few_beside_the_program(self, ran, few, commits, sources):
+        """A run that wants few items of each sink tells no more, and as many as the program."""
+        report = self.kpn('run', 'net', '--max-commits', commits, '--take', FEW, *sources)[1].splitlines()
+        same('few: outcome', report[-1].split()[0], {**OUTCOMES, 4: 'enough'}[int(ran[2])])
+        told = {it.split()[1].rstrip(':'): ' '.join(it.split()[2:]) for it in report if it.startswith('sink')}
+        if told:
+            same('few: items', list(told.values()), few)
+        same('few: lengths', [], [it for it in few if len(it.split()) > FEW])
 
     def examples(self):
         count = 0
@@ -422,8 +478,7 @@ def main():
     asked = parser.parse_args()
     folder = asked.folder.resolve()
     if asked.what == 'build':
-        build(folder)
-        return
+        sys.exit(0 if build(folder) else 1)
     check_headers()
     if asked.what == 'test':
         with tempfile.TemporaryDirectory() as room:

@@ -1,23 +1,20 @@
 #!/usr/bin/env python3
-"""Writes docs/WORDS.md: a list of the definitions in the folders specs/ of the program's crates, by file, each with the
-first sentence of the comment above it. It is run by hand, after each change of a definition. tools/documents.py reports a
-list that is out of date.
+"""Prints the words of the contracts: the definitions in the folders specs/ of the program's crates, by file, each with
+the first sentence of the comment above it. docs/DEFINITIONS.md explains the words of the field.
 
-It leaves out two kinds of definitions: those that are not public, and those that only contracts of private functions
-cite, which their file or a heading in it calls scaffolding.
+usage: tools/definitions.py [CRATE ..]
+
+Without a crate it prints those of all, and it is run by hand. It leaves out two kinds of definitions: those that are
+not public, and those that only contracts of private functions cite, which their file or a heading in it calls
+scaffolding.
 """
 import pathlib
 import re
+import sys
 import textwrap
 
 TOP = pathlib.Path(__file__).resolve().parent.parent
-LIST = TOP / 'docs/WORDS.md'
 COLUMNS = 120
-HEAD = '''# Words of the contracts
-
-`tools/definitions.py` writes this list from the files in `crates/CRATE/specs/`. Each file has its public definitions,
-with the first sentence of the comment above each. DEFINITIONS.md explains the words of the field.
-'''
 DEFINED = re.compile(r"^(?:pub (?:record|data)|abbrev pub|  pub)\s+([^\s:]+)(?=\s)")
 SENTENCE_END = re.compile(r'(?<=[^.])\. (?=[A-Z`])')
 HEADING = '-- ---- '
@@ -47,10 +44,10 @@ def words_of(file):
                 yield found[1], SENTENCE_END.split(' '.join(comment), maxsplit=1)[0].removesuffix('.')
 
 
-def listed():
-    """The whole document."""
+def listed(crates):
+    """The list of these crates."""
     lines = []
-    for crate in sorted(it for it in (TOP / 'crates').iterdir() if it.name.startswith('kpn')):
+    for crate in crates:
         for file in sorted((crate / 'specs').rglob('*.antt')):
             words = list(words_of(file))
             if words:
@@ -58,8 +55,16 @@ def listed():
             for word, said in words:
                 line = f'- `{word}`: {said}' if said else f'- `{word}`'
                 lines += textwrap.wrap(line, COLUMNS, subsequent_indent='  ', break_long_words=False)
-    return HEAD + ''.join(f'{line}\n' for line in lines)
+    return '\n'.join(lines).lstrip()
+
+
+def main():
+    crates = {it.name: it for it in sorted((TOP / 'crates').iterdir()) if it.name.startswith('kpn')}
+    unknown = [name for name in sys.argv[1:] if name not in crates]
+    if unknown:
+        sys.exit(f'no crate of the program is named {", ".join(unknown)}')
+    print(listed([crates[name] for name in sys.argv[1:] or crates]))
 
 
 if __name__ == '__main__':
-    LIST.write_text(listed())
+    main()

@@ -6,7 +6,7 @@
   has to be defined there.
 - docs/GUARANTEES.md: in "By `f`: `clause`" the function `f` has to be in a crate of its section, with such a clause.
 - docs/LIBRARY.md: each piece of code has to be in the file that is named before it.
-- docs/WORDS.md has to be what tools/definitions.py writes.
+- A link has to lead to a file or a heading. In `RUNS.md, "Growth"` the document has to have such a heading.
 - The table of crates has to have as many edits and tests of each crate as there are.
 - No line is longer than 120 columns, except rows of tables.
 """
@@ -14,17 +14,17 @@ import pathlib
 import re
 import sys
 
-import definitions
-
 TOP = pathlib.Path(__file__).resolve().parent.parent
-OTHERS = [TOP / name for name in ('README.md', 'bench/RESULTS.md', 'python/README.md')]
+OTHERS = [TOP / name for name in ('README.md', 'bench/RESULTS.md', 'python/README.md', 'editors/README.md')]
 DOCUMENTS = [*OTHERS, *sorted((TOP / 'docs').glob('*.md'))]
 COLUMNS = 120
 KINDS = ('.rt', '.antt', '.py', '.rs', '.c', '.h', '.kpn', '.edit')
 PATH = re.compile(r'(?<![\w./-])((?:\w[\w.-]*/)+(?:[\w.-]*\w)?|\w+\.(?:rt|antt|py|md|kpn|edit)\b)')
 CRATE = re.compile(r'\b(?:kpn|check|bench)_[a-z_]*[a-z]\b')
 NAME = re.compile(r"`((?:\w+::)*[A-Za-z_][\w']*)`")
-CODE = re.compile(r'From\s+`([^`]+)`[^`]*?```rust\n(.*?)```', re.S)
+CODE = re.compile(r'From\s+`([^`]+)`[^`]*?```(?:rust|c)\n(.*?)```', re.S)
+LINK = re.compile(r'\]\(([^)]*)\)')
+HEADING = re.compile(r'(\w+)\.md, "([^"]+)"')
 # Parts of a path that stand for something else, or that a build makes.
 STANDS_FOR = set('PWD CRATE mine MODULE FILE NAME NAME.antt NAME.edit FILE.antt MODULE.rt m out rlib'.split())
 # What a claim depends on, the head of a function, the clauses in it, and a name.
@@ -34,13 +34,13 @@ CLAUSE = re.compile(r'\bensures\*? (\w+) \{')
 PLAIN = re.compile(r'`((?:\w+::)*\w+)`')
 PLACE = re.compile(r"`([\w:']+)` \(`([\w/]+\.(?:rt|py|antt))`(?=[;)])")
 # Of the kit, of std, of other programs, and names in examples.
-ELSEWHERE = set("""rt go awk clap arrayvec indexmap itoa linked_list_allocator thiserror anyhow std objdump bin/clang
+ELSEWHERE = set("""share/kpn/editors rt go awk clap arrayvec indexmap itoa linked_list_allocator thiserror anyhow std objdump bin/clang
     logs/ ISO/IEC nope Kinds Now check_ bench_ HANDLES start_io start_lib
     dac8208d650f15bf""".split())
 
 
 def files_of_project():
-    for folder in ('crates', 'bench', 'tools', 'docs', 'python', 'c', 'include', '.ci'):
+    for folder in ('crates', 'bench', 'tools', 'docs', 'python', 'c', 'include', 'editors', '.ci'):
         for file in (TOP / folder).rglob('*'):
             if 'out' not in file.relative_to(TOP).parts and '__pycache__' not in file.parts:
                 yield file
@@ -85,6 +85,23 @@ def wrong_places(text, paths):
             yield f'{name} is not in {path}'
 
 
+def headings_of(text):
+    return re.findall(r'^#+ (.*)$', text, re.M)
+
+
+def wrong_links(document):
+    """The links of a document that lead nowhere, and the headings of other documents that it names wrongly."""
+    text = document.read_text()
+    anchors = {'#' + re.sub(r'[^\w -]', '', it).lower().replace(' ', '-') for it in headings_of(text)}
+    for link in LINK.findall(text):
+        if link not in anchors and (link.startswith('#') or not (document.parent / link).exists()):
+            yield f'no {link}'
+    for name, heading in HEADING.findall(' '.join(text.split())):
+        named = [it for it in DOCUMENTS if it.stem == name]
+        if not any(heading in headings_of(it.read_text()) for it in named):
+            yield f'{name}.md has no heading {heading}'
+
+
 def sections_of(document):
     """The crates that a heading names, and the points below it, each on one line."""
     parts = re.split(r'^## (.*)$', document.read_text(), flags=re.M)
@@ -120,8 +137,9 @@ def wrong_claims(document):
 
 def wrong_counts(document):
     """The rows of a table of crates whose number of edits or tests is wrong."""
-    rows = re.findall(r'^\| `?(\w+)`? \|[^|]*\| (\d*) *\|[^|]*\| (\d*) *\|', document.read_text(), re.M)
-    told = {crate: (int(edits or 0), int(tests or 0)) for crate, edits, tests in rows}
+    rows = re.findall(r'^    (\w+) +~?\d+(?:\.\d)?\b(.*)$', document.read_text(), re.M)
+    told = {crate: tuple(sum(map(int, re.findall(rf'(\d+) {word}', rest))) for word in ('edits', 'tests'))
+            for crate, rest in rows}
     counts = {}
     for folder in sorted(it for it in (TOP / 'crates').iterdir() if it.is_dir()):
         tests = sum(len(re.findall(r'#\[test\]', it.read_text())) for it in (folder / 'src').rglob('*.rt'))
@@ -139,12 +157,10 @@ def main():
         text = document.read_text()
         for number, line in enumerate(text.splitlines(), 1):
             wrong += [f'{document.name}:{number}: {it}' for it in wrong_in(line, paths, words)]
-        wrong += [f'{document.name}: {it}' for it in wrong_places(text, paths)]
+        wrong += [f'{document.name}: {it}' for it in [*wrong_places(text, paths), *wrong_links(document)]]
         wrong += [f'{document.name}: {file} has no such code:\n{code}' for file, code in CODE.findall(text)
                   if code not in (TOP / file).read_text()]
     wrong += [f'GUARANTEES.md: {it}' for it in wrong_claims(TOP / 'docs/GUARANTEES.md')]
-    if definitions.LIST.read_text() != definitions.listed():
-        wrong.append('WORDS.md is out of date: run tools/definitions.py')
     wrong += [f'PROVING.md: {it}' for it in wrong_counts(TOP / 'docs/PROVING.md')]
     print('\n'.join(wrong) or 'all that the documents name is there')
     return 1 if wrong else 0

@@ -4,7 +4,7 @@ warning. It is run by hand, and needs the program `dot` (in Debian the package g
 
     tools/draw.py [FOLDER]
 
-The pictures go to FOLDER, if there is one. Those of PICTURES, which README shows, go to docs/pictures/ too.
+The pictures go to FOLDER, if there is one. Those of PICTURES, which README and GUIDE show, go to docs/pictures/ too.
 """
 import pathlib
 import subprocess

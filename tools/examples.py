@@ -5,9 +5,9 @@ figures.py) compute that. What comes before that heading stays as it is. The scr
 anew. Below the heading `# The examples run by workers` is each run above it once more by 1, 2 and 16 workers, with an
 audit of its trace. Below `# Changed histories` are the lines of history_tables.py.
 
-Before that it checks the comments at the head of each of the examples, and README.md. They have to say what really
-comes of the commands that they name, and each of these commands has to have a row. It is run by hand, after each change
-of an example.
+Before that it checks the comments at the head of each of the examples, README.md and docs/GUIDE.md. They have to say
+what really comes of the commands that they name, and each of these commands has to have a row. It is run by hand, after
+each change of an example.
 
 A run on one thread computes what a run by workers writes, since that is the same for any number of workers. Of the
 audit of its trace it compares only the lines that are the same.
@@ -243,9 +243,10 @@ def lines_by_workers(lines):
                 yield f'first {audited_lines(report)} kpn audit {words[2]} by_workers.trace\n'
 
 
-# ---- what comments and README say
+# ---- what comments and documents say
 
 COMMAND = './kpn '
+DOCUMENTS = ('README.md', 'docs/GUIDE.md')
 # The sentence between a command and a part of what it writes, in place of all.
 A_PART = 'writes a line for each channel, and '
 
@@ -261,8 +262,8 @@ def claims_of_example(text):
             yield command[0].removeprefix(f'#   {COMMAND}'), said.strip(), [line[4:] for line in lines]
 
 
-def claims_of_readme(text):
-    """Each command behind a `$` in README.md, with the lines below it up to the next command or an empty line."""
+def claims_of_document(text):
+    """Each command behind a `$` in a document, with the lines below it up to the next command or an empty line."""
     lines = iter(text.splitlines())
     block = []
     for line in itertools.chain(lines, ['']):
@@ -297,11 +298,11 @@ def what_is_wrong(command, said, lines, rows):
 
 
 def wrong_claims(rows):
-    """What the examples and README.md wrongly say of commands."""
+    """What the examples and the documents wrongly say of commands."""
     files = sorted([*pathlib.Path().glob('*.kpn'), *pathlib.Path('worked').glob('*.kpn')])
     claims = [(file.name, *claim) for file in files
               for claim in claims_of_example(file.read_text())]
-    claims += [('README.md', *claim) for claim in claims_of_readme((TOP / 'README.md').read_text())]
+    claims += [(name, *claim) for name in DOCUMENTS for claim in claims_of_document((TOP / name).read_text())]
     for name, command, said, lines in claims:
         wrong = what_is_wrong(command, said, lines, rows)
         if wrong:

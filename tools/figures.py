@@ -74,6 +74,10 @@ def advice(audit, bounded, free, c):
     return f'{audit.network.channels[c]}: {number} {would} the run as short as it can be{has}\n'
 
 
+def in_ticks(count):
+    return f'{count} tick' if count == 1 else f'{count} ticks'
+
+
 def bound_line(network, bounded):
     """The five processes that bind the run for most ticks, and the others together."""
     shares = bounded.shares()
@@ -83,14 +87,14 @@ def bound_line(network, bounded):
     told = [(network.instances[p], shares[p]) for p in first]
     others = shares.total() - sum(ticks for _, ticks in told)
     told += [('others', others)] * bool(others)
-    return 'bound by ' + ', '.join(f'{name} ({ticks} ticks)' for name, ticks in told) + '\n'
+    return 'bound by ' + ', '.join(f'{name} ({in_ticks(count)})' for name, count in told) + '\n'
 
 
 def head(network, history, bounded, free):
     moves = len(bounded.places)
     hundredths = moves * 100 // bounded.length if bounded.length else None
     in_a_tick = '-' if hundredths is None else f'{hundredths // 100}.{hundredths % 100:02}'
-    return (f'length {bounded.length} ticks, {free.length} without capacities\n'
+    return (f'length {in_ticks(bounded.length)}, {free.length} without capacities\n'
             f'events {len(history)}, gets and puts {moves}, in a tick {in_a_tick}\n'
             + bound_line(network, bounded))
 

@@ -22,7 +22,7 @@ import prover
 
 TOP = pathlib.Path(__file__).resolve().parent.parent
 # The minutes that the proofs of these crates took together on the machine of the table in docs/PROVING.md.
-MEASURE, ON_THE_TABLES_MACHINE = ('kpn_net', 'kpn_grammar', 'kpn_names'), 8.0
+MEASURE, ON_THE_TABLES_MACHINE = ('kpn_net', 'kpn_text_grammar', 'kpn_text_names'), 8.0
 BACKENDS = ('llvm', 'rattle')
 SECONDS_FOR_A_TEST = '60'
 
@@ -164,21 +164,19 @@ def minutes(seconds):
 
 
 def table(spent, crates):
-    yield '| Crate | Proof | Edits | Minutes for them | Tests | Minutes for them |'
-    yield '|---|---|---|---|---|---|'
     total = Spent()
     for crate in crates:
         it = spent[crate]
-        yield row(f'`{crate.name}`', it)
+        yield row(crate.name, it)
         for name in vars(total):
             setattr(total, name, getattr(total, name) + getattr(it, name))
     yield row('all', total)
 
 
 def row(name, it):
-    edits = (it.number_of_edits, minutes(it.edits)) if it.number_of_edits else ('', '')
-    tests = (it.number_of_tests, minutes(it.tests)) if it.number_of_tests else ('', '')
-    return '| ' + ' | '.join(map(str, [name, minutes(it.proof), *edits, *tests])) + ' |'
+    edits = f'{it.number_of_edits:>3} edits {minutes(it.edits):>5}' if it.number_of_edits else ''
+    tests = f'{it.number_of_tests:>3} tests {minutes(it.tests):>5}' if it.number_of_tests else ''
+    return f'    {name:<25}{minutes(it.proof):>5} {edits:<15} {tests}'.rstrip()
 
 
 def compared(spent):

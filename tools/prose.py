@@ -1,21 +1,44 @@
 #!/usr/bin/env python3
 """Counts the words of each document, and reports how long its sentences are: the longest, the mean, and the share of
-those over 25 words.
+those over 25 words. It ends with 1 if a document has more words than its budget, or all together have.
 
 usage: tools/prose.py [--long N] [FILE ..]
 
-Without a file it looks at README.md, docs/, bench/RESULTS.md and python/README.md. It does not count code blocks and
-tables. In a sentence, a piece of code in backquotes counts as one word. A heading is no sentence, and a point of a list
-ends one. With `--long N` it also writes each sentence of more than N words. It is run by hand.
+Without a file it looks at README.md, docs/, bench/RESULTS.md and python/README.md. The budgets are for all words of a
+file, as `wc -w` counts them; whoever needs more raises one and takes something away elsewhere. All else leaves out code
+blocks and tables. In a sentence, a piece of code in backquotes counts as one word. A heading is no sentence, and a
+point of a list ends one. With `--long N` it also writes each sentence of more than N words. It is run by hand.
 """
 import argparse
 import pathlib
 import re
+import sys
 
 TOP = pathlib.Path(__file__).resolve().parent.parent
 DOCUMENTS = [TOP / 'README.md', *sorted((TOP / 'docs').glob('*.md')),
              *(TOP / name for name in ('bench/RESULTS.md', 'python/README.md'))]
 LONG = 25
+# The most words of each document, and of all.
+BUDGETS = {
+    'README.md': 2_060,
+    'docs/ARCHITECTURE.md': 3_410,
+    'docs/COMPILED.md': 1_710,
+    'docs/DECISIONS.md': 3_660,
+    'docs/DEFINITIONS.md': 2_550,
+    'docs/ERRORS.md': 1_220,
+    'docs/GUARANTEES.md': 6_110,
+    'docs/GUIDE.md': 1_040,
+    'docs/LANGUAGE.md': 1_510,
+    'docs/LIBRARY.md': 2_600,
+    'docs/PROVING.md': 3_460,
+    'docs/RUNS.md': 2_310,
+    'docs/STREAMS.md': 1_170,
+    'docs/TRACES.md': 870,
+    'docs/VIEWS.md': 2_070,
+    'python/README.md': 950,
+    'bench/RESULTS.md': 2_860,
+}
+BUDGET = 39_400
 POINT = re.compile(r'\s*(?:[-*+]|\d+\.)\s+')
 END = re.compile(r'(?<=[.!?])["\')*]*\s+(?=["\'(*]*[A-Z0-9`])')
 WORD = re.compile(r"[^\s]*\w[^\s]*")
@@ -55,20 +78,30 @@ def main():
     reads.add_argument('--long', type=int)
     reads.add_argument('files', nargs='*', type=pathlib.Path)
     asked = reads.parse_args()
-    print(f'{"document":<24}{"words":>8}{"sentences":>11}{"longest":>9}{"mean":>7}{f"over {LONG}":>9}')
+    print(f'{"document":<24}{"all words":>10}{"prose":>8}{"sentences":>11}{"longest":>9}{"mean":>7}{f"over {LONG}":>9}')
+    counts = {}
     for document in asked.files or [it for it in DOCUMENTS if it.exists()]:
-        paragraphs, headings = prose_of(document.read_text())
+        text = document.read_text()
+        counts[document.resolve()] = len(text.split())
+        paragraphs, headings = prose_of(text)
         sentences = list(sentences_of(paragraphs))
         lengths = [length for length, _ in sentences if length] or [0]
         words = sum(len(WORD.findall(it)) for it in [*paragraphs, *headings])
         share = sum(it > LONG for it in lengths) / len(lengths)
-        print(f'{document.name:<24}{words:>8,}{len(lengths):>11,}{max(lengths):>9}'
+        print(f'{document.name:<24}{len(text.split()):>10,}{words:>8,}{len(lengths):>11,}{max(lengths):>9}'
               f'{sum(lengths) / len(lengths):>7.1f}{share:>9.1%}')
         if asked.long is not None:
             for length, sentence in sorted(sentences, reverse=True):
                 if length > asked.long:
                     print(f'    {length}: {sentence}')
+    over = [f'{name} has {counts[TOP / name]:,} words, and its budget is {budget:,}' for name, budget in BUDGETS.items()
+            if counts.get(TOP / name, 0) > budget]
+    unknown = [f'{it.name} has no budget' for it in DOCUMENTS if str(it.relative_to(TOP)) not in BUDGETS]
+    if sum(counts.values()) > BUDGET:
+        over.append(f'together they have {sum(counts.values()):,} words, and the budget is {BUDGET:,}')
+    print('\n'.join([*over, *unknown]) or f'{sum(counts.values()):,} words, within the budgets')
+    return 1 if over or unknown else 0
 
 
 if __name__ == '__main__':
-    main()
+    sys.exit(main())

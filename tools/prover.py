@@ -3,15 +3,32 @@ libraries in a folder of the caller's. `build.py` and `gate.py` use it.
 """
 import pathlib
 import subprocess
+import sys
 
 PARTS = ('src', 'specs', 'proofs')
 TARGET = 'x86_64-unknown-linux-gnu'
 
 
 def find_kit():
-    """The kit's folder, which has the page that `rt doc` names."""
-    said = subprocess.run(['rt', 'doc'], check=True, capture_output=True, text=True)
-    return pathlib.Path(said.stdout.strip()).parent
+    """The kit's folder, which has the page that `rt doc` names. Without one the program ends with a line that says so.
+    """
+    try:
+        done = subprocess.run(['rt', 'doc'], capture_output=True, text=True)
+        page, why = pathlib.Path(done.stdout.strip()), done.stderr.strip().rpartition('\n')[2] or 'it names no page'
+        if done.returncode == 0 and page.is_file():
+            return page.parent
+        why = f'status {done.returncode}: {why}'
+    except OSError as error:
+        why = error.strerror
+    except KeyboardInterrupt:
+        print('\nkpn: interrupted', file=sys.stderr)
+        sys.exit(130)
+    sys.exit(f'kpn: the Rattle toolchain does not run: `rt doc`: {why}')
+
+
+def could_not(error):
+    """The line about a file or a folder that could not be read or written."""
+    return f'kpn: it could not be built: {error.filename or "a file"}: {error.strerror or error}'
 
 
 class Crate:
@@ -48,6 +65,15 @@ def needed_by(crates):
     """The files and folders that a program over these crates is made from, below the top."""
     parts = [f'crates/{it.name}/{part}' for it in crates for part in PARTS if (it.folder / part).is_dir()]
     return ['crates.txt', *parts]
+
+
+def is_current(made, needed, top):
+    """Whether all that the file `needed` names, below the top, is there and no newer than what was made from it."""
+    if not made.exists() or not needed.exists():
+        return False
+    parts = [top / part for part in needed.read_text().splitlines()]
+    return all(it.exists() and it.stat().st_mtime <= made.stat().st_mtime
+               for part in parts for it in [part, *part.rglob('*')])
 
 
 def words_of(verb, crate, kit, libraries, *more):

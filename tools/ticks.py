@@ -212,6 +212,11 @@ LEGEND = """<rect class="get" width="16" height="16"/><text x="22" y="12">get</t
 SCALES = (24, 44, 1), (50, 20, 5), (100, 10, 10), (300, 5, 20)
 
 
+def span(first, last):
+    """These ticks in words."""
+    return f'tick {first}' if first == last else f'ticks {first} to {last}'
+
+
 class TooMany(Exception):
     """The picture would have more slices than it may have."""
 
@@ -243,7 +248,7 @@ class Picture:
                 p, c, before = place.process, place.channel, latest[place.process]
                 name = self.network.channels[c]
                 kind, what = ('empty', 'an item') if event[0] == 'get' else ('full', 'room')
-                yield kind, p, c, before, tick - 1, f'waits for {what} on {name}, ticks {before + 1} to {tick - 1}'
+                yield kind, p, c, before, tick - 1, f'waits for {what} on {name}, {span(before + 1, tick - 1)}'
                 yield event[0], p, c, tick - 1, tick, f'{event[0]} {name}: item {place.value}, tick {tick}'
                 latest[p] = tick
 
@@ -254,6 +259,7 @@ class Picture:
         name, y = self.network.channels[c], 40 + 32 * p
         if kind == 'grow':
             if self.front <= begin <= self.back:
+                self.count += 1
                 self.parts.append(f'<path class="grow" d="M{self.at(begin)} {y + 1}l5 8h-10z">'
                                   f'<title>{name} grows</title></path>\n')
             return
@@ -277,7 +283,7 @@ class Picture:
         marks = [f'<path class="tick" d="M{self.at(when)} 36V{self.bottom}"/>\n'
                  f'<text class="mark" x="{self.at(when)}" y="32">{when}</text>\n'
                  for when in range(self.front, self.front + self.ticks + 1) if when % self.step == 0]
-        caption = f'<text x="12" y="16">ticks {self.front + 1} to {self.back} of {self.timing.length}</text>\n'
+        caption = f'<text x="12" y="16">{span(self.front + 1, self.back)} of {self.timing.length}</text>\n'
         legend = f'<g transform="translate(12,{self.bottom + 20})">\n'
         return head + STYLE + caption + ''.join([*rows, *marks, *self.parts]) + legend + LEGEND
 
@@ -293,4 +299,5 @@ def picture_answer(network, trace, first=1, last=10 ** 9):
     try:
         return picture_text(network, trace, first, last)
     except TooMany:
-        return f'kpn: usage: --from T and --to T, with at most {MOST_SLICES} gets, puts and waits between them\n'
+        return (f'kpn: usage: --from T and --to T, with at most {MOST_SLICES} gets, puts, waits and growths between '
+                'them\n')

@@ -223,6 +223,66 @@ def a_link_to_standard_output_in_a_file(folder):
 
 
 @case
+def standard_input_in_a_file(folder):
+    two(folder)
+    both(folder)
+    (folder / 'link').symlink_to('given')
+    for target in ('/dev/stdin', '/proc/self/fd/0', './given', 'given', 'link'):
+        (folder / 'given').write_bytes(b'kept\n')
+        with open(folder / 'given', 'rb') as given:
+            expect(run(folder, 'two.kpn', '--trace', target, stdin=given), (b'', USAGE, 2))
+            expect(run_both(folder, '--sink', f'z={target}', stdin=given), (b'', SINK_USAGE, 2))
+        expect((folder / 'given').read_bytes(), b'kept\n')
+
+
+@case
+def standard_input_in_another_file(folder):
+    two(folder)
+    with open(folder / 'two.kpn', 'rb') as given:
+        expect(run(folder, 'two.kpn', '--trace', 'trace', stdin=given), (REPORT, b'', 0))
+    expect((folder / 'trace').read_bytes(), TRACE)
+
+
+@case
+def descriptors_that_are_closed(folder):
+    two(folder)
+    for closed in ((0,), (1,), (2,), (0, 1), (0, 2), (1, 2), (0, 1, 2)):
+        found = run(folder, 'two.kpn', '--trace', 'trace', preexec_fn=lambda: [os.close(one) for one in closed])
+        expect(found[2], 1 if 1 in closed else 0)
+        expect((folder / 'trace').read_bytes(), TRACE)
+        (folder / 'trace').unlink()
+
+
+@case
+def a_pipe_that_never_waits(folder):
+    copy(folder)
+    items = range(40_000)
+    (folder / 'items').write_bytes(b''.join(b'%d\n' % item for item in items))
+    taken, takes = os.pipe()
+    fcntl.fcntl(takes, fcntl.F_SETFL, fcntl.fcntl(takes, fcntl.F_GETFL) | os.O_NONBLOCK)
+    with subprocess.Popen([PROGRAM, 'run', 'copy.kpn', '--source', 's=items'], cwd=folder, stdout=takes) as child:
+        os.close(takes)
+        time.sleep(0.5)
+        with open(taken, 'rb') as reader:
+            found = reader.read()
+        expect((found.split(b'\n')[0], child.wait()), (b'sink z:' + b''.join(b' %d' % item for item in items), 0))
+
+
+@case
+def an_input_that_never_waits(folder):
+    given, gives = os.pipe()
+    fcntl.fcntl(given, fcntl.F_SETFL, fcntl.fcntl(given, fcntl.F_GETFL) | os.O_NONBLOCK)
+    with subprocess.Popen([PROGRAM, 'alone', 'copy'], stdin=given, stdout=subprocess.PIPE,
+                          stderr=subprocess.PIPE) as child:
+        os.close(given)
+        time.sleep(0.2)
+        os.write(gives, b'1\n')
+        time.sleep(0.2)
+        os.close(gives)
+        expect((child.communicate(), child.returncode), ((b'1\n', b''), 0))
+
+
+@case
 def standard_output_in_the_part_file(folder):
     two(folder)
     (folder / 'trace.kpn-part').write_bytes(b'kept\n')

@@ -1,12 +1,15 @@
 #!/usr/bin/env python3
-"""The inputs and outputs of `kpn stream`, as the system has them: pipes, FIFOs, signals and descriptors.
+"""The inputs and outputs of `kpn stream`, as the system has them: pipes, FIFOs, signals, locks and descriptors.
 
 Each case has a folder of its own, and says what has to come out and when. It is no part of the gate. A word names the
 program; the default is crates/kpn/out/kpn.
 """
 import contextlib
+import fcntl
+import itertools
 import os
 import pathlib
+import resource
 import signal
 import struct
 import subprocess
@@ -22,6 +25,14 @@ network { source s; sink z cap 1; c = copy(s; z); }
 TURNS = """process turns(in a, b; out both) { while 1 { read a item; write both item; read b item; write both item; } }
 network { source left; source right; sink z cap 1; t = turns(left, right; z); }
 """
+FIRST = """process first(in i; out o) { write o 1; while 1 { read i x; write o (x + 1); } }
+network { source s; sink z cap 1; f = first(s; z); }
+"""
+SPLITS = """process split(in i; out p, q) { while 1 { read i x; if ((x % 1000) == 0) { write q x; } else { write p x; } } }
+network { source s; sink y cap 1; sink z cap 1; p = split(s; y, z); }
+"""
+USAGE = b'kpn: usage: --%s, a file that is no input and no other output\n'
+SHARED = b'kpn: usage: --source NAME=IN, a plain file if two sources have it\n'
 TELLS_READ = b'sink z: 0 items, not complete\nwaits c s\nkpn: 26 Read\nat --source s=%s\n'
 TELLS_WRITE = b'sink z: 2 items, not complete\nwaits c s\nkpn: 27 Write\nat --sink z=%s\n'
 # the seconds that a line may take, and those between two lines of a slow producer
@@ -46,20 +57,40 @@ def words(*more, net='copy.kpn'):
     return [PROGRAM, 'stream', net, *more]
 
 
-def stream(folder, *more, **how):
+def networks(folder):
+    for name, text in (('copy', COPY), ('turns', TURNS), ('first', FIRST), ('splits', SPLITS)):
+        (folder / f'{name}.kpn').write_text(text)
+
+
+def stream(folder, *more, net='copy.kpn', **how):
     """What `kpn stream` writes on standard output and on standard error, and its status."""
-    (folder / 'copy.kpn').write_text(COPY)
+    networks(folder)
     how.setdefault('stdout', subprocess.PIPE)
-    done = subprocess.run(words(*more), cwd=folder, timeout=MOST, stderr=subprocess.PIPE, **how)
+    how.setdefault('stderr', subprocess.PIPE)
+    done = subprocess.run(words(*more, net=net), cwd=folder, timeout=MOST, **how)
     return done.stdout, done.stderr, done.returncode
+
+
+def lines(numbers):
+    return b''.join(b'%d\n' % number for number in numbers)
+
+
+def never_waits(descriptor):
+    """Somebody lets the pipe or the terminal behind this descriptor not wait."""
+    fcntl.fcntl(descriptor, fcntl.F_SETFL, fcntl.fcntl(descriptor, fcntl.F_GETFL) | os.O_NONBLOCK)
+
+
+def close_each(descriptors):
+    """What a child does before it starts: it closes these."""
+    return lambda: [os.close(descriptor) for descriptor in descriptors]
 
 
 @contextlib.contextmanager
 def started(folder, *more, net='copy.kpn', **how):
     """A stream that goes on meanwhile."""
-    (folder / 'copy.kpn').write_text(COPY)
-    (folder / 'turns.kpn').write_text(TURNS)
-    child = subprocess.Popen(words(*more, net=net), cwd=folder, bufsize=0, stderr=subprocess.PIPE, **how)
+    networks(folder)
+    how.setdefault('stderr', subprocess.PIPE)
+    child = subprocess.Popen(words(*more, net=net), cwd=folder, bufsize=0, **how)
     stop = threading.Timer(MOST, child.kill)
     stop.start()
     try:
@@ -221,14 +252,274 @@ def standard_error_that_refuses(folder):
     expect((done.stdout, done.returncode), (b'1\n', 0))
 
 
+# ---- descriptors that are closed at the start
+
+@case
+def no_file_gets_the_number_of_a_closed_descriptor(folder):
+    (folder / 'items').write_bytes(b'1\n2\n')
+    given = ('--source', 's=items', '--sink', 'z=out', '--trace', 'trace')
+    expect(stream(folder, *given)[2], 0)
+    trace = (folder / 'trace').read_bytes()
+    for count in (1, 2, 3):
+        for closed in itertools.combinations(range(3), count):
+            (folder / 'trace').unlink()
+            expect(stream(folder, *given, stdout=subprocess.DEVNULL, stderr=subprocess.DEVNULL,
+                          preexec_fn=close_each(closed))[2], 0)
+            expect(((folder / 'out').read_bytes(), (folder / 'trace').read_bytes()), (b'1\n2\n', trace))
+
+
+@case
+def standard_ends_share_no_file(folder):
+    (folder / 'items').write_bytes(b'1\n2\n')
+    out, err, status = stream(folder, '--source', 'left=-', '--source', 'right=items', net='turns.kpn',
+                              preexec_fn=close_each([0]))
+    expect((out, err.splitlines()[-2:], status), (b'', [b'kpn: 26 Read', b'at --source left=-'], 1))
+    (folder / 'more').write_bytes(b'1000\n2\n')
+    _, err, status = stream(folder, '--source', 's=more', '--sink', 'y=out', '--sink', 'z=-', net='splits.kpn',
+                            preexec_fn=close_each([1]))
+    expect((err.splitlines()[-2:], status), ([b'kpn: 27 Write', b'at --sink z=-'], 1))
+    expect(b'1000' in (folder / 'out').read_bytes(), False)
+
+
+@case
+def nothing_is_written_in_front_of_a_trace(folder):
+    (folder / 'items').write_bytes(b'1\n2\n')
+    expect(stream(folder, '--source', 's=items', '--trace', 'trace', stdout=None, preexec_fn=close_each([1])),
+           (None, TELLS_WRITE % b'-', 1))
+    expect((folder / 'trace').read_bytes()[:12], b'kpn-trace 2\n')
+
+
+@case
+def what_is_closed_can_not_be_read(folder):
+    expect(stream(folder, '--trace', 'trace', preexec_fn=close_each([0])), (b'', TELLS_READ % b'-', 1))
+    done = subprocess.run([PROGRAM, 'alone', 'copy'], preexec_fn=close_each([0]), capture_output=True, timeout=MOST)
+    expect((done.stdout, done.stderr, done.returncode), (b'', b'kpn: 26 Read\n', 1))
+
+
+# ---- pipes that others let not wait
+
+@case
+def an_input_that_never_waits(folder):
+    given, gives = os.pipe()
+    never_waits(given)
+    with started(folder, stdin=given, stdout=subprocess.PIPE) as child:
+        for number in range(20):
+            time.sleep(PAUSE)
+            os.write(gives, b'%d\n' % number)
+            expect(child.stdout.readline(), b'%d\n' % number)
+        os.close(gives)
+        expect((child.stdout.read(), child.wait()), (b'', 0))
+    os.close(given)
+
+
+@case
+def an_output_that_never_waits(folder):
+    (folder / 'items').write_bytes(lines(range(60_000)))
+    taken, takes = os.pipe()
+    never_waits(takes)
+    with started(folder, '--source', 's=items', stdout=takes) as child:
+        os.close(takes)
+        time.sleep(0.3)
+        with open(taken, 'rb') as reader:
+            expect((reader.read(), child.wait()), (lines(range(60_000)), 0))
+        expect(child.stderr.read(), b'sink z: 60000 items, complete\nwaits c s\nended\n')
+
+
+@case
+def an_error_output_that_never_waits(folder):
+    taken, takes = os.pipe()
+    never_waits(takes)
+    filled = 0
+    with contextlib.suppress(BlockingIOError):
+        while True:
+            filled += os.write(takes, bytes(4096))
+    with started(folder, stdin=subprocess.DEVNULL, stdout=subprocess.DEVNULL, stderr=takes) as child:
+        os.close(takes)
+        time.sleep(0.1)
+        with open(taken, 'rb') as reader:
+            expect(reader.read()[filled:], b'sink z: 0 items, complete\nwaits c s\nended\n')
+        expect(child.wait(), 0)
+
+
+# ---- two names of one input
+
+@case
+def one_pipe_has_one_reader(folder):
+    os.mkfifo(folder / 'pipe')
+    for left, right in (('-', '-'), ('-', '/dev/stdin'), ('/dev/stdin', '/dev/fd/0'), ('pipe', 'pipe'),
+                        ('pipe', './pipe')):
+        given = ('--source', f'left={left}', '--source', f'right={right}')
+        expect(stream(folder, *given, net='turns.kpn', stdin=subprocess.PIPE), (b'', SHARED, 2))
+
+
+@case
+def each_reads_all_of_a_plain_file(folder):
+    (folder / 'items').write_bytes(b'1\n2\n')
+    for left, right in (('items', 'items'), ('items', './items'), ('-', '/dev/stdin'), ('-', 'items')):
+        with open(folder / 'items', 'rb') as items:
+            out, _, status = stream(folder, '--source', f'left={left}', '--source', f'right={right}', net='turns.kpn',
+                                    stdin=items)
+        expect((out, status), (b'1\n1\n2\n2\n', 0))
+
+
+# ---- outputs that are standard input
+
+@case
+def standard_input_is_not_written(folder):
+    signal_file, linked = folder / 'signal', folder / 'linked'
+    signal_file.write_bytes(b'1\n2\n')
+    os.link(signal_file, linked)
+    (folder / 'symbolic').symlink_to('signal')
+    for name in ('signal', './signal', 'linked', 'symbolic', '/dev/stdin'):
+        for option, usage in ((f'--sink=z={name}', b'sink NAME=OUT'), (f'--trace={name}', b'trace OUT')):
+            for more in ((), ('--source', 's=-')):
+                with open(signal_file, 'rb') as given:
+                    expect(stream(folder, option, *more, stdin=given), (b'', USAGE % usage, 2))
+                expect(signal_file.read_bytes(), b'1\n2\n')
+
+
+# ---- the order of opening
+
+@case
+def two_streams_in_a_loop(folder):
+    networks(folder)
+    for order in (0, 1):
+        for name in ('there', 'back'):
+            os.mkfifo(folder / f'{name}{order}')
+        asked = [words('--source', f's=back{order}', '--sink', f'z=there{order}', '--take', '500', '--trace',
+                       f'trace{order}', net='first.kpn'),
+                 words('--source', f's=there{order}', '--sink', f'z=back{order}')]
+        children = [subprocess.Popen(one, cwd=folder, stderr=subprocess.PIPE) for one in asked[::1 - 2 * order]]
+        try:
+            done = [child.communicate(timeout=MOST)[1] for child in children][::1 - 2 * order]
+        finally:
+            for child in children:
+                child.kill()
+        expect(done[0].splitlines()[0], b'sink z: 500 items, not complete')
+
+
+@case
+def a_reader_that_opens_all_first(folder):
+    for name in ('y', 'z'):
+        os.mkfifo(folder / name)
+    (folder / 'items').write_bytes(lines(range(1, 60_001)))
+    for first, second in (('y', 'z'), ('z', 'y')):
+        with started(folder, '--source', 's=items', '--sink', 'y=y', '--sink', 'z=z', net='splits.kpn') as child:
+            with open(folder / first, 'rb') as one, open(folder / second, 'rb') as other:
+                found = {first: None, second: None}
+                found['y'] = (one if first == 'y' else other).read()
+                found['z'] = (one if first == 'z' else other).read()
+            expect((found['z'], len(found['y'].splitlines()), child.wait()),
+                   (lines(range(1_000, 60_001, 1_000)), 59_940, 0))
+
+
+@case
+def a_writer_that_opens_all_first(folder):
+    for name in ('left', 'right'):
+        os.mkfifo(folder / name)
+    for first, second in (('left', 'right'), ('right', 'left')):
+        with started(folder, '--source', 'left=left', '--source', 'right=right', net='turns.kpn',
+                     stdout=subprocess.PIPE) as child:
+            subprocess.run(['tee', first, second], cwd=folder, input=b'1\n2\n', stdout=subprocess.DEVNULL, timeout=MOST)
+            expect((child.stdout.read(), child.wait()), (b'1\n1\n2\n2\n', 0))
+
+
+@case
+def a_fifo_with_nothing_in_it(folder):
+    for name in ('in', 'out'):
+        os.mkfifo(folder / name)
+    for early in (True, False):
+        asked = subprocess.Popen(['sh', '-c', ': >in'], cwd=folder) if early else None
+        with started(folder, '--source', 's=in', '--sink', 'z=out') as child:
+            time.sleep(0.1)
+            if asked is None:
+                asked = subprocess.Popen(['sh', '-c', ': >in'], cwd=folder)
+            done = subprocess.run(['cat', 'out'], cwd=folder, stdout=subprocess.PIPE, timeout=MOST)
+            expect((done.stdout, child.wait(), asked.wait()), (b'', 0, 0))
+
+
+@case
+def a_fifo_that_is_never_read(folder):
+    os.mkfifo(folder / 'in')
+    (folder / 'items').write_bytes(b'1\n')
+    for wait in (0, 1):
+        writer = subprocess.Popen(['sh', '-c', f'sleep {wait}; exec seq 100000 >in'], cwd=folder,
+                                  stderr=subprocess.DEVNULL)
+        time.sleep(0.2 if wait == 0 else 0)
+        with started(folder, '--source', 'left=items', '--source', 'right=in', '--take', '1', net='turns.kpn',
+                     stdin=subprocess.DEVNULL, stdout=subprocess.PIPE) as child:
+            expect((child.stdout.read(), child.wait()), (b'1\n', 0))
+        # who opened it in time is told that nobody reads; who comes later waits for the next reader
+        if wait == 0:
+            expect(writer.wait(timeout=MOST) in (0, 1, -signal.SIGPIPE), True)
+        writer.kill()
+        writer.wait()
+
+
+# ---- plain outputs
+
+@case
+def no_file_is_emptied_unless_all_are_open(folder):
+    count = 40
+    ports = ', '.join(f'o{number}' for number in range(8))
+    names = [f'{letter}{number}' for letter in 'abcde' for number in range(8)]
+    (folder / 'many.kpn').write_text(
+        f'process eight(in i; out {ports}) {{ read i x; write o0 x; }}\nnetwork {{ '
+        + ''.join(f'source s{letter}; ' for letter in 'abcde')
+        + ''.join(f'sink {name} cap 1; ' for name in names)
+        + ''.join(f'p{letter} = eight(s{letter}; {", ".join(f"{letter}{number}" for number in range(8))}); '
+                  for letter in 'abcde') + '}\n')
+    for name in names:
+        (folder / name).write_bytes(b'old\n')
+    (folder / 'none').write_bytes(b'')
+    given = [word for name in names for word in ('--sink', f'{name}={name}')]
+    given += [word for letter in 'abcde' for word in ('--source', f's{letter}=none')]
+    few = lambda: resource.setrlimit(resource.RLIMIT_NOFILE, (30, 30))
+    expect(stream(folder, *given, net='many.kpn', preexec_fn=few), (b'', b'kpn: 27 Write\n', 1))
+    expect([(folder / name).read_bytes() for name in names], [b'old\n'] * count)
+    expect(stream(folder, *given, net='many.kpn')[2], 0)
+    expect([(folder / name).read_bytes() for name in names], [b''] * count)
+
+
+@case
+def one_stream_writes_a_file(folder):
+    with started(folder, '--sink', 'z=out', stdin=subprocess.PIPE) as child:
+        child.stdin.write(b'1\n')
+        while not (folder / 'out').exists() or (folder / 'out').read_bytes() != b'1\n':
+            time.sleep(PAUSE)
+        expect(stream(folder, '--sink', 'z=out', input=b'2\n'), (b'', b'kpn: 27 Write\n', 1))
+        child.stdin.write(b'3\n')
+        child.stdin.close()
+        expect((child.wait(), (folder / 'out').read_bytes()), (0, b'1\n3\n'))
+    expect(stream(folder, '--sink', 'z=out', input=b'2\n')[2], 0)
+    expect((folder / 'out').read_bytes(), b'2\n')
+
+
+@case
+def a_file_that_may_not_grow(folder):
+    (folder / 'items').write_bytes(lines(range(10_000)))
+    few = lambda: resource.setrlimit(resource.RLIMIT_FSIZE, (8_192, 8_192))
+    # Python ignores SIGXFSZ, and a child that does not restore it does too
+    out, err, status = stream(folder, '--source', 's=items', '--sink', 'z=out', preexec_fn=few, restore_signals=False)
+    expect((out, err.splitlines()[-2:], status), (b'', [b'kpn: 27 Write', b'at --sink z=out'], 1))
+
+
+def give_up(number, frame):
+    raise TimeoutError('nobody came')
+
+
 def main():
+    signal.signal(signal.SIGALRM, give_up)
     for test in cases:
         with tempfile.TemporaryDirectory() as folder:
             try:
+                signal.alarm(4 * MOST)
                 test(pathlib.Path(folder))
             except (AssertionError, OSError, subprocess.TimeoutExpired) as fault:
-                print(f'{test.__name__}: {fault}')
+                print(f'{test.__name__}: {str(fault)[:300]}')
                 failed.append(test.__name__)
+            finally:
+                signal.alarm(0)
     print(f'{len(cases) - len(failed)} of {len(cases)} cases are well')
     return 1 if failed else 0
 

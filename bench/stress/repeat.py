@@ -4,7 +4,7 @@ come to the same each time.
 
 It is no part of the gate. Words:
 
-    tests COUNT         the tests of check_pool and check_parallel, which it proves before, so often on all processors
+    tests COUNT         the tests of check_pool, which it proves before, so often on all processors
                         and so often on two
     runs COUNT [KPN]    each row `kpn run` of check_examples by 1, 2, 4 and 16 workers, so often on all processors and
                         so often on two: its output and status have to be those of one thread
@@ -14,6 +14,7 @@ It is no part of the gate. Words:
                         no call fails any more (refuse.c): the run reports that, or is as on one thread
     commands [KPN]      the same of each row of check_examples by one thread, of any command, and of the built-in
                         processes: the command reports that, or is as with memory
+    streams [KPN]       the same of two streams, whose outputs hold whole items and all that the summary counts then
     mixed SECONDS [KPN] random networks by 1 to 16 workers for so long on all processors and so long on two; some get
                         too little memory or too few threads, and some are killed: it judges each against the run on
                         one thread and the auditor, and prints how many came to each end (mixed.py)
@@ -36,7 +37,7 @@ import mixed
 TOP = pathlib.Path(__file__).resolve().parent.parent.parent
 DATA = TOP / 'crates/check_examples/data'
 ROWS = TOP / 'crates/check_examples/stdin'
-TESTS = ('check_pool', 'check_parallel')
+TESTS = ('check_pool', 'check_pool')
 WORKERS = (1, 2, 4, 16)
 PROCESSORS = {'all processors': [], 'two processors': ['taskset', '-c', '0,1']}
 
@@ -52,6 +53,14 @@ NO_MEMORY = [(b'', b'kpn: %d NoMemory\n' % number, 6) for number in (28, 32, 42,
 
 # the processes of `kpn alone`, and what they read
 BUILT_IN, INPUT = ('copy', 'double', 'sum'), b'1\n2\n3\n'
+
+# a stream of two sinks with many items for each item that is read
+SINKS = ('y', 'z')
+FAN = """process fan(in i; out a, b) {
+  while 1 { read i x; k = 0; while (k < 100) { write a (x + k); write b (x * k); k = (k + 1); } }
+}
+network { source s; sink y cap 64; sink z cap 64; f = fan(s; y, z); }
+"""
 
 # a run needs no more memory if so many beginnings of a refusal in a row changed nothing
 STEADY = 20
@@ -191,6 +200,64 @@ def refuse_commands(program):
     print(f'{lines} command lines: {told} that were refused memory told it, {ended} others were as with memory')
 
 
+def streamed(words, folder, library, first, last):
+    """A stream over files that gets no memory from one call to another: what it tells, its status and its outputs."""
+    for sink in SINKS:
+        (folder / sink).write_bytes(b'old\n')
+    refusing = {'LD_PRELOAD': library, 'FIRST': str(first), 'LAST': str(last)}
+    done = subprocess.run(words, cwd=folder, capture_output=True, timeout=MOST, env={**os.environ, **refusing})
+    return done.stderr.decode(), done.returncode, {sink: (folder / sink).read_bytes() for sink in SINKS}
+
+
+def counted(told):
+    """How many items the summary of a stream counts on each sink."""
+    lines = [line.split() for line in told.split('\n') if line.startswith('sink ')]
+    return {words[1].rstrip(':'): int(words[2]) for words in lines}
+
+
+def judge_stream(told, status, outputs, wanted, width):
+    """Why a stream did wrong, if it did. An item may have gone out that there was no memory to count."""
+    counts = counted(told)
+    for sink, bytes_out in outputs.items():
+        items = bytes_out.count(b'\n') if width is None else len(bytes_out) / width
+        is_whole = bytes_out[-1:] in (b'', b'\n') if width is None else items == int(items)
+        if counts and not (is_whole and wanted[sink].startswith(bytes_out) and items - counts[sink] in (0, 1)):
+            return f'{sink} has {items} items'
+        if not counts and bytes_out not in (b'old\n', b'') and not wanted[sink].startswith(bytes_out):
+            return f'{sink} has {bytes_out[:40]}'
+    is_told = any(f'kpn: {number} NoMemory\n' in told for number in (28, 32, 42))
+    if status == 0 and outputs == wanted or status == 6 and is_told:
+        return None
+    return 'neither whole nor refused memory'
+
+
+def refuse_streams(program):
+    """Of a stream of lines and one of samples."""
+    folder = pathlib.Path(program).parent
+    library = refusing_library(folder)
+    (folder / 'fan.kpn').write_text(FAN)
+    (folder / 'lines').write_text(''.join(f'{n}\n' for n in range(40)))
+    (folder / 'samples').write_bytes(b''.join(n.to_bytes(4, 'little') for n in range(40)))
+    for name, width in (('lines', None), ('s32le', 4)):
+        source = 'lines' if width is None else 'samples'
+        words = [program, 'stream', 'fan.kpn', '--format', name, '--source', f's={source}', '--trace', 'trace',
+                 *(word for sink in SINKS for word in ('--sink', f'{sink}={sink}'))]
+        _, status, wanted = streamed(words, folder, library, 0, 0)
+        if status != 0:
+            sys.exit(f'{" ".join(words)}: {status}')
+        lacked = steady = first = 0
+        while steady < STEADY:
+            first += 1
+            for last in (first, 1_000_000_000):
+                told, status, outputs = streamed(words, folder, library, first, last)
+                why = judge_stream(told, status, outputs, wanted, width)
+                if why:
+                    sys.exit(f'{" ".join(words)}, FIRST={first} LAST={last}: {why}: {status}\n{told}')
+                lacked += status == 6
+            steady = steady + 1 if status == 0 else 0
+        print(f'{name}: {lacked} streams that were refused memory told it, and lost no item that they counted')
+
+
 def mix(seconds, program):
     folder = pathlib.Path(program).parent
     library = refusing_library(folder)
@@ -218,6 +285,8 @@ def main():
             refuse_memory(copy)
         elif what == 'commands':
             refuse_commands(copy)
+        elif what == 'streams':
+            refuse_streams(copy)
         elif what == 'mixed':
             mix(int(words[0]), copy)
         else:

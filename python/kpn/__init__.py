@@ -5,6 +5,7 @@ Combrieks. The package itself proves nothing. What `kpn` runs is proved there: t
 of what the text of the network means.
 """
 from . import parts
+from .compiled import Compiled
 from .errors import KpnError, Place
 from .live import Live
 from .network import Network
@@ -13,5 +14,5 @@ from .program import find_program
 from .running import Result, Stats, Wait, run
 from .trace import Event, Trace, read_trace
 
-__all__ = ['Event', 'KpnError', 'Live', 'Network', 'Place', 'Process', 'Result', 'Stats', 'Stream', 'Trace', 'Wait',
+__all__ = ['Compiled', 'Event', 'KpnError', 'Live', 'Network', 'Place', 'Process', 'Result', 'Stats', 'Stream', 'Trace', 'Wait',
            'find_program', 'parts', 'read_trace', 'run']

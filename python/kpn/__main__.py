@@ -2,6 +2,7 @@
 from __future__ import annotations
 
 import argparse
+import os
 import pathlib
 import sys
 import time
@@ -52,6 +53,21 @@ def store(folder: str) -> int:
 
 def main(words: Optional[List[str]] = None) -> int:
     """Does what the words ask, and gives the status."""
+    try:
+        status = run_command(words)
+        sys.stdout.flush()
+        return status
+    except BrokenPipeError:
+        # Whoever read the output has enough of it, as `head` has.
+        os.dup2(os.open(os.devnull, os.O_WRONLY), sys.stdout.fileno())
+        return 141
+    except (KpnError, OSError) as error:
+        print(f'python -m kpn: {error}', file=sys.stderr)
+        return 1
+
+
+def run_command(words: Optional[List[str]]) -> int:
+    """Does what the words ask, and gives the status."""
     parser = argparse.ArgumentParser(prog='python -m kpn', description='Without a command: lists parts and gallery.')
     commands = parser.add_subparsers(dest='command')
     command = commands.add_parser('gallery', help='run networks, and compare the sinks with plain Python')
@@ -66,11 +82,7 @@ def main(words: Optional[List[str]] = None) -> int:
         unknown = [name for name in given.names if name not in GALLERY]
         if unknown:
             parser.error(f'the gallery has no {unknown[0]}: it has {", ".join(GALLERY)}')
-        try:
-            return run_gallery(given.names, given.samples)
-        except KpnError as error:
-            print(f'python -m kpn: {error}', file=sys.stderr)
-            return 1
+        return run_gallery(given.names, given.samples)
     return list_all()
 
 

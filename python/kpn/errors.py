@@ -1,7 +1,12 @@
-"""The one error of the package, and how it shows a place."""
+"""The one error of the package, how it shows a place, and how a number of a call is looked at."""
 from __future__ import annotations
 
-from typing import NamedTuple, Optional, Tuple
+import operator
+from typing import Any, NamedTuple, Optional, Tuple
+
+LARGEST = 2**63 - 1
+# The most seconds of a timeout, some 30 years.
+LONGEST_WAIT = 1e9
 
 
 class Place(NamedTuple):
@@ -26,6 +31,27 @@ class KpnError(Exception):
         super().__init__(message)
         self.place = place
         self.error = error
+
+
+def whole(what: str, given: Any, least: int = 0, most: int = LARGEST) -> int:
+    """A whole number that was given for something, if it is from `least` to `most`.
+
+    Raises TypeError if it is no whole number, as 1.5 and True, and KpnError if it is out of range.
+    """
+    if isinstance(given, bool) or not hasattr(given, '__index__'):
+        raise TypeError(f'{what} has to be a whole number, and not {given!r}')
+    number = int(operator.index(given))
+    if not least <= number <= most:
+        raise KpnError(f'{what} is {number}: it has to be '
+                       + (f'at least {least}' if most == LARGEST else f'from {least} to {most}'))
+    return number
+
+
+def seconds(timeout: Optional[float]) -> Optional[float]:
+    """The timeout of a call; None if it is longer than any wait. Raises KpnError if it is negative or no number."""
+    if timeout is not None and not timeout >= 0:
+        raise KpnError(f'the timeout is {timeout}: it has to be a number of seconds, 0 or more')
+    return timeout if timeout is None or timeout < LONGEST_WAIT else None
 
 
 class Spot(NamedTuple):

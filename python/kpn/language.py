@@ -10,12 +10,11 @@ from __future__ import annotations
 import re
 from typing import Dict, List, NamedTuple, NoReturn, Optional, Tuple
 
-from .errors import KpnError, Spot
+from .errors import LARGEST, KpnError, Spot
 from .process import Process
 from .program import explain
 
-LARGEST = 2**63 - 1
-LARGEST_CAPACITY = 1_048_576
+LONGEST_TEXT = LARGEST_CAPACITY = 1_048_576
 LONGEST_NAME = 32
 RESERVED = frozenset('process in out par read write if else while network limit channel cap source sink policy grow'
                      .split())

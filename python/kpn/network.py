@@ -3,14 +3,15 @@ from __future__ import annotations
 
 import collections
 import contextlib
-from typing import Any, Dict, Iterable, Iterator, List, Mapping, NamedTuple, Optional, Sequence, Tuple, Union
+from typing import Any, Dict, Iterable, Iterator, List, Mapping, NamedTuple, Optional, Sequence, SupportsIndex, Tuple
+from typing import Union
 
-from . import running
-from .errors import KpnError, Spot
-from .language import LARGEST_CAPACITY, LONGEST_NAME, Description, Reader, is_name, same_place
+from . import compiled, running
+from .errors import LARGEST, KpnError, Spot, whole
+from .language import LARGEST_CAPACITY, LONGEST_NAME, LONGEST_TEXT, Description, Reader, is_name, same_place
 from .live import Live
 from .process import MOST_PORTS, Capacities, Instance, Outputs, Process, Stream, forking
-from .program import Program, answer, draw_svg, explain
+from .program import Program, answer, as_bytes, draw_svg, explain
 
 ADVICE = {
     'NoWriter': 'Nothing flows into this stream: `connect` it to what shall flow there, or make it by `net.source`.',
@@ -39,21 +40,20 @@ class Names:
 
 
 class Layout(NamedTuple):
-    """The text of a network and what is called how in it. `begins` has where its processes begin, and `writers` the
-    instance that writes each channel."""
+    """The text of a network and the names in it. `begins` has where its processes begin, and `writers` the instance
+    that writes each channel."""
 
     text: str
     begins: List[Tuple[int, Process]]
-    names: Dict[Union[Instance, Stream], str]
     instances: List[str]
     channels: List[str]
     sources: List[str]
     sinks: List[str]
     writers: Dict[str, str]
 
-    def error(self, program: Program = None) -> Optional[KpnError]:
+    def error(self, program: Program = None, timeout: Optional[float] = None) -> Optional[KpnError]:
         """What `kpn explain` says of the text, with places and advice in terms of what the user wrote."""
-        return explain(self.text, self.spot_of, program, ADVICE)
+        return explain(self.text, self.spot_of, program, ADVICE, timeout)
 
     def spot_of(self, offset: int) -> Spot:
         """The place in the source of a process that stands at this place of the text, or else the place itself."""
@@ -68,60 +68,109 @@ class Layout(NamedTuple):
 class Network:
     """A network that is being built. Its text is `str(net)`, the one that `kpn print` gives.
 
-    `limit` is the largest capacity that a channel may grow to, `policy` is `cycles` or `all`, and `grow` is `one` or
-    `double`: Combrieks' docs/FORMATS.md tells which to choose. A stream that is used again is an error; with
-    `auto_fork` it is forked.
+    `limit`, 1 to 1,048,576, is the largest capacity that a channel may grow to, `policy` is `cycles` or `all`, and
+    `grow` is `one` or `double`: Combrieks' docs/RUNS.md tells which to choose. A stream that is used again is an
+    error; with `auto_fork` it is forked. A copy or a pickle is a network of its own, with streams of its own.
+
+    Other settings raise KpnError, and a limit that is no whole number TypeError. So do names, capacities and streams in
+    the calls below that build.
     """
 
     def __init__(self, limit: int = LARGEST_CAPACITY, policy: str = 'cycles', grow: str = 'one', *,
                  auto_fork: bool = False):
-        if not 1 <= limit <= LARGEST_CAPACITY:
-            raise KpnError(f'the limit is {limit}: it has to be from 1 to {LARGEST_CAPACITY}')
         for what, given, choices in (('policy', policy, ('cycles', 'all')), ('grow', grow, ('one', 'double'))):
             if given not in choices:
                 raise KpnError(f'{what} is {given!r}: it has to be {choices[0]!r} or {choices[1]!r}')
-        self.limit, self.policy, self.grow, self.auto_fork = limit, policy, grow, auto_fork
+        self.limit = whole('the limit', limit, 1, LARGEST_CAPACITY)
+        self.policy, self.grow, self.auto_fork = policy, grow, auto_fork
         self._processes: List[Process] = []
         self._channels: List[Stream] = []
         self._instances: List[Instance] = []
         self._scope = ''
         self._layout: Optional[Layout] = None
+        self._names: Dict[Union[Instance, Stream], str] = {}
 
     @classmethod
     def from_text(cls, text: str) -> Network:
-        """Reads a description, such as a file that somebody has written."""
+        """Reads a description, such as a file that somebody has written, and gives the network that it says.
+
+        Raises KpnError in the words of `kpn explain` for a text that says none. Names within processes, and whether
+        each channel has a reader and a writer, are looked at by `check` and before a run.
+        """
         try:
+            if len(as_bytes(text)) > LONGEST_TEXT:
+                raise KpnError(f'the text is too long: it has to have at most {LONGEST_TEXT} bytes')
             found = Reader(text, 'the network').description()
             settings = found.settings
             net = cls(int(settings.get('limit', LARGEST_CAPACITY)), settings.get('policy', 'cycles'),
                       settings.get('grow', 'one'))
             return net._filled(found)
-        except (KpnError, TypeError) as error:
+        except KpnError as error:
             raise explain(text, lambda offset: Spot('the network', text, offset)) or error from None
 
     def _filled(self, found: Description) -> Network:
         """This network with what a text says."""
         self._processes = found.processes
         processes = {it.name: it for it in found.processes}
+        if len(processes) < len(found.processes):
+            raise KpnError('two processes of the text have one name')
         streams = {name: self._declare(kind, name, cap) for kind, name, cap in found.channels}
         for name, (process, ins, outs, values) in found.instances:
             unknown = [it for it in (*ins, *outs) if it not in streams] + [process] * (process not in processes)
             if unknown:
                 raise KpnError(f'`{name}` names `{unknown[0]}`, which the text does not have')
-            made = processes[process](*(streams[it] for it in ins), *values, net=self, name=name)
-            made = () if made is None else made if isinstance(made, tuple) else (made,)
-            for out, stream in zip(outs, made):
+            used = processes[process]
+            if (len(ins), len(outs), len(values)) != (len(used.ins), len(used.outs), len(used.pars)):
+                raise KpnError(f'`{name}` has not as many ports or parameters as `{process}`')
+            self.add(used, *(streams[it] for it in ins), *values, name=name)
+            for out, stream in zip(outs, list(self._instances[-1].outs)):
                 streams[out].connect(stream)
         return self
+
+    # ---- copies
+
+    def __getstate__(self) -> Dict[str, Any]:
+        """The network by numbers. Its streams and instances, which lead from one to the next, would make it deep."""
+        place = {stream: number for number, stream in enumerate(self._channels)}
+        instances = [(it.process, it.given_name, it.prefix, it.values, it.is_automatic,
+                      [place[stream] for stream in it.ins], [place[stream] for stream in it.outs])
+                     for it in self._instances]
+        channels = [(it.kind, it.given_name, it.given_cap) for it in self._channels]
+        return {**vars(self), '_instances': instances, '_channels': channels, '_layout': None, '_names': {}}
+
+    def __setstate__(self, state: Dict[str, Any]) -> None:
+        vars(self).update(state)
+        self._processes = list(self._processes)
+        self._channels = [Stream(self, *it) for it in state['_channels']]
+        self._instances = []
+        for *given, ins, outs in state['_instances']:
+            instance = Instance(*given)
+            instance.ins, instance.outs = [self._channels[it] for it in ins], [self._channels[it] for it in outs]
+            for stream in instance.ins:
+                stream.reader = instance
+            for stream in instance.outs:
+                stream.writer = instance
+            self._instances.append(instance)
+
+    def place_of(self, channel: Stream) -> int:
+        """The number of a channel."""
+        return self._channels.index(channel)
+
+    def stream_at(self, place: int) -> Stream:
+        """The stream of the channel with this number."""
+        return self._channels[place]
 
     # ---- building
 
     def source(self, name: str) -> Stream:
-        """A stream that the outside feeds."""
+        """A stream that the outside feeds by this name."""
         return self._declare('source', name, None)
 
     def sink(self, name: str, stream: Optional[Stream] = None, cap: Optional[int] = None) -> Stream:
-        """Lets the outside take `stream` by this name. Without a stream, `connect` the sink to one later."""
+        """Lets the outside take `stream` by this name, and gives the stream of the sink.
+
+        Without a stream, `connect` the sink to one later.
+        """
         if stream is not None:
             self._check_written(stream)
         sink = self._declare('sink', name, cap)
@@ -135,11 +184,9 @@ class Network:
 
     def add(self, process: Process, *args: Any, name: Optional[str] = None, cap: Capacities = None,
             **named: Any) -> Outputs:
-        """Adds an instance of a process, as the call of the process does."""
+        """Adds an instance of a process, and gives and raises what the call of the process does."""
         streams, values = process.bind(args, named)
-        caps = capacities_of(process, cap)
-        for given in caps.values():
-            self._check_capacity(given)
+        caps = {port: self._capacity(given) for port, given in capacities_of(process, cap).items()}
         self._check_unread(streams, process.name)
         instance = Instance(process, self._own(name, self._instances), self._scope, values)
         for stream in streams:
@@ -161,7 +208,7 @@ class Network:
             self._scope = before
 
     def join(self, channel: Stream, stream: Stream) -> None:
-        """Lets a stream flow into a channel that nobody writes yet, as `channel.connect(stream)` does."""
+        """Lets a stream flow into a channel that nobody writes yet, and raises what `channel.connect(stream)` does."""
         if channel.writer or channel.kind == 'source':
             raise KpnError(f'`{channel.name}` has a writer already')
         self._check_written(stream)
@@ -186,14 +233,15 @@ class Network:
         return name
 
     def _declare(self, kind: str, name: Optional[str], cap: Optional[int]) -> Stream:
-        self._check_capacity(cap)
-        stream = Stream(self, kind, self._own(name, self._channels), cap)
+        stream = Stream(self, kind, self._own(name, self._channels), self._capacity(cap))
         self._channels.append(stream)
         return stream
 
-    def _check_capacity(self, cap: Optional[int]) -> None:
-        if cap is not None and not 1 <= cap <= self.limit:
+    def _capacity(self, cap: Optional[int]) -> Optional[int]:
+        """A capacity that was given, if it may be."""
+        if cap is not None and whole('the capacity', cap, -LARGEST) not in range(1, self.limit + 1):
             raise KpnError(f'a capacity of {cap} is given: it has to be from 1 to the limit, {self.limit}')
+        return None if cap is None else int(cap)
 
     def _write(self, instance: Instance, cap: Optional[int] = None) -> Stream:
         """A new stream behind the last out port of an instance."""
@@ -225,7 +273,7 @@ class Network:
             is_again = stream in [it.channel for it in streams[:number]]
             if (is_again or stream.is_read) and not self.auto_fork:
                 by = f'the outside, as the sink `{stream.name}`,' if stream.kind == 'sink' else \
-                    f'`{self.layout().names[stream.reader] if stream.reader else reader}`'
+                    f'`{self.name_of(stream.reader) if stream.reader else reader}`'
                 raise KpnError(f'the stream `{stream.name}` is used twice: {by} reads it already, and a stream has '
                                'one reader. Make several of it by `kpn.parts.fork`, or set `net.auto_fork = True`')
 
@@ -260,10 +308,15 @@ class Network:
     # ---- the text
 
     def layout(self) -> Layout:
-        """The text and the names in it, as the network is now."""
+        """The text and the names in it, as the network is now: a `Layout`."""
         if self._layout is None:
             self._layout = self._laid_out()
         return self._layout
+
+    def name_of(self, thing: Union[Instance, Stream]) -> str:
+        """The name of an instance or a channel in the text."""
+        self.layout()
+        return self._names[thing]
 
     def _laid_out(self) -> Layout:
         processes = dict.fromkeys([*self._processes, *(it.process for it in self._instances)])
@@ -277,13 +330,13 @@ class Network:
         table = Names(it.given_name for it in self._channels if it.given_name)
         for stream in self._channels:
             names[stream] = stream.given_name or table.give(stream.wanted_name(names))
-        begins, text = [], ''
+        self._names, begins, text = names, [], ''
         for process, name in called.items():
             begins.append((len(text), process.renamed(name)))
             text += str(begins[-1][1])
         text += ''.join(f'{line}\n' for line in self._lines(names, called))
         of_kind = {kind: [names[it] for it in self._channels if it.kind == kind] for kind in ('source', 'sink')}
-        return Layout(text, begins, names, [names[it] for it in self._instances], [names[it] for it in self._channels],
+        return Layout(text, begins, [names[it] for it in self._instances], [names[it] for it in self._channels],
                       of_kind['source'], of_kind['sink'],
                       {names[it]: names[it.writer] for it in self._channels if it.writer})
 
@@ -315,24 +368,24 @@ class Network:
     # ---- what `kpn` does with it
 
     def check_limits(self) -> None:
-        """Raises an error if the network has more of something than the language allows."""
+        """Raises KpnError if the network has more of something than the language allows."""
         counts = (len(self.layout().begins), len(self._instances), len(self._channels))
         for (what, most), count in zip(LIMITS, counts):
             if count > most:
                 common = collections.Counter(it.process.name for it in self._instances).most_common(3)
                 of_these = ', '.join(f'{number} of `{name}`' for name, number in common)
                 raise KpnError(f'the network has {count} {what}: {count - most} more than the {most} that it may have. '
-                               f'Most of its instances are {of_these}')
+                               f'Most of its instances are {of_these}', error='10 TooMany')
 
     def check(self, program: Program = None) -> None:
-        """Raises an error with the words of `kpn explain` if the network is not right."""
+        """Raises KpnError with the words of `kpn explain` if the network is not right."""
         self.check_limits()
         error = self.layout().error(program)
         if error:
             raise error
 
     def dot(self, program: Program = None) -> str:
-        """The network as a graph for Graphviz, by `kpn draw`."""
+        """The network by `kpn draw`, as a text in the language of Graphviz. Raises KpnError if it is not right."""
         self.check(program)
         return answer('draw', str(self), program=program)
 
@@ -344,18 +397,26 @@ class Network:
             return None
 
     def run(self, inputs: running.Inputs = None, **options: Any) -> running.Result:
-        """Runs the network on these items of its sources, as `kpn.run(net, inputs, ..)` does."""
+        """Runs the network on these items of its sources. It gives a `Result` and raises what `kpn.run` does."""
         return running.run(self, inputs, **options)
 
+    def compile(self, **options: Any) -> compiled.Compiled:
+        """Compiles the network to a program, as `kpn.compiled.compile_network(net, ..)` does."""
+        return compiled.compile_network(self, **options)
+
     def stream(self, **options: Any) -> Live:
-        """A run that is fed and read while it goes on, by `kpn stream`; its words are those of `kpn.Live`."""
+        """A `Live` run by `kpn stream`, which is fed and read while it goes on.
+
+        Its words are `take=`, `max_commits=`, `timeout=` and `program=`. Raises KpnError for a wrong one, and for a
+        network with more of something than the language allows. What else is wrong is told by the calls of the run.
+        """
         self.check_limits()
         return Live(self.layout(), **options)
 
 
-def capacities_of(process: Process, cap: Capacities) -> Mapping[str, Optional[int]]:
+def capacities_of(process: Process, cap: Capacities) -> Mapping[str, Any]:
     """The capacity at each out port that the word `cap=` of a call gives."""
-    if cap is None or isinstance(cap, int):
+    if cap is None or isinstance(cap, SupportsIndex):
         return dict.fromkeys(process.outs, cap)
     found = dict(cap) if isinstance(cap, Mapping) else dict(zip(process.outs, cap))
     if not set(found) <= set(process.outs) or len(found) < len(cap):

@@ -25,8 +25,11 @@ class Process:
 
     The ports and parameters are given by place, in ports first, or by name. The call gives the stream of the only out
     port, a tuple of streams if there are several, and None if there is none. `net=` names the network of a process
-    without in ports, `name=` the instance, and `cap=` the capacities at the out ports. A port or a parameter that is
-    itself called `net` or `name` is given by place.
+    without in ports, `name=` the instance, and `cap=` the capacities at the out ports: one for all, a sequence by
+    place, or a dict by port. A port or a parameter that is itself called `net` or `name` is given by place.
+
+    A call with other ports or parameters, or with something else in their place, raises TypeError. A stream with a
+    reader, a number out of range and a name that may not be raise KpnError.
     """
 
     name: str
@@ -44,12 +47,15 @@ class Process:
 
     @classmethod
     def from_text(cls, text: str) -> Process:
-        """Reads a process, as in `Process.from_text("process gain(in i; out o; par k) { .. }")`."""
+        """Reads a process, as in `Process.from_text("process gain(in i; out o; par k) { .. }")`.
+
+        Raises KpnError with the place if no text of the language goes on so; a wrong name is found when it runs.
+        """
         from .language import read_process  # it gives processes, so it needs this class first
         return read_process(text)
 
     def renamed(self, name: str) -> Process:
-        """The same process by another name."""
+        """A process that differs in its name only."""
         return replace(self, name=name)
 
     def __str__(self) -> str:
@@ -91,7 +97,7 @@ class Process:
     def as_value(self, par: str, given: Any) -> int:
         """What is given for a parameter."""
         try:
-            value = operator.index(given)
+            value = int(operator.index(given))
         except TypeError:
             raise TypeError(f'the parameter `{par}` of `{self.name}` takes a whole number, not {given!r}') from None
         if abs(value) > LARGEST_VALUE:
@@ -103,13 +109,14 @@ class Process:
 class Instance:
     """A process in a network, with the streams at its ports and the values of its parameters."""
 
-    def __init__(self, process: Process, name: Optional[str], prefix: str, values: Sequence[int]):
+    def __init__(self, process: Process, name: Optional[str], prefix: str, values: Sequence[int],
+                 is_automatic: bool = False):
         self.process, self.given_name, self.prefix = process, name, prefix
         self.values = values
+        # Whether it is a fork that the network has made by itself.
+        self.is_automatic = is_automatic
         self.ins: List[Stream] = []
         self.outs: List[Stream] = []
-        # Whether it is a fork that the network has made by itself.
-        self.is_automatic = False
 
 
 class Stream:
@@ -125,10 +132,13 @@ class Stream:
         # The stream that this one was joined to.
         self.joined: Optional[Stream] = None
 
+    def __reduce__(self) -> Tuple[Any, ...]:
+        return type(self.net).stream_at, (self.net, self.net.place_of(self.channel))
+
     @property
     def name(self) -> str:
         """Its name in the text that the network has now."""
-        return self.net.layout().names[self.channel]
+        return self.net.name_of(self.channel)
 
     @property
     def cap(self) -> int:
@@ -154,7 +164,10 @@ class Stream:
         return names[self.writer] + port
 
     def connect(self, stream: Stream) -> None:
-        """Lets `stream` flow into this channel, which `net.channel()` or `net.sink(name)` has made."""
+        """Lets `stream` flow into this channel, which `net.channel()` or `net.sink(name)` has made.
+
+        Raises KpnError if the channel has a writer, or if the stream has a reader or no writer.
+        """
         self.net.join(self.channel, stream.channel)
 
     def __repr__(self) -> str:

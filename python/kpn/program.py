@@ -6,15 +6,20 @@ import pathlib
 import re
 import shutil
 import subprocess
+import sys
 import tempfile
-from typing import Callable, Dict, Mapping, Optional, Sequence, Union
+from typing import Callable, Dict, Mapping, NoReturn, Optional, Sequence, Union
 
 from .errors import KpnError, Spot
 
 # The path of the program `kpn`; None stands for the one that is found.
 Program = Union[None, str, 'os.PathLike[str]']
 VARIABLE = 'KPN_PROGRAM'
-BUILT = pathlib.Path(__file__).resolve().parents[2] / 'crates/kpn/out/kpn'
+HERE = pathlib.Path(__file__).resolve()
+# The program inside a wheel, and the one of the repository around the package.
+INSIDE, BUILT = HERE.parent / 'bin/kpn', HERE.parents[2] / 'crates/kpn/out/kpn'
+# The most seconds that Graphviz may take for a picture.
+DRAWING = 60
 TUNABLES = 'glibc.malloc.hugetlb=1:glibc.malloc.mmap_threshold=4194304'
 # The name under which a text is explained, and the first line of an explanation.
 NAME = 'text.kpn'
@@ -23,15 +28,18 @@ ERROR = re.compile(r'kpn: ((\d+) \w+(?: at \d+)?)$', re.M)
 
 
 def find_program(given: Program = None) -> str:
-    """The program `kpn`: the given one, that of the variable KPN_PROGRAM, that of the repository around this package,
-    or that of the PATH."""
+    """The path of the program `kpn`: the given one, that of the variable KPN_PROGRAM, the one inside this package, that
+    of the repository around it, or that of the PATH. Raises KpnError if there is none, or if a path that is named leads
+    to no program.
+    """
     for path, whose in ((given, 'the one that was given'), (os.environ.get(VARIABLE), f'that of {VARIABLE}')):
         if path:
             if not os.access(path, os.X_OK) or os.path.isdir(path):
                 raise KpnError(f'{path} is no program: {whose} has to be the program `kpn`')
             return os.path.abspath(path)
-    if os.access(BUILT, os.X_OK):
-        return str(BUILT)
+    for path in (INSIDE, BUILT):
+        if os.access(path, os.X_OK):
+            return str(path)
     found = shutil.which('kpn')
     if not found:
         raise KpnError(f'there is no program `kpn`: build it by `./kpn` in its repository, or name it by {VARIABLE}')
@@ -44,6 +52,11 @@ def environment() -> Dict[str, str]:
     return {'GLIBC_TUNABLES': TUNABLES, **os.environ}
 
 
+def main() -> NoReturn:
+    """The command `kpn` of a wheel that has the program inside: becomes that program."""
+    os.execve(INSIDE, ['kpn', *sys.argv[1:]], environment())
+
+
 def call(words: Sequence[str], program: Program = None, folder: Optional[str] = None,
          timeout: Optional[float] = None) -> subprocess.CompletedProcess[str]:
     """Calls `kpn` with these words in a folder, and gives what it wrote and its status."""
@@ -54,7 +67,7 @@ def call(words: Sequence[str], program: Program = None, folder: Optional[str] = 
     except subprocess.TimeoutExpired:
         raise KpnError(f'`kpn {words[0]}` had not ended after {timeout} seconds') from None
     except OSError as error:
-        raise KpnError(f'{path} does not run: {error.strerror}') from None
+        raise KpnError(f'{error.filename or path} does not run: {error.strerror}') from None
 
 
 def answer(command: str, text: str, *words: str, program: Program = None) -> str:
@@ -68,10 +81,12 @@ def answer(command: str, text: str, *words: str, program: Program = None) -> str
 
 
 def draw_svg(dot: str) -> Optional[str]:
-    """A graph as a picture, if Graphviz is there."""
-    if not shutil.which('dot'):
+    """A graph as a picture, if Graphviz is there and makes one."""
+    try:
+        done = subprocess.run(['dot', '-Tsvg'], input=dot, capture_output=True, text=True, timeout=DRAWING)
+    except (OSError, subprocess.TimeoutExpired):
         return None
-    return subprocess.run(['dot', '-Tsvg'], input=dot, capture_output=True, text=True, check=True).stdout
+    return done.stdout if done.returncode == 0 else None
 
 
 def failure(done: subprocess.CompletedProcess[str]) -> KpnError:
@@ -82,15 +97,21 @@ def failure(done: subprocess.CompletedProcess[str]) -> KpnError:
     return KpnError(message, error=error[1] if error else None)
 
 
+def as_bytes(text: str) -> bytes:
+    """A text as the bytes of its file. What no file can have becomes something that is no token."""
+    return text.encode(errors='surrogatepass')
+
+
 def explain(text: str, spot_of: Callable[[int], Spot], program: Program = None,
-            advice: Optional[Mapping[str, str]] = None) -> Optional[KpnError]:
+            advice: Optional[Mapping[str, str]] = None, timeout: Optional[float] = None) -> Optional[KpnError]:
     """What `kpn explain` says of a wrong text, with its places shown where `spot_of` says; None of a right one.
 
     `advice` has by the name of an error what to advise in place of the last line, if the user has not seen the text.
     """
+    data = as_bytes(text)
     with tempfile.TemporaryDirectory(prefix='kpn-') as folder:
-        (pathlib.Path(folder) / NAME).write_bytes(text.encode())
-        done = call(['explain', NAME], program, folder)
+        (pathlib.Path(folder) / NAME).write_bytes(data)
+        done = call(['explain', NAME], program, folder, timeout)
     if done.returncode == 0:
         return None
     lines, shown, place, error = done.stdout.splitlines(), [], None, None
@@ -100,9 +121,10 @@ def explain(text: str, spot_of: Callable[[int], Spot], program: Program = None,
         if not found:
             shown.append(line)
             continue
-        before = text.encode().split(b'\n')[:int(found[1])]
+        before = data.split(b'\n')[:int(found[1])]
         before[-1] = before[-1][:int(found[2]) - 1]
-        spot = spot_of(len(b'\n'.join(before).decode(errors='ignore')))
+        # Each character has one byte that does not go on with another one.
+        spot = spot_of(sum(byte & 0xC0 != 0x80 for byte in b'\n'.join(before)))
         shown += spot.show(found[3])
         place, error = place or spot.place(), error or found[4]
         del lines[:2]

@@ -3,18 +3,20 @@ from __future__ import annotations
 
 import array
 import collections.abc
-import contextlib
 import functools
+import importlib
 import json
 import os
 import pathlib
+import re
 import shutil
 import subprocess
 import tempfile
 import weakref
-from typing import TYPE_CHECKING, Any, Callable, Dict, Iterable, Iterator, List, Mapping, NamedTuple, Optional, Union
+from typing import TYPE_CHECKING, Any, Callable, Dict, Iterable, Iterator, List, Mapping, NamedTuple, Optional
+from typing import Sequence, Tuple, Union
 
-from .errors import KpnError
+from .errors import KpnError, seconds, whole
 from .program import Program, call, failure, find_program
 from .trace import Trace
 
@@ -30,6 +32,11 @@ TEXT, TRACE = 'net.kpn', 'run.trace'
 STATUSES = (0, 3, 4, 5)
 # The numbers of errors that are about the description, or about the items of a source.
 OF_TEXT, OF_ITEMS = range(1, 25), range(25, 27)
+# The options that are numbers from 1 on, and the largest ones.
+MOST = {'take': 10**9, 'workers': 16, 'max_commits': 10**9, 'from': 10**9, 'to': 10**9}
+# The lines that are read of the report of `kpn run` and of the summary of `kpn stream`.
+LINE = re.compile(r'fault (\w+) (overflow|zero-divisor)|waits (\w+) (\w+)( full)?'
+                  r'|sink (\w+): (\d+) items, (not )?complete|(ended|enough|clogged|jammed|stopped)')
 
 
 class Wait(NamedTuple):
@@ -47,23 +54,54 @@ class Stats(NamedTuple):
     processes: List[Dict[str, Union[int, str]]]
 
 
-class Result(collections.abc.Mapping):  # type: ignore[type-arg]
-    """What came of a run. `result["y"]` has the items that the sink `y` gave, whatever the outcome.
+class Report(NamedTuple):
+    """What the program tells of a run; of a stream also how many items each sink gave, and whether it is complete."""
 
-    `outcome` is `ended`, `enough`, `clogged`, `jammed` or `stopped`. `faults` has the instances that a fault ended,
-    with `overflow` or `zero-divisor`, and `waits` has those that wait; `kpn` reports neither under `enough` and
-    `stopped`. `check()` raises an error if an item may lack. What is made of the trace needs a run with `trace=True`.
+    outcome: Optional[str]
+    faults: Dict[str, str]
+    waits: List[Wait]
+    sinks: Dict[str, Tuple[int, bool]]
+
+
+class Folder:
+    """A folder of the system's temporary ones, which goes when nobody has this. A pickle has its files."""
+
+    def __init__(self, files: Mapping[str, bytes]):
+        self.path = tempfile.mkdtemp(prefix='kpn-')
+        weakref.finalize(self, remove, self.path, os.getpid())
+        for name, data in files.items():
+            pathlib.Path(self.path, name).write_bytes(data)
+
+    def __deepcopy__(self, memo: Any) -> Folder:
+        return self
+
+    def __reduce__(self) -> Tuple[Any, ...]:
+        return Folder, ({file.name: file.read_bytes() for file in pathlib.Path(self.path).iterdir()},)
+
+
+def remove(folder: str, owner: int) -> None:
+    """Removes a folder, but not from a process that was forked from the one with this number."""
+    if os.getpid() == owner:
+        shutil.rmtree(folder, ignore_errors=True)
+
+
+class Result(collections.abc.Mapping):  # type: ignore[type-arg]
+    """What came of a run. `result["y"]` has the items that the sink `y` gave, a list or an array, whatever the outcome.
+
+    `outcome` is `ended`, `enough`, `clogged`, `jammed` or `stopped`; of a live run whose sinks were all left before
+    there was one it is None. `faults` is a dict of the instances that a fault ended, with `overflow` or `zero-divisor`,
+    and `waits` a list of a `Wait` for each one that waits; of `run` both are empty under `enough` and `stopped`.
+    `check()` raises an error if an item may lack. What is made of the trace needs a run with `trace=True`, and raises
+    KpnError without one. A sink that is not there raises KeyError. A copy or a pickle has all of it, the trace too.
     """
 
-    def __init__(self, layout: Layout, report: str, sinks: Dict[str, Any], program: Program = None):
+    def __init__(self, layout: Layout, report: Report, sinks: Dict[str, Any], program: Program = None,
+                 complete: Optional[Dict[str, bool]] = None, left: Sequence[str] = ()):
         self._layout, self._sinks, self._program = layout, sinks, program
-        lines = [line.split(' ') for line in report.splitlines() if not line.startswith('sink ')]
-        if not lines:
-            raise KpnError(f'{find_program(program)} has told no outcome: it is not the program `kpn`')
-        self.outcome: str = lines[-1][0]
-        self.faults: Dict[str, str] = {line[1]: line[2] for line in lines if line[0] == 'fault'}
-        self.waits: List[Wait] = [Wait(line[1], line[2], len(line) > 3) for line in lines if line[0] == 'waits']
-        self._folder: Optional[str] = None
+        self.outcome, self.faults, self.waits = report.outcome, report.faults, report.waits
+        # Of a live run, which sinks are complete, and which were left.
+        self._told, self._left = complete, left
+        self._folder: Optional[Folder] = None
         self._trace: Optional[str] = None
 
     def __getitem__(self, sink: str) -> Any:
@@ -83,10 +121,12 @@ class Result(collections.abc.Mapping):  # type: ignore[type-arg]
 
     @property
     def complete(self) -> Dict[str, Optional[bool]]:
-        """Whether each sink has all items that the network means for this input; None if that is not known.
+        """For each sink whether it has all items that the network means for this input; None if that is not known.
 
-        It is known under `ended`, `clogged` and `jammed`, and of a run with a trace.
+        It is known under `ended`, `clogged` and `jammed`, of a run with a trace, and of a live run.
         """
+        if self._told is not None:
+            return {**self._told}
         if self.outcome in ('enough', 'stopped'):
             if not self._trace:
                 return dict.fromkeys(self._sinks)
@@ -108,32 +148,33 @@ class Result(collections.abc.Mapping):  # type: ignore[type-arg]
     def check(self) -> Result:
         """This result, if no process faulted and each sink has all its items or as many as `take` says.
 
-        Else an error that says what lacks.
+        Raises KpnError that says what lacks if not.
         """
         reasons = [f'`{name}` ended by a fault: {fault}' for name, fault in self.faults.items()]
-        if self.outcome != 'enough':
-            reasons += [f'the sink `{name}` is {"not" if known is False else "perhaps not"} complete'
-                        for name, known in self.complete.items() if not known]
+        reasons += [f'the sink `{name}` is {"not" if known is False else "perhaps not"} complete'
+                    for name, known in self.complete.items()
+                    if not known and (self.outcome != 'enough' or name in self._left)]
         if reasons:
             waits = [f'`{it.instance}` waits on the full channel `{it.channel}`' for it in self.waits if it.is_full]
-            raise KpnError('; '.join([f'the run has {self.outcome}', *reasons, *waits]))
+            how = f'the run has {self.outcome}' if self.outcome else 'all sinks were left before the run had an outcome'
+            raise KpnError('; '.join([how, *reasons, *waits]))
         return self
 
     def trace(self) -> Trace:
-        """The events of the run, with names."""
-        return Trace(self._traced(), self._layout.instances, self._layout.channels, keeper=self)
+        """The events of the run, with names: a `Trace` to loop over."""
+        return Trace(self._traced()[1], self._layout.instances, self._layout.channels, keeper=self)
 
     @property
     def stats(self) -> Stats:
-        """What the run did on each channel and in each process, by `kpn stats`."""
+        """What the run did on each channel and in each process, by `kpn stats`: two lists of a dict for each row."""
         return Stats(*(rows_of(self._ask('stats', '--tsv', table)) for table in Stats._fields))
 
     def explain(self) -> str:
-        """What `kpn explain` says of the run: which sinks are complete, and what to do about those that are not."""
+        """A text of `kpn explain`: which sinks are complete, and what to do about those that are not."""
         return self._ask('explain')
 
     def dot(self) -> str:
-        """The network after its run as a graph for Graphviz, by `kpn draw`."""
+        """The network after its run, by `kpn draw`: a text in the language of Graphviz."""
         return self._ask('draw')
 
     def timeline(self) -> str:
@@ -141,7 +182,10 @@ class Result(collections.abc.Mapping):  # type: ignore[type-arg]
         return self._ask('timeline')
 
     def svg(self, first: Optional[int] = None, last: Optional[int] = None) -> str:
-        """The run in ticks as a picture, by `kpn timeline --svg`; of a long run only from a first to a last tick."""
+        """The run in ticks as a picture in SVG, by `kpn timeline --svg`; of a long run from a first to a last tick.
+
+        Raises KpnError if the picture would have more than 2,000 ticks, or gets, puts and waits.
+        """
         return self._ask('timeline', '--svg', *words_of(**{'from': first, 'to': last}))
 
     def _repr_svg_(self) -> Optional[str]:
@@ -151,64 +195,93 @@ class Result(collections.abc.Mapping):  # type: ignore[type-arg]
         except KpnError:
             return None
 
-    def _traced(self) -> str:
-        if not self._trace:
+    def _traced(self) -> Tuple[str, str]:
+        """The folder with the text, and the file of the trace."""
+        if not self._folder or not self._trace:
             raise KpnError('the run has no trace: give `trace=True` to `run`')
-        return self._trace
+        return self._folder.path, os.path.join(self._folder.path, self._trace)
 
     def _ask(self, command: str, *words: str) -> str:
         """What a command says of the network and the trace."""
-        done = call([command, TEXT, self._traced(), *words], self._program, self._folder)
+        folder, trace = self._traced()
+        done = call([command, TEXT, trace, *words], self._program, folder)
         if done.returncode:
             raise failure(done)
         return done.stdout
 
-    def keep(self, folder: str, trace: str) -> None:
-        """Takes over the folder of the run, until nobody has this result any more."""
+    def keep(self, folder: Folder, trace: str) -> None:
+        """Keeps the folder with the text, and the file of the trace, if it is not there."""
         self._folder, self._trace = folder, trace
-        weakref.finalize(self, shutil.rmtree, folder, ignore_errors=True)
 
 
 def run(net: Network, inputs: Inputs = None, *, take: Optional[int] = None, workers: Optional[int] = None,
         max_commits: Optional[int] = None, trace: Union[bool, str, os.PathLike[str]] = False,
-        timeout: Optional[float] = None, program: Program = None) -> Result:
-    """Runs a network by `kpn run` on the items of its sources.
+        timeout: Optional[float] = None, program: Program = None,
+        runner: Optional[Tuple[str, List[str]]] = None) -> Result:
+    """Runs a network by `kpn run` on the items of its sources, and gives a `Result`.
+
+    `inputs` is a dict with the items of each source, or the items of an only source: whole numbers from -2^63 to
+    2^63 - 1, or a path of a file with one on each line. If an array is given, the sinks are arrays of the same kind.
 
     The run is over once each sink has given `take` items, or after `max_commits` turns of processes (10,000,000 by
-    default). `workers` threads step the processes side by side. `trace` stores the events, in a file of this name or in
-    one of the result's own. After `timeout` seconds the run is killed, which is an error. If an array is given as
-    input, the sinks are arrays of the same kind.
+    default). `workers` threads, 1 to 16, step the processes side by side. `trace` stores the events, in a file of this
+    name or in one of the result's own. After `timeout` seconds the run is killed. `runner` is a program with its first
+    words, in place of `kpn run` and the description.
+
+    Raises KpnError if the network or an input is not right, or the program does not come to an outcome in time, and
+    TypeError for items and numbers that are not whole.
     """
     net.check_limits()
-    layout = net.layout()
+    layout, timeout = net.layout(), seconds(timeout)
     given = by_name(layout, inputs)
-    with contextlib.ExitStack() as made:
-        folder = tempfile.mkdtemp(prefix='kpn-')
-        made.callback(shutil.rmtree, folder, ignore_errors=True)
-        kept = os.path.join(folder, TRACE) if trace is True else os.path.abspath(trace) if trace else None
+    words = words_of(take=take, workers=workers, max_commits=max_commits)
+    kept = Folder({TEXT: layout.text.encode()}) if trace else None
+    file = TRACE if isinstance(trace, bool) else os.path.abspath(trace)
+    with tempfile.TemporaryDirectory(prefix='kpn-') as folder:
         pathlib.Path(folder, TEXT).write_bytes(layout.text.encode())
-        words = ['run', TEXT]
+        called, first = runner if runner else (program, ['run', TEXT])
         for name, items in given.items():
             words += ['--source', f'{name}={file_of(folder, name, items)}']
         for name in layout.sinks:
             words += ['--sink', f'{name}={name}.sink']
-        words += words_of(take=take, workers=workers, max_commits=max_commits, trace=kept)
-        done = call(words, program, folder, timeout)
+        words += ['--trace', os.path.join(kept.path, file)] if kept else []
+        done = call([*first, *words], called, folder, timeout)
         if done.returncode not in STATUSES:
-            raise refusal(done, layout, given, program)
+            raise refusal(done, layout, given, program, timeout)
+        report = report_of(done.stdout)
+        if not report.outcome:
+            raise KpnError(f'{find_program(program)} has told no outcome: it is not the program `kpn`')
         as_given = maker_of(given)
         sinks = {name: as_given(items_of(pathlib.Path(folder, f'{name}.sink').read_bytes())) for name in layout.sinks}
-        result = Result(layout, done.stdout, sinks, program)
-        if kept:
-            made.pop_all()
-            result.keep(folder, kept)
+    result = Result(layout, report, sinks, program)
+    if kept:
+        result.keep(kept, file)
     return result
 
 
-def words_of(**options: Union[None, int, str]) -> List[str]:
+def report_of(told: str) -> Report:
+    """What the program has told of a run. Lines of other forms say nothing of it."""
+    report = Report(None, {}, [], {})
+    for line in told.splitlines():
+        found = LINE.fullmatch(line)
+        if not found:
+            continue
+        faulty, fault, waiting, channel, full, sink, count, lacks, outcome = found.groups()
+        if fault:
+            report.faults[faulty] = fault
+        elif waiting:
+            report.waits.append(Wait(waiting, channel, bool(full)))
+        elif sink:
+            report.sinks[sink] = int(count), not lacks
+        else:
+            report = report._replace(outcome=outcome)
+    return report
+
+
+def words_of(**options: Optional[int]) -> List[str]:
     """The words of a command line for the options that are given."""
-    given = ((name.replace('_', '-'), value) for name, value in options.items() if value is not None)
-    return [word for name, value in given for word in (f'--{name}', str(value))]
+    given = {name: whole(f'`{name}`', value, 1, MOST[name]) for name, value in options.items() if value is not None}
+    return [word for name, value in given.items() for word in (f'--{name.replace("_", "-")}', str(value))]
 
 
 def by_name(layout: Layout, inputs: Inputs) -> Dict[str, Items]:
@@ -261,21 +334,21 @@ def maker_of(given: Mapping[str, Items]) -> Callable[[List[int]], Any]:
         if isinstance(items, array.array):
             return functools.partial(array.array, 'q')
         if hasattr(items, '__array_interface__'):
-            import numpy
+            numpy: Any = importlib.import_module('numpy')
             return functools.partial(numpy.array, dtype=numpy.int64)
     return list
 
 
 def refusal(done: subprocess.CompletedProcess[str], layout: Layout, given: Mapping[str, Items],
-            program: Program) -> KpnError:
+            program: Program, timeout: Optional[float] = None) -> KpnError:
     """Why a run was refused, in the words of `kpn explain` if it has some."""
     error = failure(done)
     number = int((error.error or '0').split()[0])
     if number in OF_TEXT:
-        return layout.error(program) or error
+        return layout.error(program, timeout) or error
     files = {name: os.fspath(items) for name, items in given.items() if isinstance(items, os.PathLike)}
     for name, file in files.items() if number in OF_ITEMS else ():
-        said = call(['explain', os.path.abspath(file), '--items'], program)
+        said = call(['explain', os.path.abspath(file), '--items'], program, timeout=timeout)
         if said.returncode:
             return KpnError(f'the source `{name}`: {said.stdout or said.stderr}'.rstrip(), error=error.error)
     return error

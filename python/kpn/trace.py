@@ -32,9 +32,9 @@ class Event(NamedTuple):
 
 
 class Trace:
-    """The events of a stored trace, of version 1 or 2. Each loop over it reads the file anew, line by line.
+    """The events of a stored trace, of version 1 or 2, to loop over. Each loop reads the file anew, line by line.
 
-    `keeper` is what the file goes with.
+    `keeper` is what the file goes with. A line that is no event raises KpnError, as does a file that is no trace.
     """
 
     def __init__(self, path: Union[str, os.PathLike[str]], instances: Sequence[str] = (),
@@ -95,6 +95,9 @@ def named(names: Sequence[str], number: str) -> Union[int, str]:
 
 
 def read_trace(path: Union[str, os.PathLike[str]], net: Optional[Network] = None) -> Trace:
-    """The trace that `kpn run --trace` has stored in a file; with its network, events have names."""
+    """A `Trace` that `kpn run --trace` has stored in a file; with its network, events have names.
+
+    Raises OSError if the file cannot be opened, and KpnError if it does not begin as a trace does.
+    """
     layout = net.layout() if net else None
     return Trace(path, layout.instances, layout.channels) if layout else Trace(path)

@@ -1,5 +1,5 @@
 """Random networks, built through the package."""
-import kpn
+from support import kpn
 
 MARKS = ('+', '-', '*', '/', '%', '<', '<=', '>', '>=', '==', '!=', '&&', '||')
 

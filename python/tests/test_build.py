@@ -1,4 +1,6 @@
 """Building networks: connecting, naming, forking, loops and limits."""
+import copy
+import pickle
 import unittest
 
 from support import kpn
@@ -181,6 +183,52 @@ network {
         for number in range(257):
             kpn.Process.from_text(f'process p{number}() {{ }}')(net=net)
         self.refused('257 processes: 1 more than the 256', net.check)
+
+    def test_numbers_that_are_none(self):
+        x = self.net.source('x')
+        for given in (True, 1.5, '3'):
+            self.refused('the limit has to be a whole number', kpn.Network, given)
+            self.refused('the capacity has to be a whole number', self.net.channel, cap=given)
+            self.refused('the capacity has to be a whole number', GAIN, x, 1, cap={'o': given})
+        self.refused('the capacity has to be a whole number', GAIN, x, 1, cap=True)
+        self.refused('from 1 to the limit', GAIN, x, 1, cap=-1)
+
+        class Number(int):
+            """As those of an enumeration or of NumPy, it does not look like its number."""
+
+            def __str__(self):
+                return 'a number'
+        net = kpn.Network(Number(9))
+        net.sink('y', GAIN(net.source('x'), Number(3), cap=Number(4)), cap=Number(5))
+        self.assertEqual(str(net).partition('network')[2], ' {\n  limit 9;\n  source x;\n  sink y cap 5;\n'
+                                                           '  gain = gain(x; y; 3);\n}\n')
+        net = kpn.Network()
+        net.sink('y', GAIN(net.source('x'), True))
+        self.assertEqual(net.run([7])['y'], [7])
+
+    def test_copies(self):
+        net = kpn.Network(99, 'all', 'double', auto_fork=True)
+        loop = net.channel()
+        x = net.source('x')
+        with net.scope('chain'):
+            total = stream = kpn.parts.add(x, loop)
+            for number in range(250):
+                stream = GAIN(stream, number, cap=2)
+        loop.connect(kpn.parts.delay(total))
+        net.sink('y', stream)
+        net.sink('again', x)
+        for other, its in (pickle.loads(pickle.dumps((net, total))), copy.deepcopy((net, total)),
+                           (copy.copy(net), None)):
+            self.assertEqual((str(other), other.auto_fork), (str(net), True))
+            if its:
+                self.assertIs(its.net, other)
+                self.assertEqual((its.name, repr(its)), (total.name, repr(total)))
+                other.sink('more', its)
+                other.check_limits()
+                self.assertIn('sink more', str(other))
+            other.sink('last', other.source('first'))
+            self.assertNotIn('last', str(net))
+        self.assertEqual(pickle.loads(pickle.dumps(loop)).name, loop.name)
 
     def test_wrong_settings(self):
         self.refused('from 1 to 1048576', kpn.Network, 0)

@@ -2,7 +2,9 @@
 import contextlib
 import inspect
 import io
+import os
 import re
+import subprocess
 import sys
 import tempfile
 import types
@@ -49,18 +51,40 @@ class Documents(unittest.TestCase):
         self.assertIn(''.join(f'    {line}\n' for line in lines), README)
 
     def test_each_public_thing_is_documented(self):
-        things = [getattr(kpn, name) for name in kpn.__all__]
+        things = [getattr(kpn, name) for name in kpn.__all__] + [getattr(parts, name) for name in parts.__all__]
         for thing in list(things):
-            things += [it for name, it in vars(thing).items() if inspect.isclass(thing) and inspect.isfunction(it)
-                       and not name.startswith('_')]
+            things += [it for name, it in vars(thing).items() if inspect.isclass(thing) and not name.startswith('_')
+                       and (inspect.isfunction(it) or isinstance(it, (property, classmethod)))]
         for thing in things:
             self.assertTrue(inspect.getdoc(thing), thing)
+
+    def test_what_an_error_is_for_is_documented(self):
+        for thing in (kpn.run, kpn.find_program, kpn.read_trace, kpn.Network, kpn.Network.from_text, kpn.Network.check,
+                      kpn.Network.stream, kpn.Process, kpn.Process.from_text, kpn.Stream.connect, kpn.Live,
+                      kpn.Live.feed, kpn.Live.read, kpn.Live.finish, kpn.Result, kpn.Result.check, kpn.Trace, parts):
+            self.assertRegex(inspect.getdoc(thing), r'(?s)[Rr]aises?.*KpnError', thing)
 
     def test_the_words_of_the_readme(self):
         for word in re.findall(r'`result\.(\w+)', README):
             self.assertTrue(hasattr(kpn.Result, word) or word in ('outcome', 'faults', 'waits'), word)
         for word in re.findall(r'parts\.(\w+)', README):
             self.assertIn(word, parts.__all__)
+
+
+class Notebook(unittest.TestCase):
+    def test_a_network_is_a_picture_if_graphviz_makes_one(self):
+        net = kpn.Network()
+        net.sink('y', parts.gain(net.source('x'), 2))
+        for text, wanted in (('echo "<svg/>"', '<svg/>\n'), ('cat > /dev/null; echo wrong >&2; exit 1', None),
+                             ('kill -9 $$', None), (None, None)):
+            with self.subTest(text), tempfile.TemporaryDirectory() as folder:
+                if text:
+                    path = pathlib.Path(folder, 'dot')
+                    path.write_text(f'#!/bin/sh\n{text}\n')
+                    path.chmod(0o700)
+                path = folder if text is None else f'{folder}:{os.environ["PATH"]}'
+                with unittest.mock.patch.dict(os.environ, {'KPN_PROGRAM': kpn.find_program(), 'PATH': path}):
+                    self.assertEqual(net._repr_svg_(), wanted)
 
 
 class Command(unittest.TestCase):
@@ -87,6 +111,21 @@ class Command(unittest.TestCase):
             self.assertEqual(said('store', folder), (0, ''))
             for file in GALLERY.iterdir():
                 self.assertEqual(pathlib.Path(folder, file.name).read_text(), file.read_text())
+
+    def test_a_reader_that_has_enough(self):
+        end, ours = os.pipe()
+        os.close(end)
+        for words in ([], ['gallery', 'fir', '--samples', '9']):
+            done = subprocess.run([sys.executable, '-m', 'kpn', *words], cwd=TOP / 'python', stdout=ours,
+                                  stderr=subprocess.PIPE, text=True)
+            self.assertEqual((done.returncode, done.stderr), (141, ''))
+        os.close(ours)
+
+    def test_a_folder_that_is_not_there(self):
+        with contextlib.redirect_stderr(io.StringIO()) as told:
+            self.assertEqual(said('store', '/nowhere/at/all'), (1, ''))
+        self.assertIn('python -m kpn: ', told.getvalue())
+        self.assertIn('/nowhere/at/all', told.getvalue())
 
     def test_wrong_words(self):
         with contextlib.redirect_stderr(io.StringIO()), self.assertRaises(SystemExit) as caught:

@@ -151,9 +151,19 @@ class Parts(unittest.TestCase):
         for build in (lambda x: parts.downsample(x, 3, 3), lambda x: parts.scale(x, 0), lambda x: parts.wrap(x, 63),
                       lambda x: parts.scale(x, 2, rounding='up'), lambda x: parts.saturate(x, 1, 0),
                       lambda x: parts.deal(x, 17), lambda x: parts.merge([]), lambda x: parts.fir(x, []),
-                      lambda x: parts.fft(x, x, 12), lambda x: parts.fork(x, 0), parts.zip_streams):
-            with self.assertRaises(kpn.KpnError):
+                      lambda x: parts.fft(x, x, 12), lambda x: parts.fork(x, 0), parts.zip_streams,
+                      lambda x: parts.upsample(x, 0), lambda x: parts.deal(x, 0), lambda x: parts.deal(x, -4),
+                      lambda x: parts.delay(x, -1), lambda x: parts.drop(x, -1), lambda x: parts.hold(x, -1),
+                      lambda x: parts.constant(x.net, 1, -1), lambda x: parts.downsample(x, 0),
+                      lambda x: parts.run_length_encode(x, 0), lambda x: parts.cic(x, 1, 0),
+                      lambda x: parts.biquad(x, [1, 2, 3], [1, 2], -1), lambda x: parts.fft(x, x, 2, 63)):
+            with self.assertRaisesRegex(kpn.KpnError, 'has to be|have to be|has at least|takes at least|may not be'):
                 run_one(build, A)
+        for build in (parts.upsample, parts.deal, parts.delay, parts.drop, parts.hold, parts.downsample, parts.fork,
+                      parts.wrap, parts.run_length_encode):
+            for given in (1.0, True, '2'):
+                with self.assertRaisesRegex(TypeError, 'has to be a whole number'):
+                    run_one(lambda x: build(x, given), A)
 
 
 if __name__ == '__main__':

@@ -2,11 +2,11 @@
 import random
 import unittest
 
+import mutated_texts
 from random_networks import Maker
 from support import kpn, second_canonical
 
-from kpn.errors import Spot
-from kpn.program import answer, explain
+from kpn.program import answer
 
 
 class RoundTrips(unittest.TestCase):
@@ -18,26 +18,34 @@ class RoundTrips(unittest.TestCase):
                 self.assertEqual(second_canonical(text), text)
                 self.assertEqual(str(kpn.Network.from_text(text)), text)
 
-    def test_200_random_mutants(self):
-        """The package refuses a text if `kpn` does, with the same error, and no other text."""
+    def test_300_mutated_texts(self):
+        """The package reads a text as `kpn print` does, or refuses it with the same error."""
         refused = 0
-        for seed in range(200):
-            numbers = random.Random(seed)
-            text = str(Maker(numbers).network())
-            for _ in range(numbers.randrange(3)):
-                place, size = numbers.randrange(len(text)), numbers.choice((0, 0, 1, 5))
-                other = numbers.randrange(len(text))
-                new = numbers.choice(('', *'(){};,=-1x\u00b2', text[other:other + 5]))
-                text = text[:place] + new + text[place + size:]
-            wanted, found = explain(text, lambda offset: Spot('the network', text, offset)), None
-            try:
-                kpn.Network.from_text(text).check()
-            except kpn.KpnError as error:
-                found = error
+        for seed in range(300):
+            text = mutated_texts.mutant(random.Random(seed))
             with self.subTest(seed=seed):
-                self.assertEqual(found and found.error.split(' at ')[0], wanted and wanted.error.split(' at ')[0], text)
-            refused += wanted is not None
-        self.assertTrue(50 < refused < 175, refused)
+                self.assertEqual(mutated_texts.difference(text), '')
+                refused += mutated_texts.read(text)[1] is not None
+        self.assertTrue(150 < refused < 250, refused)
+
+    def test_texts_that_say_another_network(self):
+        copy = 'process p(in i; out o) { while 1 { read i x; write o x; } } '
+        network = 'network { source s; sink z cap 1; channel y cap 1; %s }'
+        for entry, error in (('a = p(s; z, y);', '12 PortCount at 0'), ('a = p(s; );', '12 PortCount at 0'),
+                             ('a = p(s, y; z);', '12 PortCount at 0'), ('a = p(; z);', '12 PortCount at 0'),
+                             ('a = p(s; z; 1);', '12 PortCount at 0'), ('a = p(s; y); b = p(y; z, y);',
+                                                                        '12 PortCount at 1')):
+            with self.assertRaises(kpn.KpnError) as caught:
+                kpn.Network.from_text(copy + network % entry)
+            self.assertEqual(caught.exception.error, error)
+            self.assertEqual(caught.exception.place.what, 'the network')
+        for text, error in ((copy + copy + network % 'a = p(s; z);', '23 DoubleName at 68'),
+                            ('network { }\n#' + 'x' * 1_048_576, '24 TooLong at 1048576'),
+                            ('network { } # \udc80 \ud800\n.', '20 Token at 22')):
+            with self.assertRaises(kpn.KpnError) as caught:
+                kpn.Network.from_text(text)
+            self.assertEqual(caught.exception.error, error)
+        self.assertEqual(str(kpn.Network.from_text('network { } # \udc80 \ud800')), 'network {\n}\n')
 
     def test_deep_texts(self):
         for depth in (31, 32, 5_000):

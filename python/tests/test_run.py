@@ -1,8 +1,11 @@
 """Runs: inputs, outcomes, options and what results tell."""
 import array
+import copy
+import gc
 import json
 import os
 import pathlib
+import pickle
 import stat
 import sys
 import tempfile
@@ -74,7 +77,12 @@ class Inputs(unittest.TestCase):
         self.refused('out of range', doubling(), [2**63])
 
     def test_wrong_options(self):
-        self.refused('status 2', doubling(), [1], workers=17)
+        for word, given, said in (('workers', 17, '`workers` is 17: it has to be from 1 to 16'),
+                                  ('max_commits', -1, '`max_commits` is -1: it has to be from 1 to 1000000000'),
+                                  ('take', 0, '`take` is 0'), ('timeout', -1, 'the timeout is -1')):
+            self.refused(said, doubling(), [1], **{word: given})
+        for given in (True, 2.0, '3'):
+            self.refused('`take` has to be a whole number', doubling(), [1], take=given, error=TypeError)
         self.refused('27 Write', doubling(), [1], trace='/nowhere/at/all')
 
 
@@ -181,6 +189,49 @@ class Traced(unittest.TestCase):
         del result
         self.assertFalse(path.parent.exists())
 
+    def test_copies(self):
+        """They have the trace too, also once the first result has gone, and in another process."""
+        with tempfile.TemporaryDirectory() as folder:
+            for trace in (True, pathlib.Path(folder, 'two.trace')):
+                result = example('two').run(trace=trace)
+                wanted = (dict(result), result.outcome, result.complete, result.stats, result.explain(), result.dot(),
+                          list(result.trace()), result.check().waits)
+                kept = pickle.dumps(result)
+                copies = [copy.copy(result), copy.deepcopy(result)]
+                folder_of_result = result._folder.path
+                del result
+                self.assertTrue(os.path.exists(folder_of_result))
+                for it in (*copies, pickle.loads(kept)):
+                    self.assertEqual((dict(it), it.outcome, it.complete, it.stats, it.explain(), it.dot(),
+                                      list(it.trace()), it.check().waits), wanted)
+                del copies, it
+                self.assertFalse(os.path.exists(folder_of_result))
+        with doubling().stream(timeout=60) as live:
+            result = pickle.loads(pickle.dumps(live.finish()))
+        self.assertEqual((result.outcome, result.complete), ('ended', {'y': True}))
+
+    def test_a_forked_process_leaves_the_folder(self):
+        result = example('two').run(trace=True)
+        child = os.fork()
+        if child == 0:
+            try:
+                del result
+                gc.collect()
+            finally:
+                os._exit(0)
+        os.waitpid(child, 0)
+        self.assertEqual(len(result.stats.processes), 2)
+
+    def test_a_large_network(self):
+        """It is too long to be gone through from one stream to the next."""
+        net = kpn.Network()
+        stream = net.source('x')
+        for _ in range(250):
+            stream = parts.offset(stream, 1)
+        net.sink('y', stream)
+        result = pickle.loads(pickle.dumps(net.run([1])))
+        self.assertEqual(result['y'], [251])
+
     def test_a_named_trace_stays(self):
         with tempfile.TemporaryDirectory() as folder:
             path = pathlib.Path(folder, 'two.trace')
@@ -225,8 +276,24 @@ class Programs(unittest.TestCase):
 
     def test_a_program_that_tells_nothing(self):
         with tempfile.TemporaryDirectory() as folder:
-            path = self.program(folder, 'for word; do case $word in *.sink) : > "${word#*=}";; esac; done')
-            self.assertRaisesRegex(kpn.KpnError, 'has told no outcome', doubling().run, [1], program=path)
+            for said in (':', 'echo waits for ended', 'echo is this it'):
+                path = self.program(folder, 'for word; do case $word in *.sink) : > "${word#*=}";; esac; done\n' + said)
+                self.assertRaisesRegex(kpn.KpnError, 'has told no outcome', doubling().run, [1], program=path)
+                with doubling().stream(timeout=60, program=path) as live:
+                    self.assertRaisesRegex(kpn.KpnError, 'has told no outcome', live.finish)
+
+    def test_a_program_that_is_none(self):
+        with tempfile.TemporaryDirectory() as folder:
+            path = self.program(folder, '')
+            path.write_text('no program')
+            self.assertRaisesRegex(kpn.KpnError, f'{path} does not run: Exec format', doubling().run, [1], program=path)
+
+    def test_why_a_run_was_refused_is_asked_in_time(self):
+        with tempfile.TemporaryDirectory() as folder:
+            path = self.program(folder, 'case $1 in explain) exec sleep 60;; esac\n'
+                                        'echo "kpn: 21 Grammar at 3" >&2; exit 1')
+            self.assertRaisesRegex(kpn.KpnError, '`kpn explain` had not ended after 3 seconds', doubling().run, [1],
+                                   program=path, timeout=3)
 
     def test_a_program_that_does_not_end(self):
         with tempfile.TemporaryDirectory() as folder:

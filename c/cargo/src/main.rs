@@ -1,8 +1,9 @@
-//! Runs a network on lists, in one call and then in a session, and prints what c/driver.c prints.
+//! Runs a network on lists, in calls and then in a session, and prints what c/driver.c prints.
 use std::{env, fs, ptr};
 
 const TOO_SMALL: u32 = 61;
 const TURN: u64 = 1000;
+const FEW: u64 = 2;
 
 #[repr(C)]
 #[derive(Default)]
@@ -79,7 +80,7 @@ fn spelled(items: &[i64]) -> String {
     items.iter().map(|item| format!(" {item}")).collect()
 }
 
-fn run(net: &[u8], lists: &[Vec<i64>], commits: u64, trace: &str) {
+fn run(net: &[u8], lists: &[Vec<i64>], limits: Limits, trace: Option<&str>) {
     let items: Vec<i64> = lists.concat();
     let lengths: Vec<usize> = lists.iter().map(Vec::len).collect();
     let given = Lists {
@@ -88,7 +89,6 @@ fn run(net: &[u8], lists: &[Vec<i64>], commits: u64, trace: &str) {
         lengths: lengths.as_ptr(),
         source_count: lengths.len(),
     };
-    let limits = Limits { commits, has_take: false, take: 0, quota: TURN as u32 };
     let call = |room: Room| {
         let (mut ran, mut place) = (Ran::default(), Place::default());
         let fault = unsafe { kpn_run(net.as_ptr(), net.len(), &given, &limits, &room, &mut ran, &mut place) };
@@ -123,7 +123,9 @@ fn run(net: &[u8], lists: &[Vec<i64>], commits: u64, trace: &str) {
         println!("sink{}", spelled(&rest[..length]));
         rest = &rest[length..];
     }
-    fs::write(trace, text).unwrap();
+    if let Some(trace) = trace {
+        fs::write(trace, text).unwrap();
+    }
 }
 
 fn channel(session: &mut Session, name: &str) -> Result<usize, u32> {
@@ -183,6 +185,20 @@ fn tell(session: &mut Session, channels: &[usize], taken: &[Vec<i64>], trace: &s
     fs::write(trace, text).unwrap();
 }
 
+fn ask_for_nothing(session: &mut Session, sources: &[usize], sinks: &[usize]) {
+    let mut ask = |channel| {
+        let mut count = 0;
+        let fed = unsafe { kpn_feed(session, channel, ptr::null(), 0, &mut count) };
+        let taken = unsafe { kpn_take(session, channel, ptr::null_mut(), 0, &mut count) };
+        print!(" {fed} {taken}");
+    };
+    print!("wrong");
+    ask(usize::MAX);
+    sinks.iter().for_each(|sink| ask(*sink));
+    sources.iter().for_each(|source| ask(*source));
+    println!();
+}
+
 fn main() {
     let words: Vec<String> = env::args().collect();
     let sources: Vec<(String, Vec<i64>)> = words[5..]
@@ -199,15 +215,22 @@ fn main() {
     let fault = unsafe { kpn_check(net.as_ptr(), net.len(), &mut place) };
     println!("check {fault} {} {}", u8::from(place.has_place), place.place);
     let lists: Vec<Vec<i64>> = sources.iter().map(|(_, list)| list.clone()).collect();
-    run(&net, &lists, commits, &words[2]);
+    let quota = TURN as u32;
+    run(&net, &lists, Limits { commits, has_take: false, take: 0, quota }, Some(&words[2]));
+    run(&net, &lists, Limits { commits, has_take: true, take: FEW, quota }, None);
     let mut session = Session { at: ptr::null_mut() };
     let fault = unsafe { kpn_open(net.as_ptr(), net.len(), &mut session, &mut place) };
     println!("open {fault} {} {}", u8::from(place.has_place), place.place);
     let sinks: Vec<&str> = words[4].split(',').filter(|name| !name.is_empty()).collect();
     let served = if fault == 0 { serve(&mut session, &sinks, &sources, commits) } else { Err(fault) };
     println!("served {}", served.as_ref().err().unwrap_or(&0));
+    let numbers = match served {
+        Ok(_) => sources.iter().filter_map(|(name, _)| channel(&mut session, name).ok()).collect(),
+        Err(_) => Vec::new(),
+    };
     let (channels, taken) = served.unwrap_or_default();
     tell(&mut session, &channels, &taken, &format!("{}.session", words[2]));
+    ask_for_nothing(&mut session, &numbers, &channels);
     unsafe { kpn_free(&mut session) };
     println!("freed {}", unsafe { kpn_close_source(&mut session, 0) });
 }

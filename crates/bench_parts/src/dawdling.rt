@@ -1,5 +1,5 @@
 //! A gate that lets its workers dawdle at random.
-use kpn_desk::{Gate, Go};
+use kpn_pool_desk::{Gate, Go};
 use std::sync::atomic::{AtomicU64, Ordering};
 use std::thread;
 

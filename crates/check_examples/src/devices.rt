@@ -1,5 +1,6 @@
 //! The one type of input and of output that all command lines have. They are in memory, and calls of them may fail.
 
+use kpn_cli::Look;
 use std::alloc::Global;
 use std::io;
 use std::io::{ErrorKind, Read, Write};
@@ -68,6 +69,17 @@ impl Read for Input<'_> {
         };
         self.bytes = rest;
         io::repeat(*byte).take(1).read(buf)
+    }
+}
+
+/// All has come.
+impl Look for Input<'_> {
+    fn look(&mut self, buf: &mut [u8]) -> io::Result<Option<usize>> {
+        Ok(Some(self.read(buf)?))
+    }
+
+    fn can_look(&self) -> bool {
+        true
     }
 }
 

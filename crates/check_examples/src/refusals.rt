@@ -2,11 +2,11 @@
 
 use crate::devices::{NONE, Output};
 use anyhow::Result;
-use kpn_items::ItemFault;
+use kpn_command_base::Refusal;
 use kpn_lang::ProgramFault;
 use kpn_net::NetFault;
-use kpn_refusals::Refusal;
 use kpn_text::TextFault;
+use kpn_text_items::ItemFault;
 use std::alloc::Global;
 use std::io::Write;
 

@@ -1,7 +1,7 @@
 //! A shelf of which one call may answer otherwise for one name.
 
 use kpn_cli::{Ports, Shelf};
-use kpn_items::{ItemFault, WriteFault};
+use kpn_text_items::{ItemFault, WriteFault};
 use std::alloc::{AllocError, Global};
 
 /// The call of a shelf that answers otherwise.
@@ -75,6 +75,12 @@ impl<S: Ports> Ports for Troubled<S> {
 
     type Output = S::Output;
 
+    ghost comes_from = { λ input. S.comes_from input };
+
+    ghost goes_to = { λ output. S.goes_to output };
+
+    ghost are_two_inputs = { λ troubled name other. S.are_two_inputs troubled.files name other };
+
     fn open_input(&self, name: &str) -> Result<S::Input, ItemFault> {
         self.files.open_input(name)
     }
@@ -83,7 +89,11 @@ impl<S: Ports> Ports for Troubled<S> {
         self.files.open_output(name)
     }
 
-    fn is_plain(&self, name: &str) -> bool {
-        self.files.is_plain(name)
+    fn empty(&self, output: &mut S::Output) -> Result<(), WriteFault> {
+        self.files.empty(output)
+    }
+
+    fn is_one_input(&self, name: &str, other: &str) -> bool {
+        self.files.is_one_input(name, other)
     }
 }

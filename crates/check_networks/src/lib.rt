@@ -1,15 +1,21 @@
-//! Tests of networks, channels, cycles of waiting processes and histories, only by public calls: what no clause says,
-//! and worked rows whose values come from outside.
+//! Tests of networks, channels, cycles of waiting processes, histories, configurations and audits, only by public calls:
+//! what no clause says, memory that runs out, and worked rows whose values come from outside.
 #![tactic(auto)]
 
+#[cfg(test)]
+mod audits;
 #[cfg(test)]
 mod channels;
 #[cfg(test)]
 mod cycles;
 #[cfg(test)]
+mod feeding;
+#[cfg(test)]
 mod histories;
 #[cfg(test)]
 mod networks;
+#[cfg(test)]
+mod refusals;
 #[cfg(test)]
 mod rounds;
 #[cfg(test)]

@@ -2,12 +2,12 @@
 //! which the gate ends it. This and the others are put back in their order.
 ghost use Rattle.std.specs.Prelude.{◌≡◌};
 
+use crate::flag::Flag;
 use crate::networks::nine_sevens;
-use commit_gates::Flag;
-use kpn_desk::{Gate, Go, Job, View, Why, WorkerSeat};
 use kpn_net::Network;
+use kpn_pool::{Opened, Shared, gather, work};
+use kpn_pool_desk::{Gate, Go, Job, View, Why, WorkerSeat};
 use kpn_run_state::{Book, Event};
-use kpn_workers::{Opened, Shared, gather, work};
 use std::alloc::{AllocError, Global};
 use std::marker::Brand;
 use std::sync::Wait;

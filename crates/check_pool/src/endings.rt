@@ -1,11 +1,11 @@
 //! Why a worker ends, and what is seen then.
 ghost use Rattle.std.specs.Prelude.{◌≡◌};
 
+use crate::always::Always;
 use crate::networks::spinning;
-use commit_gates::Always;
-use kpn_desk::{Gate, Go, Job, View, Why};
 use kpn_net::Network;
-use kpn_workers::{Opened, Shared, work};
+use kpn_pool::{Opened, Shared, work};
+use kpn_pool_desk::{Gate, Go, Job, View, Why};
 use std::alloc::{AllocError, Global};
 use std::marker::Brand;
 use std::sync::Wait;

@@ -1,6 +1,7 @@
 //! Gates that hold a process until another one has come, or pause.
-use commit_gates::{Flag, MOST_TURNS};
-use kpn_desk::{Gate, Go};
+use crate::flag::Flag;
+use crate::turns::MOST_TURNS;
+use kpn_pool_desk::{Gate, Go};
 use std::sync::atomic::{AtomicU64, Ordering};
 use std::thread;
 

@@ -1,11 +1,12 @@
 //! The lock is free while a process is stepped, and while an expression is evaluated.
 ghost use Rattle.std.specs.Prelude.{◌≡◌};
 
+use crate::flag::Flag;
 use crate::networks::{spinning, summing};
-use commit_gates::{Flag, MOST_TURNS};
-use kpn_desk::{Gate, Go, Job, Why, WorkerSeat};
+use crate::turns::MOST_TURNS;
 use kpn_net::Network;
-use kpn_workers::{Opened, Shared, work};
+use kpn_pool::{Opened, Shared, work};
+use kpn_pool_desk::{Gate, Go, Job, Why, WorkerSeat};
 use std::alloc::{AllocError, Global};
 use std::marker::Brand;
 use std::sync::Wait;

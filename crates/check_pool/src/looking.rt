@@ -1,13 +1,14 @@
 //! A look at the desk under its lock, while workers are at work.
 ghost use Rattle.std.specs.Prelude.{◌≡◌};
-ghost use Rattle.kpn_desk.specs.Invariant.{AreBelowLeast, HasNoneLeftToGrow};
+ghost use Rattle.kpn_pool_desk.specs.Invariant.{AreBelowLeast, HasNoneLeftToGrow};
 
+use crate::always::Always;
 use crate::networks::three_spinning;
+use crate::turns::MOST_TURNS;
 use crate::working::both_work;
-use commit_gates::{Always, MOST_TURNS};
-use kpn_desk::{Desk, Go, Job, Why, WorkerSeat};
 use kpn_net::Network;
-use kpn_workers::{Opened, Shared};
+use kpn_pool::{Opened, Shared};
+use kpn_pool_desk::{Desk, Go, Job, Why, WorkerSeat};
 use std::alloc::{AllocError, Global};
 use std::marker::Brand;
 use std::sync::Wait;

@@ -1,12 +1,13 @@
 //! Two workers that are at work at once: a gate holds one of them until the other comes with another process.
 ghost use Rattle.std.specs.Prelude.{◌≡◌};
 
+use crate::holding::{Held, Holding};
 use crate::networks::{two_readers, two_sevens};
+use crate::turns::MOST_TURNS;
 use crate::working::both_work;
-use commit_gates::{Held, Holding, MOST_TURNS};
-use kpn_desk::{Gate, Go, Job, Why, WorkerSeat};
 use kpn_net::Network;
-use kpn_workers::{Opened, Shared, gather};
+use kpn_pool::{Opened, Shared, gather};
+use kpn_pool_desk::{Gate, Go, Job, Why, WorkerSeat};
 use std::alloc::{AllocError, Global};
 use std::marker::Brand;
 use std::sync::Wait;

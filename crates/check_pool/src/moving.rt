@@ -1,13 +1,11 @@
 //! A call of the outside moves all that it can under one hold of the lock.
 ghost use Rattle.std.specs.Prelude.{◌≡◌};
 
+use crate::always::Always;
 use crate::networks::copying;
-use commit_gates::Always;
-use kpn_desk::{Awaited, Go, Job, Refused, SinkSeat};
 use kpn_net::Network;
-use kpn_workers::{
-    Opened, Shared, feed_when_room, take_each, take_when_due, take_when_there, work,
-};
+use kpn_pool::{Opened, Shared, feed_when_room, take_each, take_when_due, take_when_there, work};
+use kpn_pool_desk::{Awaited, Go, Job, Refused, SinkSeat};
 use std::alloc::{AllocError, Global};
 use std::marker::Brand;
 use std::sync::Wait;

@@ -1,12 +1,13 @@
 //! The seats of the outside: what is fed is copied by a worker and taken, and a seat of another run is known as such.
 ghost use Rattle.std.specs.Prelude.{◌≡◌};
 
+use crate::always::Always;
 use crate::networks::copying;
-use commit_gates::{Always, MOST_TURNS};
-use kpn_desk::{Go, Job, Refused, SinkSeat, SnapFault, SourceSeat, View, Why, WorkerSeat};
+use crate::turns::MOST_TURNS;
 use kpn_net::Network;
+use kpn_pool::{Opened, Shared, close, feed, leave, snapshot, take, work};
+use kpn_pool_desk::{Go, Job, Refused, SinkSeat, SnapFault, SourceSeat, View, Why, WorkerSeat};
 use kpn_text::read_network;
-use kpn_workers::{Opened, Shared, close, feed, leave, snapshot, take, work};
 use std::alloc::{AllocError, Allocator, Global};
 use std::marker::Brand;
 use std::sync::Wait;

@@ -2,13 +2,13 @@
 //! call succeeds. The others succeed at once.
 ghost use Rattle.std.specs.Prelude.{◌≡◌};
 
+use crate::always::Always;
 use crate::endings::is_ready;
 use crate::networks::{copying, pouring};
 use crate::outside::shows;
-use commit_gates::Always;
-use kpn_desk::{Go, Job, Refused, SinkSeat, SnapFault, SourceSeat, Why};
 use kpn_net::Network;
-use kpn_workers::{Opened, Shared, close, feed, gather, leave, snapshot, take, work};
+use kpn_pool::{Opened, Shared, close, feed, gather, leave, snapshot, take, work};
+use kpn_pool_desk::{Go, Job, Refused, SinkSeat, SnapFault, SourceSeat, Why};
 use linked_list_allocator::LocalHeap;
 use std::alloc::{AllocError, Global};
 use std::marker::Brand;

@@ -1,6 +1,6 @@
 //! Two or three workers at once.
-use kpn_desk::{Gate, Job, WorkerSeat};
-use kpn_workers::{Shared, work};
+use kpn_pool::{Shared, work};
+use kpn_pool_desk::{Gate, Job, WorkerSeat};
 use std::sync::Wait;
 use std::thread;
 use std::thread::Threads;

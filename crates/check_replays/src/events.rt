@@ -1,16 +1,16 @@
 //! Events made by their calls, each after a check whether it may follow.
 ghost use Rattle.std.specs.Prelude.{◌≡◌, ◌↔◌, ◌<◌, length, IfOk, IfSome, OnOk, IsTrue};
-ghost use Rattle.kpn_configuration.specs.Configuration.{IsConfiguration, IsFree};
-ghost use Rattle.kpn_configuration.specs.Owed.{IsAwaitedBelowLimit};
-ghost use Rattle.kpn_configuration.specs.Due.{Stands, ReadsFrom, WritesTo, stop_of};
+ghost use Rattle.kpn_run_configuration.specs.Configuration.{IsConfiguration, IsFree};
+ghost use Rattle.kpn_run_configuration.specs.Owed.{IsAwaitedBelowLimit};
+ghost use Rattle.kpn_run_configuration.specs.Due.{Stands, ReadsFrom, WritesTo, stop_of};
 
 use anyhow::{Result, bail, ensure};
 use arrayvec::ArrayVec;
-use kpn_configuration::Configuration;
-use kpn_history::{Event, How};
 use kpn_lang::Fault;
 use kpn_limits::MAX_PORTS;
 use kpn_net::{Network, Wait};
+use kpn_run_configuration::Configuration;
+use kpn_run_history::{Event, How};
 use kpn_step::Stop;
 
 /// The processes that an event woke, in the order in which the call returns them.

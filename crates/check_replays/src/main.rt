@@ -5,7 +5,7 @@
 //! Another program (tools/configurations.py) computed what must come, only from the histories.
 #![tactic(auto)]
 
-ghost use Rattle.kpn_configuration.specs.Configuration.{IsConfiguration};
+ghost use Rattle.kpn_run_configuration.specs.Configuration.{IsConfiguration};
 
 mod events;
 mod telling;
@@ -13,10 +13,10 @@ mod telling;
 use crate::events::happen;
 use crate::telling::write_state;
 use anyhow::{Result, bail};
-use kpn_configuration::Configuration;
 use kpn_net::Network;
+use kpn_run_configuration::Configuration;
 use kpn_text::read_network;
-use kpn_trace_text::{Version, read_event};
+use kpn_trace::{Version, read_event};
 use std::alloc::Global;
 use std::io::Write;
 

@@ -1,10 +1,10 @@
 //! All that a configuration shows, written as lines.
 ghost use Rattle.std.specs.Prelude.{◌<◌, length};
-ghost use Rattle.kpn_configuration.specs.Configuration.{IsConfiguration};
+ghost use Rattle.kpn_run_configuration.specs.Configuration.{IsConfiguration};
 
 use anyhow::Result;
-use kpn_configuration::Configuration;
 use kpn_net::{Network, Policy};
+use kpn_run_configuration::Configuration;
 use std::alloc::Global;
 use std::io::Write;
 

@@ -1,7 +1,7 @@
 //! Item files: inputs that fail, stop or never end, and an output that fails.
 
-use kpn_items::read_up_to;
 use kpn_text::{ItemFault, WriteFault, read_all, read_items, write_items};
+use kpn_text_items::read_up_to;
 use std::io;
 use std::io::Read;
 use std::test::Fail;

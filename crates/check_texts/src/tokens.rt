@@ -1,7 +1,7 @@
 //! What the definition of tokens is compared with: the format's own lists of marks and reserved words, and worked
 //! texts, each with its tokens.
 
-use kpn_tokens::{Lexeme, Token, lexemes};
+use kpn_text_tokens::{Lexeme, Token, lexemes};
 use std::alloc::Global;
 use std::fmt::Write;
 use std::test::Fail;

@@ -6,7 +6,7 @@ ghost use Rattle.std.specs.Bool.{⊤};
 
 use anyhow::Result;
 use kpn_net::Network;
-use kpn_stream::{Limits, SinkFault, Sinks, SourceFault, Sources, stream};
+use kpn_stream::{Limits, Look, SinkFault, Sinks, SourceFault, Sources, stream};
 use kpn_text::read_network;
 use std::alloc::Global;
 use std::io::Write;
@@ -35,6 +35,8 @@ struct Sensor {
 impl Sources for Sensor {
     ghost gives = { λ _ _ _ _. ⊤ };
 
+    ghost looks = { λ _ _ _. ⊤ };
+
     ghost at_hand = { λ _ _. ⊤ };
 
     fn next(&mut self, _source: usize) -> Result<Option<i64>, SourceFault> {
@@ -48,6 +50,12 @@ impl Sources for Sensor {
     fn is_at_hand(&self, _source: usize) -> bool {
         true
     }
+
+    fn look(&mut self, _source: usize) -> Look {
+        Look::AtHand
+    }
+
+    fn linger(&self) {}
 }
 
 /// Shows each item in a line.

@@ -4,16 +4,16 @@ use Rattle.std.proofs.Common.{◌≡◌, ◌≢◌, ℕ, ◌<◌, Bool, true, fa
 use Rattle.kpn_net.specs.Tables.{Tables, instance_at, program_of}
 use Rattle.kpn_net.specs.Faults.{IsNetwork}
 use Rattle.kpn_net.proofs.Networks.{IsProgram-of, IsInstance-of}
-use Rattle.kpn_history.specs.declared.event.Event.{Event}
-use Rattle.kpn_history.specs.declared.event.Event.TheVariants.{Feed, Close, Take, Leave, Grow}
-use Rattle.kpn_history.specs.Talks.{is_of_process}
-use Rattle.kpn_history.specs.Channels.{is_growth_of}
+use Rattle.kpn_run_history.specs.declared.event.Event.{Event}
+use Rattle.kpn_run_history.specs.declared.event.Event.TheVariants.{Feed, Close, Take, Leave, Grow}
+use Rattle.kpn_run_history.specs.Talks.{is_of_process}
+use Rattle.kpn_run_history.specs.Channels.{is_growth_of}
 use Rattle.kpn_step.specs.declared.stop.Stop.TheVariants.{WantRead, WantWrite}
 use Rattle.kpn_step.proofs.MayStep.{at_port}
 use Rattle.kpn_chan.specs.Channel.{is_full, next_item}
-use Rattle.kpn_configuration.specs.Configuration.{Configuration, channel_in, frame_in, IsFree}
-use Rattle.kpn_configuration.specs.Changes.{IsChannelAt}
-use Rattle.kpn_configuration.specs.Due.{Stands}
+use Rattle.kpn_run_configuration.specs.Configuration.{Configuration, channel_in, frame_in, IsFree}
+use Rattle.kpn_run_configuration.specs.Changes.{IsChannelAt}
+use Rattle.kpn_run_configuration.specs.Due.{Stands}
 use Rattle.kpn_audit.specs.declared.scene.Doing.TheVariants.{Reads, Writes}
 use Rattle.kpn_audit.specs.Scene.{IsDoing}
 

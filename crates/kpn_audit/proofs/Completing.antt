@@ -7,12 +7,12 @@ use Rattle.kpn_net.specs.Tables.{Tables}
 use Rattle.kpn_net.specs.Faults.{IsNetwork}
 use Rattle.kpn_net.specs.Process.{Family}
 use Rattle.kpn_net.specs.Iteration.{IsLeast}
-use Rattle.kpn_history.specs.declared.event.Event.{Event}
-use Rattle.kpn_history.specs.Channels.{written_on}
-use Rattle.kpn_history.specs.Complete.{IsComplete, IsFedFrom}
-use Rattle.kpn_history.proofs.Complete.{least_if_complete}
-use Rattle.kpn_configuration.specs.Configuration.{Configuration}
-use Rattle.kpn_configuration.specs.Run.{IsRun}
+use Rattle.kpn_run_history.specs.declared.event.Event.{Event}
+use Rattle.kpn_run_history.specs.Channels.{written_on}
+use Rattle.kpn_run_history.specs.Complete.{IsComplete, IsFedFrom}
+use Rattle.kpn_run_history.proofs.Complete.{least_if_complete}
+use Rattle.kpn_run_configuration.specs.Configuration.{Configuration}
+use Rattle.kpn_run_configuration.specs.Run.{IsRun}
 use Rattle.kpn_audit.specs.Complete.{TellsComplete}
 use Rattle.kpn_audit.specs.declared.findings.Audit.{Audit}
 use Rattle.kpn_audit.specs.Audit.{IsAudit}

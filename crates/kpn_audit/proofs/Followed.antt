@@ -9,18 +9,18 @@ use Rattle.kpn_step.specs.Frame.{Frame}
 use Rattle.kpn_step.specs.Step.{Goes, step_of, Steps}
 use Rattle.kpn_step.proofs.StepCases.{Steps-append}
 use Rattle.kpn_chan.specs.Channel.{ChannelState}
-use Rattle.kpn_history.specs.declared.event.Event.{Event}
-use Rattle.kpn_history.specs.declared.event.Event.TheVariants.{Get, Put, WaitEmpty, WaitFull, Ended}
-use Rattle.kpn_history.specs.Talks.{is_of, is_of_process}
-use Rattle.kpn_history.specs.Legal.{waiter}
-use Rattle.kpn_history.proofs.AfterEvent.{of_process}
-use Rattle.kpn_history.specs.Stops.{OwesNothing, OwesNoCycleGrowth, OwesNoStopGrowth, goes_on}
-use Rattle.kpn_history.proofs.Growth.{no_cycle_owed_after}
-use Rattle.kpn_history.proofs.OwedGrowth.{no_stop_owed_after}
-use Rattle.kpn_configuration.specs.Changes.{IsFrameAfter}
-use Rattle.kpn_configuration.specs.Configuration.{Configuration, end_in, wait_in, frame_in, with_frame, with_channel, IsFree}
-use Rattle.kpn_configuration.specs.Due.{Stands}
-use Rattle.kpn_configuration.specs.Run.{IsRun}
+use Rattle.kpn_run_history.specs.declared.event.Event.{Event}
+use Rattle.kpn_run_history.specs.declared.event.Event.TheVariants.{Get, Put, WaitEmpty, WaitFull, Ended}
+use Rattle.kpn_run_history.specs.Talks.{is_of, is_of_process}
+use Rattle.kpn_run_history.specs.Legal.{waiter}
+use Rattle.kpn_run_history.proofs.AfterEvent.{of_process}
+use Rattle.kpn_run_history.specs.Stops.{OwesNothing, OwesNoCycleGrowth, OwesNoStopGrowth, goes_on}
+use Rattle.kpn_run_history.proofs.Growth.{no_cycle_owed_after}
+use Rattle.kpn_run_history.proofs.OwedGrowth.{no_stop_owed_after}
+use Rattle.kpn_run_configuration.specs.Changes.{IsFrameAfter}
+use Rattle.kpn_run_configuration.specs.Configuration.{Configuration, end_in, wait_in, frame_in, with_frame, with_channel, IsFree}
+use Rattle.kpn_run_configuration.specs.Due.{Stands}
+use Rattle.kpn_run_configuration.specs.Run.{IsRun}
 use Rattle.kpn_audit.specs.declared.judged.Judged.{Judged}
 use Rattle.kpn_audit.specs.declared.judged.Judged.TheVariants.{Follows, Illegal, Budget}
 use Rattle.kpn_audit.specs.Judged.{StandsFree, AllGoBy, IsFollowed, IsMade, IsMoved, IsJudged}

@@ -6,19 +6,19 @@ use Rattle.kpn_net.specs.Faults.{IsNetwork}
 use Rattle.kpn_step.specs.declared.stop.Stop.{Stop}
 use Rattle.kpn_step.specs.declared.stop.Stop.TheVariants.{WantRead, WantWrite, Paused}
 use Rattle.kpn_chan.specs.Channel.{unread, is_full, next_item}
-use Rattle.kpn_history.specs.declared.event.Event.{Event}
-use Rattle.kpn_history.specs.declared.event.Event.TheVariants.{Get, Put, WaitEmpty, WaitFull, Ended, Feed, Close, Take, Leave, Grow}
-use Rattle.kpn_history.specs.declared.event.How.{How}
-use Rattle.kpn_history.specs.declared.event.How.TheVariants as how
-use Rattle.kpn_history.specs.Talks.{is_of, is_of_process}
-use Rattle.kpn_history.specs.Legal.{HasNumbers, OwesGrowth, growth_after, Legal}
-use Rattle.kpn_history.specs.Stops.{OwesNothing}
-use Rattle.kpn_history.proofs.OneMore.{Legal-exactly}
-use Rattle.kpn_configuration.specs.Configuration.{Configuration, channel_in, frame_in}
-use Rattle.kpn_configuration.specs.Due.{Stands, ReadsFrom, WritesTo, stop_of, IsDueNow}
-use Rattle.kpn_configuration.specs.Run.{IsRun}
-use Rattle.kpn_configuration.proofs.OneStop.{one_stop}
-use Rattle.kpn_configuration.proofs.Exact.{due_here, due_outside}
+use Rattle.kpn_run_history.specs.declared.event.Event.{Event}
+use Rattle.kpn_run_history.specs.declared.event.Event.TheVariants.{Get, Put, WaitEmpty, WaitFull, Ended, Feed, Close, Take, Leave, Grow}
+use Rattle.kpn_run_history.specs.declared.event.How.{How}
+use Rattle.kpn_run_history.specs.declared.event.How.TheVariants as how
+use Rattle.kpn_run_history.specs.Talks.{is_of, is_of_process}
+use Rattle.kpn_run_history.specs.Legal.{HasNumbers, OwesGrowth, growth_after, Legal}
+use Rattle.kpn_run_history.specs.Stops.{OwesNothing}
+use Rattle.kpn_run_history.proofs.OneMore.{Legal-exactly}
+use Rattle.kpn_run_configuration.specs.Configuration.{Configuration, channel_in, frame_in}
+use Rattle.kpn_run_configuration.specs.Due.{Stands, ReadsFrom, WritesTo, stop_of, IsDueNow}
+use Rattle.kpn_run_configuration.specs.Run.{IsRun}
+use Rattle.kpn_run_configuration.proofs.OneStop.{one_stop}
+use Rattle.kpn_run_configuration.proofs.Exact.{due_here, due_outside}
 use Rattle.kpn_audit.specs.Judged.{IsReadFrom, IsWriteOf, StandsFree}
 
 same_item : (o : Option ℤ) (v w : ℤ) → o ≡ Some v → o ≡ Some w → v ≡ w

@@ -7,18 +7,18 @@ use Rattle.kpn_net.specs.Faults.{IsNetwork}
 use Rattle.kpn_step.specs.Frame.{Frame, start_frame}
 use Rattle.kpn_step.specs.Step.{step_of, Steps}
 use Rattle.kpn_step.specs.Stops.{IsBetween}
-use Rattle.kpn_history.specs.declared.event.Event.{Event}
-use Rattle.kpn_history.specs.declared.event.Event.TheVariants.{Get, Put, WaitEmpty, WaitFull, Ended}
-use Rattle.kpn_history.specs.declared.event.How.{How}
-use Rattle.kpn_history.specs.Talks.{is_of}
-use Rattle.kpn_history.specs.Legal.{HasNumbers, CanGo, Legal}
-use Rattle.kpn_history.specs.Stops.{OwesNothing}
-use Rattle.kpn_history.proofs.EndsOnce.{ended_exactly}
-use Rattle.kpn_history.proofs.Legality.{Legal-prefix}
-use Rattle.kpn_configuration.specs.Configuration.{Configuration, end_in, frame_in, IsFree}
-use Rattle.kpn_configuration.specs.Run.{IsEndOf, IsRun}
-use Rattle.kpn_configuration.proofs.Due.{may_go}
-use Rattle.kpn_configuration.specs.declared.configuration.growth.OwedGrowth.{OwedGrowth}
+use Rattle.kpn_run_history.specs.declared.event.Event.{Event}
+use Rattle.kpn_run_history.specs.declared.event.Event.TheVariants.{Get, Put, WaitEmpty, WaitFull, Ended}
+use Rattle.kpn_run_history.specs.declared.event.How.{How}
+use Rattle.kpn_run_history.specs.Talks.{is_of}
+use Rattle.kpn_run_history.specs.Legal.{HasNumbers, CanGo, Legal}
+use Rattle.kpn_run_history.specs.Stops.{OwesNothing}
+use Rattle.kpn_run_history.proofs.EndsOnce.{ended_exactly}
+use Rattle.kpn_run_history.proofs.Legality.{Legal-prefix}
+use Rattle.kpn_run_configuration.specs.Configuration.{Configuration, end_in, frame_in, IsFree}
+use Rattle.kpn_run_configuration.specs.Run.{IsEndOf, IsRun}
+use Rattle.kpn_run_configuration.proofs.Due.{may_go}
+use Rattle.kpn_run_configuration.specs.declared.configuration.growth.OwedGrowth.{OwedGrowth}
 use Rattle.kpn_audit.specs.declared.judged.Judged.{Judged}
 use Rattle.kpn_audit.specs.declared.judged.Judged.TheVariants.{Follows, Illegal, Budget}
 use Rattle.kpn_audit.specs.Place.{GoesBy, ComesBy}

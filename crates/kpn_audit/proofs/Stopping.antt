@@ -2,13 +2,13 @@
 use Rattle.std.proofs.Common.{◌≡◌, List, Option, Some, None, refl, inr}
 use Rattle.std.specs.Prelude.{IfSome}
 use Rattle.kpn_net.specs.Tables.{Tables}
-use Rattle.kpn_history.specs.declared.event.Event.{Event}
-use Rattle.kpn_history.specs.Legal.{OwesStopGrowth}
-use Rattle.kpn_history.specs.Stops.{OwesNoCycleGrowth, OwesNoStopGrowth}
-use Rattle.kpn_configuration.specs.declared.configuration.growth.OwedGrowth.{OwedGrowth}
-use Rattle.kpn_configuration.specs.Configuration.{Configuration}
-use Rattle.kpn_configuration.specs.Owed.{IsOwedAtStop, IsAwaitedBelowLimit}
-use Rattle.kpn_configuration.specs.Run.{IsRun}
+use Rattle.kpn_run_history.specs.declared.event.Event.{Event}
+use Rattle.kpn_run_history.specs.Legal.{OwesStopGrowth}
+use Rattle.kpn_run_history.specs.Stops.{OwesNoCycleGrowth, OwesNoStopGrowth}
+use Rattle.kpn_run_configuration.specs.declared.configuration.growth.OwedGrowth.{OwedGrowth}
+use Rattle.kpn_run_configuration.specs.Configuration.{Configuration}
+use Rattle.kpn_run_configuration.specs.Owed.{IsOwedAtStop, IsAwaitedBelowLimit}
+use Rattle.kpn_run_configuration.specs.Run.{IsRun}
 use Rattle.kpn_audit.specs.Judged.{Owes}
 use Rattle.kpn_audit.proofs.Followed.{nothing_owed}
 

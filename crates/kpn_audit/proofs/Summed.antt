@@ -6,15 +6,15 @@ use Rattle.kpn_chan.specs.Channel.{ChannelState}
 use Rattle.kpn_net.specs.Tables.{Tables}
 use Rattle.kpn_net.specs.Faults.{IsNetwork}
 use Rattle.kpn_net.specs.Iteration.{IsLeast}
-use Rattle.kpn_history.specs.declared.event.Event.{Event}
-use Rattle.kpn_history.specs.Channels.{written_on, read_on, capacity_after, fed}
-use Rattle.kpn_history.specs.declared.event.How.{How}
-use Rattle.kpn_history.specs.Waiting.{wait_of}
-use Rattle.kpn_history.specs.Ends.{IsQuiet}
-use Rattle.kpn_history.proofs.Kahn.{least_if_quiet}
-use Rattle.kpn_configuration.specs.Configuration.{Configuration, channel_in, wait_in, end_in}
-use Rattle.kpn_configuration.specs.Run.{IsEndOf, IsRun}
-use Rattle.kpn_configuration.proofs.Numbered.{by_number}
+use Rattle.kpn_run_history.specs.declared.event.Event.{Event}
+use Rattle.kpn_run_history.specs.Channels.{written_on, read_on, capacity_after, fed}
+use Rattle.kpn_run_history.specs.declared.event.How.{How}
+use Rattle.kpn_run_history.specs.Waiting.{wait_of}
+use Rattle.kpn_run_history.specs.Ends.{IsQuiet}
+use Rattle.kpn_run_history.proofs.Kahn.{least_if_quiet}
+use Rattle.kpn_run_configuration.specs.Configuration.{Configuration, channel_in, wait_in, end_in}
+use Rattle.kpn_run_configuration.specs.Run.{IsEndOf, IsRun}
+use Rattle.kpn_run_configuration.proofs.Numbered.{by_number}
 use Rattle.kpn_audit.specs.Shown.{ShowsLists}
 use Rattle.kpn_audit.specs.declared.findings.Audit.{Audit}
 use Rattle.kpn_audit.specs.Audit.{IsAudit, AreLeast}

@@ -9,14 +9,14 @@ use Rattle.kpn_net.specs.declared.tables.Growth.TheVariants as growth
 use Rattle.kpn_net.specs.Tables.{Tables}
 use Rattle.kpn_net.specs.Faults.{IsNetwork}
 use Rattle.kpn_net.proofs.Networks.{limit_in_range}
-use Rattle.kpn_history.specs.declared.event.Event.{Event}
-use Rattle.kpn_history.specs.declared.stored.Version.{Version}
-use Rattle.kpn_history.specs.declared.stored.Version.TheVariants.{One, Two}
-use Rattle.kpn_history.specs.declared.stored.Trace.{Trace}
-use Rattle.kpn_history.specs.Channels.{capacity_after}
-use Rattle.kpn_history.proofs.Capacities.{in_limit}
-use Rattle.kpn_configuration.specs.Configuration.{Configuration, channel_in}
-use Rattle.kpn_configuration.specs.Run.{IsRun}
+use Rattle.kpn_run_history.specs.declared.event.Event.{Event}
+use Rattle.kpn_run_history.specs.declared.stored.Version.{Version}
+use Rattle.kpn_run_history.specs.declared.stored.Version.TheVariants.{One, Two}
+use Rattle.kpn_run_history.specs.declared.stored.Trace.{Trace}
+use Rattle.kpn_run_history.specs.Channels.{capacity_after}
+use Rattle.kpn_run_history.proofs.Capacities.{in_limit}
+use Rattle.kpn_run_configuration.specs.Configuration.{Configuration, channel_in}
+use Rattle.kpn_run_configuration.specs.Run.{IsRun}
 use Rattle.kpn_audit.specs.declared.findings.AuditFault.{AuditFault}
 use Rattle.kpn_audit.specs.declared.findings.AuditFault.TheVariants.{Illegal, NoMemory, Budget, PolicyDiffers}
 use Rattle.kpn_audit.specs.Audit.{IsFault, IsRefusal}

@@ -6,16 +6,16 @@ use Rattle.kpn_step.specs.declared.stop.Stop.TheVariants.{WantRead, WantWrite, P
 use Rattle.kpn_step.specs.Frame.{Frame}
 use Rattle.kpn_step.specs.Step.{Goes, step_of, Steps}
 use Rattle.kpn_step.specs.Stops.{IsBetween}
-use Rattle.kpn_history.specs.declared.event.Event.{Event}
-use Rattle.kpn_history.specs.Talks.{is_of}
-use Rattle.kpn_history.specs.Legal.{HasNumbers, Legal, OwesGrowth}
-use Rattle.kpn_history.specs.Stops.{OwesNothing}
-use Rattle.kpn_configuration.specs.Configuration.{Configuration, frame_in, IsFree}
-use Rattle.kpn_configuration.specs.Changes.{IsChannelAt}
-use Rattle.kpn_configuration.specs.Due.{Stands}
-use Rattle.kpn_configuration.specs.Owed.{IsAwaitedBelowLimit}
-use Rattle.kpn_configuration.specs.Run.{IsRun}
-use Rattle.kpn_configuration.specs.declared.configuration.growth.OwedGrowth.{OwedGrowth}
+use Rattle.kpn_run_history.specs.declared.event.Event.{Event}
+use Rattle.kpn_run_history.specs.Talks.{is_of}
+use Rattle.kpn_run_history.specs.Legal.{HasNumbers, Legal, OwesGrowth}
+use Rattle.kpn_run_history.specs.Stops.{OwesNothing}
+use Rattle.kpn_run_configuration.specs.Configuration.{Configuration, frame_in, IsFree}
+use Rattle.kpn_run_configuration.specs.Changes.{IsChannelAt}
+use Rattle.kpn_run_configuration.specs.Due.{Stands}
+use Rattle.kpn_run_configuration.specs.Owed.{IsAwaitedBelowLimit}
+use Rattle.kpn_run_configuration.specs.Run.{IsRun}
+use Rattle.kpn_run_configuration.specs.declared.configuration.growth.OwedGrowth.{OwedGrowth}
 use Rattle.kpn_audit.specs.declared.judged.Judged.{Judged}
 use Rattle.kpn_audit.specs.declared.judged.Judged.TheVariants.{Follows, Illegal, Budget}
 use Rattle.kpn_audit.specs.Place.{StopsWithin, GoesBy, IsPlaceAfter}

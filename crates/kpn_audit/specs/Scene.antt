@@ -3,16 +3,16 @@ use Rattle.std.specs.Prelude.{◌≡◌, ℕ, true, if◌then◌else◌, List, t
 use Rattle.kpn_net.specs.declared.wait.Wait.TheVariants.{Empty, Full}
 use Rattle.kpn_net.specs.Tables.{Tables, channel_at, is_source, is_sink, larger_capacity}
 use Rattle.kpn_chan.specs.Channel.{is_full, next_item}
-use Rattle.kpn_history.specs.declared.event.Event.{Event}
-use Rattle.kpn_history.specs.declared.event.Event.TheVariants.{Feed, Close, Take, Leave}
-use Rattle.kpn_history.specs.declared.stored.Trace.{Trace}
-use Rattle.kpn_history.specs.Talks.{is_of}
-use Rattle.kpn_history.specs.Channels.{capacity_or_zero, is_growth_of}
-use Rattle.kpn_history.specs.Legal.{HasNumbers, OwesGrowth}
-use Rattle.kpn_history.specs.Stops as owing
-use Rattle.kpn_configuration.specs.Configuration.{Configuration, channel_in, closed_in, wait_in, end_in, IsFree}
-use Rattle.kpn_configuration.specs.Due.{Stands, ReadsFrom, WritesTo, stop_of}
-use Rattle.kpn_configuration.specs.Run.{IsRun}
+use Rattle.kpn_run_history.specs.declared.event.Event.{Event}
+use Rattle.kpn_run_history.specs.declared.event.Event.TheVariants.{Feed, Close, Take, Leave}
+use Rattle.kpn_run_history.specs.declared.stored.Trace.{Trace}
+use Rattle.kpn_run_history.specs.Talks.{is_of}
+use Rattle.kpn_run_history.specs.Channels.{capacity_or_zero, is_growth_of}
+use Rattle.kpn_run_history.specs.Legal.{HasNumbers, OwesGrowth}
+use Rattle.kpn_run_history.specs.Stops as owing
+use Rattle.kpn_run_configuration.specs.Configuration.{Configuration, channel_in, closed_in, wait_in, end_in, IsFree}
+use Rattle.kpn_run_configuration.specs.Due.{Stands, ReadsFrom, WritesTo, stop_of}
+use Rattle.kpn_run_configuration.specs.Run.{IsRun}
 use Rattle.kpn_audit.specs.declared.findings.AuditFault.{AuditFault}
 use Rattle.kpn_audit.specs.Audit.{IsOutOfSteps, IsFault}
 use Rattle.kpn_audit.specs.Stored.{tables_for, history_in}

@@ -3,8 +3,8 @@ use Rattle.std.specs.Prelude.{◌≡◌, List, length, map}
 use Rattle.std.specs.List.{range_with_len}
 use Rattle.kpn_net.specs.Tables.{Tables}
 use Rattle.kpn_net.specs.Faults.{channel_numbers}
-use Rattle.kpn_history.specs.declared.event.Event.{Event}
-use Rattle.kpn_configuration.specs.Configuration.{Configuration, channel_in, wait_in, end_in}
+use Rattle.kpn_run_history.specs.declared.event.Event.{Event}
+use Rattle.kpn_run_configuration.specs.Configuration.{Configuration, channel_in, wait_in, end_in}
 use Rattle.kpn_audit.specs.Complete.{TellsComplete}
 use Rattle.kpn_audit.specs.declared.findings.Audit.{Audit}
 

@@ -1,7 +1,7 @@
 //! The auditor.
 ghost use Rattle.std.specs.Prelude.{◌≡◌, ◌⊎◌, ◌↔◌, ℕ, true, length, IsTrue, IfOk, IfErr};
-ghost use Rattle.kpn_history.specs.Legal.{Legal};
-ghost use Rattle.kpn_configuration.specs.Run.{IsRun};
+ghost use Rattle.kpn_run_history.specs.Legal.{Legal};
+ghost use Rattle.kpn_run_configuration.specs.Run.{IsRun};
 ghost use Rattle.kpn_audit.specs.Audit.{IsAudit, AreLeast, AreWithinSteps, IsFault, IsRefusal};
 ghost use Rattle.kpn_audit.specs.Judged.{ArePlaces, Owes};
 ghost use Rattle.kpn_audit.specs.Stored.{Differs, history_of, tables_for, history_in};
@@ -11,9 +11,9 @@ use crate::judged::Judged;
 use crate::judging::judge;
 use crate::stored::told;
 use crate::summary::summary;
-use kpn_configuration::{Configuration, OwedGrowth};
-use kpn_history::{Event, Trace, Version};
 use kpn_net::{Growth, Network, Policy};
+use kpn_run_configuration::{Configuration, OwedGrowth};
+use kpn_run_history::{Event, Trace, Version};
 use std::alloc::Allocator;
 
 /// Audits a trace: whether its events are a legal history of the network, and what stands after them.

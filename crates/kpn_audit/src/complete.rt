@@ -1,13 +1,13 @@
 //! Which channels are complete after a history.
 ghost use Rattle.std.specs.Prelude.{List, IfOk};
-ghost use Rattle.kpn_history.specs.declared.event.Event.{Event};
-ghost use Rattle.kpn_configuration.specs.Configuration.{IsConfiguration};
-ghost use Rattle.kpn_configuration.specs.Run.{IsRun};
+ghost use Rattle.kpn_run_history.specs.declared.event.Event.{Event};
+ghost use Rattle.kpn_run_configuration.specs.Configuration.{IsConfiguration};
+ghost use Rattle.kpn_run_configuration.specs.Run.{IsRun};
 ghost use Rattle.kpn_audit.specs.Complete.{TellsComplete};
 
-use kpn_configuration::Configuration;
 use kpn_lang::Sequence;
 use kpn_net::Network;
+use kpn_run_configuration::Configuration;
 use std::alloc::{AllocError, Allocator};
 
 /// Whether each channel is complete. The error is that memory ran out.

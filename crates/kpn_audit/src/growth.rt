@@ -1,16 +1,16 @@
 //! Growth: what is owed once an event was made, and the event that takes it.
 ghost use Rattle.std.specs.Prelude.{◌≡◌, ◌<◌, List, [], ◌∷◌, ◌++◌, length, Some, None};
-ghost use Rattle.kpn_history.specs.declared.event.Event.{Event};
-ghost use Rattle.kpn_history.specs.Legal.{waiter};
-ghost use Rattle.kpn_configuration.specs.Configuration.{Configuration as Seen, IsConfiguration};
-ghost use Rattle.kpn_configuration.specs.Run.{IsRun};
-ghost use Rattle.kpn_configuration.specs.Owed.{IsAwaitedBelowLimit};
+ghost use Rattle.kpn_run_history.specs.declared.event.Event.{Event};
+ghost use Rattle.kpn_run_history.specs.Legal.{waiter};
+ghost use Rattle.kpn_run_configuration.specs.Configuration.{Configuration as Seen, IsConfiguration};
+ghost use Rattle.kpn_run_configuration.specs.Run.{IsRun};
+ghost use Rattle.kpn_run_configuration.specs.Owed.{IsAwaitedBelowLimit};
 ghost use Rattle.kpn_audit.specs.Judged.{IsOwing, AllGoBy, IsMade};
 
 use crate::judged::Judged;
-use kpn_configuration::{Configuration, OwedGrowth};
-use kpn_history::Event;
 use kpn_net::Network;
+use kpn_run_configuration::{Configuration, OwedGrowth};
+use kpn_run_history::Event;
 use std::alloc::Allocator;
 
 /// The wait of process `p`, which was just made, may follow, and this is what is owed then: for a cycle or for a stop.

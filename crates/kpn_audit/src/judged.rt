@@ -1,6 +1,6 @@
 //! What is found of one event.
 
-use kpn_configuration::OwedGrowth;
+use kpn_run_configuration::OwedGrowth;
 
 /// What is found of the event that comes next.
 #[derive(Clone, Copy, PartialEq, Eq)]

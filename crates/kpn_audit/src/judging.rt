@@ -1,13 +1,13 @@
 //! One event judged: first what can be judged before any step, then, once its process has come to a stop, whether it
 //! is due there.
 ghost use Rattle.std.specs.Prelude.{◌≡◌, ◌≢◌, ◌↔◌, ◌<◌, ℕ, true, false, List, length, IsTrue, IfOk, Some, None, Ok};
-ghost use Rattle.kpn_history.specs.declared.event.Event.{Event};
-ghost use Rattle.kpn_history.specs.Talks.{is_of, is_of_process};
-ghost use Rattle.kpn_history.specs.Legal.{HasNumbers};
-ghost use Rattle.kpn_history.specs.Stops.{OwesNothing};
-ghost use Rattle.kpn_configuration.specs.Configuration.{IsConfiguration};
-ghost use Rattle.kpn_configuration.specs.Owed.{IsAwaitedBelowLimit};
-ghost use Rattle.kpn_configuration.specs.Run.{IsRun};
+ghost use Rattle.kpn_run_history.specs.declared.event.Event.{Event};
+ghost use Rattle.kpn_run_history.specs.Talks.{is_of, is_of_process};
+ghost use Rattle.kpn_run_history.specs.Legal.{HasNumbers};
+ghost use Rattle.kpn_run_history.specs.Stops.{OwesNothing};
+ghost use Rattle.kpn_run_configuration.specs.Configuration.{IsConfiguration};
+ghost use Rattle.kpn_run_configuration.specs.Owed.{IsAwaitedBelowLimit};
+ghost use Rattle.kpn_run_configuration.specs.Run.{IsRun};
 ghost use Rattle.kpn_audit.specs.declared.judged.Judged.TheVariants.{Budget};
 ghost use Rattle.kpn_audit.specs.Judged.{StandsFree, Owes, IsFound, IsJudged, StopsInTime, IsInTime};
 
@@ -15,9 +15,9 @@ use crate::growth::judge_owed;
 use crate::judged::Judged;
 use crate::stepping::come_to_stop;
 use crate::{outside, processes};
-use kpn_configuration::{Configuration, OwedGrowth};
-use kpn_history::{Event, How};
 use kpn_net::Network;
+use kpn_run_configuration::{Configuration, OwedGrowth};
+use kpn_run_history::{Event, How};
 use kpn_step::Stop;
 use std::alloc::{AllocError, Allocator};
 

@@ -1,14 +1,14 @@
 //! Events of the outside: each is judged by its channel, and made if it may follow.
 ghost use Rattle.std.specs.Prelude.{◌≡◌, ◌↔◌, ◌<◌, true, false, List, length, IsTrue, IfOk};
 ghost use Rattle.kpn_net.specs.Tables.{channel_at, is_source, is_sink};
-ghost use Rattle.kpn_history.specs.declared.event.Event.TheVariants as event;
-ghost use Rattle.kpn_configuration.specs.Configuration.{closed_in, IsConfiguration};
+ghost use Rattle.kpn_run_history.specs.declared.event.Event.TheVariants as event;
+ghost use Rattle.kpn_run_configuration.specs.Configuration.{closed_in, IsConfiguration};
 ghost use Rattle.kpn_audit.specs.Judged.{IsFound};
 
 use crate::growth::after_event;
 use crate::judged::Judged;
-use kpn_configuration::Configuration;
 use kpn_net::Network;
+use kpn_run_configuration::Configuration;
 use std::alloc::{AllocError, Allocator};
 
 /// Whether channel `c` is a source that is not closed.

@@ -1,15 +1,15 @@
 //! Events of processes: each is judged by where its process stands, and made if it may follow.
 ghost use Rattle.std.specs.Prelude.{◌≡◌, ◌<◌, List, length, IfOk};
-ghost use Rattle.kpn_history.specs.declared.event.Event.TheVariants as event;
-ghost use Rattle.kpn_configuration.specs.Configuration.{IsConfiguration};
+ghost use Rattle.kpn_run_history.specs.declared.event.Event.TheVariants as event;
+ghost use Rattle.kpn_run_configuration.specs.Configuration.{IsConfiguration};
 ghost use Rattle.kpn_audit.specs.Judged.{StandsFree, IsFound};
 
 use crate::growth::{after_event, after_wait};
 use crate::judged::Judged;
 use crate::ports::{is_end, is_read_from, is_write_of, is_write_to};
-use kpn_configuration::Configuration;
-use kpn_history::How;
 use kpn_net::Network;
+use kpn_run_configuration::Configuration;
+use kpn_run_history::How;
 use kpn_step::Stop;
 use std::alloc::{AllocError, Allocator};
 

@@ -1,9 +1,9 @@
 //! What stands before an event of a trace: the events before it are replayed.
 ghost use Rattle.std.specs.Prelude.{◌≡◌, ◌<◌, ℕ, List, length, IfOk, IfErr};
-ghost use Rattle.kpn_history.specs.declared.event.Event.{Event};
-ghost use Rattle.kpn_configuration.specs.Configuration.{IsConfiguration};
-ghost use Rattle.kpn_configuration.specs.Owed.{IsAwaitedBelowLimit};
-ghost use Rattle.kpn_configuration.specs.Run.{IsRun};
+ghost use Rattle.kpn_run_history.specs.declared.event.Event.{Event};
+ghost use Rattle.kpn_run_configuration.specs.Configuration.{IsConfiguration};
+ghost use Rattle.kpn_run_configuration.specs.Owed.{IsAwaitedBelowLimit};
+ghost use Rattle.kpn_run_configuration.specs.Run.{IsRun};
 ghost use Rattle.kpn_audit.specs.Audit.{IsFault};
 ghost use Rattle.kpn_audit.specs.Judged.{IsOwing};
 ghost use Rattle.kpn_audit.specs.Scene.{IsOwedAfter, IsScene, IsSceneBefore, IsFaultBefore};
@@ -14,9 +14,9 @@ use crate::findings::AuditFault;
 use crate::scene::{GrowthOwed, Scene};
 use crate::seeing::seen;
 use crate::stored::told;
-use kpn_configuration::{Configuration, OwedGrowth};
-use kpn_history::{Event, Trace, Version};
 use kpn_net::{Growth, Network, Policy};
+use kpn_run_configuration::{Configuration, OwedGrowth};
+use kpn_run_history::{Event, Trace, Version};
 use std::alloc::Allocator;
 
 /// What stands before event `k` of a trace: what a configuration shows to which the events before it lead. If the

@@ -1,13 +1,13 @@
 //! What a configuration shows of the process or the channel of an event.
 ghost use Rattle.std.specs.Prelude.{◌≡◌, ◌<◌, ℕ, true, false, List, length};
 ghost use Rattle.kpn_step.specs.declared.stop.Stop.TheVariants.{WantRead, WantWrite, Paused};
-ghost use Rattle.kpn_history.specs.declared.event.Event.{Event};
-ghost use Rattle.kpn_history.specs.Talks.{is_of, is_of_process};
-ghost use Rattle.kpn_history.specs.Legal.{HasNumbers};
-ghost use Rattle.kpn_history.specs.Stops.{OwesNothing};
-ghost use Rattle.kpn_configuration.specs.Configuration.{IsConfiguration, IsFree};
-ghost use Rattle.kpn_configuration.specs.Due.{Stands};
-ghost use Rattle.kpn_configuration.specs.Run.{IsRun};
+ghost use Rattle.kpn_run_history.specs.declared.event.Event.{Event};
+ghost use Rattle.kpn_run_history.specs.Talks.{is_of, is_of_process};
+ghost use Rattle.kpn_run_history.specs.Legal.{HasNumbers};
+ghost use Rattle.kpn_run_history.specs.Stops.{OwesNothing};
+ghost use Rattle.kpn_run_configuration.specs.Configuration.{IsConfiguration, IsFree};
+ghost use Rattle.kpn_run_configuration.specs.Due.{Stands};
+ghost use Rattle.kpn_run_configuration.specs.Run.{IsRun};
 ghost use Rattle.kpn_audit.specs.Audit.{IsOutOfSteps};
 ghost use Rattle.kpn_audit.specs.Judged.{ArePlaces};
 ghost use Rattle.kpn_audit.specs.Scene.{IsDoing, IsScene, source_side, sink_side};
@@ -15,10 +15,10 @@ ghost use Rattle.kpn_audit.specs.Scene.{IsDoing, IsScene, source_side, sink_side
 use crate::judging::has_numbers;
 use crate::scene::{Doing, Scene, Side};
 use crate::stepping::step_on;
-use kpn_configuration::{Configuration, in_channel, out_channel};
-use kpn_history::{Event, How};
 use kpn_lang::Fault;
 use kpn_net::{Network, Wait};
+use kpn_run_configuration::{Configuration, in_channel, out_channel};
+use kpn_run_history::{Event, How};
 use kpn_step::Stop;
 use std::alloc::Allocator;
 

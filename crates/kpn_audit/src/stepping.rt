@@ -4,20 +4,20 @@ ghost use Rattle.kpn_net.specs.Tables.{program_of};
 ghost use Rattle.kpn_step.specs.Frame.{Frame};
 ghost use Rattle.kpn_step.specs.Step.{Goes, step_of, Steps};
 ghost use Rattle.kpn_step.specs.declared.stop.Stop.TheVariants.{Paused};
-ghost use Rattle.kpn_history.specs.declared.event.Event.{Event};
-ghost use Rattle.kpn_history.specs.Talks.{is_of};
-ghost use Rattle.kpn_history.specs.Legal.{HasNumbers};
-ghost use Rattle.kpn_history.specs.Stops.{OwesNothing};
-ghost use Rattle.kpn_configuration.specs.Configuration.{frame_in, IsConfiguration, IsFree};
-ghost use Rattle.kpn_configuration.specs.Run.{IsRun};
-ghost use Rattle.kpn_configuration.specs.Due.{Stands};
+ghost use Rattle.kpn_run_history.specs.declared.event.Event.{Event};
+ghost use Rattle.kpn_run_history.specs.Talks.{is_of};
+ghost use Rattle.kpn_run_history.specs.Legal.{HasNumbers};
+ghost use Rattle.kpn_run_history.specs.Stops.{OwesNothing};
+ghost use Rattle.kpn_run_configuration.specs.Configuration.{frame_in, IsConfiguration, IsFree};
+ghost use Rattle.kpn_run_configuration.specs.Run.{IsRun};
+ghost use Rattle.kpn_run_configuration.specs.Due.{Stands};
 ghost use Rattle.kpn_audit.specs.declared.judged.Judged.TheVariants.{Budget};
 ghost use Rattle.kpn_audit.specs.Place.{StopsWithin};
 ghost use Rattle.kpn_audit.specs.Judged.{StandsFree, StopsInTime, IsMoved, IsJudged};
 
 use crate::judged::Judged;
-use kpn_configuration::Configuration;
 use kpn_net::{Network, Wait};
+use kpn_run_configuration::Configuration;
 use kpn_step::Stop;
 use std::alloc::Allocator;
 

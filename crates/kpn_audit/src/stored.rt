@@ -1,13 +1,13 @@
 //! Events of a stored trace: which event a line of each version gives.
 ghost use Rattle.std.specs.Prelude.{◌≡◌, ◌<◌, ◌^◌, ◌+◌, ℕ, List, length, Some};
-ghost use Rattle.kpn_history.specs.declared.event.Event.{Event};
-ghost use Rattle.kpn_configuration.specs.Configuration.{channel_in, IsConfiguration};
-ghost use Rattle.kpn_configuration.specs.Run.{IsRun};
+ghost use Rattle.kpn_run_history.specs.declared.event.Event.{Event};
+ghost use Rattle.kpn_run_configuration.specs.Configuration.{channel_in, IsConfiguration};
+ghost use Rattle.kpn_run_configuration.specs.Run.{IsRun};
 ghost use Rattle.kpn_audit.specs.Stored.{told_in, told_capacity};
 
-use kpn_configuration::Configuration;
-use kpn_history::{Event, Version};
 use kpn_net::Network;
+use kpn_run_configuration::Configuration;
+use kpn_run_history::{Event, Version};
 use std::alloc::Allocator;
 
 /// The event that stands next in a trace of this version. A growth of version 1 does not name the new capacity: the

@@ -2,18 +2,18 @@
 ghost use Rattle.std.specs.Prelude.{◌≡◌, List, length, map, IfOk, OnOk};
 ghost use Rattle.std.specs.List.{range_with_len};
 ghost use Rattle.kpn_net.specs.Faults.{channel_numbers};
-ghost use Rattle.kpn_history.specs.declared.event.Event.{Event};
-ghost use Rattle.kpn_configuration.specs.Configuration.{channel_in, wait_in, end_in, IsConfiguration};
-ghost use Rattle.kpn_configuration.specs.Run.{IsRun};
+ghost use Rattle.kpn_run_history.specs.declared.event.Event.{Event};
+ghost use Rattle.kpn_run_configuration.specs.Configuration.{channel_in, wait_in, end_in, IsConfiguration};
+ghost use Rattle.kpn_run_configuration.specs.Run.{IsRun};
 ghost use Rattle.kpn_audit.specs.Audit.{IsAudit};
 ghost use Rattle.kpn_audit.specs.Shown.{ShowsLists};
 
 use crate::complete::complete_channels;
 use crate::findings::Audit;
-use kpn_configuration::Configuration;
-use kpn_history::How;
 use kpn_lang::Sequence;
 use kpn_net::{Network, Wait};
+use kpn_run_configuration::Configuration;
+use kpn_run_history::How;
 use std::alloc::{AllocError, Allocator};
 
 /// What a configuration shows of the history that led to it; its journals are moved. The error is that memory ran out.

@@ -1,8 +1,25 @@
-//! For users of the library: the book of a run, what it shows, and a run on the calling thread only. This crate passes
-//! on what lies in others: views in `kpn_history`, the book in `kpn_run_state`, and limits, reports and the run in
-//! `kpn_run_here`.
+//! The book of a run, and a run on the calling thread only: what a run has come to under its limits, and what its report
+//! promises, whatever the schedule. This crate also passes on views, of `kpn_run_history`, and the book, of
+//! `kpn_run_state`.
 #![tactic(auto)]
 
-pub use kpn_history::{Counts, State, Verdict, View};
-pub use kpn_run_here::{Limits, Outcome, Report, run_here};
+mod complete;
+pub mod complete_laws;
+mod feeding;
+mod here;
+pub mod laws;
+mod outcome;
+mod releasing;
+mod report;
+mod stepping;
+mod stopping;
+mod telling;
+
+pub use here::run_here;
+pub use kpn_run_history::{Counts, State, Verdict, View};
 pub use kpn_run_state::{Book, Claim, Done, Refused};
+pub use outcome::{Limits, Outcome};
+pub use releasing::put_back_held;
+pub use report::Report;
+pub use stopping::outcome_of;
+pub use telling::report_of;

@@ -1,6 +1,6 @@
 -- The session of a call is the one that its box held.
 use Rattle.std.proofs.Common.{◌≡◌, Option, Some, None, sym, ap, ◌∙◌, subst}
-use Rattle.kpn_flat.specs.Session.{Session}
+use Rattle.kpn_c.specs.Session.{Session}
 use Rattle.kpn_c.specs.declared.slot.Slot.{Slot}
 use Rattle.kpn_c.specs.Sessions.{holding}
 use Rattle.kpn_c.specs.Exports.{Leads}

@@ -1,2 +1,5 @@
 pub mod Values
 pub mod Leading
+pub mod OneMore
+pub mod Networks
+pub mod SessionLemmas

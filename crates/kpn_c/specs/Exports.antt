@@ -1,24 +1,24 @@
 -- What an export of a session tells C, by the number that it returns, and the session that it hands back.
 use Rattle.std.specs.Str.{IsUtf8}
 use Rattle.std.specs.Prelude.{◌≡◌, ◌⊎◌, ℕ, Bool, true, false, if◌then◌else◌, ℤ, List, length, Option, Some, None}
-use Rattle.kpn_history.specs.declared.state.Verdict.{Verdict}
-use Rattle.kpn_history.specs.declared.state.Verdict.TheVariants.{Ended, Clogged, Jammed}
-use Rattle.kpn_history.specs.Ends.{IsVerdict}
+use Rattle.kpn_run_history.specs.declared.state.Verdict.{Verdict}
+use Rattle.kpn_run_history.specs.declared.state.Verdict.TheVariants.{Ended, Clogged, Jammed}
+use Rattle.kpn_run_history.specs.Ends.{IsVerdict}
 use Rattle.kpn_run_state.specs.declared.answers.Refused.{Refused}
 use Rattle.kpn_run_state.specs.Refusals.{Closes, RefusesClose}
-use Rattle.kpn_flat.specs.Faults.{number_of_refusal}
-use Rattle.kpn_flat.specs.Calls.{FeedsEach, StepsEach, TakesEach, TellsComplete}
-use Rattle.kpn_flat.specs.Session.{Session}
-use Rattle.kpn_history.specs.declared.stored.Version.TheVariants.{Two}
-use Rattle.kpn_run_here.specs.RunHere.{IsFirst}
-use Rattle.kpn_trace_text.specs.TraceText.{trace_text}
-use Rattle.kpn_names.specs.Names.{number_of}
+use Rattle.kpn_c.specs.Faults.{number_of_refusal}
+use Rattle.kpn_c.specs.Calls.{FeedsEach, StepsEach, TakesEach, TellsComplete}
+use Rattle.kpn_c.specs.Session.{Session}
+use Rattle.kpn_run_history.specs.declared.stored.Version.TheVariants.{Two}
+use Rattle.kpn_book.specs.RunHere.{IsFirst}
+use Rattle.kpn_trace.specs.TraceText.{trace_text}
+use Rattle.kpn_text_names.specs.Names.{number_of}
 use Rattle.kpn_text.specs.declared.fault.TextFault.{TextFault}
 use Rattle.kpn_text.specs.Spells.{Spells}
 use Rattle.kpn_text.specs.Phases.{Refuses}
-use Rattle.kpn_flat.specs.Faults.{fault_of_text}
-use Rattle.kpn_flat.specs.Slices.{PutsIfFits}
-use Rattle.kpn_flat.specs.Texts.{IsText}
+use Rattle.kpn_c.specs.Faults.{fault_of_text}
+use Rattle.kpn_c.specs.Slices.{PutsIfFits}
+use Rattle.kpn_c.specs.Texts.{IsText}
 use Rattle.kpn_c.specs.declared.codes.Place.{Place}
 use Rattle.kpn_c.specs.declared.slot.Slot.{Slot}
 use Rattle.kpn_c.specs.Sessions.{holding}

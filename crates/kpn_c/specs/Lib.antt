@@ -1,3 +1,11 @@
 pub mod Holding
 pub mod Sessions
 pub mod Exports
+pub mod Runs
+pub mod Faults
+pub mod Lists
+pub mod Session
+pub mod Calls
+pub mod Running
+pub mod Slices
+pub mod Texts

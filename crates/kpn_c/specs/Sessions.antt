@@ -1,6 +1,6 @@
 -- A box with a session.
 use Rattle.std.specs.Prelude.{Option, Some, None, IsSome}
-use Rattle.kpn_flat.specs.Session.{Session}
+use Rattle.kpn_c.specs.Session.{Session}
 use Rattle.kpn_c.specs.declared.slot.Slot.{Slot}
 
 -- there is a box, and a session in it

@@ -2,8 +2,11 @@
 //! faults of descriptions and of reasons why a book refuses a call.
 ghost use Rattle.std.specs.Prelude.{◌≡◌};
 ghost use Rattle.kpn_c.specs.Exports.{code_of_cause, code_of_verdict, place_as};
+ghost use Rattle.kpn_c.specs.Runs.{code_of_outcome};
 
-use kpn_flat::{Fault, Outcome, Refused, Verdict, number_of};
+use crate::fault::{Fault, number_of};
+use kpn_book::Outcome;
+use kpn_run_state::{Refused, Verdict};
 
 pub(crate) const OK: u32 = 0;
 
@@ -61,7 +64,9 @@ pub(crate) fn code_of_verdict(verdict: Option<Verdict>) -> u32
     }
 }
 
-pub(crate) fn code_of_outcome(outcome: Outcome) -> u32 {
+pub(crate) fn code_of_outcome(outcome: Outcome) -> u32
+    ensures { result ≡ code_of_outcome outcome }
+{
     match outcome {
         Outcome::Ended => 1,
         Outcome::Clogged => 2,

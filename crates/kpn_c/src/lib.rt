@@ -1,13 +1,24 @@
-//! The calls of a network for C. `include/kpn.h` says what each does, and what its caller owes. Only
+//! The calls of a network for C: checks, runs and sessions over flat data, where lists and items stand in slices and faults
+//! are numbers, and the exports of a static library. `include/kpn.h` says what each does, and what its caller owes. Only
 //! `c/kpn.c` calls these exports: it refuses null pointers first.
 #![tactic(auto)]
 
 mod codes;
+mod fault;
+mod feeding;
 mod held;
+mod lists;
 mod loose;
+mod running;
 mod runs;
+mod session;
 mod sessions;
+mod slices;
 mod slot;
+mod stepping;
+mod taking;
+mod telling;
+mod texts;
 
 pub use held::Held;
 pub use runs::{Limits, Ran, kpn_c_check, kpn_c_run};

@@ -1,8 +1,12 @@
 //! Descriptions are checked, and networks are run on whole lists.
+ghost use Rattle.std.specs.Prelude.{◌≡◌};
 ghost use Rattle.kpn_c.specs.Exports.{Checks};
+ghost use Rattle.kpn_c.specs.Runs.{limits_from, buffers_of, PutsIfAllFits, Runs};
 
 use crate::codes::{LISTS, NO_MEMORY, OK, Place, TOO_SMALL, code_of_outcome, tell};
-use kpn_flat::{RunFault, check, fault_of, put_bytes, put_items, put_lengths, run};
+use crate::fault::fault_of;
+use crate::slices::{put_bytes, put_items, put_lengths};
+use crate::texts::{RunFault, check, run};
 use std::alloc::Global;
 
 /// When a run stops.
@@ -50,7 +54,10 @@ pub extern "C" fn kpn_c_run(
     trace: &mut [u8],
     ran: &mut Ran,
     place: &mut Place,
-) -> u32 {
+) -> u32
+    ensures { Runs text.now items.now lengths.now limits.now result place.new ran.old ran.new
+        (buffers_of room.old sinks.old trace.old) (buffers_of room.new sinks.new trace.new) }
+{
     match run(alloc, text, items, lengths, &limits_of(limits)) {
         Ok(told) => put(&told, room, sinks, trace, ran),
         Err(RunFault::Text(fault)) => tell(fault_of(fault), place),
@@ -59,8 +66,10 @@ pub extern "C" fn kpn_c_run(
     }
 }
 
-fn limits_of(limits: &Limits) -> kpn_flat::Limits {
-    kpn_flat::Limits {
+fn limits_of(limits: &Limits) -> kpn_book::Limits
+    ensures { result ≡ limits_from limits.now }
+{
+    kpn_book::Limits {
         commits: limits.commits,
         take: if limits.has_take {
             Some(limits.take)
@@ -73,12 +82,15 @@ fn limits_of(limits: &Limits) -> kpn_flat::Limits {
 
 /// Puts what a run tells where C wants it, if all of it fits.
 fn put(
-    told: &kpn_flat::Ran,
+    told: &crate::running::Ran,
     room: &mut [i64],
     sinks: &mut [usize],
     trace: &mut [u8],
     ran: &mut Ran,
-) -> u32 {
+) -> u32
+    ensures { PutsIfAllFits told.now result ran.new
+        (buffers_of room.old sinks.old trace.old) (buffers_of room.new sinks.new trace.new) }
+{
     let items = told.items.as_slice();
     let lengths = told.lengths.as_slice();
     let text = told.trace.as_slice();

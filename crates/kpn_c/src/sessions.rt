@@ -5,9 +5,11 @@ ghost use Rattle.kpn_c.specs.Exports.{Leads, Feeds, Takes, Steps, ClosesSource, 
 use crate::codes::{
     NO_CHANNEL, NO_MEMORY, OK, Place, TOO_SMALL, code_of_cause, code_of_verdict, tell,
 };
+use crate::fault::{fault_of, number_of};
 use crate::held::Held;
+use crate::session::Session;
+use crate::slices::put_bytes;
 use crate::slot::{free, kept, put_back, taken};
-use kpn_flat::{Session, fault_of, number_of, put_bytes};
 use std::alloc::Global;
 
 /// Opens a session of the network that a text describes, or leaves `back` as it was.

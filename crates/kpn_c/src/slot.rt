@@ -4,7 +4,7 @@ ghost use Rattle.kpn_c.specs.Sessions.{IsOpen, holding};
 
 use crate::held::Held;
 use crate::loose::Loose;
-use kpn_flat::Session;
+use crate::session::Session;
 use std::alloc::Global;
 
 /// A session, unless a call has it.

@@ -3,7 +3,7 @@ use Rattle.std.proofs.Common.{◌≡◌, ◌<◌, ◌+◌, ℕ, suc, List, [], �
 use Rattle.std.specs.Result.{OnErr}
 use Rattle.std.proofs.lemmas.List.{take-append-drop, map-append, map_more}
 use Rattle.kpn_shelf.specs.Shelf.{Loads, KeepsOthers}
-use Rattle.kpn_conclusion.specs.Conclusion.{StoredFile}
+use Rattle.kpn_command_base.specs.Conclusion.{StoredFile}
 use Rattle.kpn_cli.specs.Concludes.{IsStored, AreStored, IsCutShort}
 
 module _ {S : Type 0} (may_give : S → Loads) where

@@ -1,29 +1,29 @@
 -- What the program does on a command line: it answers what the words ask for, and carries the answer out.
 use Rattle.std.specs.Prelude.{◌≡◌, ℕ, List, Option, Some, None, map, option_map, IsSome, Result, IfOk, IfErr, ⊤}
 use Rattle.kpn_text.specs.Document.{canonical_text}
-use Rattle.kpn_refusals.specs.declared.refusal.Refusal.{Refusal}
-use Rattle.kpn_refusals.specs.declared.refusal.Refusal.TheVariants.{NoMemory}
-use Rattle.kpn_refusals.specs.Refusal.{status_of}
-use Rattle.kpn_conclusion.specs.declared.Conclusion.{Conclusion}
-use Rattle.kpn_conclusion.specs.Conclusion.{Succeeds, Tells}
+use Rattle.kpn_command_base.specs.declared.refusal.Refusal.{Refusal}
+use Rattle.kpn_command_base.specs.declared.refusal.Refusal.TheVariants.{NoMemory}
+use Rattle.kpn_command_base.specs.Refusal.{status_of}
+use Rattle.kpn_command_base.specs.declared.conclusion.Conclusion.{Conclusion}
+use Rattle.kpn_command_base.specs.Conclusion.{Succeeds, Tells}
 use Rattle.kpn_shelf.specs.Shelf.{Loads, Aliases}
-use Rattle.kpn_inputs.specs.Description.{IsRefusalOfCommand}
-use Rattle.kpn_inputs.specs.Inputs.{IsRefusalOfInputs}
-use Rattle.kpn_summary.specs.Counts.{summary_text}
-use Rattle.kpn_audited.specs.Audited.{IsRefusalOfAudit}
-use Rattle.kpn_alone_command.specs.Alone.{RunsAlone}
-use Rattle.kpn_description_commands.specs.TextOf.{IsTextOf}
-use Rattle.kpn_description_commands.specs.Rounds.{IsRounds}
-use Rattle.kpn_run_command.specs.Run.{IsRun, IsNoRun}
-use Rattle.kpn_audit_command.specs.Answers.{AnswersAudit}
-use Rattle.kpn_explain_command.specs.Answers.{IsExplained, IsRefusalOfExplaining, AreItemsExplained, IsRefusalOfItems}
-use Rattle.kpn_explain_trace.specs.Answers as traces
-use Rattle.kpn_draw_command.specs.Answers.{IsDrawn, IsRefusalOfDrawing}
-use Rattle.kpn_stats_command.specs.Answers.{AreStats}
-use Rattle.kpn_timeline_command.specs.Answers.{IsTimeline, HasGoneOut, IsNoTimeline}
-use Rattle.kpn_timeline_command.specs.PictureAnswers.{IsPictured, IsRefusalOfPicture}
-use Rattle.kpn_request.specs.StreamRequest.{StreamRequest}
-use Rattle.kpn_stream_command.specs.Command.{Streams, known_of}
+use Rattle.kpn_command_base.specs.Description.{IsRefusalOfCommand}
+use Rattle.kpn_command_base.specs.Inputs.{IsRefusalOfInputs}
+use Rattle.kpn_command_base.specs.Counts.{summary_text}
+use Rattle.kpn_command_base.specs.Audited.{IsRefusalOfAudit}
+use Rattle.kpn_commands.specs.Alone.{RunsAlone}
+use Rattle.kpn_commands.specs.TextOf.{IsTextOf}
+use Rattle.kpn_commands.specs.Rounds.{IsRounds}
+use Rattle.kpn_commands.specs.Run.{IsRun, IsNoRun}
+use Rattle.kpn_commands.specs.Answers.{AnswersAudit}
+use Rattle.kpn_command_explain.specs.Answers.{IsExplained, IsRefusalOfExplaining, AreItemsExplained, IsRefusalOfItems}
+use Rattle.kpn_command_explain.specs.TraceAnswers as traces
+use Rattle.kpn_command_views.specs.DrawAnswers.{IsDrawn, IsRefusalOfDrawing}
+use Rattle.kpn_command_base.specs.Audited.{IsAnyToldOf}
+use Rattle.kpn_command_views.specs.TimelineAnswers.{IsTimeline, HasGoneOut, IsNoTimeline}
+use Rattle.kpn_command_views.specs.PictureAnswers.{IsPictured, IsRefusalOfPicture}
+use Rattle.kpn_command_base.specs.StreamRequest.{StreamRequest}
+use Rattle.kpn_command_stream.specs.Command.{Names, Streams, known_of}
 use Rattle.kpn_command_line.specs.Asked.{AreUnclear, IsAsked}
 use Rattle.kpn_command_line.specs.declared.request.Request.{Request}
 use Rattle.kpn_command_line.specs.declared.request.Request.TheVariants.{Alone, Check, Explain, ExplainItems}
@@ -68,7 +68,7 @@ IsAnswer may_give may_alias remaining (Print file) input read answer =
     (IsRefusalOfCommand may_give file.now) answer
 IsAnswer may_give may_alias remaining (Draw file trace direction) input read answer =
     let trace = option_map (λ name. name.now) trace in
-    (read ≡ input) × Answers (Tells (IsDrawn may_give file.now trace direction 10000000))
+    (read ≡ input) × Answers (Tells (IsDrawn may_give file.now trace 10000000))
     (IsRefusalOfDrawing may_give file.now trace) answer
 IsAnswer may_give may_alias remaining (Rounds file n sources) input read answer =
     let words = map (λ word. word.now) sources.items in
@@ -81,7 +81,7 @@ IsAnswer may_give may_alias remaining (Audit file trace steps) input read answer
     (read ≡ input) × Answers (Tells (AnswersAudit may_give file.now trace.now steps))
     (IsRefusalOfAudit may_give file.now trace.now) answer
 IsAnswer may_give may_alias remaining (Stats file trace steps tables) input read answer =
-    (read ≡ input) × Answers (Tells (AreStats may_give file.now trace.now steps tables))
+    (read ≡ input) × Answers (Tells (IsAnyToldOf may_give file.now trace.now steps))
     (IsRefusalOfAudit may_give file.now trace.now) answer
 IsAnswer may_give may_alias remaining (Timeline file trace steps) input read answer = ⊥
 IsAnswer may_give may_alias remaining (Picture file trace steps first last) input read answer =
@@ -114,7 +114,7 @@ TellsAsked contents may_give request out written err told status = ⊥
 
 -- What the program does. Given are the words of the command line, the shelf, the input, the output and the place for
 -- faults, each as it was and as it is afterwards, and the status.
-pub data Runs {S I F O G E : Type 0} (may_give : S → Loads) (may_alias : S → Aliases)
+pub data Runs {S I F O G E : Type 0} (may_give : S → Loads) (may_alias : S → Aliases) (names : Names F G)
     (remaining : I → Option (List ℕ)) (left_in : F → Option (List ℕ)) (contents : O → Option (List ℕ))
     (holds_in : G → Option (List ℕ)) (asked : List (List ℕ)) (shelf kept : S) (input read : I) (out written : O)
     (err told : E) (status : ℕ) : Type 0 where
@@ -122,21 +122,27 @@ pub data Runs {S I F O G E : Type 0} (may_give : S → Loads) (may_alias : S →
   answers : (request : Request) → IsAsked asked request → (answer : Result Conclusion Refusal) →
       IsAnswer (may_give shelf) (may_alias shelf) remaining request input read answer →
       Concludes may_give contents answer shelf kept out written err told status →
-      Runs may_give may_alias remaining left_in contents holds_in asked shelf kept input read out written err told status
+      Runs may_give may_alias names remaining left_in contents holds_in asked
+      shelf kept input read out written err told status
   -- they ask for a stream, which reads and writes while it goes on
   streams : (stream : StreamRequest) → IsAsked asked (Stream stream) →
-      Streams may_give (known_of remaining left_in contents holds_in) stream shelf kept input read out written status →
-      Runs may_give may_alias remaining left_in contents holds_in asked shelf kept input read out written err told status
+      Streams may_give names (known_of remaining left_in contents holds_in) stream
+      shelf kept input read out written status →
+      Runs may_give may_alias names remaining left_in contents holds_in asked
+      shelf kept input read out written err told status
   -- they ask for a timeline, which goes out while it is made
   tells : (request : Request) → IsAsked asked request → kept ≡ shelf → read ≡ input →
       TellsAsked contents (may_give shelf) request out written err told status →
-      Runs may_give may_alias remaining left_in contents holds_in asked shelf kept input read out written err told status
+      Runs may_give may_alias names remaining left_in contents holds_in asked
+      shelf kept input read out written err told status
   -- they are not understood, and the place for faults gets how to use words
   unclear : AreUnclear asked → kept ≡ shelf → read ≡ input → written ≡ out → status ≡ 2 →
-      Runs may_give may_alias remaining left_in contents holds_in asked shelf kept input read out written err told status
+      Runs may_give may_alias names remaining left_in contents holds_in asked
+      shelf kept input read out written err told status
   -- there is no memory to read them
   unread : kept ≡ shelf → read ≡ input → written ≡ out → status ≡ status_of NoMemory →
-      Runs may_give may_alias remaining left_in contents holds_in asked shelf kept input read out written err told status
+      Runs may_give may_alias names remaining left_in contents holds_in asked
+      shelf kept input read out written err told status
 
 -- ---- scaffolding: what the parts of the code answer
 

@@ -1,14 +1,14 @@
 -- What becomes of what a command answers: files are stored and a text goes out, or a refusal is reported.
 use Rattle.std.specs.Prelude.{◌≡◌, ℕ, List, [], ◌∷◌, ◌++◌, Option, Result, Ok, Err}
 use Rattle.std.specs.Io.KnownBytes.{Appends}
-use Rattle.kpn_items.specs.declared.fault.WriteFault.{WriteFault}
-use Rattle.kpn_items.specs.declared.fault.WriteFault.TheVariants.{Write}
-use Rattle.kpn_refusals.specs.declared.refusal.Refusal.{Refusal}
-use Rattle.kpn_refusals.specs.declared.refusal.Refusal.TheVariants.{Output}
-use Rattle.kpn_refusals.specs.Refusal.{status_of}
+use Rattle.kpn_text_items.specs.declared.fault.WriteFault.{WriteFault}
+use Rattle.kpn_text_items.specs.declared.fault.WriteFault.TheVariants.{Write}
+use Rattle.kpn_command_base.specs.declared.refusal.Refusal.{Refusal}
+use Rattle.kpn_command_base.specs.declared.refusal.Refusal.TheVariants.{Output}
+use Rattle.kpn_command_base.specs.Refusal.{status_of}
 use Rattle.kpn_shelf.specs.Shelf.{Loads, KeepsOthers}
-use Rattle.kpn_conclusion.specs.declared.Conclusion.{Conclusion}
-use Rattle.kpn_conclusion.specs.Conclusion.{StoredFile, files_in}
+use Rattle.kpn_command_base.specs.declared.conclusion.Conclusion.{Conclusion}
+use Rattle.kpn_command_base.specs.Conclusion.{StoredFile, files_in}
 
 -- ---- how files are stored
 

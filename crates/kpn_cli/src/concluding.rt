@@ -1,13 +1,12 @@
 //! A conclusion is carried out, or a refusal reported, in this one place.
 ghost use Rattle.std.specs.Prelude.{map, OnOk, OnErr};
 ghost use Rattle.std.specs.Io.KnownBytes.{Appends};
-ghost use Rattle.kpn_conclusion.specs.Conclusion.{stored_as};
+ghost use Rattle.kpn_command_base.specs.Conclusion.{stored_as};
 ghost use Rattle.kpn_cli.specs.Concludes.{AreStored, Concludes, IsCutShort};
 
-use kpn_conclusion::{Conclusion, OutputFile};
-use kpn_items::WriteFault;
-use kpn_refusals::Refusal;
+use kpn_command_base::{Conclusion, OutputFile, Refusal};
 use kpn_shelf::Shelf;
+use kpn_text_items::WriteFault;
 use std::io::Write;
 
 /// Carries out a conclusion: it stores the files, and then writes the text. Or it reports why there is none. It returns

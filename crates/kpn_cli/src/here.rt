@@ -3,21 +3,15 @@ ghost use Rattle.std.specs.Prelude.{option_map};
 ghost use Rattle.kpn_cli.specs.Command.{ComesTo, Explains};
 
 use crate::usage::told;
-use kpn_alone_command::alone_command;
-use kpn_audit_command::audit_command;
+use kpn_command_base::{Conclusion, Refusal, RunRequest, StreamRequest};
+use kpn_command_explain::{explain_command, explain_items_command, explain_trace_command};
 use kpn_command_line::Request;
-use kpn_conclusion::Conclusion;
-use kpn_description_commands::{check_command, print_command, rounds_command};
-use kpn_draw_command::draw_command;
-use kpn_explain_command::{explain_command, explain_items_command};
-use kpn_explain_trace::explain_trace_command;
+use kpn_command_views::{draw_command, picture_command, stats_command};
+use kpn_commands::{
+    alone_command, audit_command, check_command, print_command, rounds_command, run_command,
+};
 use kpn_limits::USUAL_COUNT;
-use kpn_refusals::Refusal;
-use kpn_request::{RunRequest, StreamRequest};
-use kpn_run_command::run_command;
 use kpn_shelf::Shelf;
-use kpn_stats_command::stats_command;
-use kpn_timeline_command::picture_command;
 use std::alloc::Global;
 use std::io::Read;
 

@@ -8,5 +8,5 @@ mod program;
 mod usage;
 
 pub use here::{Progress, answer_here};
-pub use kpn_shelf::{FileShelf, MemoryShelf, Ports, Shelf};
+pub use kpn_shelf::{FileShelf, Look, MemoryShelf, Ports, Shelf};
 pub use program::command;

@@ -1,18 +1,19 @@
 //! The whole program: what the words of a command line ask for is answered, and the answer is carried out.
 ghost use Rattle.std.specs.Prelude.{map};
 ghost use Rattle.std.specs.String.{string_bytes};
+ghost use Rattle.kpn_command_stream.specs.Command.{names_of};
 ghost use Rattle.kpn_cli.specs.Command.{Runs, TellsTimeline};
 
 use crate::concluding::conclude;
 use crate::here::{Progress, answer_here};
 use crate::usage::refuse;
 use kpn_command_line::read_words;
-use kpn_run_command::run_command_by_workers;
-use kpn_shelf::{Ports, Shelf};
-use kpn_stream_command::stream_command;
-use kpn_timeline_command::timeline_command;
+use kpn_command_stream::stream_command;
+use kpn_command_views::timeline_command;
+use kpn_commands::run_command_by_workers;
+use kpn_shelf::{Look, Ports, Shelf};
 use std::alloc::Global;
-use std::io::{Read, Write};
+use std::io::Write;
 use std::sync::Wait;
 use std::thread::Threads;
 use std::time::Clock;
@@ -22,7 +23,7 @@ use std::time::Clock;
 /// refused input, a device that fails or an illegal trace, 2 for words that are not understood, 3 for a run that has
 /// clogged, 4 for one that has jammed, 5 for one that has stopped or an audit without steps left, 6 for want of memory, 7
 /// for workers that came to no outcome, 8 for a stream of which a process has faulted. Only a run by workers may wait.
-pub fn command<R: Threads + Wait + Clock + Sync, S: Shelf + Ports, I: Read, O: Write, E: Write>(
+pub fn command<R: Threads + Wait + Clock + Sync, S: Shelf + Ports, I: Look, O: Write, E: Write>(
     rt: &R,
     alloc: Global,
     words: &[String],
@@ -31,8 +32,9 @@ pub fn command<R: Threads + Wait + Clock + Sync, S: Shelf + Ports, I: Read, O: W
     out: &mut O,
     err: &mut E,
 ) -> u8
-    ensures { Runs S.may_give S.may_alias I.remaining S.Input.remaining O.contents
-        S.Output.contents (map string_bytes words.now) shelf.old shelf.new input.old input.new out.old out.new err.old err.new result }
+    ensures { Runs S.may_give S.may_alias (names_of S.comes_from S.goes_to)
+        I.remaining S.Input.remaining O.contents S.Output.contents (map string_bytes words.now)
+        shelf.old shelf.new input.old input.new out.old out.new err.old err.new result }
 {
     match read_words(alloc, words) {
         Ok(request) => match answer_here(alloc, request, shelf, input) {

@@ -1,13 +1,12 @@
 //! What `clap` says of the words.
 ghost use Rattle.std.specs.Prelude.{◌≡◌, IfOk, IfErr};
 ghost use Rattle.std.specs.Bool.{⊤};
-ghost use Rattle.kpn_conclusion.specs.Conclusion.{Succeeds};
+ghost use Rattle.kpn_command_base.specs.Conclusion.{Succeeds};
 ghost use Rattle.kpn_cli.specs.Command.{fault_status};
 
 use clap::Error;
+use kpn_command_base::{Conclusion, Refusal};
 use kpn_command_line::WordsFault;
-use kpn_conclusion::Conclusion;
-use kpn_refusals::Refusal;
 use std::alloc::Global;
 use std::io;
 use std::io::Write;

@@ -1,5 +1,5 @@
 -- What the words of a command line ask for.
-use Rattle.std.specs.Prelude.{◌≡◌, ◌≢◌, ◌⊎◌, ◌&&◌, ◌^◌, ℕ, nat_lt, List, [], ◌∷◌}
+use Rattle.std.specs.Prelude.{◌≡◌, ◌≤◌, ◌≢◌, ◌⊎◌, ◌&&◌, ◌^◌, ℕ, nat_lt, List, [], ◌∷◌}
 use Rattle.std.specs.Prelude.{Option, Some, None, option_map, option_and_then, unwrap_or, map, codes, ⊤}
 use Rattle.std.specs.Prelude.{if◌then◌else◌, Result, MatchResult}
 use Rattle.std.specs.Prelude.{Bool, true, false}
@@ -15,12 +15,12 @@ use Rattle.clap.specs.Matches.{found_of}
 use Rattle.clap.specs.declared.parser.matches.ArgMatches.{ArgMatches}
 use Rattle.clap.specs.declared.error.kind.ErrorKind.{ErrorKind}
 use Rattle.clap.specs.declared.error.kind.ErrorKind.TheVariants.{DisplayHelp, DisplayVersion, OutOfMemory}
-use Rattle.kpn_request.specs.declared.direction.Direction.{Direction}
-use Rattle.kpn_request.specs.declared.direction.Direction.TheVariants.{LeftToRight, TopToBottom}
-use Rattle.kpn_request.specs.declared.tables.StatsTables.{StatsTables}
-use Rattle.kpn_request.specs.declared.tables.StatsTables.TheVariants.{People, Channels, Processes}
-use Rattle.kpn_request.specs.declared.stream.ItemFormat.{ItemFormat}
-use Rattle.kpn_request.specs.declared.stream.ItemFormat.TheVariants.{Lines, S16, S32, S64}
+use Rattle.kpn_command_base.specs.declared.direction.Direction.{Direction}
+use Rattle.kpn_command_base.specs.declared.direction.Direction.TheVariants.{LeftToRight, TopToBottom}
+use Rattle.kpn_command_base.specs.declared.tables.StatsTables.{StatsTables}
+use Rattle.kpn_command_base.specs.declared.tables.StatsTables.TheVariants.{People, Channels, Processes}
+use Rattle.kpn_command_base.specs.declared.stream_request.ItemFormat.{ItemFormat}
+use Rattle.kpn_command_base.specs.declared.stream_request.ItemFormat.TheVariants.{Lines, S16, S32, S64}
 use Rattle.kpn_command_line.specs.declared.request.Request.{Request}
 use Rattle.kpn_command_line.specs.declared.request.Request.TheVariants.{Alone, Check, Explain, ExplainItems}
 use Rattle.kpn_command_line.specs.declared.request.Request.TheVariants.{Print, Draw, Rounds, Run, Stream}
@@ -115,7 +115,7 @@ steps_for given = unwrap_or (number_for 64 (codes "STEPS") given) 10000000
 
 -- What the words give to its command is what the request has. A run has 10,000,000 commits without `--max-commits`, and
 -- statistics have the tables for people without `--tsv`. A picture begins with tick 1 without `--from`, and ends with
--- tick 1,000,000,000 without `--to`.
+-- tick 1,000,000,000 without `--to`; it does not begin behind its end.
 abbrev pub Gives : (given : List Row) → Request → Type 0
 Gives given (Alone name) = text_for (codes "NAME") given ≡ Some name.now
 Gives given (Check file) = text_for (codes "FILE") given ≡ Some file.now
@@ -159,7 +159,7 @@ Gives given (Picture file trace steps first last) =
     (text_for (codes "FILE") given ≡ Some file.now) × (text_for (codes "TRACE") given ≡ Some trace.now)
     × (steps_for given ≡ steps) × (is_set (codes "SVG") given ≡ true)
     × (unwrap_or (number_for 64 (codes "FROM") given) 1 ≡ first)
-    × (unwrap_or (number_for 64 (codes "TO") given) 1000000000 ≡ last)
+    × (unwrap_or (number_for 64 (codes "TO") given) 1000000000 ≡ last) × (first ≤ last)
 Gives given (Help text) = ⊥
 
 -- the request is what the words ask for

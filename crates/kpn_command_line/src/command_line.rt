@@ -446,7 +446,7 @@ a counter of its unread items. A trace that is not legal is answered as by `kpn 
 
 With --svg it writes one picture that any browser shows: the processes below one another, the ticks from
 left to right, a box for each get, put and wait, and a mark where a channel grows. --from and --to choose
-the ticks, so that the picture has at most 2000 ticks, and at most 2000 gets, puts and waits.
+the ticks, so that the picture has at most 2000 ticks, and at most 2000 gets, puts, waits and growths.
 
 Statuses: 0 for a timeline, 1 for an illegal trace, for a refused file and for a device that fails, 2
 for words that are not understood, 5 for a trace that would take more steps: then give --steps a larger

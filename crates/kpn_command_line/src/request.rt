@@ -1,7 +1,7 @@
 //! What a command line may ask for.
 
 use clap::Error;
-use kpn_request::{Direction, RunRequest, StatsTables, StreamRequest};
+use kpn_command_base::{Direction, RunRequest, StatsTables, StreamRequest};
 use std::alloc::AllocError;
 
 /// What a command line asks for.

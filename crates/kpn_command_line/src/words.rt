@@ -16,8 +16,8 @@ use crate::command_line::{
 use crate::request::{Request, WordsFault};
 use clap::error::ErrorKind;
 use clap::{ArgMatches, Command, Error};
+use kpn_command_base::{Direction, ItemFormat, RunRequest, StatsTables, StreamRequest};
 use kpn_limits::{MAX_COUNT, USUAL_COUNT};
-use kpn_request::{Direction, ItemFormat, RunRequest, StatsTables, StreamRequest};
 use std::alloc::{AllocError, Global};
 
 /// What the words ask for, or why the program can't do it.
@@ -235,7 +235,7 @@ fn stats_request<'a>(
     })
 }
 
-// What the words ask of `kpn timeline`. Only a picture has a first and a last tick.
+// What the words ask of `kpn timeline`. Only a picture has a first and a last tick, in this order.
 fn timeline_request<'a>(
     program: &mut Command<'a>,
     timeline: &ArgMatches<'a>,
@@ -248,12 +248,21 @@ fn timeline_request<'a>(
     let first = count_of(timeline, FROM);
     let last = count_of(timeline, TO);
     if is_set(timeline, SVG) {
+        let first = first.unwrap_or(1);
+        let last = last.unwrap_or(MAX_COUNT);
+        if last < first {
+            return Err(unclear(
+                program,
+                ErrorKind::ValueValidation,
+                "--from takes no tick behind --to",
+            ));
+        }
         return Ok(Request::Picture {
             file,
             trace,
             steps,
-            first: first.unwrap_or(1),
-            last: last.unwrap_or(MAX_COUNT),
+            first,
+            last,
         });
     }
     if first.is_none() && last.is_none() {

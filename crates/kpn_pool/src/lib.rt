@@ -1,14 +1,30 @@
-//! For users of the library: a run by workers side by side, whole or in parts. This crate passes on what lies in others:
-//! the desk and the seats in `kpn_desk`; the lock round the desk, the calls that wait for it, and whole runs in
-//! `kpn_workers`.
+//! A run of a network by several workers at once, which promises the report of a run on one thread; and its parts: the
+//! lock round a desk, what a worker does, and the calls of the outside, which wait for the lock. This crate also passes on
+//! the desk and the seats, of `kpn_pool_desk`.
 #![tactic(auto)]
 
-pub use kpn_desk::{
+mod beside;
+mod by_workers;
+mod ending;
+mod fault;
+mod fed;
+mod outside_calls;
+mod pace;
+mod serving;
+mod shared;
+mod threads;
+mod working;
+
+pub use beside::{Client, Feeder, Outside, Ran, Worked, run_beside};
+pub use by_workers::run;
+pub use fault::RunFault;
+pub use kpn_pool_desk::{
     Awaited, CommitsAll, Desk, EndSeats, Gate, Go, Job, SinkSeat, SnapFault, SourceSeat, Why,
     WorkerSeat, end_seats,
 };
-pub use kpn_workers::{
-    Client, Feeder, Look, Opened, Outside, Ran, RunFault, Shared, Worked, close, feed, feed_all,
-    feed_when_room, gather, leave, run, run_beside, snapshot, take, take_each, take_when_due,
-    take_when_there, work,
+pub use outside_calls::{
+    close, feed, feed_all, feed_when_room, leave, snapshot, take, take_each, take_when_due,
+    take_when_there,
 };
+pub use shared::{Look, Opened, Shared, gather};
+pub use working::work;

@@ -6,16 +6,16 @@ use Rattle.kpn_net.specs.declared.wait.Wait.{Wait}
 use Rattle.kpn_net.specs.declared.wait.Wait.TheVariants.{Nobody, Empty, Full}
 use Rattle.kpn_net.specs.Faults.{channel_numbers}
 use Rattle.kpn_net.proofs.Cycles.{Contains-first, Contains-later}
-use Rattle.kpn_history.specs.declared.state.State.{State}
-use Rattle.kpn_history.specs.declared.state.State.TheVariants.{Ready, Held, WaitsEmpty, WaitsFull, Ended}
-use Rattle.kpn_history.specs.declared.state.View.{View}
-use Rattle.kpn_history.specs.Talks.{has_ended}
-use Rattle.kpn_history.specs.Channels.{written_on, read_on, capacity_after, reader_lives}
-use Rattle.kpn_history.specs.Waiting.{wait_of}
-use Rattle.kpn_history.specs.Views.{IsStateOf, AreCounts, Agrees}
-use Rattle.kpn_configuration.specs.Configuration.{channel_in, wait_in, end_in}
-use Rattle.kpn_configuration.specs.Run.{IsEndOf}
-use Rattle.kpn_schedule.specs.Schedule.{state_at}
+use Rattle.kpn_run_history.specs.declared.state.State.{State}
+use Rattle.kpn_run_history.specs.declared.state.State.TheVariants.{Ready, Held, WaitsEmpty, WaitsFull, Ended}
+use Rattle.kpn_run_history.specs.declared.state.View.{View}
+use Rattle.kpn_run_history.specs.Talks.{has_ended}
+use Rattle.kpn_run_history.specs.Channels.{written_on, read_on, capacity_after, reader_lives}
+use Rattle.kpn_run_history.specs.Waiting.{wait_of}
+use Rattle.kpn_run_history.specs.Views.{IsStateOf, AreCounts, Agrees}
+use Rattle.kpn_run_configuration.specs.Configuration.{channel_in, wait_in, end_in}
+use Rattle.kpn_run_configuration.specs.Run.{IsEndOf}
+use Rattle.kpn_run_state.specs.Schedule.{state_at}
 use Rattle.kpn_run_state.specs.Book.{Book}
 use Rattle.kpn_run_state.specs.Kept.{IsInStep, IsStateBy}
 

@@ -4,9 +4,9 @@ use Rattle.std.specs.List.{Contains}
 use Rattle.std.proofs.lemmas.Bool.{cases_eq, cases_lt}
 use Rattle.std.proofs.lemmas.List.{length-set, get_or-set_same, get_or-set_other, get_or_past}
 use Rattle.kpn_net.proofs.Cycles.{Contains-first, Contains-later, Contains-cases, Contains-none}
-use Rattle.kpn_history.specs.declared.state.State.{State}
-use Rattle.kpn_history.specs.declared.state.State.TheVariants.{Ready}
-use Rattle.kpn_schedule.specs.Schedule.{Schedule, state_at, made_ready}
+use Rattle.kpn_run_history.specs.declared.state.State.{State}
+use Rattle.kpn_run_history.specs.declared.state.State.TheVariants.{Ready}
+use Rattle.kpn_run_state.specs.Schedule.{Schedule, state_at, made_ready}
 use Rattle.kpn_run_state.specs.Appending.{all_made_ready}
 
 pub states_length : (ps : List ℕ) (s : Schedule) → length (all_made_ready ps s).states ≡ length s.states

@@ -8,24 +8,24 @@ use Rattle.kpn_net.specs.Faults.{IsNetwork}
 use Rattle.kpn_step.specs.declared.stop.Stop.{Stop}
 use Rattle.kpn_step.specs.declared.stop.Stop.TheVariants as stop
 use Rattle.kpn_chan.specs.Channel.{is_full, next_item}
-use Rattle.kpn_history.specs.declared.event.Event.{Event}
-use Rattle.kpn_history.specs.declared.event.Event.TheVariants as event
-use Rattle.kpn_history.specs.declared.event.How.{How}
-use Rattle.kpn_history.specs.declared.state.State.TheVariants.{Ready}
-use Rattle.kpn_history.specs.Talks.{is_of_process, process_events}
-use Rattle.kpn_history.specs.Channels.{capacity_or_zero}
-use Rattle.kpn_history.specs.Legal.{OwesCycleGrowth, OwesGrowth, growth_after, Legal, waiter, waiter_of_last}
-use Rattle.kpn_history.specs.Stops.{OwesNothing, OwesNoCycleGrowth, OwesNoStopGrowth, goes_on}
-use Rattle.kpn_history.proofs.Events.{last_or-push}
-use Rattle.kpn_history.proofs.AfterEvent.{process_events-next}
-use Rattle.kpn_history.proofs.Growth.{Some-number, no_cycle_owed_after}
-use Rattle.kpn_history.proofs.OwedGrowth.{no_stop_owed_after}
-use Rattle.kpn_configuration.specs.Configuration.{channel_in, end_in, wait_in}
-use Rattle.kpn_configuration.specs.Due.{stop_of}
-use Rattle.kpn_configuration.specs.Owed.{IsOwed}
-use Rattle.kpn_configuration.specs.Run.{IsRun}
-use Rattle.kpn_configuration.proofs.Growing.{owed_by_history}
-use Rattle.kpn_schedule.specs.Schedule.{state_at, made_ready}
+use Rattle.kpn_run_history.specs.declared.event.Event.{Event}
+use Rattle.kpn_run_history.specs.declared.event.Event.TheVariants as event
+use Rattle.kpn_run_history.specs.declared.event.How.{How}
+use Rattle.kpn_run_history.specs.declared.state.State.TheVariants.{Ready}
+use Rattle.kpn_run_history.specs.Talks.{is_of_process, process_events}
+use Rattle.kpn_run_history.specs.Channels.{capacity_or_zero}
+use Rattle.kpn_run_history.specs.Legal.{OwesCycleGrowth, OwesGrowth, growth_after, Legal, waiter, waiter_of_last}
+use Rattle.kpn_run_history.specs.Stops.{OwesNothing, OwesNoCycleGrowth, OwesNoStopGrowth, goes_on}
+use Rattle.kpn_run_history.proofs.Events.{last_or-push}
+use Rattle.kpn_run_history.proofs.AfterEvent.{process_events-next}
+use Rattle.kpn_run_history.proofs.Growth.{Some-number, no_cycle_owed_after}
+use Rattle.kpn_run_history.proofs.OwedGrowth.{no_stop_owed_after}
+use Rattle.kpn_run_configuration.specs.Configuration.{channel_in, end_in, wait_in}
+use Rattle.kpn_run_configuration.specs.Due.{stop_of}
+use Rattle.kpn_run_configuration.specs.Owed.{IsOwed}
+use Rattle.kpn_run_configuration.specs.Run.{IsRun}
+use Rattle.kpn_run_configuration.proofs.Growing.{owed_by_history}
+use Rattle.kpn_run_state.specs.Schedule.{state_at, made_ready}
 use Rattle.kpn_run_state.specs.declared.answers.Done.{Done}
 use Rattle.kpn_run_state.specs.declared.answers.Done.TheVariants as done
 use Rattle.kpn_run_state.specs.Book.{Book, IsHeld, held_count, put_back, counted}
@@ -34,7 +34,7 @@ use Rattle.kpn_run_state.specs.Commits.{IsReadFrom, IsWriteTo, HasToWait, IsAnsw
 use Rattle.kpn_run_state.specs.Kept.{IsStateBy, IsInStep, IsKept}
 use Rattle.kpn_run_state.specs.Open.{Follows, IsSound, AnswersAt, Answered, EndsWithWait, grows_if_owed, GrowsIfOwed, GrowsAtStop, of_process}
 use Rattle.kpn_run_state.proofs.Following.{held_is_free}
-use Rattle.kpn_run_state.proofs.Counting.{held_less}
+use Rattle.kpn_run_state.proofs.CommitCounts.{held_less}
 use Rattle.kpn_run_state.proofs.Appended.{history_then, commits_stay, counts_all, counts_ready, base_history, base_commits}
 
 -- ---- soundness after an event

@@ -1,13 +1,13 @@
 -- Events that are appended one after the other: the network, the history and the number of commits after them.
 use Rattle.std.proofs.Common.{◌≡◌, ℕ, ◌+◌, List, [], ◌∷◌, ◌++◌, length, refl, sym, ap, ◌∙◌, arith, append-nil}
 use Rattle.std.proofs.lemmas.List.{append_assoc, length-set, get_or-set_same}
-use Rattle.kpn_history.specs.declared.event.Event.{Event}
+use Rattle.kpn_run_history.specs.declared.event.Event.{Event}
 use Rattle.kpn_run_state.specs.declared.answers.Done.{Done}
 use Rattle.kpn_run_state.specs.declared.answers.Done.TheVariants as done
 use Rattle.kpn_run_state.specs.Book.{Book, IsHeld, IsClaimed, standing_at, counted}
 use Rattle.kpn_step.specs.Stops.{Advanced}
-use Rattle.kpn_history.specs.declared.state.State.TheVariants.{Ready, Held}
-use Rattle.kpn_schedule.specs.Schedule.{state_at}
+use Rattle.kpn_run_history.specs.declared.state.State.TheVariants.{Ready, Held}
+use Rattle.kpn_run_state.specs.Schedule.{state_at}
 use Rattle.kpn_run_state.specs.Appending.{Appends, AppendsAll}
 use Rattle.kpn_run_state.specs.Commits.{ready_if_paused, Commits}
 

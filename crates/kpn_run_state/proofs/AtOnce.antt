@@ -5,8 +5,8 @@ use Rattle.std.proofs.lemmas.List.{set-get_or}
 use Rattle.kpn_net.specs.Tables.{program_of}
 use Rattle.kpn_step.specs.declared.stop.Stop.{Stop}
 use Rattle.kpn_step.specs.Stops.{StopsAtOnce, advanced_of}
-use Rattle.kpn_configuration.specs.Configuration.{Configuration, frame_in, no_frame, with_frame}
-use Rattle.kpn_schedule.specs.Schedule.{IsSchedule, HoldsFirst, first_held}
+use Rattle.kpn_run_configuration.specs.Configuration.{Configuration, frame_in, no_frame, with_frame}
+use Rattle.kpn_run_state.specs.Schedule.{IsSchedule, HoldsFirst, first_held}
 use Rattle.kpn_run_state.specs.Book.{Book, held_count, counted}
 use Rattle.kpn_run_state.specs.Kept.{IsKept, IsBook}
 use Rattle.kpn_run_state.specs.AtOnce.{CommitsAtOnce}

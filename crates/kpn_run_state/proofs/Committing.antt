@@ -8,30 +8,30 @@ use Rattle.kpn_step.specs.declared.stop.Stop.{Stop}
 use Rattle.kpn_step.specs.declared.stop.Stop.TheVariants as stop
 use Rattle.kpn_lang.specs.Parts.{Parts}
 use Rattle.kpn_step.specs.Stops.{Advanced, IsAdvance, IsAtPort, IsWithinQuota, advanced_of}
-use Rattle.kpn_history.specs.declared.event.Event.{Event}
-use Rattle.kpn_history.specs.declared.state.State.TheVariants.{Ready, Held}
-use Rattle.kpn_history.specs.Talks.{is_of_process, process_events}
+use Rattle.kpn_run_history.specs.declared.event.Event.{Event}
+use Rattle.kpn_run_history.specs.declared.state.State.TheVariants.{Ready, Held}
+use Rattle.kpn_run_history.specs.Talks.{is_of_process, process_events}
 use Rattle.kpn_net.specs.Faults.{IsNetwork}
-use Rattle.kpn_history.specs.Legal.{waiter}
-use Rattle.kpn_history.specs.Stops.{goes_on}
-use Rattle.kpn_history.proofs.AfterEvent.{process_events-next}
-use Rattle.kpn_history.specs.Views.{is_held}
+use Rattle.kpn_run_history.specs.Legal.{waiter}
+use Rattle.kpn_run_history.specs.Stops.{goes_on}
+use Rattle.kpn_run_history.proofs.AfterEvent.{process_events-next}
+use Rattle.kpn_run_history.specs.Views.{is_held}
 use Rattle.kpn_chan.specs.Channel.{with_room}
-use Rattle.kpn_configuration.specs.Configuration.{Configuration, channel_in, end_in, wait_in, frame_in, with_channel}
-use Rattle.kpn_configuration.proofs.Moving.{IsRun-moved}
-use Rattle.kpn_configuration.proofs.Reserving.{IsRun-reserved}
-use Rattle.kpn_schedule.specs.Schedule.{Schedule, state_at, HoldsFirst}
+use Rattle.kpn_run_configuration.specs.Configuration.{Configuration, channel_in, end_in, wait_in, frame_in, with_channel}
+use Rattle.kpn_run_configuration.proofs.Moving.{IsRun-moved}
+use Rattle.kpn_run_configuration.proofs.Reserving.{IsRun-reserved}
+use Rattle.kpn_run_state.specs.Schedule.{Schedule, state_at, HoldsFirst}
 use Rattle.kpn_run_state.specs.declared.answers.Done.{Done}
 use Rattle.kpn_run_state.specs.Book.{Book, IsHeld, held_count, standing_at, put_back, IsClaimed}
 use Rattle.kpn_run_state.specs.Commits.{IsWriteTo, HandlesStop, IsOwnAdvance, Commits}
 use Rattle.kpn_run_state.specs.Kept.{IsStateBy, IsKept}
 use Rattle.kpn_run_state.specs.Open.{Follows, GrowsAtStop, of_process, claims_by, reserves_by, IsReserved, is_but_reserved, reserved_on}
-use Rattle.kpn_configuration.specs.Due.{Stands, ReadsFrom, WritesTo}
-use Rattle.kpn_run_state.proofs.Counting.{held_in, held_more}
+use Rattle.kpn_run_configuration.specs.Due.{Stands, ReadsFrom, WritesTo}
+use Rattle.kpn_run_state.proofs.CommitCounts.{held_in, held_more}
 use Rattle.kpn_run_state.specs.Stepping.{ClaimsAndSteps, StepsNext, StepsInVain}
 use Rattle.kpn_run_state.proofs.Appended.{claimed_is_held}
 use Rattle.kpn_run_state.proofs.Reserved.{handles_unreserved, is_reserved_here}
-use Rattle.kpn_configuration.specs.Changes.{IsChannelAt}
+use Rattle.kpn_run_configuration.specs.Changes.{IsChannelAt}
 use Rattle.kpn_run_state.proofs.Following.{held_is_there, recorded}
 use Rattle.kpn_run_state.proofs.Answering.{put_back_in_step, put_back_released, sound_after, events_at_stop, commits_at_stop, IsAtStop}
 

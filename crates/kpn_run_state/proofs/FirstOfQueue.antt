@@ -1,31 +1,32 @@
 -- The first process of the queue makes steps and is committed. It is held in between, though no state says so.
-use Rattle.std.proofs.Common.{◌≡◌, ℕ, ◌+◌, ◌<◌, ◌≤◌, ◌^◌, ℤ, Bool, true, false, cond, is_some, List, [], ◌∷◌, ◌++◌, drop, slice_get, slice_index, Option, Some, None, refl, sym, ap, ◌∙◌, subst, arith, inl, inr}
+use Rattle.std.proofs.Common.{◌≡◌, ◌≢◌, ℕ, ◌+◌, ◌<◌, ◌≤◌, ◌^◌, ℤ, Bool, true, false, cond, is_some, List, [], ◌∷◌, ◌++◌, drop, slice_get, slice_index, Option, Some, None, Result, Ok, Err, refl, sym, ap, ◌∙◌, subst, arith, inl, inr}
 use Rattle.std.specs.List.{last_or}
+use Rattle.std.specs.Prelude.{OnErr}
 use Rattle.std.proofs.lemmas.Bool.{cases_eq, false≢true}
 use Rattle.kpn_net.specs.Tables.{Tables, instance_at, channel_at, is_sink}
 use Rattle.kpn_net.specs.Faults.{IsNetwork}
 use Rattle.kpn_step.specs.declared.stop.Stop.{Stop}
 use Rattle.kpn_step.specs.declared.stop.Stop.TheVariants as stop
 use Rattle.kpn_step.specs.Stops.{Advanced, IsAdvance, IsWithinQuota}
-use Rattle.kpn_history.specs.declared.event.Event.{Event}
-use Rattle.kpn_history.specs.declared.event.Event.TheVariants as event
-use Rattle.kpn_history.specs.Views.{is_held}
-use Rattle.kpn_history.proofs.Events.{last_or-push}
-use Rattle.kpn_configuration.specs.Configuration.{Configuration, with_frame}
-use Rattle.kpn_schedule.specs.Schedule.{Schedule, IsSchedule, HoldsFirst, first_held}
-use Rattle.kpn_schedule.proofs.Waiting.{first_taken}
-use Rattle.kpn_schedule.proofs.Queueing.{HoldsFirst-popped}
+use Rattle.kpn_run_history.specs.declared.event.Event.{Event}
+use Rattle.kpn_run_history.specs.declared.event.Event.TheVariants as event
+use Rattle.kpn_run_history.specs.Views.{is_held}
+use Rattle.kpn_run_history.proofs.Events.{last_or-push}
+use Rattle.kpn_run_configuration.specs.Configuration.{Configuration, with_frame}
+use Rattle.kpn_run_state.specs.Schedule.{Schedule, IsSchedule, HoldsFirst, first_held}
+use Rattle.kpn_run_state.proofs.Waiting.{first_taken}
+use Rattle.kpn_run_state.proofs.Queueing.{HoldsFirst-popped}
 use Rattle.kpn_run_state.specs.declared.answers.Done.{Done}
 use Rattle.kpn_run_state.specs.declared.answers.Done.TheVariants as done
 use Rattle.kpn_run_state.specs.Book.{Book, IsHeld, held_count, IsClaimed, standing_at, counted}
 use Rattle.kpn_run_state.specs.Commits.{IsWriteTo, IsAnswer, IsOwnAdvance, ready_if_paused, HandlesStop}
 use Rattle.kpn_run_state.specs.Kept.{IsKept, IsBook}
 use Rattle.kpn_run_state.specs.Stepping.{StepsNext}
-use Rattle.kpn_run_state.specs.InARow.{PutsOnNoSink, puts_on, StepsInRow, no_step, one_step_more, RunsOn}
+use Rattle.kpn_run_state.specs.InARow.{PutsOnNoSink, puts_on, StepsInRow, no_step, one_step_more, RunsOn, RunsInVain, StepsUncommitted}
 use Rattle.kpn_run_state.specs.declared.open_book.Hold.{Hold}
 use Rattle.kpn_run_state.specs.declared.open_book.Hold.TheVariants as hold
 use Rattle.kpn_run_state.specs.Open.{first_claimed, IsHeldBy, held_by, IsSound, if_sink, sink_of, sink_by, is_but_reserved, AnsweredFirst, HandlesFirst, IsTurn}
-use Rattle.kpn_run_state.proofs.Counting.{held_more}
+use Rattle.kpn_run_state.proofs.CommitCounts.{held_more}
 use Rattle.kpn_run_state.proofs.Appended.{claimed_is_held, tables_stay, history_then, commits_stay, base_tables, base_history, base_commits}
 use Rattle.kpn_run_state.proofs.Following.{recorded}
 use Rattle.kpn_run_state.proofs.Answering.{asked_otherwise, handles_counted, kept_counted, fits_after}
@@ -178,6 +179,20 @@ module _ (quota p : ℕ) (b : Book) (kept : IsKept b) (holds : HoldsFirst p b.sc
       let long = kept.in_step.processes in
       subst IsKept (sym (ap (λ z. recorded b b.history z b.schedule) after))
       (kept_moved b kept p (omega (arith, there, long)) x advance (record { program = own.program; from = own.from }))
+
+  -- and stays the first
+  pub turn_in_vain : x.stop ≢ stop.Paused → slice_get b.schedule.queue 0 ≡ Some p
+      → StepsUncommitted quota b (recorded b b.history s b.schedule)
+  turn_in_vain wants first = record {
+    process = p;
+    first = first;
+    advance = x;
+    own = record { program = own.program; from = own.from };
+    advances = advance;
+    within = within;
+    wants = wants;
+    there = ap (λ z. recorded b b.history z b.schedule) after;
+  }
 
   module _ (sink : Option ℕ) (a : Book) (h : HandlesFirst p x.stop sink stepped a) where
     kept_then : IsKept h.reserved
@@ -342,3 +357,51 @@ pub runs_till_idle : (quota most n : ℕ) (first now with_memory : Book) → wit
 runs_till_idle quota most n first now with_memory same so_far within nobody =
     subst (RunsOn quota most None first) (sym same)
     (runs_so_far quota most n first now so_far within (λ below. nobody_first now.schedule.queue nobody))
+
+-- what holds in any case
+pub refused_with : {T E P : Type 0} (r : Result T E) → P → OnErr r P
+refused_with (Ok x) holds = tt
+refused_with (Err e) holds = holds
+
+-- memory has run out before a turn, or in it
+pub refused_before : (quota most n : ℕ) (first now after : Book) → after ≡ now → IsSoFar quota n first now → n < most
+    → RunsInVain quota most first after
+refused_before quota most n first now after same so_far fewer = record {
+  steps = n;
+  last = now;
+  row = so_far.row;
+  fewer = fewer;
+  commits = ap (λ b. b.commits) same ∙ so_far.commits;
+  ends = inl same;
+}
+
+pub refused_in_turn : (quota most n : ℕ) (first now after : Book) → StepsUncommitted quota now after
+    → IsSoFar quota n first now → n < most → RunsInVain quota most first after
+refused_in_turn quota most n first now after uncommitted so_far fewer = record {
+  steps = n;
+  last = now;
+  row = so_far.row;
+  fewer = fewer;
+  commits = ap (λ b. b.commits) uncommitted.there ∙ so_far.commits;
+  ends = inr uncommitted;
+}
+
+-- ---- what a refused row leaves as it is behind its last step
+
+module _ (quota most : ℕ) (before after : Book) (vain : RunsInVain quota most before after) where
+  pub refused_tables : after.tables ≡ vain.last.tables
+  refused_tables =
+      elim vain.ends [
+        | inl same ↦ ap (λ b. b.tables) same
+        | inr uncommitted ↦ ap (λ b. b.tables) uncommitted.there
+      ]
+
+  pub refused_history : after.history ≡ vain.last.history
+  refused_history =
+      elim vain.ends [
+        | inl same ↦ ap (λ b. b.history) same
+        | inr uncommitted ↦ ap (λ b. b.history) uncommitted.there
+      ]
+
+  pub refused_commits : after.commits ≤ before.commits + most
+  refused_commits = let is = vain.commits in let fewer = vain.fewer in omega (arith, is, fewer)

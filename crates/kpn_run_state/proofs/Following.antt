@@ -2,23 +2,23 @@
 use Rattle.std.proofs.Common.{◌≡◌, ℕ, ◌+◌, ◌<◌, true, false, eqb, List, [], ◌∷◌, ◌++◌, length, refl, sym, ap, ◌∙◌, subst, arith}
 use Rattle.std.proofs.lemmas.Bool.{eqb-true, false≢true}
 use Rattle.kpn_net.specs.Faults.{IsNetwork}
-use Rattle.kpn_history.specs.declared.event.Event.{Event}
-use Rattle.kpn_history.specs.Talks.{is_of}
-use Rattle.kpn_history.specs.Legal.{Legal}
-use Rattle.kpn_history.specs.declared.state.State.TheVariants.{Held}
-use Rattle.kpn_configuration.specs.Configuration.{Configuration, end_in, wait_in, IsConfiguration, IsFree}
-use Rattle.kpn_configuration.specs.Changes.{Changes}
-use Rattle.kpn_configuration.proofs.Running.{IsRun-next}
+use Rattle.kpn_run_history.specs.declared.event.Event.{Event}
+use Rattle.kpn_run_history.specs.Talks.{is_of}
+use Rattle.kpn_run_history.specs.Legal.{Legal}
+use Rattle.kpn_run_history.specs.declared.state.State.TheVariants.{Held}
+use Rattle.kpn_run_configuration.specs.Configuration.{Configuration, end_in, wait_in, IsConfiguration, IsFree}
+use Rattle.kpn_run_configuration.specs.Changes.{Changes}
+use Rattle.kpn_run_configuration.proofs.Running.{IsRun-next}
 use Rattle.kpn_net.specs.Tables.{Tables}
 use Rattle.kpn_net.proofs.Networks.{sizes}
-use Rattle.kpn_schedule.specs.Schedule.{Schedule, state_at}
+use Rattle.kpn_run_state.specs.Schedule.{Schedule, state_at}
 use Rattle.kpn_run_state.specs.Book.{Book, IsHeld}
 use Rattle.kpn_run_state.specs.Appending.{own_part, woken_by, all_made_ready, schedule_after}
 use Rattle.kpn_run_state.specs.Kept.{IsStateBy, IsInStep}
 use Rattle.kpn_run_state.specs.Open.{MayBeReady, Follows, of_process}
 use Rattle.kpn_run_state.proofs.Woken.{EndsThere, woken_distinct}
 use Rattle.kpn_run_state.proofs.InStep.{woken_may_be_ready, woken_not_held, agree_after, length_after}
-use Rattle.kpn_run_state.proofs.Counting.{held_as_before, held_own}
+use Rattle.kpn_run_state.proofs.CommitCounts.{held_as_before, held_own}
 
 -- the book after the event has made this configuration
 abbrev pub next_book : Event → Configuration → Book → Book

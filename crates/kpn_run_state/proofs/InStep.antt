@@ -7,20 +7,20 @@ use Rattle.kpn_net.specs.declared.wait.Wait.{Wait}
 use Rattle.kpn_net.specs.declared.wait.Wait.TheVariants.{Nobody, Empty, Full}
 use Rattle.kpn_net.specs.Tables.{Tables}
 use Rattle.kpn_net.specs.Faults.{IsNetwork}
-use Rattle.kpn_history.specs.declared.event.How.{How}
-use Rattle.kpn_history.specs.declared.event.Event.{Event}
-use Rattle.kpn_history.specs.declared.event.Event.TheVariants as event
-use Rattle.kpn_history.specs.declared.state.State.{State}
-use Rattle.kpn_history.specs.declared.state.State.TheVariants.{Ready, Held, WaitsEmpty, WaitsFull, Ended}
-use Rattle.kpn_history.specs.Talks.{is_of}
-use Rattle.kpn_history.specs.Views.{is_ready, is_held}
-use Rattle.kpn_history.specs.WaitsAfter.{wait_made}
-use Rattle.kpn_history.specs.Waking.{wakes}
-use Rattle.kpn_configuration.specs.Configuration.{Configuration, wait_in, end_in}
-use Rattle.kpn_configuration.specs.Run.{IsRun}
-use Rattle.kpn_configuration.specs.Changes.{Changes, end_then}
-use Rattle.kpn_configuration.proofs.Moments.{ended_waits_for_nobody}
-use Rattle.kpn_schedule.specs.Schedule.{Schedule, state_at}
+use Rattle.kpn_run_history.specs.declared.event.How.{How}
+use Rattle.kpn_run_history.specs.declared.event.Event.{Event}
+use Rattle.kpn_run_history.specs.declared.event.Event.TheVariants as event
+use Rattle.kpn_run_history.specs.declared.state.State.{State}
+use Rattle.kpn_run_history.specs.declared.state.State.TheVariants.{Ready, Held, WaitsEmpty, WaitsFull, Ended}
+use Rattle.kpn_run_history.specs.Talks.{is_of}
+use Rattle.kpn_run_history.specs.Views.{is_ready, is_held}
+use Rattle.kpn_run_history.specs.WaitsAfter.{wait_made}
+use Rattle.kpn_run_history.specs.Waking.{wakes}
+use Rattle.kpn_run_configuration.specs.Configuration.{Configuration, wait_in, end_in}
+use Rattle.kpn_run_configuration.specs.Run.{IsRun}
+use Rattle.kpn_run_configuration.specs.Changes.{Changes, end_then}
+use Rattle.kpn_run_configuration.proofs.Moments.{ended_waits_for_nobody}
+use Rattle.kpn_run_state.specs.Schedule.{Schedule, state_at}
 use Rattle.kpn_run_state.specs.Appending.{own_part, woken_by, schedule_after}
 use Rattle.kpn_run_state.specs.Kept.{IsStateBy}
 use Rattle.kpn_run_state.proofs.AllReady.{states_length, are_ready, are_as_before}

@@ -1,6 +1,9 @@
+pub mod Tallies
+pub mod Queueing
+pub mod Waiting
 pub mod AllReady
 pub mod Appended
-pub mod Counting
+pub mod CommitCounts
 pub mod InStep
 pub mod Woken
 pub mod Following

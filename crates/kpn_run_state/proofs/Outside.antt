@@ -4,12 +4,12 @@ use Rattle.std.proofs.lemmas.Bool.{false≢true}
 use Rattle.kpn_net.specs.Tables.{channel_at, is_source, is_sink}
 use Rattle.kpn_net.specs.Faults.{IsNetwork}
 use Rattle.kpn_chan.specs.Channel.{ChannelState, unread, next_item, with_room}
-use Rattle.kpn_history.specs.declared.event.Event.{Event}
-use Rattle.kpn_history.specs.declared.event.Event.TheVariants as event
-use Rattle.kpn_configuration.specs.Configuration.{Configuration, channel_in, closed_in, with_channel, IsConfiguration}
-use Rattle.kpn_configuration.specs.Changes.{Changes}
-use Rattle.kpn_configuration.proofs.Due.{Legal-due}
-use Rattle.kpn_schedule.specs.Schedule.{Schedule}
+use Rattle.kpn_run_history.specs.declared.event.Event.{Event}
+use Rattle.kpn_run_history.specs.declared.event.Event.TheVariants as event
+use Rattle.kpn_run_configuration.specs.Configuration.{Configuration, channel_in, closed_in, with_channel, IsConfiguration}
+use Rattle.kpn_run_configuration.specs.Changes.{Changes}
+use Rattle.kpn_run_configuration.proofs.Due.{Legal-due}
+use Rattle.kpn_run_state.specs.Schedule.{Schedule}
 use Rattle.kpn_run_state.specs.Book.{Book}
 use Rattle.kpn_run_state.specs.Appending.{Appends, Happens, all_made_ready, woken_by}
 use Rattle.kpn_run_state.specs.Refusals.{IsAtBound, Feeds, Closes, closes_by, Takes, Leaves, leaves_by}

@@ -6,11 +6,11 @@ use Rattle.kpn_net.specs.Tables.{Tables}
 use Rattle.kpn_step.specs.declared.stop.Stop.{Stop}
 use Rattle.kpn_step.specs.declared.stop.Stop.TheVariants as stop
 use Rattle.kpn_chan.specs.Channel.{ChannelState, with_room, is_full, next_item, unread}
-use Rattle.kpn_history.specs.declared.event.Event.{Event}
-use Rattle.kpn_history.specs.Channels.{written_in, read_in}
-use Rattle.kpn_history.specs.AfterEvent.{capacity_then, takes_reader}
-use Rattle.kpn_configuration.specs.Configuration.{channel_in}
-use Rattle.kpn_configuration.specs.Changes.{IsChannelAfter}
+use Rattle.kpn_run_history.specs.declared.event.Event.{Event}
+use Rattle.kpn_run_history.specs.Channels.{written_in, read_in}
+use Rattle.kpn_run_history.specs.AfterEvent.{capacity_then, takes_reader}
+use Rattle.kpn_run_configuration.specs.Configuration.{channel_in}
+use Rattle.kpn_run_configuration.specs.Changes.{IsChannelAfter}
 use Rattle.kpn_run_state.specs.declared.answers.Done.{Done}
 use Rattle.kpn_run_state.specs.declared.answers.Done.TheVariants as done
 use Rattle.kpn_run_state.specs.Book.{Book, counted}

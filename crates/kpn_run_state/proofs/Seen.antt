@@ -8,13 +8,13 @@ use Rattle.kpn_net.specs.declared.wait.Wait.TheVariants.{Nobody, Empty, Full}
 use Rattle.kpn_net.specs.Faults.{IsNetwork}
 use Rattle.kpn_net.specs.Waits.{full_channel, full_channels}
 use Rattle.kpn_net.proofs.Cycles.{full_at}
-use Rattle.kpn_history.specs.declared.state.Counts.{Counts}
-use Rattle.kpn_history.specs.Ends.{IsSettled}
-use Rattle.kpn_history.specs.Views.{AreCounts}
-use Rattle.kpn_history.specs.Waiting.{waits_of}
-use Rattle.kpn_history.proofs.States.{stopped_state}
-use Rattle.kpn_configuration.specs.Configuration.{is_full_wait}
-use Rattle.kpn_schedule.specs.Schedule.{HaveStopped, state_at}
+use Rattle.kpn_run_history.specs.declared.state.Counts.{Counts}
+use Rattle.kpn_run_history.specs.Ends.{IsSettled}
+use Rattle.kpn_run_history.specs.Views.{AreCounts}
+use Rattle.kpn_run_history.specs.Waiting.{waits_of}
+use Rattle.kpn_run_history.proofs.States.{stopped_state}
+use Rattle.kpn_run_configuration.specs.Configuration.{is_full_wait}
+use Rattle.kpn_run_state.specs.Schedule.{HaveStopped, state_at}
 use Rattle.kpn_run_state.specs.Book.{Book}
 use Rattle.kpn_run_state.specs.Kept.{IsInStep}
 use Rattle.kpn_run_state.specs.declared.answers.Done.TheVariants as done

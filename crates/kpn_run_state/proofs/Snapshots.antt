@@ -9,19 +9,19 @@ use Rattle.kpn_net.specs.Faults.{IsNetwork}
 use Rattle.kpn_net.specs.Iteration.{IsBelowLeast, IsLeast, AgreeOnSources}
 use Rattle.kpn_net.proofs.Monotone.{IsPrefixOnSources-agree}
 use Rattle.kpn_net.proofs.Networks.{source_there}
-use Rattle.kpn_history.specs.declared.event.Event.{Event}
-use Rattle.kpn_history.specs.declared.state.State.{State}
-use Rattle.kpn_history.specs.declared.state.State.TheVariants.{Ready, Held, WaitsEmpty, WaitsFull, Ended}
-use Rattle.kpn_history.specs.declared.state.View.{View}
-use Rattle.kpn_history.specs.Channels.{written_on, fed}
-use Rattle.kpn_history.specs.Legal.{Legal}
-use Rattle.kpn_history.specs.Talks.{has_ended}
-use Rattle.kpn_history.specs.Ends.{IsQuiet, WaitsOnEmpty}
-use Rattle.kpn_history.specs.Views.{Agrees, IsStateOf}
-use Rattle.kpn_history.proofs.Below.{fed-source}
-use Rattle.kpn_history.proofs.EndsOnce.{ended_by}
-use Rattle.kpn_history.proofs.Kahn.{below_least, least_if_quiet_given}
-use Rattle.kpn_configuration.specs.Configuration.{channel_in}
+use Rattle.kpn_run_history.specs.declared.event.Event.{Event}
+use Rattle.kpn_run_history.specs.declared.state.State.{State}
+use Rattle.kpn_run_history.specs.declared.state.State.TheVariants.{Ready, Held, WaitsEmpty, WaitsFull, Ended}
+use Rattle.kpn_run_history.specs.declared.state.View.{View}
+use Rattle.kpn_run_history.specs.Channels.{written_on, fed}
+use Rattle.kpn_run_history.specs.Legal.{Legal}
+use Rattle.kpn_run_history.specs.Talks.{has_ended}
+use Rattle.kpn_run_history.specs.Ends.{IsQuiet, WaitsOnEmpty}
+use Rattle.kpn_run_history.specs.Views.{Agrees, IsStateOf}
+use Rattle.kpn_run_history.proofs.Below.{fed-source}
+use Rattle.kpn_run_history.proofs.EndsOnce.{ended_by}
+use Rattle.kpn_run_history.proofs.Kahn.{below_least, least_if_quiet_given}
+use Rattle.kpn_run_configuration.specs.Configuration.{channel_in}
 use Rattle.kpn_run_state.specs.Book.{Book}
 use Rattle.kpn_run_state.specs.Kept.{IsBook}
 use Rattle.kpn_run_state.specs.Snapshot.{ShowsARun, ShowsJournals, shown_on, shown_fed, IsBelowKahn, IsAtRest, IsKahnAtRest}

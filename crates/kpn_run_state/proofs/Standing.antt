@@ -6,23 +6,23 @@ use Rattle.kpn_net.specs.declared.wait.Wait.{Wait}
 use Rattle.kpn_net.specs.declared.wait.Wait.TheVariants.{Nobody}
 use Rattle.kpn_net.specs.Tables.{larger_capacity}
 use Rattle.kpn_net.specs.Faults.{IsNetwork}
-use Rattle.kpn_history.specs.declared.event.How.{How}
-use Rattle.kpn_history.specs.declared.event.Event.{Event}
-use Rattle.kpn_history.specs.declared.event.Event.TheVariants as event
-use Rattle.kpn_history.specs.declared.state.Counts.{Counts}
-use Rattle.kpn_history.specs.declared.state.State.{State}
-use Rattle.kpn_history.specs.declared.state.State.TheVariants.{Ready, Held, WaitsEmpty, WaitsFull, Ended}
-use Rattle.kpn_history.specs.Channels.{capacity_or_zero}
-use Rattle.kpn_history.specs.Legal.{Legal, MayFollow, OwesGrowth}
-use Rattle.kpn_history.specs.Waiting.{wait_of, waits_of}
-use Rattle.kpn_history.specs.Views.{IsStateOf, AreCounts, waits_empty, waits_full}
-use Rattle.kpn_history.proofs.Legality.{Legal-prefix}
-use Rattle.kpn_history.proofs.OneMore.{Legal-exactly}
-use Rattle.kpn_configuration.specs.Configuration.{end_in, wait_in, is_empty_wait, is_full_wait}
-use Rattle.kpn_configuration.specs.Run.{IsEndOf}
-use Rattle.kpn_configuration.proofs.Growing.{same_waits}
-use Rattle.kpn_configuration.proofs.Moments.{ended_waits_for_nobody}
-use Rattle.kpn_schedule.specs.Schedule.{state_at}
+use Rattle.kpn_run_history.specs.declared.event.How.{How}
+use Rattle.kpn_run_history.specs.declared.event.Event.{Event}
+use Rattle.kpn_run_history.specs.declared.event.Event.TheVariants as event
+use Rattle.kpn_run_history.specs.declared.state.Counts.{Counts}
+use Rattle.kpn_run_history.specs.declared.state.State.{State}
+use Rattle.kpn_run_history.specs.declared.state.State.TheVariants.{Ready, Held, WaitsEmpty, WaitsFull, Ended}
+use Rattle.kpn_run_history.specs.Channels.{capacity_or_zero}
+use Rattle.kpn_run_history.specs.Legal.{Legal, MayFollow, OwesGrowth}
+use Rattle.kpn_run_history.specs.Waiting.{wait_of, waits_of}
+use Rattle.kpn_run_history.specs.Views.{IsStateOf, AreCounts, waits_empty, waits_full}
+use Rattle.kpn_run_history.proofs.Legality.{Legal-prefix}
+use Rattle.kpn_run_history.proofs.OneMore.{Legal-exactly}
+use Rattle.kpn_run_configuration.specs.Configuration.{end_in, wait_in, is_empty_wait, is_full_wait}
+use Rattle.kpn_run_configuration.specs.Run.{IsEndOf}
+use Rattle.kpn_run_configuration.proofs.Growing.{same_waits}
+use Rattle.kpn_run_configuration.proofs.Moments.{ended_waits_for_nobody}
+use Rattle.kpn_run_state.specs.Schedule.{state_at}
 use Rattle.kpn_run_state.specs.Book.{Book}
 use Rattle.kpn_run_state.specs.Kept.{IsStateBy, IsInStep, IsBook}
 

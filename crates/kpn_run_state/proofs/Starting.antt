@@ -2,17 +2,17 @@
 use Rattle.std.proofs.Common.{◌≡◌, ℕ, [], length, count_by, Option, Some, None, refl, sym, ap, ◌∙◌, subst, arith}
 use Rattle.std.proofs.lemmas.List.{length-replicate, get_or-replicate}
 use Rattle.kpn_net.proofs.Cycles.{Contains-none}
-use Rattle.kpn_history.specs.declared.event.Event.TheVariants as event
-use Rattle.kpn_history.specs.declared.event.How.{How}
-use Rattle.kpn_history.specs.declared.state.State.TheVariants.{Ready}
-use Rattle.kpn_history.specs.Views.{is_held}
-use Rattle.kpn_history.specs.Talks.{process_events}
-use Rattle.kpn_history.specs.Stops.{OwesNothing}
-use Rattle.kpn_history.proofs.Growth.{none_owed_at_first}
-use Rattle.kpn_configuration.specs.Configuration.{end_in, wait_in}
-use Rattle.kpn_configuration.specs.Run.{IsEndOf, IsRun}
-use Rattle.kpn_schedule.specs.Schedule.{all_ready, state_at}
-use Rattle.kpn_schedule.proofs.Tallies.{AreCounts-ready}
+use Rattle.kpn_run_history.specs.declared.event.Event.TheVariants as event
+use Rattle.kpn_run_history.specs.declared.event.How.{How}
+use Rattle.kpn_run_history.specs.declared.state.State.TheVariants.{Ready}
+use Rattle.kpn_run_history.specs.Views.{is_held}
+use Rattle.kpn_run_history.specs.Talks.{process_events}
+use Rattle.kpn_run_history.specs.Stops.{OwesNothing}
+use Rattle.kpn_run_history.proofs.Growth.{none_owed_at_first}
+use Rattle.kpn_run_configuration.specs.Configuration.{end_in, wait_in}
+use Rattle.kpn_run_configuration.specs.Run.{IsEndOf, IsRun}
+use Rattle.kpn_run_state.specs.Schedule.{all_ready, state_at}
+use Rattle.kpn_run_state.proofs.Tallies.{AreCounts-ready}
 use Rattle.kpn_run_state.specs.Book.{Book}
 use Rattle.kpn_run_state.specs.Kept.{IsStateBy, IsKept}
 

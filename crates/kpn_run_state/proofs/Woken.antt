@@ -10,12 +10,12 @@ use Rattle.kpn_net.specs.declared.wait.Wait.TheVariants.{Empty, Full}
 use Rattle.kpn_net.specs.declared.tables.End.TheVariants.{Process}
 use Rattle.kpn_net.specs.Waits.{IsOwnWait}
 use Rattle.kpn_net.proofs.Cycles.{Contains-first, Contains-cases, Contains-none}
-use Rattle.kpn_history.specs.declared.event.Event.{Event}
-use Rattle.kpn_history.specs.declared.event.Event.TheVariants.{Get, Put, Ended, Feed, Take, Leave, Grow}
-use Rattle.kpn_history.specs.Waking.{wakes, IsWoken}
-use Rattle.kpn_history.proofs.Waking.{woken}
-use Rattle.kpn_configuration.specs.Woken.{waiting_writer, waiting_reader}
-use Rattle.kpn_configuration.proofs.Waking.{who_writes, who_reads, woken_at_end, woken_once}
+use Rattle.kpn_run_history.specs.declared.event.Event.{Event}
+use Rattle.kpn_run_history.specs.declared.event.Event.TheVariants.{Get, Put, Ended, Feed, Take, Leave, Grow}
+use Rattle.kpn_run_history.specs.Waking.{wakes, IsWoken}
+use Rattle.kpn_run_history.proofs.Waking.{woken}
+use Rattle.kpn_run_configuration.specs.Woken.{waiting_writer, waiting_reader}
+use Rattle.kpn_run_configuration.proofs.Waking.{who_writes, who_reads, woken_at_end, woken_once}
 use Rattle.kpn_run_state.specs.Appending.{woken_by}
 
 pub only_one : (o : Option ℕ) (q : ℕ) → Contains (option_to_list o) q → o ≡ Some q

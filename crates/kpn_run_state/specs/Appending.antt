@@ -5,15 +5,15 @@ use Rattle.std.specs.List.{filter_map}
 use Rattle.std.specs.Option.{option_to_list}
 use Rattle.kpn_net.specs.declared.wait.Wait.{Wait}
 use Rattle.kpn_net.specs.Tables.{Tables, instance_at, larger_capacity}
-use Rattle.kpn_history.specs.declared.event.Event.{Event}
-use Rattle.kpn_history.specs.declared.event.Event.TheVariants as event
-use Rattle.kpn_history.specs.declared.state.State.TheVariants as state
-use Rattle.kpn_history.specs.Channels.{capacity_or_zero}
-use Rattle.kpn_history.specs.Legal.{OwesGrowth}
-use Rattle.kpn_history.specs.Stops.{OwesNothing}
-use Rattle.kpn_configuration.specs.Changes.{Changes}
-use Rattle.kpn_configuration.specs.Woken.{waiting_writer, waiting_reader}
-use Rattle.kpn_schedule.specs.Schedule.{Schedule, made_ready, with_state}
+use Rattle.kpn_run_history.specs.declared.event.Event.{Event}
+use Rattle.kpn_run_history.specs.declared.event.Event.TheVariants as event
+use Rattle.kpn_run_history.specs.declared.state.State.TheVariants as state
+use Rattle.kpn_run_history.specs.Channels.{capacity_or_zero}
+use Rattle.kpn_run_history.specs.Legal.{OwesGrowth}
+use Rattle.kpn_run_history.specs.Stops.{OwesNothing}
+use Rattle.kpn_run_configuration.specs.Changes.{Changes}
+use Rattle.kpn_run_configuration.specs.Woken.{waiting_writer, waiting_reader}
+use Rattle.kpn_run_state.specs.Schedule.{Schedule, made_ready, with_state}
 use Rattle.kpn_run_state.specs.Book.{Book}
 
 -- ---- the schedule after an event

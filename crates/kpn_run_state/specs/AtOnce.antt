@@ -3,7 +3,7 @@ use Rattle.std.specs.Prelude.{◌≡◌, ℕ, ◌+◌, Bool, true, false, slice_
 use Rattle.kpn_net.specs.Tables.{program_of}
 use Rattle.kpn_step.specs.Step.{statement_at}
 use Rattle.kpn_step.specs.Stops.{is_short}
-use Rattle.kpn_configuration.specs.Configuration.{frame_in}
+use Rattle.kpn_run_configuration.specs.Configuration.{frame_in}
 use Rattle.kpn_run_state.specs.declared.answers.Done.{Done}
 use Rattle.kpn_run_state.specs.Book.{Book}
 use Rattle.kpn_run_state.specs.Stepping.{StepsNext}

@@ -2,11 +2,11 @@
 use Rattle.std.specs.Prelude.{◌≡◌, ℕ, ◌+◌, ◌<◌, List, length, count_by}
 use Rattle.kpn_net.specs.Tables.{Tables}
 use Rattle.kpn_step.specs.Frame.{Frame}
-use Rattle.kpn_history.specs.declared.state.State.TheVariants.{Held}
-use Rattle.kpn_history.specs.declared.event.Event.{Event}
-use Rattle.kpn_history.specs.Views.{is_held}
-use Rattle.kpn_configuration.specs.Configuration.{Configuration, with_frame}
-use Rattle.kpn_schedule.specs.Schedule.{Schedule, state_at, HoldsFirst, made_ready}
+use Rattle.kpn_run_history.specs.declared.state.State.TheVariants.{Held}
+use Rattle.kpn_run_history.specs.declared.event.Event.{Event}
+use Rattle.kpn_run_history.specs.Views.{is_held}
+use Rattle.kpn_run_configuration.specs.Configuration.{Configuration, with_frame}
+use Rattle.kpn_run_state.specs.Schedule.{Schedule, state_at, HoldsFirst, made_ready}
 
 -- the network, the events so far, the configuration to which they lead, the schedule of the processes, and how many
 -- commits were made

@@ -5,14 +5,14 @@ use Rattle.kpn_step.specs.declared.stop.Stop.{Stop}
 use Rattle.kpn_step.specs.declared.stop.Stop.TheVariants as stop
 use Rattle.kpn_step.specs.Stops.{Advanced}
 use Rattle.kpn_chan.specs.Channel.{unread, is_full, next_item}
-use Rattle.kpn_history.specs.declared.event.Event.{Event}
-use Rattle.kpn_history.specs.declared.event.Event.TheVariants as event
-use Rattle.kpn_history.specs.declared.event.How.{How}
-use Rattle.kpn_history.specs.Legal.{OwesGrowth, growth_after}
-use Rattle.kpn_history.specs.Stops.{OwesNothing}
-use Rattle.kpn_configuration.specs.Configuration.{channel_in, frame_in}
-use Rattle.kpn_configuration.specs.Changes.{IsChannelAt}
-use Rattle.kpn_configuration.specs.Due.{stop_of}
+use Rattle.kpn_run_history.specs.declared.event.Event.{Event}
+use Rattle.kpn_run_history.specs.declared.event.Event.TheVariants as event
+use Rattle.kpn_run_history.specs.declared.event.How.{How}
+use Rattle.kpn_run_history.specs.Legal.{OwesGrowth, growth_after}
+use Rattle.kpn_run_history.specs.Stops.{OwesNothing}
+use Rattle.kpn_run_configuration.specs.Configuration.{channel_in, frame_in}
+use Rattle.kpn_run_configuration.specs.Changes.{IsChannelAt}
+use Rattle.kpn_run_configuration.specs.Due.{stop_of}
 use Rattle.kpn_run_state.specs.declared.answers.Done.{Done}
 use Rattle.kpn_run_state.specs.declared.answers.Done.TheVariants as done
 use Rattle.kpn_run_state.specs.Book.{Book, IsHeld, standing_at, put_back, counted}

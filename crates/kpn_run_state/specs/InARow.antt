@@ -1,10 +1,13 @@
 -- Steps in a row, made in place one after another, until one has put an item on a sink.
-use Rattle.std.specs.Prelude.{◌≡◌, ℕ, ◌+◌, ◌<◌, ◌≤◌, true, false, ℤ, [], ◌∷◌, ◌++◌, Option, Some, None}
+use Rattle.std.specs.Prelude.{◌≡◌, ◌≢◌, ℕ, ◌+◌, ◌<◌, ◌≤◌, ◌⊎◌, true, false, ℤ, [], ◌∷◌, ◌++◌, slice_get, Option, Some, None}
 use Rattle.kpn_net.specs.Tables.{channel_at, is_sink}
-use Rattle.kpn_history.specs.declared.event.Event.TheVariants as event
+use Rattle.kpn_step.specs.declared.stop.Stop.TheVariants as stop
+use Rattle.kpn_step.specs.Stops.{Advanced, IsAdvance, IsWithinQuota}
+use Rattle.kpn_run_history.specs.declared.event.Event.TheVariants as event
 use Rattle.kpn_run_state.specs.declared.answers.Done.{Done}
 use Rattle.kpn_run_state.specs.declared.answers.Done.TheVariants as done
-use Rattle.kpn_run_state.specs.Book.{Book}
+use Rattle.kpn_run_state.specs.Book.{Book, standing_at}
+use Rattle.kpn_run_state.specs.Commits.{IsOwnAdvance}
 use Rattle.kpn_run_state.specs.Kept.{IsBook}
 use Rattle.kpn_run_state.specs.Stepping.{StepsNext}
 
@@ -56,3 +59,25 @@ pub record RunsOn (quota most : ℕ) (sink : Option ℕ) (before after : Book) :
   pub ends : ends_row quota sink last after
   pub within : after.commits ≤ before.commits + most
   pub some : ((before.schedule.queue ≡ []) → ⊥) → 0 < most → before.commits < after.commits
+
+-- the first process of the queue has made these steps, at most the quota, and they were not committed: nothing else has
+-- changed, and it stays the first
+pub record StepsUncommitted (quota : ℕ) (before after : Book) : Type 0 where
+  pub process : ℕ
+  pub first : slice_get before.schedule.queue 0 ≡ Some process
+  pub advance : Advanced
+  pub own : IsOwnAdvance before process advance
+  pub advances : IsAdvance advance
+  pub within : IsWithinQuota quota advance
+  pub wants : advance.stop ≢ stop.Paused
+  pub there : after ≡ standing_at process advance.to before
+
+-- memory ran out behind so many steps in a row, fewer than there may be, of which none has put an item on a sink: the
+-- book is that of the last step, or the process whose turn it then is has made its steps
+pub record RunsInVain (quota most : ℕ) (before after : Book) : Type 0 where
+  pub steps : ℕ
+  pub last : Book
+  pub row : StepsInRow quota before steps last
+  pub fewer : steps < most
+  pub commits : after.commits ≡ before.commits + steps
+  pub ends : (after ≡ last) ⊎ StepsUncommitted quota last after

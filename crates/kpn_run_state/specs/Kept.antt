@@ -3,14 +3,14 @@ use Rattle.std.specs.Prelude.{◌≡◌, ℕ, ◌+◌, ◌<◌, ◌≤◌, ◌^�
 use Rattle.kpn_net.specs.declared.wait.Wait.{Wait}
 use Rattle.kpn_net.specs.declared.wait.Wait.TheVariants.{Nobody, Empty, Full}
 use Rattle.kpn_net.specs.Faults.{IsNetwork}
-use Rattle.kpn_history.specs.declared.event.How.{How}
-use Rattle.kpn_history.specs.declared.state.State.{State}
-use Rattle.kpn_history.specs.declared.state.State.TheVariants.{Ready, Held, WaitsEmpty, WaitsFull, Ended}
-use Rattle.kpn_history.specs.Talks.{process_events}
-use Rattle.kpn_history.specs.Stops.{OwesNothing}
-use Rattle.kpn_configuration.specs.Configuration.{wait_in, end_in}
-use Rattle.kpn_configuration.specs.Run.{IsRun}
-use Rattle.kpn_schedule.specs.Schedule.{state_at, IsSchedule}
+use Rattle.kpn_run_history.specs.declared.event.How.{How}
+use Rattle.kpn_run_history.specs.declared.state.State.{State}
+use Rattle.kpn_run_history.specs.declared.state.State.TheVariants.{Ready, Held, WaitsEmpty, WaitsFull, Ended}
+use Rattle.kpn_run_history.specs.Talks.{process_events}
+use Rattle.kpn_run_history.specs.Stops.{OwesNothing}
+use Rattle.kpn_run_configuration.specs.Configuration.{wait_in, end_in}
+use Rattle.kpn_run_configuration.specs.Run.{IsRun}
+use Rattle.kpn_run_state.specs.Schedule.{state_at, IsSchedule}
 use Rattle.kpn_run_state.specs.Book.{Book, held_count}
 
 -- the state of a process by how it ended and what it waits for: ready or held if it has not ended and waits for nobody

@@ -1,3 +1,6 @@
+pub mod Schedule
+pub mod Counting
+pub mod Queue
 pub mod Book
 pub mod Appending
 pub mod Commits

@@ -5,14 +5,14 @@ use Rattle.kpn_net.specs.Waits.{AreDistinct}
 use Rattle.kpn_step.specs.declared.stop.Stop.{Stop}
 use Rattle.kpn_step.specs.declared.stop.Stop.TheVariants as stop
 use Rattle.kpn_chan.specs.Channel.{with_room}
-use Rattle.kpn_history.specs.declared.event.Event.{Event}
-use Rattle.kpn_history.specs.Talks.{is_of_process}
-use Rattle.kpn_history.specs.Views.{is_ready}
-use Rattle.kpn_history.specs.Legal.{OwesGrowth, growth_after, waiter}
-use Rattle.kpn_history.specs.Stops.{OwesNothing}
-use Rattle.kpn_configuration.specs.Configuration.{channel_in, with_channel}
-use Rattle.kpn_history.specs.declared.state.State.TheVariants.{Held}
-use Rattle.kpn_schedule.specs.Schedule.{Schedule, HoldsFirst, state_at, first_held}
+use Rattle.kpn_run_history.specs.declared.event.Event.{Event}
+use Rattle.kpn_run_history.specs.Talks.{is_of_process}
+use Rattle.kpn_run_history.specs.Views.{is_ready}
+use Rattle.kpn_run_history.specs.Legal.{OwesGrowth, growth_after, waiter}
+use Rattle.kpn_run_history.specs.Stops.{OwesNothing}
+use Rattle.kpn_run_configuration.specs.Configuration.{channel_in, with_channel}
+use Rattle.kpn_run_history.specs.declared.state.State.TheVariants.{Held}
+use Rattle.kpn_run_state.specs.Schedule.{Schedule, HoldsFirst, state_at, first_held}
 use Rattle.kpn_run_state.specs.declared.open_book.Hold.{Hold}
 use Rattle.kpn_run_state.specs.declared.open_book.Hold.TheVariants as hold
 use Rattle.kpn_run_state.specs.declared.open_book.OpenBook.{OpenBook}

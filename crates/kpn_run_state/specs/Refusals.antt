@@ -4,8 +4,8 @@ use Rattle.kpn_net.specs.Tables.{channel_at, is_source, is_sink}
 use Rattle.kpn_step.specs.declared.stop.Stop.TheVariants as stop
 use Rattle.kpn_step.specs.Stops.{Advanced}
 use Rattle.kpn_chan.specs.Channel.{ChannelState, unread, next_item}
-use Rattle.kpn_history.specs.declared.event.Event.TheVariants as event
-use Rattle.kpn_configuration.specs.Configuration.{channel_in, closed_in}
+use Rattle.kpn_run_history.specs.declared.event.Event.TheVariants as event
+use Rattle.kpn_run_configuration.specs.Configuration.{channel_in, closed_in}
 use Rattle.kpn_run_state.specs.declared.answers.Refused.{Refused}
 use Rattle.kpn_run_state.specs.declared.answers.Refused.TheVariants.{NotHeld, Stranger, NoMemory, NoSuchEnd, SourceClosed, Full, SinkLeft}
 use Rattle.kpn_run_state.specs.Book.{Book, IsHeld}

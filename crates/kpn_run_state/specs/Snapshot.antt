@@ -3,14 +3,14 @@ use Rattle.std.specs.Prelude.{◌≡◌, ℕ, ◌<◌, if◌then◌else◌, List
 use Rattle.kpn_net.specs.Tables.{Tables, channel_at, is_source}
 use Rattle.kpn_net.specs.Process.{Family}
 use Rattle.kpn_net.specs.Iteration.{IsBelowLeast, IsLeast}
-use Rattle.kpn_history.specs.declared.event.Event.{Event}
-use Rattle.kpn_history.specs.declared.state.State.{State}
-use Rattle.kpn_history.specs.declared.state.State.TheVariants.{WaitsEmpty, Ended}
-use Rattle.kpn_history.specs.declared.state.View.{View}
-use Rattle.kpn_history.specs.Legal.{Legal}
-use Rattle.kpn_history.specs.Stops.{OwesNothing}
-use Rattle.kpn_history.specs.Views.{Agrees}
-use Rattle.kpn_configuration.specs.Configuration.{channel_in}
+use Rattle.kpn_run_history.specs.declared.event.Event.{Event}
+use Rattle.kpn_run_history.specs.declared.state.State.{State}
+use Rattle.kpn_run_history.specs.declared.state.State.TheVariants.{WaitsEmpty, Ended}
+use Rattle.kpn_run_history.specs.declared.state.View.{View}
+use Rattle.kpn_run_history.specs.Legal.{Legal}
+use Rattle.kpn_run_history.specs.Stops.{OwesNothing}
+use Rattle.kpn_run_history.specs.Views.{Agrees}
+use Rattle.kpn_run_configuration.specs.Configuration.{channel_in}
 use Rattle.kpn_run_state.specs.Book.{Book}
 
 -- the view shows a moment of some run of the network: it agrees with a legal history that owes no growth

@@ -4,20 +4,20 @@ ghost use Rattle.kpn_lang.specs.Prefix.{IsPrefix};
 ghost use Rattle.kpn_net.specs.Tables.{instance_at, program_of};
 ghost use Rattle.kpn_step.specs.Frame.{start_frame};
 ghost use Rattle.kpn_chan.specs.Channel.{next_item, unread};
-ghost use Rattle.kpn_history.specs.Channels.{read_on, is_closed};
-ghost use Rattle.kpn_history.specs.Views.{AreCounts, Agrees};
-ghost use Rattle.kpn_history.specs.Ends.{IsVerdict};
-ghost use Rattle.kpn_configuration.specs.Configuration.{channel_in, frame_in};
-ghost use Rattle.kpn_schedule.specs.Schedule.{all_ready};
+ghost use Rattle.kpn_run_history.specs.Channels.{read_on, is_closed};
+ghost use Rattle.kpn_run_history.specs.Views.{AreCounts, Agrees};
+ghost use Rattle.kpn_run_history.specs.Ends.{IsVerdict};
+ghost use Rattle.kpn_run_configuration.specs.Configuration.{channel_in, frame_in};
+ghost use Rattle.kpn_run_state.specs.Schedule.{all_ready};
 ghost use Rattle.kpn_run_state.specs.Kept.{IsBook};
 ghost use Rattle.kpn_run_state.specs.Snapshot.{ShowsARun, IsBelowKahn, IsKahnAtRest};
 
 use crate::open_book::OpenBook;
+use crate::schedule::Schedule;
 use crate::view::{copied_journals, view_without_journals};
-use kpn_configuration::Configuration;
-use kpn_history::{Counts, History, Verdict, View};
 use kpn_net::Network;
-use kpn_schedule::Schedule;
+use kpn_run_configuration::Configuration;
+use kpn_run_history::{Counts, History, Verdict, View};
 use std::alloc::{AllocError, Allocator, Global};
 use std::marker::Model;
 
@@ -31,7 +31,7 @@ mod waiting;
 /// schedule of the processes, and how many commits were made.
 ///
 /// Contracts see these five. Each call leaves a book of which `known` holds. A call that is refused leaves the book as
-/// it was.
+/// it was, except for `step_next` and `run_on`: what they have done before memory ran out stays.
 #[derive(Debug)]
 pub struct Book<'n, A: Allocator = Global> {
     parts: OpenBook<'n, A>,

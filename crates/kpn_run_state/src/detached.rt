@@ -1,7 +1,7 @@
 //! A book apart from its network.
-use kpn_configuration::Configuration;
-use kpn_history::History;
-use kpn_schedule::Schedule;
+use crate::schedule::Schedule;
+use kpn_run_configuration::Configuration;
+use kpn_run_history::History;
 
 /// A book that was detached from its network. It borrows nothing, so one value can own it together with the network.
 #[derive(Drop)]

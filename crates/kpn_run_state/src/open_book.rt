@@ -1,17 +1,17 @@
 //! The parts of a book in the midst of a call, when not all that holds of a book need hold of them.
 ghost use Rattle.std.specs.Prelude.{◌≡◌, ◌↔◌, ◌+◌, ◌-◌, ◌<◌, ◌^◌, Option, option_to_list, IsTrue, IfNone};
-ghost use Rattle.kpn_history.specs.declared.state.Verdict.{Verdict as Told};
-ghost use Rattle.kpn_configuration.specs.Configuration.{IsConfiguration};
-ghost use Rattle.kpn_configuration.specs.Settled.{IsVerdictNow};
+ghost use Rattle.kpn_run_history.specs.declared.state.Verdict.{Verdict as Told};
+ghost use Rattle.kpn_run_configuration.specs.Configuration.{IsConfiguration};
+ghost use Rattle.kpn_run_configuration.specs.Settled.{IsVerdictNow};
 ghost use Rattle.kpn_run_state.specs.Appending.{all_made_ready};
 ghost use Rattle.kpn_run_state.specs.Book.{IsHeld, held_count};
 ghost use Rattle.kpn_run_state.specs.Kept.{IsKept};
 ghost use Rattle.kpn_run_state.specs.Open.{MayBeReady, book_of, claims_by};
 
-use kpn_configuration::Configuration;
-use kpn_history::{History, State, Verdict};
+use crate::schedule::Schedule;
 use kpn_net::Network;
-use kpn_schedule::Schedule;
+use kpn_run_configuration::Configuration;
+use kpn_run_history::{History, State, Verdict};
 use std::alloc::Allocator;
 
 mod at_once;

@@ -1,14 +1,14 @@
 //! A view of a run at one moment, copied from its configuration and its schedule.
 ghost use Rattle.std.specs.Prelude.{◌≡◌, ◌<◌, ◌∷◌, [], ◌++◌, length, map, IfOk};
 ghost use Rattle.std.specs.List.{range_with_len};
-ghost use Rattle.kpn_history.specs.Views.{AreCounts};
-ghost use Rattle.kpn_configuration.specs.Configuration.{channel_in};
+ghost use Rattle.kpn_run_history.specs.Views.{AreCounts};
+ghost use Rattle.kpn_run_configuration.specs.Configuration.{channel_in};
 
+use crate::schedule::Schedule;
 use kpn_chan::Journal;
-use kpn_configuration::Configuration;
-use kpn_history::View;
 use kpn_lang::Sequence;
-use kpn_schedule::Schedule;
+use kpn_run_configuration::Configuration;
+use kpn_run_history::View;
 use std::alloc::{AllocError, Allocator};
 
 /// The view of a run with this many channels, without its journals. The error is that memory ran out.

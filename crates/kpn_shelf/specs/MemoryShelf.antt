@@ -2,8 +2,8 @@
 use Rattle.std.specs.Prelude.{◌≡◌, ◌≢◌, ◌<◌, ℕ, List, length, Option, Some, None, option_map, Result, Ok, Err, ⊤}
 use Rattle.std.specs.BTreeMap.{get_by_text}
 use Rattle.kpn_limits.specs.declared.TheConstants.{MAX_INPUT_BYTES}
-use Rattle.kpn_items.specs.declared.fault.ItemFault.{ItemFault}
-use Rattle.kpn_items.specs.declared.fault.ItemFault.TheVariants.{Read, BadItem, NoMemory}
+use Rattle.kpn_text_items.specs.declared.fault.ItemFault.{ItemFault}
+use Rattle.kpn_text_items.specs.declared.fault.ItemFault.TheVariants.{Read, BadItem, NoMemory}
 use Rattle.kpn_shelf.specs.declared.memory.MemoryShelf.{MemoryShelf}
 
 -- the bytes that it holds under a name

@@ -1,7 +1,7 @@
 -- What a shelf may give, before and after something is stored, and what a file is read as.
 use Rattle.std.specs.Prelude.{◌≢◌, ◌↔◌, ℕ, List, Result, Ok, Err}
-use Rattle.kpn_items.specs.Input.{NamesNoLine}
-use Rattle.kpn_items.specs.declared.fault.ItemFault.{ItemFault}
+use Rattle.kpn_text_items.specs.Input.{NamesNoLine}
+use Rattle.kpn_text_items.specs.declared.fault.ItemFault.{ItemFault}
 
 -- what a load of each name may give: the bytes of a file, or why there are none
 abbrev pub Loads : Type 1

@@ -2,23 +2,41 @@
 #![tactic(auto)]
 
 ghost use Rattle.std.specs.Prelude.{◌≡◌, ◌≤◌, ℕ, List, true, Result as Answer, Ok, IfOk, IfErr, OnOk, vec_len};
-ghost use Rattle.kpn_items.specs.declared.fault.ItemFault.{ItemFault as Fault};
+ghost use Rattle.kpn_text_items.specs.declared.fault.ItemFault.{ItemFault as Fault};
 ghost use Rattle.kpn_shelf.specs.Shelf.{IsRefusalOfLoad, KeepsOthers};
 
-use kpn_items::{ItemFault, WriteFault};
 use kpn_limits::MAX_INPUT_BYTES;
+use kpn_text_items::{ItemFault, WriteFault};
 use std::alloc::{AllocError, Global};
 
+mod file_input;
+mod file_output;
+mod file_ports;
 mod files;
+mod job;
+mod look;
 mod memory;
+mod memory_ports;
+mod opening;
+mod patient;
 mod place;
 mod ports;
+mod source;
+mod standard;
 mod target;
 mod written;
 
+pub use file_input::FileInput;
+pub use file_output::FileOutput;
 pub use files::FileShelf;
+pub use job::System;
+pub use look::Look;
 pub use memory::MemoryShelf;
+pub use memory_ports::MemoryInput;
+pub use patient::Patient;
 pub use ports::Ports;
+pub use source::Source;
+pub use standard::{fill_standard, standard_input};
 
 /// Files by name.
 pub trait Shelf {

@@ -4,8 +4,8 @@ ghost use Rattle.kpn_shelf.specs.Shelf.{IsRefusalOfLoad, KeepsOthers};
 ghost use Rattle.kpn_shelf.specs.MemoryShelf.{held, may_give_held, HoldsTheSame, HoldsTheSameBut};
 
 use crate::Shelf;
-use kpn_items::{ItemFault, WriteFault};
 use kpn_limits::MAX_INPUT_BYTES;
+use kpn_text_items::{ItemFault, WriteFault};
 use std::alloc::{AllocError, Global};
 use std::collections::BTreeMap;
 

@@ -3,7 +3,7 @@
 use std::alloc::AllocError;
 use std::fs::Metadata;
 use std::io::ErrorKind;
-use std::os::unix::fs::MetadataExt;
+use std::os::unix::fs::{FileTypeExt, MetadataExt};
 use std::rt::Files;
 use std::{fs, io};
 
@@ -31,16 +31,21 @@ pub(super) fn beside(
     format!(in rt.alloc(); "{folder}{name}{ending}")
 }
 
+/// Whether a path leads to a FIFO or a pipe.
+pub(crate) fn is_pipe<R: Files>(rt: &R, path: &str) -> bool {
+    fs::metadata(rt, path).is_ok_and(|found| found.file_type().is_fifo())
+}
+
 /// A file by its device and its inode.
 #[derive(Clone, Copy, PartialEq, Eq)]
-pub(super) struct Node {
+pub(crate) struct Node {
     device: u64,
     inode: u64,
 }
 
 impl Node {
     /// The file that this describes.
-    pub(super) fn new(metadata: &Metadata) -> Node {
+    pub(crate) fn new(metadata: &Metadata) -> Node {
         Node {
             device: metadata.dev(),
             inode: metadata.ino(),

@@ -1,68 +1,45 @@
 //! Inputs and outputs that are read and written piece by piece.
-ghost use Rattle.std.specs.Prelude.{Ok, IfOk, IfSome, ⊤};
+ghost use Rattle.std.specs.Prelude.{◌≡◌, false, ℕ, List, [], IfOk, IfSome, OnOk, Ok};
 
 use crate::Shelf;
-use crate::files::{FileShelf, fault_of};
-use crate::memory::MemoryShelf;
-use kpn_items::{ItemFault, WriteFault};
-use std::fs;
-use std::fs::{File, OpenOptions};
-use std::io::{Cursor, Read, Write};
-use std::rt::Files;
+use crate::look::Look;
+use kpn_text_items::{ItemFault, WriteFault};
+use std::io::Write;
 
 /// Files by name that are also read and written piece by piece.
 pub trait Ports: Shelf {
-    type Input: Read + Drop;
+    type Input: Look + Drop;
 
     type Output: Write + Drop;
 
-    /// Opens an input. It may wait for somebody who writes. It fails as `Read` or `NoMemory`.
+    /// The name by which an input was opened.
+    ghost comes_from: { Self.Input → List ℕ };
+
+    /// The name by which an output was opened.
+    ghost goes_to: { Self.Output → List ℕ };
+
+    /// Two inputs of these names each have all that is there: no byte goes to one of them alone.
+    ghost are_two_inputs: { Self → List ℕ → List ℕ → Type 0 };
+
+    /// Opens an input, and waits for nobody: an input that waits for somebody who writes does so at its first read. It
+    /// fails as `Read` or `NoMemory`.
     fn open_input(&self, name: &str) -> Result<Self::Input, ItemFault>
-        ensures { IfOk result (λ input.
-            IfSome (Self.Input.remaining input) (λ bytes. Self.may_give self.now name.now (Ok bytes))) };
+        ensures given { IfOk result (λ input.
+            IfSome (Self.Input.remaining input) (λ bytes. Self.may_give self.now name.now (Ok bytes))) }
+        ensures named { IfOk result (λ input. comes_from input ≡ name.now) };
 
-    /// Opens an output, and removes what a plain file held. It may wait for somebody who reads.
-    fn open_output(&self, name: &str) -> Result<Self::Output, WriteFault>;
+    /// Opens an output, and waits for nobody: an output that waits for somebody who reads does so at its first write, or
+    /// where it is dropped. A file keeps what it holds. Nobody else writes it from now on.
+    fn open_output(&self, name: &str) -> Result<Self::Output, WriteFault>
+        ensures named { IfOk result (λ output. goes_to output ≡ name.now) };
 
-    /// Whether a name leads to a plain file: each who opens that reads all of it.
-    fn is_plain(&self, name: &str) -> bool;
-}
+    /// Removes what a plain file held. It is called before the first write, and once all outputs are open.
+    fn empty(&self, output: &mut Self::Output) -> Result<(), WriteFault>
+        ensures named { goes_to output.new ≡ goes_to output.old }
+        ensures empty { OnOk result (IfSome (Self.Output.contents output.new) (λ bytes. bytes ≡ [])) };
 
-impl<R: Files<File = File> + AllocGlobal> Ports for FileShelf<'_, R> {
-    type Input = File;
-
-    type Output = File;
-
-    fn open_input(&self, name: &str) -> Result<File, ItemFault> {
-        fs::open(self.rt, name).map_err(|_| ItemFault::Read)
-    }
-
-    fn open_output(&self, name: &str) -> Result<File, WriteFault> {
-        let mut options = OpenOptions::new();
-        options.write(true).create(true).truncate(true);
-        options.open(self.rt, name).map_err(fault_of)
-    }
-
-    fn is_plain(&self, name: &str) -> bool {
-        fs::metadata(self.rt, name).is_ok_and(|found| found.is_file())
-    }
-}
-
-impl Ports for MemoryShelf {
-    type Input = Cursor<Vec<u8>>;
-
-    type Output = Vec<u8>;
-
-    fn open_input(&self, name: &str) -> Result<Cursor<Vec<u8>>, ItemFault> {
-        Ok(Cursor::new(self.load(self.alloc, name)?))
-    }
-
-    /// A shelf in memory has no outputs that are written piece by piece.
-    fn open_output(&self, _name: &str) -> Result<Vec<u8>, WriteFault> {
-        Err(WriteFault::Write)
-    }
-
-    fn is_plain(&self, _name: &str) -> bool {
-        true
-    }
+    /// Whether the inputs of two names are one device, whose bytes go to one reader only: a pipe, a FIFO, a terminal or
+    /// another device. All who open a plain file read all of it. `-` is standard input, which has one reader.
+    fn is_one_input(&self, name: &str, other: &str) -> bool
+        ensures { result ≡ false → are_two_inputs self.now name.now other.now };
 }

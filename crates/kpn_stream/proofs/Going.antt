@@ -1,28 +1,31 @@
 -- What a stream keeps while it goes on.
-use Rattle.std.proofs.Common.{◌≡◌, ℕ, ◌+◌, ◌<◌, ◌≤◌, ◌||◌, Bool, true, false, ℤ, List, [], ◌∷◌, ◌++◌, Option, Some, None, is_some, Result, refl, sym, ap, ◌∙◌, subst, inl, inr, append-nil, append_assoc, arith}
+use Rattle.std.proofs.Common.{◌≡◌, ℕ, ◌+◌, ◌≤◌, ◌||◌, Bool, true, false, ℤ, List, [], ◌∷◌, ◌++◌, Option, Some, None, is_some, Result, Ok, Err, IfOk, OnErr, refl, sym, ap, ◌∙◌, subst, inl, inr, append-nil, append_assoc, arith}
 use Rattle.std.proofs.lemmas.Bool.{false≢true}
 use Rattle.kpn_net.specs.Tables.{Tables, channel_at, is_sink}
 use Rattle.kpn_step.specs.declared.stop.Stop.{Stop}
-use Rattle.kpn_history.specs.declared.event.Event.{Event}
-use Rattle.kpn_history.specs.declared.event.Event.TheVariants as event
-use Rattle.kpn_history.specs.Channels.{is_closed, is_close_of}
-use Rattle.kpn_history.proofs.AfterEvent.{is_closed-next}
+use Rattle.kpn_step.specs.Frame.{Frame}
+use Rattle.kpn_run_history.specs.declared.event.Event.{Event}
+use Rattle.kpn_run_history.specs.declared.event.Event.TheVariants as event
+use Rattle.kpn_run_history.specs.Channels.{is_closed, is_close_of}
+use Rattle.kpn_run_history.specs.Ends.{HaveStopped}
+use Rattle.kpn_run_history.proofs.AfterEvent.{is_closed-next}
 use Rattle.kpn_run_state.specs.declared.answers.Done.{Done}
 use Rattle.kpn_run_state.specs.declared.answers.Done.TheVariants as done
 use Rattle.kpn_run_state.specs.Book.{Book, standing_at}
 use Rattle.kpn_run_state.specs.Appending.{IsGrowthOwed, Happens}
 use Rattle.kpn_run_state.specs.Commits.{HasToWait, IsAnswer}
 use Rattle.kpn_run_state.specs.Stepping.{StepsNext}
-use Rattle.kpn_run_state.specs.InARow.{StepsInRow, no_step, one_step_more, ends_row, RunsOn}
-use Rattle.kpn_run_here.specs.declared.outcome.Limits.{Limits}
-use Rattle.kpn_run_here.proofs.Happening.{happens_tables, happens_history}
-use Rattle.kpn_run_here.proofs.Stepped.{step_tables, step_history}
+use Rattle.kpn_run_state.specs.InARow.{StepsInRow, no_step, one_step_more, ends_row, RunsOn, RunsInVain}
+use Rattle.kpn_book.specs.declared.outcome.Limits.{Limits}
+use Rattle.kpn_book.proofs.Happening.{happens_tables, happens_history}
+use Rattle.kpn_book.proofs.Stepped.{step_tables, step_history}
 use Rattle.kpn_stream.specs.declared.faults.SourceFault.{SourceFault}
 use Rattle.kpn_stream.specs.declared.faults.SinkFault.{SinkFault}
 use Rattle.kpn_stream.specs.declared.ending.Ending.{Ending}
+use Rattle.kpn_stream.specs.declared.ending.Ending.TheVariants.{SourceFailed, SinkFailed}
 use Rattle.kpn_stream.specs.Ending.{end_numbers, AreTaken, failed_sink}
-use Rattle.kpn_stream.specs.Devices.{is_of_outside, NoneIs, is_of_source, is_of_sink, Fed, by_others, ServedSince, none_yet, meanwhile, took, took_not, flushed, flushed_not, left, had_enough, IsFlushed, AreFlushed, answered, Called, by_process, by_sinks, read_at_once, waited_for}
-use Rattle.kpn_stream.specs.Streaming.{HappensBesides, MayEndWell, IsStepped, Serves, Reads, GoesOn}
+use Rattle.kpn_stream.specs.Devices.{is_of_outside, is_elsewhere, is_no_growth, NoneIs, is_of_source, is_of_sink, Fed, by_others, by_look, ServedSince, none_yet, meanwhile, took, took_not, took_in_vain, flushed, flushed_not, left, left_not, had_enough, had_enough_not, IsFlushed, AreFlushed, AreFlushedLast, EndsFlushed, AreLookedAt, not_yet, once_more, Called, by_process, by_sinks, looked, read_at_once, waited_for}
+use Rattle.kpn_stream.specs.Streaming.{HappensBesides, MayEnd, MayEndWell, IsStepped, Serves, MayFail, Reads, ReadsAtHand, not_read, is_read, GoesOn}
 
 -- ---- events of other kinds
 
@@ -72,6 +75,31 @@ besides_sinks a b is = record {
   history = is.history;
   none = none_weaker is_of_outside is_of_sink (λ e. no_sink (is_of_source e) (is_of_sink e)) is.events is.none;
 }
+
+pub elsewhere_no_source : (e : Event) → is_elsewhere e ≡ false → is_of_source e ≡ false
+elsewhere_no_source (event.Take c v) is = refl
+elsewhere_no_source (event.Leave c) is = refl
+elsewhere_no_source (event.Grow p c n) is = refl
+elsewhere_no_source e is = absurd (false≢true (sym is))
+
+-- the sinks alone are served: nothing happens to sources
+pub besides_elsewhere : (a b : Book) → HappensBesides is_elsewhere a b → HappensBesides is_of_source a b
+besides_elsewhere a b is = record {
+  tables = is.tables;
+  events = is.events;
+  history = is.history;
+  none = none_weaker is_elsewhere is_of_source elsewhere_no_source is.events is.none;
+}
+
+growth_of_none : (e : Event) → is_no_growth e ≡ false → is_of_outside e ≡ false
+growth_of_none (event.Grow p c n) is = refl
+growth_of_none e is = absurd (false≢true (sym is))
+
+pub outside_no_source : (e : Event) → is_of_outside e ≡ false → is_of_source e ≡ false
+outside_no_source e = no_source (is_of_source e) (is_of_sink e)
+
+pub growth_no_source : (e : Event) → is_no_growth e ≡ false → is_of_source e ≡ false
+growth_no_source e is = outside_no_source e (growth_of_none e is)
 
 pub growth_none : (kind : Event → Bool) → ((p d n : ℕ) → kind (event.Grow p d n) ≡ false)
     → (t : Tables) (H growth : List Event) → IsGrowthOwed t H growth → NoneIs kind growth
@@ -126,32 +154,40 @@ open_besides a b c is was =
 
 -- ---- the devices of the sources
 
-module _ {S : Type 0} (gives : S → ℕ → Result (Option ℤ) SourceFault → S → Type 0) (first : S)
-    (failed : Option (ℕ × SourceFault)) (now : S) where
-  fed_along : (t : Tables) (es H : List Event) → NoneIs is_of_source es → Fed t gives first H failed now
-      → Fed t gives first (H ++ es) failed now
-  fed_along t [] H none fed = subst (λ X. Fed t gives first X failed now) (sym (append-nil H)) fed
+module _ {S : Type 0} (gives : S → ℕ → Result (Option ℤ) SourceFault → S → Type 0) (looks : S → ℕ → S → Type 0)
+    (first : S) where
+  pub fed_looked : (t : Tables) (H : List Event) (before : S) → Fed t gives looks first H None before
+      → {now : S} → AreLookedAt looks before now → Fed t gives looks first H None now
+  fed_looked t H before fed not_yet = fed
+  fed_looked t H before fed (once_more c between now so_far look) =
+      by_look H c between now (fed_looked t H before fed so_far) look
+
+module _ {S : Type 0} (gives : S → ℕ → Result (Option ℤ) SourceFault → S → Type 0) (looks : S → ℕ → S → Type 0)
+    (first : S) (failed : Option (ℕ × SourceFault)) (now : S) where
+  fed_along : (t : Tables) (es H : List Event) → NoneIs is_of_source es → Fed t gives looks first H failed now
+      → Fed t gives looks first (H ++ es) failed now
+  fed_along t [] H none fed = subst (λ X. Fed t gives looks first X failed now) (sym (append-nil H)) fed
   fed_along t (e ∷ es) H none fed =
-      subst (λ X. Fed t gives first X failed now) (append_assoc H (e ∷ []) es)
+      subst (λ X. Fed t gives looks first X failed now) (append_assoc H (e ∷ []) es)
       (fed_along t es (H ++ e ∷ []) none.1 (by_others H e failed now fed none.0))
 
   -- the network stays
   fed_still : (before after : Book) (H : List Event) → after.tables ≡ before.tables → after.history ≡ H
-      → Fed before.tables gives first H failed now → Fed after.tables gives first after.history failed now
+      → Fed before.tables gives looks first H failed now → Fed after.tables gives looks first after.history failed now
   fed_still before after H same is fed =
-      subst (λ t. Fed t gives first after.history failed now) (sym same)
-      (subst (λ X. Fed before.tables gives first X failed now) (sym is) fed)
+      subst (λ t. Fed t gives looks first after.history failed now) (sym same)
+      (subst (λ X. Fed before.tables gives looks first X failed now) (sym is) fed)
 
   pub fed_besides : (before after : Book) → HappensBesides is_of_source before after
-      → Fed before.tables gives first before.history failed now
-      → Fed after.tables gives first after.history failed now
+      → Fed before.tables gives looks first before.history failed now
+      → Fed after.tables gives looks first after.history failed now
   fed_besides before after is fed =
       fed_still before after (before.history ++ is.events) is.tables is.history
       (fed_along before.tables is.events before.history is.none fed)
 
   pub fed_happens : (e : Event) (before after : Book) → Happens e before after
-      → Fed before.tables gives first (before.history ++ e ∷ []) failed now
-      → Fed after.tables gives first after.history failed now
+      → Fed before.tables gives looks first (before.history ++ e ∷ []) failed now
+      → Fed after.tables gives looks first after.history failed now
   fed_happens e before after is fed =
       fed_still before after ((before.history ++ e ∷ []) ++ is.growth) (happens_tables e before after is)
       (happens_history e before after is ∙ sym (append_assoc before.history (e ∷ []) is.growth))
@@ -164,7 +200,8 @@ module _ {K : Type 0} (takes : K → ℕ → ℤ → Result (Unit {0}) SinkFault
     (flushes : K → ℕ → Result (Unit {0}) SinkFault → K → Type 0) (wanted : Option ℕ) (start : List Event) (first : K)
   where
     module _ (failed : Option (ℕ × SinkFault)) (now : K) where
-      served_along : (es H : List Event) → NoneIs is_of_sink es → ServedSince takes flushes wanted start first H failed now
+      served_along : (es H : List Event) → NoneIs is_of_sink es
+          → ServedSince takes flushes wanted start first H failed now
           → ServedSince takes flushes wanted start first (H ++ es) failed now
       served_along [] H none served =
           subst (λ X. ServedSince takes flushes wanted start first X failed now) (sym (append-nil H)) served
@@ -202,25 +239,68 @@ module _ {K : Type 0} (takes : K → ℕ → ℤ → Result (Unit {0}) SinkFault
         flushed G c before now (served-trans H j one two) answer
     served-trans H j one (flushed_not G c fault before now two answer) =
         flushed_not G c fault before now (served-trans H j one two) answer
+    served-trans H j one (took_in_vain G c v before now two few answer) =
+        took_in_vain G c v before now (served-trans H j one two) few answer
     served-trans H j one (left G c now two) = left G c now (served-trans H j one two)
+    served-trans H j one (left_not G c now two) = left_not G c now (served-trans H j one two)
     served-trans H j one (had_enough G c before now two enough answer) =
         had_enough G c before now (served-trans H j one two) enough answer
+    served-trans H j one (had_enough_not G c before now two enough answer) =
+        had_enough_not G c before now (served-trans H j one two) enough answer
+
+    -- the last calls stay the last ones
+    pub flushed-trans : (t : Tables) (H : List Event) (j : K)
+        → ServedSince takes flushes wanted start first H None j → (ended : Option Ending) (G : List Event) (k : K)
+        → EndsFlushed takes flushes wanted t H j ended G k → EndsFlushed takes flushes wanted t start first ended G k
+    flushed-trans t H j one None G k is = tt
+    flushed-trans t H j one (Some (SourceFailed c fault)) G k is = tt
+    flushed-trans t H j one (Some (SinkFailed c fault)) G k is = tt
+    flushed-trans t H j one (Some ending) G k is = record {
+      before = is.before;
+      then = is.then;
+      served = served-trans H j one is.served;
+      last = is.last;
+    }
+
+    pub ends_flushed : (t : Tables) (ended : Option Ending) (H : List Event) (now : K)
+        → AreFlushedLast takes flushes wanted t start first H now
+        → EndsFlushed takes flushes wanted t start first ended H now
+    ends_flushed t None H now last = tt
+    ends_flushed t (Some (SourceFailed c fault)) H now last = tt
+    ends_flushed t (Some (SinkFailed c fault)) H now last = tt
+    ends_flushed t (Some ending) H now last = last
+
+    -- a source has failed, or nothing
+    pub unflushed : (t : Tables) (c : ℕ) (ended : Option Ending) (H : List Event) (now : K) → MayFail c ended
+        → EndsFlushed takes flushes wanted t start first ended H now
+    unflushed t c ended H now may =
+        elim may [
+          | inl on ↦ subst (λ e. EndsFlushed takes flushes wanted t start first e H now) (sym on) tt
+          | inr (fault, over) ↦
+              subst (λ e. EndsFlushed takes flushes wanted t start first e H now) (sym over) tt
+        ]
 
 -- ---- all calls
 
-module _ {S K : Type 0} (gives : S → ℕ → Result (Option ℤ) SourceFault → S → Type 0) (at_hand : S → ℕ → Type 0)
+module _ {S K : Type 0} (t : Tables) (gives : S → ℕ → Result (Option ℤ) SourceFault → S → Type 0)
+    (looks : S → ℕ → S → Type 0) (at_hand : S → ℕ → Type 0)
     (takes : K → ℕ → ℤ → Result (Unit {0}) SinkFault → K → Type 0)
-    (flushes : K → ℕ → Result (Unit {0}) SinkFault → K → Type 0) (wanted : Option ℕ) (sinks : List ℕ) (s : S) (k : K)
-    (r : S) (j : K) where
-  pub called_along : (es H : List Event) → NoneIs is_of_outside es
-      → Called gives at_hand takes flushes wanted sinks s k H r j
-      → Called gives at_hand takes flushes wanted sinks s k (H ++ es) r j
-  called_along [] H none called =
-      subst (λ X. Called gives at_hand takes flushes wanted sinks s k X r j) (sym (append-nil H)) called
-  called_along (e ∷ es) H none called =
-      subst (λ X. Called gives at_hand takes flushes wanted sinks s k X r j) (append_assoc H (e ∷ []) es)
-      (called_along es (H ++ e ∷ []) none.1
-      (by_process H e r j called none.0))
+    (flushes : K → ℕ → Result (Unit {0}) SinkFault → K → Type 0) (wanted : Option ℕ) (s : S) (k : K) (r : S) (j : K)
+  where
+    pub called_along : (es H : List Event) → NoneIs is_of_outside es
+        → Called t gives looks at_hand takes flushes wanted s k H r j
+        → Called t gives looks at_hand takes flushes wanted s k (H ++ es) r j
+    called_along [] H none called =
+        subst (λ X. Called t gives looks at_hand takes flushes wanted s k X r j) (sym (append-nil H)) called
+    called_along (e ∷ es) H none called =
+        subst (λ X. Called t gives looks at_hand takes flushes wanted s k X r j) (append_assoc H (e ∷ []) es)
+        (called_along es (H ++ e ∷ []) none.1 (by_process H e r j called none.0))
+
+    pub called_looked : (H : List Event) → Called t gives looks at_hand takes flushes wanted s k H r j → {u : S}
+        → AreLookedAt looks r u → Called t gives looks at_hand takes flushes wanted s k H u j
+    called_looked H called not_yet = called
+    called_looked H called (once_more c between now so_far look) =
+        looked H c between now j (called_looked H called so_far) look
 
 -- ---- a step
 
@@ -278,7 +358,7 @@ stepped-trans limits a b c one two = record {
   commits = λ below. two.commits (one.commits below);
 }
 
-pub stepped : (limits : Limits) (quota most : ℕ) (sink : Option ℕ) (before after : Book)
+stepped : (limits : Limits) (quota most : ℕ) (sink : Option ℕ) (before after : Book)
     → (before.commits ≤ limits.commits → before.commits + most ≤ limits.commits) → RunsOn quota most sink before after
     → IsStepped limits before after
 stepped limits quota most sink before after fits is = record {
@@ -287,6 +367,38 @@ stepped limits quota most sink before after fits is = record {
       (last_besides quota sink is.last after is.ends);
   commits = λ below. let room = fits below in let within = is.within in omega arith;
 }
+
+in_vain : (limits : Limits) (quota most : ℕ) (before after : Book)
+    → (before.commits ≤ limits.commits → before.commits + most ≤ limits.commits) → RunsInVain quota most before after
+    → IsStepped limits before after
+in_vain limits quota most before after fits is = record {
+  besides = elim is.ends [
+    | inl last ↦ subst (HappensBesides is_of_outside before) (sym last) (row_besides quota before is.row)
+    | inr steps ↦
+        subst (HappensBesides is_of_outside before) (sym steps.there)
+        (moved steps.process steps.advance.to is.last (row_besides quota before is.row))
+  ];
+  commits = λ below. let room = fits below in let made = is.commits in let fewer = is.fewer in omega arith;
+}
+  where
+    moved : (p : ℕ) (frame : Frame) (b : Book) → HappensBesides is_of_outside before b
+        → HappensBesides is_of_outside before (standing_at p frame b)
+    moved p frame b so_far = record {
+      tables = so_far.tables;
+      events = so_far.events;
+      history = so_far.history;
+      none = so_far.none;
+    }
+
+-- steps in a row, also if memory runs out behind them
+pub stepped_row : {E : Type 0} (limits : Limits) (quota most : ℕ) (result : Result (Option ℕ) E) (before after : Book)
+    → (before.commits ≤ limits.commits → before.commits + most ≤ limits.commits)
+    → IfOk result (λ sink. RunsOn quota most sink before after) → OnErr result (RunsInVain quota most before after)
+    → IsStepped limits before after
+stepped_row limits quota most (Ok sink) before after fits runs vain =
+    stepped limits quota most sink before after fits runs
+stepped_row limits quota most (Err error) before after fits runs vain =
+    in_vain limits quota most before after fits vain
 
 -- ---- one after the other
 
@@ -298,29 +410,35 @@ module _ {K : Type 0} (takes : K → ℕ → ℤ → Result (Unit {0}) SinkFault
     (flushes : K → ℕ → Result (Unit {0}) SinkFault → K → Type 0) (limits : Limits) where
   pub serves-refl : (b : Book) (k : K) → Serves takes flushes limits None b b k k
   serves-refl b k = record {
-    besides = besides-refl is_of_source b;
+    besides = besides-refl is_elsewhere b;
     commits = refl;
     sinks_go_on = none_yet;
     no_source = refl;
     stay_taken = λ c taken. taken;
     ending = tt;
+    flushed = tt;
   }
 
   pub serves-trans : (ended : Option Ending) (a b c : Book) (i j k : K) → Serves takes flushes limits None a b i j
       → Serves takes flushes limits ended b c j k → Serves takes flushes limits ended a c i k
   serves-trans ended a b c i j k one two = record {
-    besides = besides-trans is_of_source a b c one.besides two.besides;
+    besides = besides-trans is_elsewhere a b c one.besides two.besides;
     commits = two.commits ∙ one.commits;
     sinks_go_on = served-trans takes flushes limits.take a.history i b.history j one.sinks_go_on two.sinks_go_on;
     no_source = two.no_source;
     stay_taken = λ c taken. two.stay_taken c (one.stay_taken c taken);
     ending = two.ending;
+    flushed =
+        flushed-trans takes flushes limits.take a.history i c.tables b.history j one.sinks_go_on ended c.history k
+        two.flushed;
   }
 
-  -- an ending is found
-  pub serves_ending : (ended : Option Ending) (a b : Book) (i j : K) → Serves takes flushes limits None a b i j
-      → MayEndWell limits ended b → Serves takes flushes limits ended a b i j
-  serves_ending ended a b i j one ends = record {
+  -- an ending is found once all sinks were flushed
+  pub serves_ending : (ended : Option Ending) (a b : Book) (i j : K) (xs : List ℕ)
+      → Serves takes flushes limits None a b i j → xs ≡ end_numbers is_sink a.tables
+      → AreFlushed flushes xs a.history i b.history j → MayEndWell limits ended b
+      → Serves takes flushes limits ended a b i j
+  serves_ending ended a b i j xs one all last ends = record {
     besides = one.besides;
     commits = one.commits;
     sinks_go_on =
@@ -329,6 +447,16 @@ module _ {K : Type 0} (takes : K → ℕ → ℤ → Result (Unit {0}) SinkFault
     no_source = ends.no_source;
     stay_taken = one.stay_taken;
     ending = ends.ending;
+    flushed =
+        ends_flushed takes flushes limits.take a.history i b.tables ended b.history j
+        (record {
+          before = a.history;
+          then = i;
+          served = none_yet;
+          last =
+              subst (λ ys. AreFlushed flushes ys a.history i b.history j)
+              (all ∙ ap (end_numbers is_sink) (sym one.besides.tables)) last;
+        });
   }
 
   -- what was taken stays taken
@@ -342,120 +470,178 @@ module _ {K : Type 0} (takes : K → ℕ → ℤ → Result (Unit {0}) SinkFault
       → Serves takes flushes limits ended a b i j → Serves takes flushes limits None a b i j
   serves_on ended a b i j on is = subst (λ e. Serves takes flushes limits e a b i j) (none_of ended on) is
 
-module _ {S K : Type 0} (gives : S → ℕ → Result (Option ℤ) SourceFault → S → Type 0) (at_hand : S → ℕ → Type 0)
-    (takes : K → ℕ → ℤ → Result (Unit {0}) SinkFault → K → Type 0)
+-- ---- a source is read
+
+no_sink_failed : (c : ℕ) (ended : Option Ending) → MayFail c ended → failed_sink ended ≡ None
+no_sink_failed c ended may =
+    elim may [ inl on ↦ ap failed_sink on | inr (fault, over) ↦ ap failed_sink over ]
+
+may_end : (limits : Limits) (c : ℕ) (ended : Option Ending) (b : Book) → MayFail c ended → AreTaken b.tables b.history
+    → MayEnd limits ended b
+may_end limits c ended b may taken =
+    elim may [
+      | inl on ↦ subst (λ e. MayEnd limits e b) (sym on) tt
+      | inr (fault, over) ↦ subst (λ e. MayEnd limits e b) (sym over) (tt, taken)
+    ]
+
+module _ {S K : Type 0} (gives : S → ℕ → Result (Option ℤ) SourceFault → S → Type 0) (looks : S → ℕ → S → Type 0)
+    (at_hand : S → ℕ → Type 0) (takes : K → ℕ → ℤ → Result (Unit {0}) SinkFault → K → Type 0)
     (flushes : K → ℕ → Result (Unit {0}) SinkFault → K → Type 0) (limits : Limits) where
-  pub goes_on-refl : (b : Book) (s : S) (k : K) → GoesOn gives at_hand takes flushes limits None b b s s k k
-  goes_on-refl b s k = record {
+  -- devices are looked at
+  pub looks_go_on : (b : Book) (r s : S) (k : K) → AreLookedAt looks r s
+      → GoesOn gives looks at_hand takes flushes limits None b b r s k k
+  looks_go_on b r s k around = record {
     tables = refl;
     commits = λ below. below;
-    sources_go_on = λ first fed. fed;
+    sources_go_on = λ first fed. fed_looked gives looks first b.tables b.history r fed around;
     sinks_go_on = none_yet;
-    calls_go_on = λ channels are s k called. called;
+    calls_go_on = λ t same u j called.
+        called_looked t gives looks at_hand takes flushes limits.take u j r k b.history called around;
     ending = tt;
+    flushed = tt;
   }
 
+  pub goes_on-refl : (b : Book) (s : S) (k : K) → GoesOn gives looks at_hand takes flushes limits None b b s s k k
+  goes_on-refl b s k = looks_go_on b s s k not_yet
+
   pub goes_on-trans : (ended : Option Ending) (a b c : Book) (r s u : S) (i j k : K)
-      → GoesOn gives at_hand takes flushes limits None a b r s i j
-      → GoesOn gives at_hand takes flushes limits ended b c s u j k
-      → GoesOn gives at_hand takes flushes limits ended a c r u i k
+      → GoesOn gives looks at_hand takes flushes limits None a b r s i j
+      → GoesOn gives looks at_hand takes flushes limits ended b c s u j k
+      → GoesOn gives looks at_hand takes flushes limits ended a c r u i k
   goes_on-trans ended a b c r s u i j k one two = record {
     tables = two.tables ∙ one.tables;
     commits = λ below. two.commits (one.commits below);
     sources_go_on = λ first fed. two.sources_go_on first (one.sources_go_on first fed);
     sinks_go_on = served-trans takes flushes limits.take a.history i b.history j one.sinks_go_on two.sinks_go_on;
-    calls_go_on = λ channels are s k called.
-        two.calls_go_on channels (are ∙ ap (end_numbers is_sink) (sym one.tables)) s k
-        (one.calls_go_on channels are s k called);
+    calls_go_on = λ t same s k called.
+        two.calls_go_on t (same ∙ sym one.tables) s k (one.calls_go_on t same s k called);
     ending = two.ending;
+    flushed =
+        flushed-trans takes flushes limits.take a.history i c.tables b.history j one.sinks_go_on ended c.history k
+        two.flushed;
   }
 
   pub serves_goes_on : (ended : Option Ending) (a b : Book) (s : S) (i j : K)
-      → Serves takes flushes limits ended a b i j → GoesOn gives at_hand takes flushes limits ended a b s s i j
+      → Serves takes flushes limits ended a b i j → GoesOn gives looks at_hand takes flushes limits ended a b s s i j
   serves_goes_on ended a b s i j is = record {
     tables = is.besides.tables;
     commits = λ below. let same = is.commits in omega arith;
     sources_go_on = λ first fed.
-        subst (λ f. Fed b.tables gives first b.history f s) (sym is.no_source)
-        (fed_besides gives first None s a b is.besides fed);
+        subst (λ f. Fed b.tables gives looks first b.history f s) (sym is.no_source)
+        (fed_besides gives looks first None s a b (besides_elsewhere a b is.besides) fed);
     sinks_go_on = is.sinks_go_on;
-    calls_go_on = λ channels are r k called.
-        by_sinks a.history b.history (failed_sink ended) s i j called is.sinks_go_on;
+    calls_go_on = λ t same r k called.
+        subst (λ X. Called t gives looks at_hand takes flushes limits.take r k X s j) (sym is.besides.history)
+        (by_sinks a.history is.besides.events (failed_sink ended) s i j called
+        (subst (λ X. ServedSince takes flushes limits.take a.history i X (failed_sink ended) j) is.besides.history
+        is.sinks_go_on)
+        is.besides.none);
     ending = is.ending;
+    flushed = is.flushed;
   }
 
   pub steps_go_on : (a b : Book) (s : S) (k : K) → IsStepped limits a b
-      → GoesOn gives at_hand takes flushes limits None a b s s k k
+      → GoesOn gives looks at_hand takes flushes limits None a b s s k k
   steps_go_on a b s k is = record {
     tables = is.besides.tables;
     commits = is.commits;
-    sources_go_on = λ first fed. fed_besides gives first None s a b (besides_sources a b is.besides) fed;
+    sources_go_on = λ first fed.
+        fed_besides gives looks first None s a b (besides_sources a b is.besides) fed;
     sinks_go_on =
         served_besides takes flushes limits.take a.history k None k a b (besides_sinks a b is.besides) none_yet;
-    calls_go_on = λ channels are r j called.
-        subst (λ X. Called gives at_hand takes flushes limits.take channels r j X s k) (sym is.besides.history)
-        (called_along gives at_hand takes flushes limits.take channels r j s k is.besides.events a.history
+    calls_go_on = λ t same r j called.
+        subst (λ X. Called t gives looks at_hand takes flushes limits.take r j X s k) (sym is.besides.history)
+        (called_along t gives looks at_hand takes flushes limits.take r j s k is.besides.events a.history
         is.besides.none called);
     ending = tt;
+    flushed = tt;
   }
 
   -- nothing happens to sinks while a source is read
-  sinks_wait : (c : ℕ) (ended : Option Ending) (a b : Book) (r s : S) (k : K) → Reads gives c ended a b r s
+  sinks_wait : (c : ℕ) (ended : Option Ending) (a b : Book) (r s : S) (k : K) → Reads gives looks c ended a b r s
       → ServedSince takes flushes limits.take a.history k b.history (failed_sink ended) k
   sinks_wait c ended a b r s k is =
-      subst (λ f. ServedSince takes flushes limits.take a.history k b.history f k) (sym is.no_sink)
+      subst (λ f. ServedSince takes flushes limits.take a.history k b.history f k)
+      (sym (no_sink_failed c ended is.ends))
       (served_besides takes flushes limits.take a.history k None k a b is.besides none_yet)
 
   -- after the answer of a source
-  called_then : (c : ℕ) (ended : Option Ending) (a b : Book) (r s : S) (k : K) → Reads gives c ended a b r s
-      → (channels : List ℕ) (u : S) (j : K) → ((answer : Result (Option ℤ) SourceFault) → gives r c answer s
-      → Called gives at_hand takes flushes limits.take channels u j (a.history ++ answered c answer) s k)
-      → Called gives at_hand takes flushes limits.take channels u j b.history s k
-  called_then c ended a b r s k is channels u j called =
-      subst (λ X. Called gives at_hand takes flushes limits.take channels u j X s k) (sym is.then)
-      (called_along gives at_hand takes flushes limits.take channels u j s k is.growth
-      (a.history ++ answered c is.answer) is.grown (called is.answer is.answers))
+  called_then : (c : ℕ) (ended : Option Ending) (a b : Book) (r s : S) (k : K)
+      → (is : Reads gives looks c ended a b r s)
+      → (t : Tables) (u : S) (j : K)
+      → Called t gives looks at_hand takes flushes limits.take u j (a.history ++ is.events) s k
+      → Called t gives looks at_hand takes flushes limits.take u j b.history s k
+  called_then c ended a b r s k is t u j called =
+      subst (λ X. Called t gives looks at_hand takes flushes limits.take u j X s k) (sym is.then)
+      (called_along t gives looks at_hand takes flushes limits.take u j s k is.growth (a.history ++ is.events)
+      (none_weaker is_no_growth is_of_outside growth_of_none is.growth is.grown) called)
 
   -- a source is read whose item is at hand
   pub reads_at_once : (c : ℕ) (ended : Option Ending) (a b : Book) (r s : S) (k : K) → at_hand r c
-      → Reads gives c ended a b r s → GoesOn gives at_hand takes flushes limits ended a b r s k k
+      → Reads gives looks c ended a b r s → GoesOn gives looks at_hand takes flushes limits ended a b r s k k
   reads_at_once c ended a b r s k hand is = record {
     tables = is.besides.tables;
     commits = λ below. let same = is.commits in omega arith;
     sources_go_on = is.sources_go_on;
     sinks_go_on = sinks_wait c ended a b r s k is;
-    calls_go_on = λ channels are u j called.
-        called_then c ended a b r s k is channels u j
-        (λ answer gave. read_at_once a.history c answer r s k called hand gave);
-    ending = is.ending limits;
+    calls_go_on = λ t same u j called.
+        called_then c ended a b r s k is t u j
+        (read_at_once a.history is.events c is.answer r s k called hand is.answers is.follows);
+    ending = may_end limits c ended b is.ends is.taken;
+    flushed = unflushed takes flushes limits.take a.history k b.tables c ended b.history k is.ends;
   }
 
+  -- a source is read if its item is at hand
+  pub reads_at_hand : (c : ℕ) (ended : Option Ending) (a b : Book) (r s : S) (k : K)
+      → ReadsAtHand gives looks at_hand c ended a b r s
+      → GoesOn gives looks at_hand takes flushes limits ended a b r s k k
+  reads_at_hand c ended a b r s k (not_read same on around) =
+      subst (λ e. GoesOn gives looks at_hand takes flushes limits e a b r s k k) (sym on)
+      (subst (λ x. GoesOn gives looks at_hand takes flushes limits None a x r s k k) (sym same)
+      (looks_go_on a r s k around))
+  reads_at_hand c ended a b r s k (is_read between around hand is) =
+      goes_on-trans ended a a b r between s k k k (looks_go_on a r between k around)
+      (reads_at_once c ended a b between s k hand is)
+
   -- a source is read once the devices of the sinks have handed on what they kept
-  pub reads_flushed : (c : ℕ) (ended : Option Ending) (a b d : Book) (r s : S) (i j : K)
-      → Serves takes flushes limits None a b i j
-      → AreFlushed flushes (end_numbers is_sink a.tables) a.history i b.history j → Reads gives c ended b d r s
-      → GoesOn gives at_hand takes flushes limits ended a d r s i j
-  reads_flushed c ended a b d r s i j serves handed_on is = record {
+  pub reads_flushed : (c : ℕ) (ended : Option Ending) (a b d : Book) (r u s : S) (i j : K) (xs : List ℕ)
+      → Serves takes flushes limits None a b i j → xs ≡ end_numbers is_sink a.tables
+      → AreFlushed flushes xs a.history i b.history j → HaveStopped b.tables b.history → AreLookedAt looks r u
+      → Reads gives looks c ended b d u s → GoesOn gives looks at_hand takes flushes limits ended a d r s i j
+  reads_flushed c ended a b d r u s i j xs serves all handed_on stopped around is = record {
     tables = is.besides.tables ∙ serves.besides.tables;
     commits = λ below. let same = is.commits in let as_before = serves.commits in omega arith;
     sources_go_on = λ first fed.
-        is.sources_go_on first (fed_besides gives first None r a b serves.besides fed);
+        is.sources_go_on first
+        (fed_looked gives looks first b.tables b.history r
+        (fed_besides gives looks first None r a b (besides_elsewhere a b serves.besides) fed) around);
     sinks_go_on =
         served-trans takes flushes limits.take a.history i b.history j serves.sinks_go_on
-        (sinks_wait c ended b d r s j is);
-    calls_go_on = λ channels are u k called.
-        called_then c ended b d r s j is channels u k
-        (λ answer gave.
-        waited_for a.history b.history c answer r s i j called
-        (subst (λ xs. AreFlushed flushes xs a.history i b.history j) (sym are) handed_on) gave);
-    ending = is.ending limits;
+        (sinks_wait c ended b d u s j is);
+    calls_go_on = λ t same v k called.
+        called_then c ended b d u s j is t v k
+        (waited_for a.history b.history is.events c is.answer r u s i j called
+        (subst (λ ys. AreFlushed flushes ys a.history i b.history j)
+        (all ∙ ap (end_numbers is_sink) (sym same)) handed_on)
+        (subst (λ x. HaveStopped x b.history) (serves.besides.tables ∙ sym same) stopped) around is.answers
+        is.follows);
+    ending = may_end limits c ended d is.ends is.taken;
+    flushed = unflushed takes flushes limits.take a.history i d.tables c ended d.history j is.ends;
   }
 
   -- the processes make steps, and the sinks are served
   pub taken_then : (ended : Option Ending) (a b c : Book) (s : S) (i j : K) → IsStepped limits a b
-      → Serves takes flushes limits ended b c i j → GoesOn gives at_hand takes flushes limits ended a c s s i j
+      → Serves takes flushes limits ended b c i j → GoesOn gives looks at_hand takes flushes limits ended a c s s i j
   taken_then ended a b c s i j one two =
       goes_on-trans ended a b c s s s i i j (steps_go_on a b s i one) (serves_goes_on ended b c s i j two)
+
+-- what was taken stays taken
+pub at_hand_taken : {S : Type 0} (gives : S → ℕ → Result (Option ℤ) SourceFault → S → Type 0)
+    (looks : S → ℕ → S → Type 0) (at_hand : S → ℕ → Type 0) (c : ℕ) (ended : Option Ending) (a b : Book) (r s : S)
+    → ReadsAtHand gives looks at_hand c ended a b r s → AreTaken a.tables a.history → AreTaken b.tables b.history
+at_hand_taken gives looks at_hand c ended a b r s (not_read same on around) taken =
+    subst (λ x. AreTaken x.tables x.history) (sym same) taken
+at_hand_taken gives looks at_hand c ended a b r s (is_read between around hand is) taken = is.taken
 
 -- ---- all sinks are flushed
 

@@ -1,34 +1,38 @@
 -- What becomes of what a device answers.
-use Rattle.std.proofs.Common.{◌≡◌, ℕ, zero, suc, ◌+◌, ◌<◌, ◌≤◌, Bool, true, false, cond, ℤ, List, [], ◌∷◌, ◌++◌, length, slice_get, get_or, is_some, IfOk, Option, Some, None, Result, Ok, Err, refl, sym, ap, ◌∙◌, subst, inl, inr, append-nil, append_assoc, arith}
+use Rattle.std.proofs.Common.{◌≡◌, ℕ, zero, suc, ◌+◌, ◌<◌, ◌≤◌, Bool, true, false, cond, ℤ, List, [], ◌∷◌, ◌++◌, length, slice_get, get_or, is_some, is_err, IfOk, OnErr, IfSome, IfNone, Option, Some, None, Result, Ok, Err, refl, sym, ap, ◌∙◌, subst, inl, inr, append-nil, append_assoc, arith}
 use Rattle.std.specs.List.{filter, range_with_len}
-use Rattle.std.proofs.lemmas.Bool.{cases_lt}
+use Rattle.std.proofs.lemmas.Bool.{cases_lt, false≢true}
 use Rattle.std.proofs.lemmas.List.{get_or_default}
 use Rattle.std.proofs.lemmas.List.Elements.{filter-append}
 use Rattle.std.proofs.lemmas.List.FromFn.{length-range_with_len, get_or-range_with_len}
-use Rattle.kpn_schedule.proofs.Queueing.{range_next}
+use Rattle.kpn_run_state.proofs.Queueing.{range_next}
 use Rattle.kpn_net.specs.declared.tables.ChannelSpec.{ChannelSpec}
-use Rattle.kpn_net.specs.Tables.{Tables, channel_at}
+use Rattle.kpn_net.specs.declared.tables.ChannelSpec.TheVariants as channel
+use Rattle.kpn_net.specs.Tables.{Tables, channel_at, is_source, is_sink}
 use Rattle.kpn_net.specs.Faults.{channel_numbers}
 use Rattle.kpn_chan.specs.Channel.{ChannelState, unread, next_item}
-use Rattle.kpn_history.specs.declared.event.Event.{Event}
-use Rattle.kpn_history.specs.declared.event.Event.TheVariants as event
-use Rattle.kpn_configuration.specs.Configuration.{channel_in}
+use Rattle.kpn_run_history.specs.declared.event.Event.{Event}
+use Rattle.kpn_run_history.specs.declared.event.Event.TheVariants as event
+use Rattle.kpn_run_history.specs.Channels.{written_in, is_left}
+use Rattle.kpn_run_history.proofs.Journals.{none_elsewhere}
+use Rattle.kpn_run_configuration.specs.Configuration.{channel_in}
 use Rattle.kpn_run_state.specs.Book.{Book}
 use Rattle.kpn_run_state.specs.Appending.{Happens}
 use Rattle.kpn_run_state.specs.Refusals.{Takes, Leaves, leaves_by}
-use Rattle.kpn_run_here.specs.declared.outcome.Limits.{Limits}
-use Rattle.kpn_run_here.proofs.Happening.{happens_commits, happens_history}
-use Rattle.kpn_run_here.proofs.Parts.{kept_member}
+use Rattle.kpn_book.specs.declared.outcome.Limits.{Limits}
+use Rattle.kpn_book.proofs.Happening.{happens_tables, happens_commits, happens_history}
+use Rattle.kpn_book.proofs.Parts.{kept_member}
 use Rattle.kpn_run_state.proofs.Agreeing.{number_below}
 use Rattle.kpn_stream.specs.declared.faults.SourceFault.{SourceFault}
+use Rattle.kpn_stream.specs.declared.faults.SourceFault.TheVariants as source_fault
 use Rattle.kpn_stream.specs.declared.faults.SinkFault.{SinkFault}
-use Rattle.kpn_stream.specs.declared.faults.SinkFault.TheVariants.{Gone, NoSample, Write}
+use Rattle.kpn_stream.specs.declared.faults.SinkFault.TheVariants.{Gone, NoSample, Write, NoMemory}
 use Rattle.kpn_stream.specs.declared.ending.Ending.{Ending}
 use Rattle.kpn_stream.specs.declared.ending.Ending.TheVariants.{SourceFailed, SinkFailed}
-use Rattle.kpn_stream.specs.Devices.{is_of_outside, is_of_source, is_of_sink, HasGiven, MayRead, Fed, by_item, by_end, by_fault, ServedSince, none_yet, took, took_not, flushed, flushed_not, left, had_enough, IsFlushed, answered}
-use Rattle.kpn_stream.specs.Ending.{end_numbers, IsTaken, AreTaken}
-use Rattle.kpn_stream.specs.Streaming.{IsHandled, IsLeaving, Serves, Reads}
-use Rattle.kpn_stream.proofs.Going.{besides-refl, happens_besides, growth_none, fed_happens, served_happens}
+use Rattle.kpn_stream.specs.Devices.{is_elsewhere, is_no_growth, is_of_sink, HasGiven, MayRead, Fed, by_item, by_end, by_fault, by_no_memory, ServedSince, none_yet, took, took_not, took_in_vain, flushed, flushed_not, left, left_not, had_enough, had_enough_not, IsFlushed, AreFlushed, EndsFlushed, answered}
+use Rattle.kpn_stream.specs.Ending.{end_numbers, AreLeft, IsTaken}
+use Rattle.kpn_stream.specs.Streaming.{MayEndWell, IsHandled, IsLeaving, leaves, stays, Serves, IsUnfed, Reads}
+use Rattle.kpn_stream.proofs.Going.{besides-refl, happens_besides, growth_none, fed_happens, served_happens, ends_flushed}
 use Rattle.kpn_stream.proofs.Moments.{happens_taken, left_then}
 
 -- ---- the ends by number
@@ -114,10 +118,33 @@ all_ends is_end t P xs i same past holds c below is =
 
 -- ---- answers
 
-pub if_both : {T E : Type 0} (r : Result T E) (P Q R : T → Type 0) → IfOk r P → IfOk r Q
-    → ((x : T) → P x → Q x → R x) → IfOk r R
-if_both (Ok x) P Q R p q f = f x p q
-if_both (Err e) P Q R p q f = tt
+pub if_done : {T E : Type 0} (r : Result T E) (P : Type 0) → IfOk r (λ _. P) → is_err r ≡ false → P
+if_done (Ok x) P is fine = is
+if_done (Err e) P is fine = absurd (false≢true (sym fine))
+
+pub if_refused : {T E : Type 0} (r : Result T E) (P : Type 0) → OnErr r P → is_err r ≡ true → P
+if_refused (Ok x) P is failed = absurd (false≢true failed)
+if_refused (Err e) P is failed = is
+
+-- ---- all sinks were left
+
+-- the devices of sinks that were left hand on nothing
+none_flushed : {K : Type 0} (flushes : K → ℕ → Result (Unit {0}) SinkFault → K → Type 0) (xs : List ℕ)
+    (H : List Event) (k : K) → ((j : ℕ) → j < length xs → is_left H (get_or xs j 0) ≡ true)
+    → AreFlushed flushes xs H k H k
+none_flushed flushes [] H k gone = (refl, refl)
+none_flushed flushes (x ∷ xs) H k gone = (
+  H,
+  k,
+  inl (gone 0 (omega arith), refl, refl),
+  none_flushed flushes xs H k (λ j less. gone (suc j) (omega arith)),
+)
+
+pub all_left : {K : Type 0} (flushes : K → ℕ → Result (Unit {0}) SinkFault → K → Type 0) (t : Tables)
+    (H : List Event) (k : K) → AreLeft t H → AreFlushed flushes (end_numbers is_sink t) H k H k
+all_left flushes t H k gone =
+    none_flushed flushes (end_numbers is_sink t) H k
+    (λ j less. gone (get_or (end_numbers is_sink t) j 0) (end_is is_sink t j 0 less).0)
 
 -- ---- items
 
@@ -140,7 +167,7 @@ takes_next c v w before after next takes =
 -- a sink that was not left is left now
 pub leaves_open : (c : ℕ) (before after : Book) → (channel_in before.configuration c).is_retired ≡ false
     → Leaves c before after → Happens (event.Leave c) before after
-leaves_open c before after not_left leaves = subst (λ b. leaves_by b c before after) not_left leaves.leaves
+leaves_open c before after not_left is = subst (λ b. leaves_by b c before after) not_left is.leaves
 
 -- ---- a sink
 
@@ -151,7 +178,7 @@ module _ {K : Type 0} (takes : K → ℕ → ℤ → Result (Unit {0}) SinkFault
       → (HasGiven limits.take before.history c → ⊥) → takes k c v (Ok tt) now → Happens (event.Take c v) before after
       → Serves takes flushes limits None before after k now
   serves_item c v before after k now few answer is = record {
-    besides = happens_besides is_of_source (λ p d n. refl) (event.Take c v) refl before after is;
+    besides = happens_besides is_elsewhere (λ p d n. refl) (event.Take c v) refl before after is;
     commits = happens_commits (event.Take c v) before after is;
     sinks_go_on =
         served_happens takes flushes limits.take before.history k None now (event.Take c v) before after is
@@ -159,18 +186,20 @@ module _ {K : Type 0} (takes : K → ℕ → ℤ → Result (Unit {0}) SinkFault
     no_source = refl;
     stay_taken = λ d. happens_taken (event.Take c v) d refl before after is;
     ending = tt;
+    flushed = tt;
   }
 
   -- its items were handed on
   pub serves_flush : (c : ℕ) (b : Book) (k now : K) → flushes k c (Ok tt) now
       → Serves takes flushes limits None b b k now
   serves_flush c b k now answer = record {
-    besides = besides-refl is_of_source b;
+    besides = besides-refl is_elsewhere b;
     commits = refl;
     sinks_go_on = flushed b.history c k now none_yet answer;
     no_source = refl;
     stay_taken = λ d taken. taken;
     ending = tt;
+    flushed = tt;
   }
 
   serves_over : (c : ℕ) (fault : SinkFault) (ended : Option Ending) (before after : Book) (k now : K)
@@ -180,33 +209,70 @@ module _ {K : Type 0} (takes : K → ℕ → ℤ → Result (Unit {0}) SinkFault
       subst (λ e. Serves takes flushes limits e before after k now) (sym over)
       (subst (λ b. Serves takes flushes limits (Some (SinkFailed c fault)) before b k now) (sym same)
       (record {
-        besides = besides-refl is_of_source before;
+        besides = besides-refl is_elsewhere before;
         commits = refl;
         sinks_go_on = fails;
         no_source = refl;
         stay_taken = λ d taken. taken;
         ending = (tt, tt);
+        flushed = tt;
       }))
+
+  -- memory ran out before the item could be taken
+  pub serves_in_vain : (c : ℕ) (v : ℤ) (before after : Book) (k now : K)
+      → (HasGiven limits.take before.history c → ⊥) → takes k c v (Ok tt) now → after ≡ before
+      → Serves takes flushes limits (Some (SinkFailed c NoMemory)) before after k now
+  serves_in_vain c v before after k now few answer same =
+      serves_over c NoMemory (Some (SinkFailed c NoMemory)) before after k now
+      (took_in_vain before.history c v k now none_yet few answer) same refl
+
+  -- the sink was left
+  serves_left : (c : ℕ) (ended : Option Ending) (before after : Book) (k now : K)
+      → ServedSince takes flushes limits.take before.history k (before.history ++ event.Leave c ∷ []) None now
+      → Happens (event.Leave c) before after → MayEndWell limits ended after
+      → (is_some ended ≡ true → AreLeft after.tables after.history)
+      → Serves takes flushes limits ended before after k now
+  serves_left c ended before after k now served is ends all = record {
+    besides = happens_besides is_elsewhere (λ p d n. refl) (event.Leave c) refl before after is;
+    commits = happens_commits (event.Leave c) before after is;
+    sinks_go_on =
+        subst (λ f. ServedSince takes flushes limits.take before.history k after.history f now) (sym ends.no_sink)
+        later;
+    no_source = ends.no_source;
+    stay_taken = λ d. happens_taken (event.Leave c) d refl before after is;
+    ending = ends.ending;
+    flushed = by ended all;
+  }
+    where
+      later : ServedSince takes flushes limits.take before.history k after.history None now
+      later = served_happens takes flushes limits.take before.history k None now (event.Leave c) before after is served
+
+      by : (ended : Option Ending) → (is_some ended ≡ true → AreLeft after.tables after.history)
+          → EndsFlushed takes flushes limits.take after.tables before.history k ended after.history now
+      by None all = tt
+      by (Some ending) all =
+          ends_flushed takes flushes limits.take before.history k after.tables (Some ending) after.history now
+          (record {
+            before = after.history;
+            then = now;
+            served = later;
+            last = all_left flushes after.tables after.history now (all refl);
+          })
 
   -- the device has failed
   serves_failed : (c : ℕ) (fault : SinkFault) (ended : Option Ending) (before after : Book) (k now : K)
       → ServedSince takes flushes limits.take before.history k before.history (Some (c, fault)) now
       → IsHandled limits c fault ended before after → Serves takes flushes limits ended before after k now
-  serves_failed c Gone ended before after k now fails is = record {
-    besides = happens_besides is_of_source (λ p d n. refl) (event.Leave c) refl before after is.happens;
-    commits = happens_commits (event.Leave c) before after is.happens;
-    sinks_go_on =
-        subst (λ f. ServedSince takes flushes limits.take before.history k after.history f now) (sym is.ends.no_sink)
-        (served_happens takes flushes limits.take before.history k None now (event.Leave c) before after is.happens
-        (left before.history c now fails));
-    no_source = is.ends.no_source;
-    stay_taken = λ d. happens_taken (event.Leave c) d refl before after is.happens;
-    ending = is.ends.ending;
-  }
+  serves_failed c Gone ended before after k now fails (leaves is ends all) =
+      serves_left c ended before after k now (left before.history c now fails) is ends all
+  serves_failed c Gone ended before after k now fails (stays same over) =
+      serves_over c NoMemory ended before after k now (left_not before.history c now fails) same over
   serves_failed c (NoSample v) ended before after k now fails is =
       serves_over c (NoSample v) ended before after k now fails is.0 is.1
   serves_failed c Write ended before after k now fails is =
       serves_over c Write ended before after k now fails is.0 is.1
+  serves_failed c NoMemory ended before after k now fails is =
+      serves_over c NoMemory ended before after k now fails is.0 is.1
 
   pub serves_not : (c : ℕ) (v : ℤ) (fault : SinkFault) (ended : Option Ending) (before after : Book) (k now : K)
       → (HasGiven limits.take before.history c → ⊥) → takes k c v (Err fault) now
@@ -226,100 +292,140 @@ module _ {K : Type 0} (takes : K → ℕ → ℤ → Result (Unit {0}) SinkFault
   pub serves_enough : (c : ℕ) (ended : Option Ending) (before after : Book) (k now : K)
       → HasGiven limits.take before.history c → flushes k c (Ok tt) now → IsLeaving limits c ended before after
       → Serves takes flushes limits ended before after k now
-  serves_enough c ended before after k now enough answer is = record {
-    besides = happens_besides is_of_source (λ p d n. refl) (event.Leave c) refl before after is.happens;
-    commits = happens_commits (event.Leave c) before after is.happens;
-    sinks_go_on =
-        subst (λ f. ServedSince takes flushes limits.take before.history k after.history f now) (sym is.ends.no_sink)
-        (served_happens takes flushes limits.take before.history k None now (event.Leave c) before after is.happens
-        (had_enough before.history c k now none_yet enough answer));
-    no_source = is.ends.no_source;
-    stay_taken = λ d. happens_taken (event.Leave c) d refl before after is.happens;
-    ending = is.ends.ending;
-  }
+  serves_enough c ended before after k now enough answer (leaves is ends all) =
+      serves_left c ended before after k now (had_enough before.history c k now none_yet enough answer) is ends all
+  serves_enough c ended before after k now enough answer (stays same over) =
+      serves_over c NoMemory ended before after k now (had_enough_not before.history c k now none_yet enough answer)
+      same over
+
+no_ending : (ending : Ending) (ended : Option Ending) → ended ≡ Some ending → ended ≡ None → ⊥
+no_ending ending ended over on = let clash : Some ending ≡ None = sym over ∙ on in cc
+
+-- a sink that is left was taken, or the stream has ended
+pub leaving_taken : (limits : Limits) (c : ℕ) (ended : Option Ending) (before after : Book)
+    → IsLeaving limits c ended before after → ended ≡ None → IsTaken after.history c
+leaving_taken limits c ended before after (leaves is ends all) on = left_then c before after is
+leaving_taken limits c ended before after (stays same over) on =
+    absurd (no_ending (SinkFailed c NoMemory) ended over on)
 
 -- a sink whose device has failed was left, or the stream has ended
 pub handled_taken : (limits : Limits) (c : ℕ) (fault : SinkFault) (ended : Option Ending) (before after : Book)
     → IsHandled limits c fault ended before after → ended ≡ None → IsTaken after.history c
-handled_taken limits c Gone ended before after is on = left_then c before after is.happens
-handled_taken limits c (NoSample v) ended before after is on = absurd (no_ending (sym is.1 ∙ on))
-  where
-    no_ending : Some (SinkFailed c (NoSample v)) ≡ None → ⊥
-    no_ending e = cc
-handled_taken limits c Write ended before after is on = absurd (no_ending (sym is.1 ∙ on))
-  where
-    no_ending : Some (SinkFailed c Write) ≡ None → ⊥
-    no_ending e = cc
+handled_taken limits c Gone ended before after is on = leaving_taken limits c ended before after is on
+handled_taken limits c (NoSample v) ended before after is on =
+    absurd (no_ending (SinkFailed c (NoSample v)) ended is.1 on)
+handled_taken limits c Write ended before after is on = absurd (no_ending (SinkFailed c Write) ended is.1 on)
+handled_taken limits c NoMemory ended before after is on = absurd (no_ending (SinkFailed c NoMemory) ended is.1 on)
 
 -- a sink whose device can't hand on was left, or the stream has ended
 pub handled_flushed : {K : Type 0} (flushes : K → ℕ → Result (Unit {0}) SinkFault → K → Type 0) (limits : Limits)
     (c : ℕ) (fault : SinkFault) (ended : Option Ending) (before after : Book) (k now : K) → flushes k c (Err fault) now
     → IsHandled limits c fault ended before after → ended ≡ None
     → IsFlushed flushes c before.history k after.history now
-handled_flushed flushes limits c Gone ended before after k now answer is on =
-    let h = is.happens in
+handled_flushed flushes limits c Gone ended before after k now answer (leaves h ends all) on =
     inr (inr (
       answer,
       h.growth,
-      growth_none is_of_outside (λ p d n. refl) before.tables (before.history ++ event.Leave c ∷ []) h.growth h.owed,
+      growth_none is_no_growth (λ p d n. refl) before.tables (before.history ++ event.Leave c ∷ []) h.growth h.owed,
       happens_history (event.Leave c) before after h,
     ))
+handled_flushed flushes limits c Gone ended before after k now answer (stays same over) on =
+    absurd (no_ending (SinkFailed c NoMemory) ended over on)
 handled_flushed flushes limits c (NoSample v) ended before after k now answer is on =
-    absurd (no_ending (sym is.1 ∙ on))
-  where
-    no_ending : Some (SinkFailed c (NoSample v)) ≡ None → ⊥
-    no_ending e = cc
-handled_flushed flushes limits c Write ended before after k now answer is on = absurd (no_ending (sym is.1 ∙ on))
-  where
-    no_ending : Some (SinkFailed c Write) ≡ None → ⊥
-    no_ending e = cc
+    absurd (no_ending (SinkFailed c (NoSample v)) ended is.1 on)
+handled_flushed flushes limits c Write ended before after k now answer is on =
+    absurd (no_ending (SinkFailed c Write) ended is.1 on)
+handled_flushed flushes limits c NoMemory ended before after k now answer is on =
+    absurd (no_ending (SinkFailed c NoMemory) ended is.1 on)
 
 -- ---- a source
 
-module _ {S : Type 0} (gives : S → ℕ → Result (Option ℤ) SourceFault → S → Type 0) (c : ℕ) (ended : Option Ending)
-    (before after : Book) (s now : S) (may : MayRead before.tables before.history c) where
+-- no source is a sink
+no_sink_too : (it : ChannelSpec) → is_source it ≡ true → is_sink it ≡ true → ⊥
+no_sink_too channel.Source source sink = absurd cc
+no_sink_too (channel.Inner cap) source sink = absurd cc
+no_sink_too (channel.Sink cap) source sink = absurd cc
+
+-- an item on a source is none on a sink
+feed_elsewhere : (t : Tables) (c d : ℕ) (v : ℤ) → is_source (channel_at t c) ≡ true → is_sink (channel_at t d) ≡ true
+    → written_in d (event.Feed c v) ≡ []
+feed_elsewhere t c d v source sink =
+    none_elsewhere c d v
+    (λ same. no_sink_too (channel_at t d) (subst (λ x. is_source (channel_at t x) ≡ true) same source) sink)
+
+module _ {S : Type 0} (gives : S → ℕ → Result (Option ℤ) SourceFault → S → Type 0) (looks : S → ℕ → S → Type 0)
+    (c : ℕ) (before : Book) (s now : S) (may : MayRead before.tables before.history c) where
   -- an event of the source follows its answer
-  reads_event : (e : Event) (answer : Result (Option ℤ) SourceFault) → answered c answer ≡ e ∷ [] → gives s c answer now
-      → is_of_sink e ≡ false → Happens e before after → ended ≡ None → ((first : S) → Fed before.tables gives first before.history None s
-      → Fed before.tables gives first (before.history ++ e ∷ []) None now) → Reads gives c ended before after s now
-  reads_event e answer follows gave other is on feeds =
-      subst (λ x. Reads gives c x before after s now) (sym on)
-      (record {
-        besides = happens_besides is_of_sink (λ p d n. refl) e other before after is;
-        commits = happens_commits e before after is;
-        sources_go_on = λ first fed. fed_happens gives first None now e before after is (feeds first fed);
-        no_sink = refl;
-        answer = answer;
-        answers = gave;
-        growth = is.growth;
-        grown = growth_none is_of_outside (λ p d n. refl) before.tables (before.history ++ e ∷ []) is.growth is.owed;
-        then = happens_history e before after is ∙ sym (append_assoc before.history (e ∷ []) is.growth)
-            ∙ ap (λ xs. (before.history ++ xs) ++ is.growth) (sym follows);
-        ending = λ limits. tt;
-      })
+  reads_event : (e : Event) (answer : Result (Option ℤ) SourceFault) (after : Book) → answered c answer ≡ e ∷ []
+      → gives s c answer now → is_of_sink e ≡ false
+      → ((d : ℕ) → is_sink (channel_at before.tables d) ≡ true → written_in d e ≡ []) → Happens e before after
+      → ((first : S) → Fed before.tables gives looks first before.history None s
+      → Fed before.tables gives looks first (before.history ++ e ∷ []) None now)
+      → Reads gives looks c None before after s now
+  reads_event e answer after follows gave other writes_none is feeds = record {
+    besides = happens_besides is_of_sink (λ p d n. refl) e other before after is;
+    commits = happens_commits e before after is;
+    sources_go_on = λ first fed. fed_happens gives looks first None now e before after is (feeds first fed);
+    ends = inl refl;
+    taken = λ d sink.
+        let here : is_sink (channel_at before.tables d) ≡ true =
+        subst (λ t. is_sink (channel_at t d) ≡ true) (happens_tables e before after is) sink in
+        happens_taken e d (writes_none d here) before after is (may.taken d here);
+    answer = answer;
+    answers = gave;
+    events = e ∷ [];
+    follows = inl (sym follows);
+    growth = is.growth;
+    grown = growth_none is_no_growth (λ p d n. refl) before.tables (before.history ++ e ∷ []) is.growth is.owed;
+    then = happens_history e before after is ∙ sym (append_assoc before.history (e ∷ []) is.growth);
+  }
 
-  pub reads_item : (v : ℤ) → gives s c (Ok (Some v)) now → Happens (event.Feed c v) before after → ended ≡ None
-      → Reads gives c ended before after s now
-  reads_item v answer is on =
-      reads_event (event.Feed c v) (Ok (Some v)) refl answer refl is on (λ first fed. by_item before.history c v s now fed may answer)
+  reads_over : (fault : SourceFault) (answer : Result (Option ℤ) SourceFault) → gives s c answer now
+      → ((first : S) → Fed before.tables gives looks first before.history None s
+      → Fed before.tables gives looks first before.history (Some (c, fault)) now)
+      → Reads gives looks c (Some (SourceFailed c fault)) before before s now
+  reads_over fault answer gave fails = record {
+    besides = besides-refl is_of_sink before;
+    commits = refl;
+    sources_go_on = fails;
+    ends = inr (fault, refl);
+    taken = may.taken;
+    answer = answer;
+    answers = gave;
+    events = [];
+    follows = inr refl;
+    growth = [];
+    grown = tt;
+    then = sym (append-nil (before.history ++ []) ∙ append-nil before.history);
+  }
 
-  pub reads_end : gives s c (Ok None) now → Happens (event.Close c) before after → ended ≡ None
-      → Reads gives c ended before after s now
-  reads_end answer is on =
-      reads_event (event.Close c) (Ok None) refl answer refl is on (λ first fed. by_end before.history c s now fed may answer)
+  pub reads_fault : (fault : SourceFault) → gives s c (Err fault) now
+      → Reads gives looks c (Some (SourceFailed c fault)) before before s now
+  reads_fault fault answer =
+      reads_over fault (Err fault) answer
+      (λ first fed. by_fault before.history c fault s now fed may answer)
 
-pub reads_fault : {S : Type 0} (gives : S → ℕ → Result (Option ℤ) SourceFault → S → Type 0) (c : ℕ)
-    (fault : SourceFault) (b : Book) (s now : S) → MayRead b.tables b.history c → AreTaken b.tables b.history
-    → gives s c (Err fault) now → Reads gives c (Some (SourceFailed c fault)) b b s now
-reads_fault gives c fault b s now may taken answer = record {
-  besides = besides-refl is_of_sink b;
-  commits = refl;
-  sources_go_on = λ first fed. by_fault b.history c fault s now fed may answer;
-  no_sink = refl;
-  answer = Err fault;
-  answers = answer;
-  growth = [];
-  grown = tt;
-  then = sym (append-nil (b.history ++ []) ∙ append-nil b.history);
-  ending = λ limits. (tt, taken);
-}
+  unfed : (given : Option ℤ) (ending : Ending) (after : Book) → gives s c (Ok given) now
+      → IsUnfed c before after ending → Reads gives looks c (Some ending) before after s now
+  unfed given ending after answer is =
+      subst (λ e. Reads gives looks c (Some e) before after s now) (sym is.0)
+      (subst (λ b. Reads gives looks c (Some (SourceFailed c source_fault.NoMemory)) before b s now) (sym is.1)
+      (reads_over source_fault.NoMemory (Ok given) answer
+      (λ first fed. by_no_memory before.history c given s now fed may answer)))
+
+  pub reads_item : (v : ℤ) (ended : Option Ending) (after : Book) → gives s c (Ok (Some v)) now
+      → IfNone ended (Happens (event.Feed c v) before after) → IfSome ended (IsUnfed c before after)
+      → Reads gives looks c ended before after s now
+  reads_item v None after answer fed refused =
+      reads_event (event.Feed c v) (Ok (Some v)) after refl answer refl
+      (λ d. feed_elsewhere before.tables c d v may.may_feed.source) fed
+      (λ first so_far. by_item before.history c v s now so_far may answer)
+  reads_item v (Some ending) after answer fed refused = unfed (Some v) ending after answer refused
+
+  pub reads_end : (ended : Option Ending) (after : Book) → gives s c (Ok None) now
+      → IfNone ended (Happens (event.Close c) before after) → IfSome ended (IsUnfed c before after)
+      → Reads gives looks c ended before after s now
+  reads_end None after answer closed refused =
+      reads_event (event.Close c) (Ok None) after refl answer refl (λ d _. refl) closed
+      (λ first so_far. by_end before.history c s now so_far may answer)
+  reads_end (Some ending) after answer closed refused = unfed None ending after answer refused

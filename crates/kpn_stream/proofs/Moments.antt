@@ -1,33 +1,32 @@
 -- What holds of a book at one moment: who waits, whether all have stopped, and what lies on the sinks.
-use Rattle.std.proofs.Common.{◌≡◌, ℕ, ◌-◌, ◌+◌, ◌<◌, Bool, true, false, not, cond, ℤ, List, [], ◌∷◌, ◌++◌, length, drop, slice_get, get_or, count_by, Option, Some, None, is_some, refl, sym, ap, ◌∙◌, subst, inl, inr, append-nil, append_assoc, length-append, arith}
+use Rattle.std.proofs.Common.{◌≡◌, ℕ, ◌<◌, Bool, true, false, not, cond, ℤ, List, [], ◌∷◌, ◌++◌, length, drop, slice_get, Option, Some, None, is_some, refl, sym, ap, ◌∙◌, subst, inl, inr, append-nil, append_assoc, length-append, arith}
 use Rattle.std.proofs.lemmas.Bool.{eqb-true, eq-eqb, false≢true, or_left, or_right}
-use Rattle.kpn_net.specs.declared.wait.Wait.TheVariants.{Empty}
-use Rattle.kpn_net.specs.Tables.{Tables, channel_at, is_sink, reader_of}
+use Rattle.kpn_net.specs.Tables.{Tables, channel_at, is_sink}
 use Rattle.kpn_net.proofs.Networks.{reader_of-sink, sink_there}
 use Rattle.kpn_chan.specs.Channel.{ChannelState, unread, next_item}
-use Rattle.kpn_schedule.specs.Schedule.{state_at}
-use Rattle.kpn_schedule.proofs.Tallies.{not_counted}
-use Rattle.kpn_history.specs.declared.event.Event.{Event}
-use Rattle.kpn_history.specs.declared.event.Event.TheVariants as event
-use Rattle.kpn_history.specs.declared.state.State.{State}
-use Rattle.kpn_history.specs.declared.state.State.TheVariants.{Ready, Held, WaitsEmpty, WaitsFull, Ended}
-use Rattle.kpn_history.specs.declared.state.Counts.{Counts}
-use Rattle.kpn_history.specs.Channels.{written_in, written_on, read_in, read_on, unread_on, is_left, is_leave_of, is_empty, lives}
-use Rattle.kpn_history.specs.Ends.{HaveStopped}
-use Rattle.kpn_history.specs.Views.{is_ready, is_held, is_stopped, AreCounts}
-use Rattle.kpn_history.proofs.AfterEvent.{is_left-next}
-use Rattle.kpn_history.proofs.Events.{written_on-same, read_on-push}
-use Rattle.kpn_history.proofs.OneMore.{unread_length, unread_length-push}
-use Rattle.kpn_history.proofs.States.{stopped_state}
-use Rattle.kpn_configuration.specs.Configuration.{channel_in}
-use Rattle.kpn_configuration.specs.Woken.{waiting_reader}
-use Rattle.kpn_configuration.proofs.Waking.{who_reads}
+use Rattle.kpn_run_state.specs.Schedule.{state_at}
+use Rattle.kpn_run_state.proofs.Tallies.{not_counted}
+use Rattle.kpn_run_history.specs.declared.event.Event.{Event}
+use Rattle.kpn_run_history.specs.declared.event.Event.TheVariants as event
+use Rattle.kpn_run_history.specs.declared.state.State.{State}
+use Rattle.kpn_run_history.specs.declared.state.State.TheVariants.{Ready, Held}
+use Rattle.kpn_run_history.specs.declared.state.Counts.{Counts}
+use Rattle.kpn_run_history.specs.Channels.{written_in, read_in, read_on, unread_on, is_left, is_leave_of, lives}
+use Rattle.kpn_run_history.specs.Ends.{HaveStopped}
+use Rattle.kpn_run_history.specs.Views.{is_ready, is_held, is_stopped, AreCounts}
+use Rattle.kpn_run_history.proofs.AfterEvent.{is_left-next}
+use Rattle.kpn_run_history.proofs.Events.{written_on-same, read_on-push}
+use Rattle.kpn_run_history.proofs.OneMore.{unread_length, unread_length-push}
+use Rattle.kpn_run_history.proofs.States.{stopped_state}
+use Rattle.kpn_run_configuration.specs.Configuration.{channel_in}
+use Rattle.kpn_run_configuration.specs.Woken.{waiting_reader}
+use Rattle.kpn_run_configuration.proofs.Waking.{who_reads}
 use Rattle.kpn_run_state.specs.Book.{Book}
 use Rattle.kpn_run_state.specs.Kept.{IsBook}
 use Rattle.kpn_run_state.specs.Appending.{IsGrowthOwed, Happens}
 use Rattle.kpn_run_state.proofs.Standing.{states_now}
-use Rattle.kpn_run_here.proofs.Ends.{AddNothing}
-use Rattle.kpn_run_here.proofs.Happening.{happens_history, happens_written, happens_read}
+use Rattle.kpn_book.proofs.Ends.{AddNothing}
+use Rattle.kpn_book.proofs.Happening.{happens_history, happens_written, happens_read}
 use Rattle.kpn_stream.specs.Devices.{IsAwaited}
 use Rattle.kpn_stream.specs.Ending.{AreLeft, IsTaken, AreTaken}
 
@@ -87,8 +86,8 @@ pub taken_if_retired : (b : Book) → IsBook b → (c : ℕ) → is_sink (channe
     → (channel_in b.configuration c).is_retired ≡ true → IsTaken b.history c
 taken_if_retired b book c sink retired = inr (left_if_retired b book c sink retired)
 
-pub taken_if_left : (b : Book) → IsBook b → AreLeft b → AreTaken b.tables b.history
-taken_if_left b book left c sink = taken_if_retired b book c sink (left c sink)
+pub taken_if_left : (t : Tables) (H : List Event) → AreLeft t H → AreTaken t H
+taken_if_left t H left c sink = inr (left c sink)
 
 none_unread : (xs : List ℤ) → slice_get xs 0 ≡ None → length xs ≡ 0
 none_unread [] is = refl

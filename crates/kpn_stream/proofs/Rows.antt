@@ -1,18 +1,18 @@
 -- Worked rows: what the definitions say of a source whose device is a list in memory, and of a process that copies it.
-use Rattle.std.proofs.Common.{◌≡◌, ◌≢◌, ℕ, ◌<◌, Bool, true, false, cond, eqb, ℤ, pos, List, [], ◌∷◌, Option, Some, None, Result, Ok, Err, refl, sym, ap, ◌∙◌, subst, inl, inr, arith}
+use Rattle.std.proofs.Common.{◌≡◌, ◌≢◌, ℕ, false, cond, eqb, ℤ, pos, List, [], ◌∷◌, Option, Some, None, Result, Ok, Err, refl, sym, ap, ◌∙◌, subst, inl, inr, arith}
 use Rattle.std.proofs.lemmas.Bool.{ne_eqb}
 use Rattle.kpn_net.specs.declared.tables.ChannelSpec.TheVariants as channel
-use Rattle.kpn_net.specs.declared.tables.Policy.{Policy}
 use Rattle.kpn_net.specs.declared.tables.Policy.TheVariants.{Cycles, All}
 use Rattle.kpn_net.specs.declared.tables.Growth.TheVariants.{One}
-use Rattle.kpn_net.specs.declared.wait.Wait.{Wait}
 use Rattle.kpn_net.specs.declared.wait.Wait.TheVariants.{Nobody, Empty}
 use Rattle.kpn_net.specs.Tables.{Tables}
-use Rattle.kpn_history.specs.declared.event.Event.TheVariants.{WaitEmpty, Feed, Close}
+use Rattle.kpn_run_history.specs.declared.event.Event.TheVariants.{WaitEmpty, Feed, Close}
 use Rattle.kpn_stream.specs.declared.faults.SourceFault.{SourceFault}
-use Rattle.kpn_stream.specs.Devices.{MayRead, Fed, at_first, by_others, by_item, by_end}
+use Rattle.kpn_stream.specs.declared.faults.SinkFault.{SinkFault}
+use Rattle.kpn_stream.specs.Devices.{MayRead, Fed, at_first, by_others, by_item, by_end, Called}
 use Rattle.kpn_stream.specs.Lists.{GivesList, GiveInTurn}
 use Rattle.kpn_stream.proofs.Listing.{fed_when_due, gives_ahead}
+use Rattle.kpn_stream.proofs.Order.{was_at_rest}
 
 -- process 0 reads source 0 and writes sink 1
 abbrev copies : Tables
@@ -31,28 +31,33 @@ Pops (v ∷ rest) c (Ok (Some w)) now = (c ≡ 0) × (w ≡ v) × (now ≡ rest)
 Pops [] c (Ok None) now = (c ≡ 0) × (now ≡ [])
 Pops list c answer now = ⊥
 
--- process 0 waits for an item of source 0
+-- a look changes nothing
+abbrev Stays : List ℤ → ℕ → List ℤ → Type 0
+Stays list c now = now ≡ list
+
+-- process 0 waits for an item of source 0, and nothing came to sink 1
 may_read : MayRead copies (WaitEmpty 0 0 ∷ []) 0
 may_read = record {
   may_feed = record { source = refl; not_closed = refl };
   needed = inl (record { reader = 0; there = omega arith; waits = refl });
+  taken = λ c sink. inl refl;
 }
 
 -- a process waits, and the item is read
-read_when_awaited : Fed copies Pops (pos 7 ∷ []) (WaitEmpty 0 0 ∷ Feed 0 (pos 7) ∷ []) None []
+read_when_awaited : Fed copies Pops Stays (pos 7 ∷ []) (WaitEmpty 0 0 ∷ Feed 0 (pos 7) ∷ []) None []
 read_when_awaited =
     by_item (WaitEmpty 0 0 ∷ []) 0 (pos 7) (pos 7 ∷ []) []
     (by_others [] (WaitEmpty 0 0) None (pos 7 ∷ []) at_first refl) may_read (refl, refl, refl)
 
 -- a process waits, and the end is told
-closed_when_awaited : Fed copies Pops [] (WaitEmpty 0 0 ∷ Close 0 ∷ []) None []
+closed_when_awaited : Fed copies Pops Stays [] (WaitEmpty 0 0 ∷ Close 0 ∷ []) None []
 closed_when_awaited =
     by_end (WaitEmpty 0 0 ∷ []) 0 [] [] (by_others [] (WaitEmpty 0 0) None [] at_first refl) may_read (refl, refl)
 
 -- nobody waits yet: the item is not read, although it is there
-not_read_ahead : Fed copies Pops (pos 7 ∷ []) (Feed 0 (pos 7) ∷ []) None [] → ⊥
+not_read_ahead : Fed copies Pops Stays (pos 7 ∷ []) (Feed 0 (pos 7) ∷ []) None [] → ⊥
 not_read_ahead fed =
-    let may = fed_when_due Pops (pos 7 ∷ []) copies fed [] 0 (pos 7) (refl, tt) in
+    let may = fed_when_due Pops Stays (pos 7 ∷ []) copies fed [] 0 (pos 7) (refl, tt) in
     elim may.needed [
       | inl awaited ↦ let clash : Nobody ≡ Empty 0 = awaited.waits in cc
       | inr stuck ↦ let clash : Cycles ≡ All = stuck.policy in cc
@@ -62,9 +67,9 @@ not_read_ahead fed =
 on_source : List ℤ → ℕ → List ℤ
 on_source list c = cond (eqb c 0) list []
 
-pops_in_turn : GiveInTurn Pops on_source
+pops_in_turn : GiveInTurn Pops Stays on_source
 unfolding on_source
-pops_in_turn = record { item = item; end = end; fault = fault; others = others }
+pops_in_turn = record { item = item; end = end; fault = fault; look = look; others = others }
   where
     item : (s now : List ℤ) (c : ℕ) (v : ℤ) → Pops s c (Ok (Some v)) now
         → cond (eqb c 0) s [] ≡ v ∷ cond (eqb c 0) now []
@@ -82,6 +87,9 @@ pops_in_turn = record { item = item; end = end; fault = fault; others = others }
     fault [] now c why gives = absurd gives
     fault (w ∷ rest) now c why gives = absurd gives
 
+    look : (s now : List ℤ) (c d : ℕ) → Stays s d now → cond (eqb c 0) now [] ≡ cond (eqb c 0) s []
+    look s now c d same = ap (λ list. cond (eqb c 0) list []) same
+
     number : (s now : List ℤ) (d : ℕ) (answer : Result (Option ℤ) SourceFault) → Pops s d answer now → d ≡ 0
     number (v ∷ rest) now d (Ok (Some w)) gives = gives.0
     number [] now d (Ok None) gives = gives.0
@@ -93,6 +101,19 @@ pops_in_turn = record { item = item; end = end; fault = fault; others = others }
         let away : eqb c 0 ≡ false = ne_eqb c 0 (λ e. other (number s now d answer gives ∙ sym e)) in
         ap (λ b. cond b now []) away ∙ sym (ap (λ b. cond b s []) away)
 
-gives_its_list : GivesList Pops (pos 7 ∷ pos 8 ∷ []) 0 (pos 7 ∷ pos 8 ∷ [])
+gives_its_list : GivesList Pops Stays (pos 7 ∷ pos 8 ∷ []) 0 (pos 7 ∷ pos 8 ∷ [])
 unfolding on_source
-gives_its_list = gives_ahead Pops on_source pops_in_turn (pos 7 ∷ pos 8 ∷ []) 0
+gives_its_list = gives_ahead Pops Stays on_source pops_in_turn (pos 7 ∷ pos 8 ∷ []) 0
+
+-- nothing is ever at hand, and a source is read while process 0 is ready: no order of calls is so
+not_waited_for : (takes : ℕ → ℕ → ℤ → Result (Unit {0}) SinkFault → ℕ → Type 0)
+    (flushes : ℕ → ℕ → Result (Unit {0}) SinkFault → ℕ → Type 0)
+    → Called copies Pops Stays (λ list c. ⊥) takes flushes None (pos 7 ∷ []) 0 (Feed 0 (pos 7) ∷ []) [] 0 → ⊥
+not_waited_for takes flushes called =
+    let rest =
+    was_at_rest copies Pops Stays (λ list c. ⊥) takes flushes None (pos 7 ∷ []) 0 (λ r c hand. hand) called [] in
+    elim (rest (Feed 0 (pos 7)) (refl, tt) 0 (omega arith)) [
+      | inl ended ↦ absurd cc
+      | inr (inl waits) ↦ let clash = waits.blocked in cc
+      | inr (inr waits) ↦ let clash = waits.blocked in cc
+    ]

@@ -4,19 +4,18 @@ use Rattle.std.specs.List.{filter}
 use Rattle.kpn_net.specs.declared.tables.ChannelSpec.{ChannelSpec}
 use Rattle.kpn_net.specs.Tables.{Tables, channel_at, is_source, is_sink}
 use Rattle.kpn_net.specs.Faults.{channel_numbers}
-use Rattle.kpn_history.specs.declared.event.Event.{Event}
-use Rattle.kpn_history.specs.Views.{is_ready}
-use Rattle.kpn_history.specs.Channels.{is_closed, is_empty, is_left}
-use Rattle.kpn_history.specs.Ends.{HaveStopped, IsSettled}
-use Rattle.kpn_configuration.specs.Configuration.{channel_in}
-use Rattle.kpn_configuration.specs.Woken.{waiting_reader}
+use Rattle.kpn_run_history.specs.declared.event.Event.{Event}
+use Rattle.kpn_run_history.specs.Views.{is_ready}
+use Rattle.kpn_run_history.specs.Channels.{is_closed, is_empty, is_left}
+use Rattle.kpn_run_history.specs.Ends.{HaveStopped, IsSettled}
+use Rattle.kpn_run_configuration.specs.Woken.{waiting_reader}
 use Rattle.kpn_run_state.specs.Book.{Book}
-use Rattle.kpn_run_here.specs.declared.outcome.Limits.{Limits}
-use Rattle.kpn_run_here.specs.Outcomes.{IsOutcome}
+use Rattle.kpn_book.specs.declared.outcome.Limits.{Limits}
+use Rattle.kpn_book.specs.Outcomes.{IsOutcome}
 use Rattle.kpn_stream.specs.declared.faults.SourceFault.{SourceFault}
 use Rattle.kpn_stream.specs.declared.faults.SinkFault.{SinkFault}
 use Rattle.kpn_stream.specs.declared.ending.Ending.{Ending}
-use Rattle.kpn_stream.specs.declared.ending.Ending.TheVariants.{Outcome, Resting, Left, SourceFailed, SinkFailed}
+use Rattle.kpn_stream.specs.declared.ending.Ending.TheVariants.{Outcome, Resting, Left, NoMemory, SourceFailed, SinkFailed}
 
 -- the channels that are ends of this kind, in order of number
 abbrev pub end_numbers : (ChannelSpec → Bool) → Tables → List ℕ
@@ -35,9 +34,13 @@ pub record IsResting (b : Book) : Type 0 where
   pub stopped : HaveStopped b.tables b.history
   pub unsettled : ¬ IsSettled b.tables b.history
 
+-- there is a sink
+abbrev pub HasSink : Tables → Type 0
+HasSink t = (c : ℕ) × (is_sink (channel_at t c) ≡ true)
+
 -- each sink was left
-abbrev pub AreLeft : Book → Type 0
-AreLeft b = (c : ℕ) → is_sink (channel_at b.tables c) ≡ true → (channel_in b.configuration c).is_retired ≡ true
+abbrev pub AreLeft : Tables → List Event → Type 0
+AreLeft t H = (c : ℕ) → is_sink (channel_at t c) ≡ true → is_left H c ≡ true
 
 -- nothing is unread on this sink, or it was left
 abbrev pub IsTaken : List Event → (c : ℕ) → Type 0
@@ -56,7 +59,8 @@ LeavesNothing ending b = AreTaken b.tables b.history
 abbrev pub IsEnding : Limits → Ending → Book → Type 0
 IsEnding limits (Outcome outcome) b = IsOutcome b.tables b.history b.commits limits (Some outcome)
 IsEnding limits Resting b = IsResting b
-IsEnding limits Left b = AreLeft b
+IsEnding limits Left b = HasSink b.tables × AreLeft b.tables b.history
+IsEnding limits NoMemory b = Unit {0}
 IsEnding limits (SourceFailed c fault) b = Unit {0}
 IsEnding limits (SinkFailed c fault) b = Unit {0}
 

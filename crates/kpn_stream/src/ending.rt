@@ -1,7 +1,7 @@
 //! How a stream has ended.
 
 use crate::faults::{SinkFault, SourceFault};
-use kpn_run_here::Outcome;
+use kpn_book::Outcome;
 use kpn_run_state::Book;
 
 /// Why a stream goes on no more.
@@ -12,11 +12,15 @@ pub enum Ending {
     /// No process is ready, and none waits for an item of an open source. Under the policy `cycles` nothing can follow
     /// but what the outside does.
     Resting,
-    /// Each sink was left.
+    /// There are sinks, and each was left.
     Left,
-    /// The device of this source failed.
+    /// Memory ran out in the run.
+    NoMemory,
+    /// The device of this source failed. It is `SourceFault::NoMemory` too if memory ran out before what the device
+    /// answered last could be fed.
     SourceFailed(usize, SourceFault),
-    /// The device of this sink failed.
+    /// The device of this sink failed. It is `SinkFault::NoMemory` too if memory ran out before the item that the
+    /// device took last could be taken from the sink, or before the sink could be left.
     SinkFailed(usize, SinkFault),
 }
 

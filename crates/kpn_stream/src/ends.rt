@@ -8,13 +8,13 @@ use std::alloc::{AllocError, Global};
 
 /// The numbers of the sources and of the sinks, each in order.
 #[derive(Drop)]
-pub(crate) struct Ends {
-    pub(crate) sources: Vec<usize>,
-    pub(crate) sinks: Vec<usize>,
+pub struct EndNumbers {
+    pub sources: Vec<usize>,
+    pub sinks: Vec<usize>,
 }
 
-/// The ends of a network. The error is that memory ran out.
-pub(crate) fn ends_of(alloc: Global, network: &Network) -> Result<Ends, AllocError>
+/// The numbers of the ends of a network. The error is that memory ran out.
+pub fn end_numbers_of(alloc: Global, network: &Network) -> Result<EndNumbers, AllocError>
     ensures sources { IfOk result (λ found.
         found.sources.items ≡ end_numbers is_source network.now) }
     ensures sinks { IfOk result (λ found. found.sinks.items ≡ end_numbers is_sink network.now) }
@@ -25,7 +25,7 @@ pub(crate) fn ends_of(alloc: Global, network: &Network) -> Result<Ends, AllocErr
         add_if(&mut sources, network.is_source(c), c)?;
         add_if(&mut sinks, network.is_sink(c), c)?;
     }
-    Ok(Ends { sources, sinks })
+    Ok(EndNumbers { sources, sinks })
 }
 
 /// Adds a number if it is one of them.

@@ -31,4 +31,7 @@ pub enum SinkFault {
     /// The device failed.
     #[error("the output could not be written")]
     Write,
+    /// Memory ran out: the item was not taken.
+    #[error("out of memory")]
+    NoMemory,
 }

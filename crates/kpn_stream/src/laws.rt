@@ -6,19 +6,19 @@ ghost use Rattle.kpn_net.specs.Tables.{Tables, channel_at, is_source, is_sink};
 ghost use Rattle.kpn_net.specs.Faults.{IsNetwork};
 ghost use Rattle.kpn_net.specs.Process.{Family};
 ghost use Rattle.kpn_net.specs.Iteration.{IsBelowLeast, IsLeast};
-ghost use Rattle.kpn_history.specs.declared.event.Event.{Event};
-ghost use Rattle.kpn_history.specs.declared.event.Event.TheVariants as event;
-ghost use Rattle.kpn_history.specs.Channels.{written_on, read_on, is_closed, is_left};
-ghost use Rattle.kpn_history.specs.Legal.{Legal};
-ghost use Rattle.kpn_history.specs.Complete.{IsComplete, IsFedFrom};
-ghost use Rattle.kpn_run_here.specs.declared.outcome.Limits.{Limits};
-ghost use Rattle.kpn_run_here.specs.declared.outcome.Outcome.TheVariants.{Enough};
-ghost use Rattle.kpn_run_here.specs.Outcomes.{IsOutcome};
+ghost use Rattle.kpn_run_history.specs.declared.event.Event.{Event};
+ghost use Rattle.kpn_run_history.specs.declared.event.Event.TheVariants as event;
+ghost use Rattle.kpn_run_history.specs.Channels.{read_on, is_left};
+ghost use Rattle.kpn_run_history.specs.Legal.{Legal};
+ghost use Rattle.kpn_run_history.specs.Complete.{IsComplete, IsFedFrom};
+ghost use Rattle.kpn_book.specs.declared.outcome.Limits.{Limits};
+ghost use Rattle.kpn_book.specs.declared.outcome.Outcome.TheVariants.{Enough};
+ghost use Rattle.kpn_book.specs.Outcomes.{IsOutcome};
 ghost use Rattle.kpn_stream.specs.declared.faults.SourceFault.{SourceFault};
 ghost use Rattle.kpn_stream.specs.declared.faults.SinkFault.{SinkFault};
 ghost use Rattle.kpn_stream.specs.Devices.{MayRead, Fed, Served};
 ghost use Rattle.kpn_stream.specs.Ending.{IsTaken};
-ghost use Rattle.kpn_stream.specs.Lists.{Gave, GivesList, GiveInTurn, Took};
+ghost use Rattle.kpn_stream.specs.Lists.{WasGiven, GivesList, GiveInTurn, WasTaken};
 
 use crate::devices::{Sinks, Sources};
 
@@ -27,45 +27,47 @@ use crate::devices::{Sinks, Sources};
 /// Nobody reads ahead of need: whenever a source was fed or closed, its device might be asked.
 pub fn no_read_ahead<S: Sources>()
     ensures fed { (t : Tables) (H : List Event) (first now : S)
-        (failed : Option (ℕ × SourceFault)) → Fed t S.gives first H failed now
+        (failed : Option (ℕ × SourceFault)) → Fed t S.gives S.looks first H failed now
         → (B : List Event) (c : ℕ) (v : ℤ) → IsPrefix (B ++ event.Feed c v ∷ []) H → MayRead t B c }
     ensures closed { (t : Tables) (H : List Event) (first now : S)
-        (failed : Option (ℕ × SourceFault)) → Fed t S.gives first H failed now
+        (failed : Option (ℕ × SourceFault)) → Fed t S.gives S.looks first H failed now
         → (B : List Event) (c : ℕ) → IsPrefix (B ++ event.Close c ∷ []) H → MayRead t B c }
 {}
 
-/// Each source was fed exactly what its device gave, in order, and is closed if and only if the device told the end.
+/// Each source was fed exactly what its device gave, in order, and is closed if and only if the device told the end. If
+/// memory ran out before the last answer of a device could be fed, that answer alone is missing.
 pub fn what_was_given<S: Sources>()
     ensures { (t : Tables) → IsNetwork t → (H : List Event) → Legal t H → (first now : S)
-        (failed : Option (ℕ × SourceFault)) → Fed t S.gives first H failed now
+        (failed : Option (ℕ × SourceFault)) → Fed t S.gives S.looks first H failed now
         → (c : ℕ) → is_source (channel_at t c) ≡ true
-        → Gave S.gives first c (written_on H c) (is_closed H c) now }
+        → WasGiven S.gives S.looks first c H failed now }
 {}
 
 /// If the devices give lists, a stream is fed from these: what each source was fed begins its list, and is all of it once
 /// the source is closed.
 pub fn fed_from_lists<S: Sources>()
     ensures { (t : Tables) → IsNetwork t → (H : List Event) → Legal t H → (first now : S)
-        (failed : Option (ℕ × SourceFault)) → Fed t S.gives first H failed now → (given : Family)
-        → ((c : ℕ) → is_source (channel_at t c) ≡ true → GivesList S.gives first c (given c))
+        (failed : Option (ℕ × SourceFault)) → Fed t S.gives S.looks first H failed now → (given : Family)
+        → ((c : ℕ) → is_source (channel_at t c) ≡ true → GivesList S.gives S.looks first c (given c))
         → IsFedFrom t H given }
 {}
 
 /// Devices of which each call shows what they still give, give lists.
 pub fn what_is_ahead<S: Sources>()
-    ensures { (ahead : S → ℕ → List ℤ) → GiveInTurn S.gives ahead → (first : S) (c : ℕ)
-        → GivesList S.gives first c (ahead first c) }
+    ensures { (ahead : S → ℕ → List ℤ) → GiveInTurn S.gives S.looks ahead → (first : S) (c : ℕ)
+        → GivesList S.gives S.looks first c (ahead first c) }
 {}
 
 // ---- the sinks
 
-/// The device of each sink took exactly what was taken from the sink, in order.
+/// The device of each sink took exactly what was taken from the sink, in order. If memory ran out before the last item
+/// that a device took could be taken, that item alone is missing.
 pub fn what_was_taken<K: Sinks>()
     ensures { (t : Tables) → IsNetwork t → (H : List Event) → Legal t H
         → (wanted : Option ℕ) (first now : K) (failed : Option (ℕ × SinkFault))
         → Served K.takes K.flushes wanted first H failed now
         → (c : ℕ) → is_sink (channel_at t c) ≡ true
-        → Took K.takes K.flushes first c (read_on H c) now }
+        → WasTaken K.takes K.flushes first c H failed now }
 {}
 
 /// No more items are taken from a sink than are wanted. If the outcome is enough, exactly so many were taken from each.

@@ -7,13 +7,15 @@ mod ending;
 mod ends;
 mod faults;
 pub mod laws;
+mod looking;
 mod reading;
 mod running;
 mod stepping;
 mod taking;
 
-pub use devices::{Sinks, Sources};
+pub use devices::{Look, Sinks, Sources};
 pub use ending::{Ending, Streamed};
+pub use ends::{EndNumbers, end_numbers_of};
 pub use faults::{SinkFault, SourceFault};
-pub use kpn_run_here::{Limits, Outcome};
+pub use kpn_book::{Limits, Outcome};
 pub use running::stream;

@@ -1,39 +1,41 @@
 //! A source is read.
-ghost use Rattle.std.specs.Prelude.{◌≡◌, ◌<◌, ℕ, true, false, length, IfOk, IfSome, IfNone, IsTrue};
+ghost use Rattle.std.specs.Prelude.{◌≡◌, ◌<◌, ℕ, true, false, length, IfSome, IfNone, IsTrue};
 ghost use Rattle.kpn_net.specs.Tables.{channel_at, is_source, is_sink};
-ghost use Rattle.kpn_history.specs.declared.event.Event.TheVariants as event;
-ghost use Rattle.kpn_history.specs.Channels.{is_closed};
-ghost use Rattle.kpn_history.specs.Legal.{MayFeed};
+ghost use Rattle.kpn_run_history.specs.declared.event.Event.TheVariants as event;
+ghost use Rattle.kpn_run_history.specs.Channels.{is_closed};
+ghost use Rattle.kpn_run_history.specs.Legal.{MayFeed};
 ghost use Rattle.kpn_run_state.specs.Appending.{Happens};
 ghost use Rattle.kpn_stream.specs.Devices.{IsAwaited, IsStuck, MayRead};
 ghost use Rattle.kpn_stream.specs.Ending.{end_numbers, IsUnwanted, AreTaken};
-ghost use Rattle.kpn_stream.specs.Streaming.{GoesOn, MayEndWell, Reads, Serves};
+ghost use Rattle.kpn_stream.specs.Streaming.{GoesOn, IsUnfed, MayEndWell, Reads, Serves};
 
 use crate::devices::{Sinks, Sources};
 use crate::ending::Ending;
-use crate::ends::Ends;
+use crate::ends::EndNumbers;
+use crate::faults::SourceFault;
+use crate::looking::first_to_come;
 use crate::running::ending_of;
 use crate::stepping::is_idle;
 use crate::taking::flush_all;
+use kpn_book::Limits;
 use kpn_net::Policy;
-use kpn_run_here::Limits;
 use kpn_run_state::Book;
-use std::alloc::AllocError;
 
-/// Reads one item of the source that is due, and feeds it, or closes the source at the end of its input. Before it
-/// waits for the device of the source, those of the sinks hand on all that they kept.
+/// Reads one item of a source that is due, and feeds it, or closes the source at the end of its input. No process is
+/// ready. Before it waits for the device of a source, those of the sinks hand on all that they kept.
 pub(crate) fn read_one<S: Sources, K: Sinks>(
     book: &mut Book<'_>,
-    ends: &Ends,
+    ends: &EndNumbers,
     sources: &mut S,
     sinks: &mut K,
     limits: &Limits,
-) -> Result<Option<Ending>, AllocError>
+) -> Option<Ending>
     requires sources { ends.now.sources.items ≡ end_numbers is_source book.old.tables }
     requires sinks { ends.now.sinks.items ≡ end_numbers is_sink book.old.tables }
     requires taken { AreTaken book.old.tables book.old.history }
-    ensures { IfOk result (λ ended. GoesOn S.gives S.at_hand K.takes K.flushes limits.now ended
-        book.old book.new sources.old sources.new sinks.old sinks.new) }
+    ensures goes_on { GoesOn S.gives S.looks S.at_hand K.takes K.flushes limits.now result
+        book.old book.new sources.old sources.new sinks.old sinks.new }
+    ensures taken { AreTaken book.new.tables book.new.history }
 {
     let Some(c) = source_due(book, ends) else {
         return rest(book, ends, sinks, limits);
@@ -44,56 +46,57 @@ pub(crate) fn read_one<S: Sources, K: Sinks>(
     wait_for_one(book, ends, sources, sinks, limits)
 }
 
-/// Reads the source that is due once the devices of the sinks have handed on all that they kept. A sink that was left
+/// Reads a source that is due once the devices of the sinks have handed on all that they kept. A sink that was left
 /// then may have woken a process, which goes first.
 fn wait_for_one<S: Sources, K: Sinks>(
     book: &mut Book<'_>,
-    ends: &Ends,
+    ends: &EndNumbers,
     sources: &mut S,
     sinks: &mut K,
     limits: &Limits,
-) -> Result<Option<Ending>, AllocError>
+) -> Option<Ending>
     requires sources { ends.now.sources.items ≡ end_numbers is_source book.old.tables }
     requires sinks { ends.now.sinks.items ≡ end_numbers is_sink book.old.tables }
     requires taken { AreTaken book.old.tables book.old.history }
-    ensures { IfOk result (λ ended. GoesOn S.gives S.at_hand K.takes K.flushes limits.now ended
-        book.old book.new sources.old sources.new sinks.old sinks.new) }
+    ensures goes_on { GoesOn S.gives S.looks S.at_hand K.takes K.flushes limits.now result
+        book.old book.new sources.old sources.new sinks.old sinks.new }
+    ensures taken { AreTaken book.new.tables book.new.history }
 {
-    let ended = flush_all(book, ends, sinks, limits)?;
+    let ended = flush_all(book, ends, sinks, limits);
     if ended.is_some() {
-        return Ok(ended);
+        return ended;
     }
-    let Some(c) = source_due(book, ends) else {
-        return Ok(None);
+    if !is_idle(book) {
+        return None;
+    }
+    let Some(least) = source_due(book, ends) else {
+        return None;
     };
+    let c = first_to_come(book, ends, sources, least);
     read(book, sources, c)
 }
 
-/// No source is due. If no process is ready either, the stream comes to rest.
+/// No source is due, and no process is ready: the stream comes to rest.
 fn rest<K: Sinks>(
     book: &mut Book<'_>,
-    ends: &Ends,
+    ends: &EndNumbers,
     sinks: &mut K,
     limits: &Limits,
-) -> Result<Option<Ending>, AllocError>
+) -> Option<Ending>
     requires sources { ends.now.sources.items ≡ end_numbers is_source book.old.tables }
     requires sinks { ends.now.sinks.items ≡ end_numbers is_sink book.old.tables }
     requires taken { AreTaken book.old.tables book.old.history }
-    ensures { IfOk result (λ ended. Serves K.takes K.flushes limits.now ended book.old book.new
-        sinks.old sinks.new) }
+    ensures { Serves K.takes K.flushes limits.now result book.old book.new sinks.old sinks.new }
 {
-    if !is_idle(book) {
-        return Ok(None);
-    }
-    let ended = flush_all(book, ends, sinks, limits)?;
+    let ended = flush_all(book, ends, sinks, limits);
     if ended.is_some() {
-        return Ok(ended);
+        return ended;
     }
-    Ok(ending_at_rest(book, ends, limits))
+    ending_at_rest(book, ends, limits)
 }
 
 /// The ending of a stream that rests: its outcome if it has one.
-fn ending_at_rest(book: &Book<'_>, ends: &Ends, limits: &Limits) -> Option<Ending>
+fn ending_at_rest(book: &Book<'_>, ends: &EndNumbers, limits: &Limits) -> Option<Ending>
     requires sources { ends.now.sources.items ≡ end_numbers is_source book.now.tables }
     requires taken { AreTaken book.now.tables book.now.history }
     ensures { MayEndWell limits.now result book.now }
@@ -112,52 +115,47 @@ fn ending_at_rest(book: &Book<'_>, ends: &Ends, limits: &Limits) -> Option<Endin
 }
 
 /// Reads source `c`.
-fn read<S: Sources>(
-    book: &mut Book<'_>,
-    sources: &mut S,
-    c: usize,
-) -> Result<Option<Ending>, AllocError>
-    requires may_read { MayRead book.old.tables book.old.history c }
-    requires taken { AreTaken book.old.tables book.old.history }
-    ensures { IfOk result (λ ended.
-        Reads S.gives c ended book.old book.new sources.old sources.new) }
+pub(crate) fn read<S: Sources>(book: &mut Book<'_>, sources: &mut S, c: usize) -> Option<Ending>
+    requires { MayRead book.old.tables book.old.history c }
+    ensures { Reads S.gives S.looks c result book.old book.new sources.old sources.new }
 {
     match sources.next(c) {
         Ok(Some(item)) => feed(book, c, item),
         Ok(None) => close(book, c),
-        Err(fault) => Ok(Some(Ending::SourceFailed(c, fault))),
+        Err(fault) => Some(Ending::SourceFailed(c, fault)),
     }
 }
 
-fn feed(book: &mut Book<'_>, c: usize, item: i64) -> Result<Option<Ending>, AllocError>
-    ensures fed { IfOk result (λ _. Happens (event.Feed c item) book.old book.new) }
-    ensures goes_on { IfOk result (λ ended. ended ≡ None) }
+fn feed(book: &mut Book<'_>, c: usize, item: i64) -> Option<Ending>
+    ensures fed { IfNone result (Happens (event.Feed c item) book.old book.new) }
+    ensures refused { IfSome result (IsUnfed c book.old book.new) }
 {
     match book.feed(c, item, usize::MAX) {
         Ok(()) => {
             book.known();
-            Ok(None)
+            None
         }
-        Err(_) => Err(AllocError),
+        Err(_) => Some(Ending::SourceFailed(c, SourceFault::NoMemory)),
     }
 }
 
-fn close(book: &mut Book<'_>, c: usize) -> Result<Option<Ending>, AllocError>
+fn close(book: &mut Book<'_>, c: usize) -> Option<Ending>
     requires { is_closed book.old.history c ≡ false }
-    ensures closed { IfOk result (λ _. Happens (event.Close c) book.old book.new) }
-    ensures goes_on { IfOk result (λ ended. ended ≡ None) }
+    ensures closed { IfNone result (Happens (event.Close c) book.old book.new) }
+    ensures refused { IfSome result (IsUnfed c book.old book.new) }
 {
     book.known();
     match book.close_source(c) {
-        Ok(()) => Ok(None),
-        Err(_) => Err(AllocError),
+        Ok(()) => None,
+        Err(_) => Some(Ending::SourceFailed(c, SourceFault::NoMemory)),
     }
 }
 
 /// The source that is due: the least open one for whose item a process waits. If there is none and nothing can go on,
 /// it is the least open one.
-fn source_due(book: &Book<'_>, ends: &Ends) -> Option<usize>
-    requires { ends.now.sources.items ≡ end_numbers is_source book.now.tables }
+fn source_due(book: &Book<'_>, ends: &EndNumbers) -> Option<usize>
+    requires sources { ends.now.sources.items ≡ end_numbers is_source book.now.tables }
+    requires taken { AreTaken book.now.tables book.now.history }
     ensures { IfSome result (λ c. MayRead book.now.tables book.now.history c) }
 {
     let awaited = least_open(book, ends, true);
@@ -181,7 +179,7 @@ fn is_stuck(book: &Book<'_>) -> bool
 }
 
 /// The least open source, of those for whose item a process waits or of all.
-fn least_open(book: &Book<'_>, ends: &Ends, awaited_only: bool) -> Option<usize>
+fn least_open(book: &Book<'_>, ends: &EndNumbers, awaited_only: bool) -> Option<usize>
     requires { ends.now.sources.items ≡ end_numbers is_source book.now.tables }
     ensures open { IfSome result (λ c. MayFeed book.now.tables book.now.history c) }
     ensures awaited { awaited_only ≡ true
@@ -199,7 +197,7 @@ fn least_open(book: &Book<'_>, ends: &Ends, awaited_only: bool) -> Option<usize>
 }
 
 /// Whether a source is open and, if this is asked for, a process waits for its item.
-fn is_due(book: &Book<'_>, c: usize, awaited_only: bool) -> bool
+pub(crate) fn is_due(book: &Book<'_>, c: usize, awaited_only: bool) -> bool
     requires { c < length book.now.tables.channels }
     ensures open { IsTrue result → is_closed book.now.history c ≡ false }
     ensures awaited { IsTrue result → awaited_only ≡ true

@@ -1,36 +1,39 @@
 //! The run of a network over devices.
-ghost use Rattle.std.specs.Prelude.{◌≡◌, ◌≤◌, [], Some, None, IfOk, IfNone};
+ghost use Rattle.std.specs.Prelude.{◌≡◌, ◌≤◌, [], Some, None, IfOk, OnErr, IfNone};
 ghost use Rattle.kpn_net.specs.Tables.{is_source, is_sink};
-ghost use Rattle.kpn_history.specs.Ends.{IsSettled};
+ghost use Rattle.kpn_run_history.specs.Ends.{IsSettled};
 ghost use Rattle.kpn_run_state.specs.Kept.{IsBook};
-ghost use Rattle.kpn_stream.specs.Devices.{Fed, Served, Called};
+ghost use Rattle.kpn_stream.specs.Devices.{Fed, Served, EndsFlushed, Called};
 ghost use Rattle.kpn_stream.specs.Ending.{end_numbers, failed_source, failed_sink, IsEnding, AreTaken, LeavesNothing};
 ghost use Rattle.kpn_stream.specs.Streaming.{GoesOn, MayEndWell, Serves};
 
 use crate::devices::{Sinks, Sources};
 use crate::ending::{Ending, Streamed};
-use crate::ends::{Ends, ends_of};
+use crate::ends::{EndNumbers, end_numbers_of};
+use crate::looking::end_stretch;
 use crate::reading::read_one;
-use crate::stepping::{is_idle, step_until};
+use crate::stepping::{STRETCH, is_idle, step_stretch};
 use crate::taking::{flush_all, take_all};
+use kpn_book::{Limits, outcome_of};
 use kpn_net::Network;
-use kpn_run_here::{Limits, outcome_of};
 use kpn_run_state::Book;
 use std::alloc::{AllocError, Global};
-
-/// How many commits are made before a source is read for which a process waits, while others are ready.
-const STRETCH: u64 = 1_000;
 
 /// Runs a network over devices until there is an ending.
 ///
 /// In each turn the processes make steps until none is ready, or a stretch of 1,000 commits is over. Then the devices
-/// of the sinks take what has come. If the run has no outcome yet, and still no process is ready or the stretch is over,
-/// the least open source is read for whose item a process waits. So nobody reads ahead of need. Before a read that has
-/// to wait, the devices of the sinks hand on all that they took.
+/// of the sinks take what has come. If the run has no outcome yet, and still no process is ready, the least open
+/// source is read for whose item a process waits. So nobody reads ahead of need. Before a read that has to wait, the
+/// devices of the sinks hand on all that they took. If several sources are awaited and the answer of the least is not
+/// at hand, that one is read whose answer comes first.
+///
+/// At the end of a stretch with processes ready, the devices of the sinks hand on what they took, and each awaited
+/// source is read once whose answer is at hand. No source is waited for while a process is ready.
 ///
 /// A sink is left once nobody reads what its device hands on, and once it has given the items that the limits want of
 /// it and its device has handed them on. If a device fails, the call returns at once: what the devices of the sinks keep
-/// is for the caller to flush. The error is that memory ran out.
+/// is for the caller to flush. If memory runs out, that is an ending too, and the book is that of the run so far. The
+/// error is that memory ran out before the run: no device was called.
 pub fn stream<'n, S: Sources, K: Sinks>(
     alloc: Global,
     network: &'n Network,
@@ -40,21 +43,25 @@ pub fn stream<'n, S: Sources, K: Sinks>(
 ) -> Result<Streamed<'n>, AllocError>
     ensures network { IfOk result (λ streamed. streamed.book.tables ≡ network.now) }
     ensures book { IfOk result (λ streamed. IsBook streamed.book) }
-    ensures sources { IfOk result (λ streamed. Fed network.now S.gives
+    ensures sources { IfOk result (λ streamed. Fed network.now S.gives S.looks
         sources.old streamed.book.history (failed_source (Some streamed.ending)) sources.new) }
     ensures sinks { IfOk result (λ streamed. Served K.takes K.flushes limits.now.take
         sinks.old streamed.book.history (failed_sink (Some streamed.ending)) sinks.new) }
-    ensures calls { IfOk result (λ streamed. Called S.gives S.at_hand K.takes K.flushes
-        limits.now.take (end_numbers is_sink network.now) sources.old sinks.old
+    ensures calls { IfOk result (λ streamed. Called network.now S.gives S.looks S.at_hand
+        K.takes K.flushes limits.now.take sources.old sinks.old
         streamed.book.history sources.new sinks.new) }
+    ensures flushed { IfOk result (λ streamed. EndsFlushed K.takes K.flushes limits.now.take
+        network.now [] sinks.old (Some streamed.ending) streamed.book.history sinks.new) }
     ensures ending { IfOk result (λ streamed.
         IsEnding limits.now streamed.ending streamed.book) }
     ensures taken { IfOk result (λ streamed. LeavesNothing streamed.ending streamed.book) }
     ensures commits { IfOk result (λ streamed. streamed.book.commits ≤ limits.now.commits) }
+    ensures no_source { OnErr result (sources.new ≡ sources.old) }
+    ensures no_sink { OnErr result (sinks.new ≡ sinks.old) }
 {
-    let ends = ends_of(alloc, network)?;
+    let ends = end_numbers_of(alloc, network)?;
     let mut book = Book::new(alloc, network)?;
-    let ending = run(&mut book, &ends, sources, sinks, limits)?;
+    let ending = run(&mut book, &ends, sources, sinks, limits);
     book.known();
     Ok(Streamed { ending, book })
 }
@@ -62,20 +69,20 @@ pub fn stream<'n, S: Sources, K: Sinks>(
 /// Makes turns until there is an ending. A run that has an outcome at the start makes none.
 fn run<S: Sources, K: Sinks>(
     book: &mut Book<'_>,
-    ends: &Ends,
+    ends: &EndNumbers,
     sources: &mut S,
     sinks: &mut K,
     limits: &Limits,
-) -> Result<Ending, AllocError>
+) -> Ending
     requires sources { ends.now.sources.items ≡ end_numbers is_source book.old.tables }
     requires sinks { ends.now.sinks.items ≡ end_numbers is_sink book.old.tables }
     requires start { book.old.history ≡ [] }
-    ensures { IfOk result (λ ending. GoesOn S.gives S.at_hand K.takes K.flushes limits.now (Some ending)
-        book.old book.new sources.old sources.new sinks.old sinks.new) }
+    ensures { GoesOn S.gives S.looks S.at_hand K.takes K.flushes limits.now (Some result)
+        book.old book.new sources.old sources.new sinks.old sinks.new }
 {
-    let over = come_to_outcome(book, ends, sinks, limits)?;
+    let over = come_to_outcome(book, ends, sinks, limits);
     if let Some(ending) = over {
-        return Ok(ending);
+        return ending;
     }
     make_turns(book, ends, sources, sinks, limits)
 }
@@ -83,44 +90,49 @@ fn run<S: Sources, K: Sinks>(
 /// Makes turns until there is an ending.
 fn make_turns<S: Sources, K: Sinks>(
     book: &mut Book<'_>,
-    ends: &Ends,
+    ends: &EndNumbers,
     sources: &mut S,
     sinks: &mut K,
     limits: &Limits,
-) -> Result<Ending, AllocError>
+) -> Ending
     requires sources { ends.now.sources.items ≡ end_numbers is_source book.old.tables }
     requires sinks { ends.now.sinks.items ≡ end_numbers is_sink book.old.tables }
-    ensures { IfOk result (λ ending. GoesOn S.gives S.at_hand K.takes K.flushes limits.now (Some ending)
-        book.old book.new sources.old sources.new sinks.old sinks.new) }
+    requires taken { AreTaken book.old.tables book.old.history }
+    ensures { GoesOn S.gives S.looks S.at_hand K.takes K.flushes limits.now (Some result)
+        book.old book.new sources.old sources.new sinks.old sinks.new }
 {
     let mut goal = STRETCH;
     'turns: for _turn in 0..u64::MAX {
-        let ended = turn(book, ends, sources, sinks, limits, &mut goal)?;
+        let ended = turn(book, ends, sources, sinks, limits, &mut goal);
         if let Some(ending) = ended {
-            return Ok(ending);
+            return ending;
         }
     }
-    Err(AllocError)
+    out_of_memory(book, ends, sinks, limits)
 }
 
 /// One turn. The stretch is over once the commits have reached the goal.
 fn turn<S: Sources, K: Sinks>(
     book: &mut Book<'_>,
-    ends: &Ends,
+    ends: &EndNumbers,
     sources: &mut S,
     sinks: &mut K,
     limits: &Limits,
     goal: &mut u64,
-) -> Result<Option<Ending>, AllocError>
+) -> Option<Ending>
     requires sources { ends.now.sources.items ≡ end_numbers is_source book.old.tables }
     requires sinks { ends.now.sinks.items ≡ end_numbers is_sink book.old.tables }
-    ensures { IfOk result (λ ended. GoesOn S.gives S.at_hand K.takes K.flushes limits.now ended
-        book.old book.new sources.old sources.new sinks.old sinks.new) }
+    ensures goes_on { GoesOn S.gives S.looks S.at_hand K.takes K.flushes limits.now result
+        book.old book.new sources.old sources.new sinks.old sinks.new }
+    ensures taken { result ≡ None → AreTaken book.new.tables book.new.history }
 {
-    step_until(book, limits, *goal)?;
-    let ended = take_all(book, ends, sinks, limits)?;
+    let ran_out = step_stretch(book, limits, *goal).is_err();
+    let ended = take_all(book, ends, sinks, limits);
     if ended.is_some() {
-        return Ok(ended);
+        return ended;
+    }
+    if ran_out {
+        return Some(out_of_memory(book, ends, sinks, limits));
     }
     come_to_read(book, ends, sources, sinks, limits, goal)
 }
@@ -128,48 +140,73 @@ fn turn<S: Sources, K: Sinks>(
 /// The end of a turn, when the sinks have nothing unread: the run may have come to its limit, or it is time to read.
 fn come_to_read<S: Sources, K: Sinks>(
     book: &mut Book<'_>,
-    ends: &Ends,
+    ends: &EndNumbers,
     sources: &mut S,
     sinks: &mut K,
     limits: &Limits,
     goal: &mut u64,
-) -> Result<Option<Ending>, AllocError>
+) -> Option<Ending>
     requires sources { ends.now.sources.items ≡ end_numbers is_source book.old.tables }
     requires sinks { ends.now.sinks.items ≡ end_numbers is_sink book.old.tables }
     requires taken { AreTaken book.old.tables book.old.history }
-    ensures { IfOk result (λ ended. GoesOn S.gives S.at_hand K.takes K.flushes limits.now ended
-        book.old book.new sources.old sources.new sinks.old sinks.new) }
+    ensures goes_on { GoesOn S.gives S.looks S.at_hand K.takes K.flushes limits.now result
+        book.old book.new sources.old sources.new sinks.old sinks.new }
+    ensures taken { AreTaken book.new.tables book.new.history }
 {
     if limits.commits <= book.commits() {
         return come_to_outcome(book, ends, sinks, limits);
     }
-    if book.commits() < *goal && !is_idle(book) {
-        return Ok(None);
+    if is_idle(book) {
+        *goal = book.commits().saturating_add(STRETCH);
+        return read_one(book, ends, sources, sinks, limits);
+    }
+    if book.commits() < *goal {
+        return None;
     }
     *goal = book.commits().saturating_add(STRETCH);
-    read_one(book, ends, sources, sinks, limits)
+    end_stretch(book, ends, sources, sinks, limits)
+}
+
+/// Memory ran out in the processes. The devices of the sinks hand on what was taken.
+#[cold]
+#[inline(never)]
+fn out_of_memory<K: Sinks>(
+    book: &mut Book<'_>,
+    ends: &EndNumbers,
+    sinks: &mut K,
+    limits: &Limits,
+) -> Ending
+    requires ends { ends.now.sinks.items ≡ end_numbers is_sink book.old.tables }
+    requires taken { AreTaken book.old.tables book.old.history }
+    ensures { Serves K.takes K.flushes limits.now (Some result) book.old book.new
+        sinks.old sinks.new }
+{
+    let ended = flush_all(book, ends, sinks, limits);
+    if let Some(ending) = ended {
+        return ending;
+    }
+    Ending::NoMemory
 }
 
 /// The outcome of the run, if it has come to one. Before it is told, the devices of the sinks hand on all that they kept.
 fn come_to_outcome<K: Sinks>(
     book: &mut Book<'_>,
-    ends: &Ends,
+    ends: &EndNumbers,
     sinks: &mut K,
     limits: &Limits,
-) -> Result<Option<Ending>, AllocError>
+) -> Option<Ending>
     requires ends { ends.now.sinks.items ≡ end_numbers is_sink book.old.tables }
     requires taken { AreTaken book.old.tables book.old.history }
-    ensures { IfOk result (λ ended. Serves K.takes K.flushes limits.now ended book.old book.new
-        sinks.old sinks.new) }
+    ensures { Serves K.takes K.flushes limits.now result book.old book.new sinks.old sinks.new }
 {
     if outcome_of(book, limits).is_none() {
-        return Ok(None);
+        return None;
     }
-    let ended = flush_all(book, ends, sinks, limits)?;
+    let ended = flush_all(book, ends, sinks, limits);
     if ended.is_some() {
-        return Ok(ended);
+        return ended;
     }
-    Ok(ending_of(book, limits))
+    ending_of(book, limits)
 }
 
 /// The outcome as an ending.

@@ -1,18 +1,37 @@
 //! The processes make steps.
-ghost use Rattle.std.specs.Prelude.{◌≡◌, ◌+◌, ◌<◌, ◌≤◌, ◌^◌, count_by, IfOk, IsTrue};
-ghost use Rattle.kpn_history.specs.Ends.{HaveStopped};
-ghost use Rattle.kpn_history.specs.Views.{is_ready};
+ghost use Rattle.std.specs.Prelude.{◌≡◌, ◌+◌, ◌<◌, ◌≤◌, ◌^◌, count_by, IsTrue};
+ghost use Rattle.kpn_run_history.specs.Ends.{HaveStopped};
+ghost use Rattle.kpn_run_history.specs.Views.{is_ready};
 ghost use Rattle.kpn_run_state.specs.Book.{held_count};
 ghost use Rattle.kpn_stream.specs.Streaming.{IsStepped};
 
-use kpn_run_here::Limits;
+use kpn_book::Limits;
 use kpn_run_state::Book;
 use std::alloc::AllocError;
 
+/// The most commits in a stretch, and in a turn.
+pub(crate) const STRETCH: u64 = 1_000;
+
+/// So many events have room before a turn: two for each commit and for each item that is taken then, and some for
+/// sources and sinks. So if memory runs out in the processes, their items can still be taken.
+const ROOM: usize = 5_000;
+
+/// Makes a stretch of steps, as `step_until` does. The error is that memory ran out.
+pub(crate) fn step_stretch(
+    book: &mut Book<'_>,
+    limits: &Limits,
+    goal: u64,
+) -> Result<(), AllocError>
+    ensures { IsStepped limits.now book.old book.new }
+{
+    book.reserve(ROOM)?;
+    step_until(book, limits, goal)
+}
+
 /// Steps the processes in turn until none is ready, or the commits have reached the goal or their limit. The error is
 /// that memory ran out.
-pub(crate) fn step_until(book: &mut Book<'_>, limits: &Limits, goal: u64) -> Result<(), AllocError>
-    ensures { IfOk result (λ _. IsStepped limits.now book.old book.new) }
+fn step_until(book: &mut Book<'_>, limits: &Limits, goal: u64) -> Result<(), AllocError>
+    ensures { IsStepped limits.now book.old book.new }
 {
     'rows: for _row in 0..u64::MAX {
         if step_row(book, limits, goal)?.is_none() {
@@ -25,7 +44,7 @@ pub(crate) fn step_until(book: &mut Book<'_>, limits: &Limits, goal: u64) -> Res
 /// Steps the processes in turn until one has put an item on a sink, which is returned, or none is ready, or the commits
 /// have reached the goal or their limit.
 fn step_row(book: &mut Book<'_>, limits: &Limits, goal: u64) -> Result<Option<usize>, AllocError>
-    ensures { IfOk result (λ _. IsStepped limits.now book.old book.new) }
+    ensures { IsStepped limits.now book.old book.new }
 {
     let most = commits_left(book, limits, goal);
     book.run_on(limits.quota.max(1), most)

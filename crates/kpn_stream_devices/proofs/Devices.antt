@@ -1,19 +1,22 @@
 -- What reads and writes do to inputs and outputs.
-use Rattle.std.proofs.Common.{◌≡◌, ℕ, ◌+◌, ◌<◌, ◌≤◌, Bool, true, false, List, [], ◌∷◌, ◌++◌, length, take, length-take, Option, Some, None, Result, Ok, Err, refl, sym, ap, ◌∙◌, subst, arith, append_assoc}
+use Rattle.std.proofs.Common.{◌≡◌, ℕ, ◌≤◌, false, List, [], ◌++◌, length, take, length-take, Option, Some, None, Result, Ok, Err, refl, sym, ap, ◌∙◌, subst, arith, append_assoc}
 use Rattle.std.specs.Prelude.{ℤ}
-use Rattle.std.specs.Io.KnownBytes.{Keeps, Consumes, Appends, IsAtEnd, prepend_known, append_known}
+use Rattle.std.specs.Io.KnownBytes.{Keeps, Consumes, Appends, prepend_known, append_known}
 use Rattle.std.proofs.KnownBytes.{Keeps-trans, Keeps-refl, Appends-kept, append_known-grown}
 use Rattle.std.proofs.lemmas.Bool.{true≢false}
-use Rattle.kpn_request.specs.declared.stream.ItemFormat.{ItemFormat}
-use Rattle.kpn_request.specs.declared.stream.ItemFormat.TheVariants.{Lines, S16, S32, S64}
+use Rattle.kpn_command_base.specs.declared.stream_request.ItemFormat.{ItemFormat}
+use Rattle.kpn_command_base.specs.declared.stream_request.ItemFormat.TheVariants.{Lines, S16, S32, S64}
 use Rattle.kpn_stream.specs.declared.faults.SourceFault.{SourceFault}
 use Rattle.kpn_stream.specs.declared.faults.SourceFault.TheVariants.{Read, NoMemory}
 use Rattle.kpn_stream.specs.declared.faults.SinkFault.{SinkFault}
 use Rattle.kpn_stream.specs.declared.faults.SinkFault.TheVariants.{Gone, NoSample, Write}
+use Rattle.kpn_stream.specs.declared.faults.SinkFault.TheVariants as sink_fault
 use Rattle.kpn_stream_devices.specs.Formats.{HasItem, item_bytes}
-use Rattle.kpn_stream_devices.specs.Window.{Window, FormatGives, IfKnown, Gives, IsEndKnown, NeedsMore, Tells, left_of}
+use Rattle.kpn_stream_devices.specs.Window.{Window, FormatGives, Counts, IfKnown, Gives, IsEndKnown, NeedsMore, Tells, left_of}
 use Rattle.kpn_stream_devices.specs.declared.inputs.Input.{Input}
-use Rattle.kpn_stream_devices.specs.Inputs.{InputGives, IsAsked, HaveMoved, FailsToRead}
+use Rattle.kpn_stream_devices.specs.Inputs.{InputGives, IsAsked, HaveMoved, FailsToRead, ReadsOnly, Waits, kept_fault}
+use Rattle.kpn_stream_devices.specs.declared.inputs.Failed.{Failed}
+use Rattle.kpn_stream_devices.specs.declared.inputs.Failed.TheVariants as look_fault
 use Rattle.kpn_stream_devices.specs.Outputs.{HandsOn, TakesItem}
 
 -- ---- inputs
@@ -22,10 +25,18 @@ use Rattle.kpn_stream_devices.specs.Outputs.{HandsOn, TakesItem}
 pub tells_gives : (format : ItemFormat) (w : Window) (answer : Result (Option ℤ) SourceFault) (after : Window)
     (device : Option (List ℕ)) → Tells format w answer after → IsEndKnown w device
     → Gives format w device answer after device
-tells_gives Lines w answer after device tells known = tells device known
+tells_gives Lines w answer after device tells known = tells.given device known
 tells_gives S16 w answer after device tells known = tells device known
 tells_gives S32 w answer after device tells known = tells device known
 tells_gives S64 w answer after device tells known = tells device known
+
+-- and so is the count of lines
+tells_counts : (format : ItemFormat) (w : Window) (answer : Result (Option ℤ) SourceFault) (after : Window)
+    → Tells format w answer after → Counts format answer w.lines after.lines
+tells_counts Lines w answer after tells = tells.counted
+tells_counts S16 w answer after tells = tt
+tells_counts S32 w answer after tells = tt
+tells_counts S64 w answer after tells = tt
 
 -- an input is open whose bytes are too few
 pub needs_open : (format : ItemFormat) (w : Window) → NeedsMore format w → w.is_over ≡ false
@@ -61,13 +72,16 @@ if_after P (Some xs) (Some ys) (Some zs) kept known = subst (λ bs. P bs zs) kep
 
 -- the answer is right for the input as it was before some bytes moved
 pub gives_after : (format : ItemFormat) (first w after : Window) (device between read : Option (List ℕ))
-    (answer : Result (Option ℤ) SourceFault) → Keeps (left_of first device) (left_of w between) → w.lines ≡ first.lines
+    (answer : Result (Option ℤ) SourceFault) → Keeps (left_of first device) (left_of w between)
     → Gives format w between answer after read → Gives format first device answer after read
-gives_after format first w after device between read answer kept lines given =
-    if_after (λ left rest. FormatGives format first.lines left rest answer) (left_of first device)
-    (left_of w between) (left_of after read) kept
-    (subst (λ (n : ℕ). IfKnown (left_of w between) (left_of after read) (λ left rest. FormatGives format n left rest answer))
-    lines given)
+gives_after format first w after device between read answer kept given =
+    if_after (λ left rest. FormatGives format left rest answer) (left_of first device) (left_of w between)
+    (left_of after read) kept given
+
+-- the count goes on from the lines that were used before some bytes moved
+counts_after : (format : ItemFormat) (answer : Result (Option ℤ) SourceFault) (first used now : ℕ) → used ≡ first
+    → Counts format answer used now → Counts format answer first now
+counts_after format answer first used now same counts = subst (λ (n : ℕ). Counts format answer n now) same counts
 
 if_kept : (P : List ℕ → List ℕ → Type 0) → ((xs ys : List ℕ) → P xs ys) → (a b : Option (List ℕ)) → Keeps a b
     → IfKnown a b P
@@ -75,23 +89,33 @@ if_kept P all None b kept = tt
 if_kept P all (Some xs) None kept = absurd kept
 if_kept P all (Some xs) (Some ys) kept = all xs ys
 
-read_any : (format : ItemFormat) (n : ℕ) (xs ys : List ℕ) → FormatGives format n xs ys (Err Read)
-read_any Lines n xs ys = tt
-read_any S16 n xs ys = tt
-read_any S32 n xs ys = tt
-read_any S64 n xs ys = tt
+-- of a fault of a device or of memory nothing is said
+pub fault_any : (format : ItemFormat) (failed : Failed) (xs ys : List ℕ)
+    → FormatGives format xs ys (Err (kept_fault failed))
+fault_any Lines look_fault.Read xs ys = tt
+fault_any Lines look_fault.NoMemory xs ys = tt
+fault_any S16 look_fault.Read xs ys = tt
+fault_any S16 look_fault.NoMemory xs ys = tt
+fault_any S32 look_fault.Read xs ys = tt
+fault_any S32 look_fault.NoMemory xs ys = tt
+fault_any S64 look_fault.Read xs ys = tt
+fault_any S64 look_fault.NoMemory xs ys = tt
 
-memory_any : (format : ItemFormat) (n : ℕ) (xs ys : List ℕ) → FormatGives format n xs ys (Err NoMemory)
-memory_any Lines n xs ys = tt
-memory_any S16 n xs ys = tt
-memory_any S32 n xs ys = tt
-memory_any S64 n xs ys = tt
+-- it uses no line
+pub fault_counts : (format : ItemFormat) (failed : Failed) (used now : ℕ) → now ≡ used
+    → Counts format (Err (kept_fault failed)) used now
+fault_counts Lines look_fault.Read used now same = same
+fault_counts Lines look_fault.NoMemory used now same = same
+fault_counts S16 failed used now same = tt
+fault_counts S32 failed used now same = tt
+fault_counts S64 failed used now same = tt
 
 -- a device that fails may do so at any time
-pub read_fails : (format : ItemFormat) (first after : Window) (device read : Option (List ℕ))
-    → Keeps (left_of first device) (left_of after read) → Gives format first device (Err Read) after read
-read_fails format first after device read kept =
-    if_kept (λ left rest. FormatGives format first.lines left rest (Err Read)) (read_any format first.lines)
+pub device_fails : (format : ItemFormat) (failed : Failed) (first after : Window) (device read : Option (List ℕ))
+    → Keeps (left_of first device) (left_of after read)
+    → Gives format first device (Err (kept_fault failed)) after read
+device_fails format failed first after device read kept =
+    if_kept (λ left rest. FormatGives format left rest (Err (kept_fault failed))) (fault_any format failed)
     (left_of first device) (left_of after read) kept
 
 if_some : (P : List ℕ → List ℕ → Type 0) → ((xs ys : List ℕ) → P xs ys) → (us vs ws bytes : List ℕ)
@@ -102,80 +126,127 @@ if_some P all us vs ws bytes (Some ds) None read kept took = absurd kept
 if_some P all us vs ws bytes (Some ds) (Some es) None kept took = absurd took
 if_some P all us vs ws bytes (Some ds) (Some es) (Some fs) kept took = all (us ++ ds) (ws ++ fs)
 
-module _ {I F : Type 0} (left : I → Option (List ℕ)) (left_in : F → Option (List ℕ)) (format : ItemFormat)
-    (first : I) (input : Input F) where
-  -- So far bytes have moved from the device to the window, and none if the first ones tell the answer.
-  pub at_start : IsAsked left left_in format first input first input
-  at_start = record {
-    moved = record { channel = refl; lines = refl; kept = Keeps-refl _; known = λ known. known };
-    at_hand = λ at_hand. (refl, refl);
+module _ {I F : Type 0} (left : I → Option (List ℕ)) (left_in : F → Option (List ℕ)) where
+  -- a call reads only the device of an input, and so do two calls
+  reads_none : (standard : I) (file : Option F) → ReadsOnly standard standard file file
+  reads_none standard None = tt
+  reads_none standard (Some file) = refl
+
+  reads_more : (first between read : I) (file then after : Option F) → ReadsOnly first between file then
+      → ReadsOnly between read then after → ReadsOnly first read file after
+  reads_more first between read None None None one two = tt
+  reads_more first between read None None (Some after) one two = absurd two
+  reads_more first between read None (Some then) after one two = absurd one
+  reads_more first between read (Some file) None after one two = absurd one
+  reads_more first between read (Some file) (Some then) None one two = absurd two
+  reads_more first between read (Some file) (Some then) (Some after) one two = two ∙ one
+
+  -- a look has failed before, and no device is asked
+  pub failed_before : (standard : I) (input : Input F) (failed : Failed) → input.window.is_over ≡ false
+      → input.failed ≡ Some failed → FailsToRead left left_in standard input standard input (kept_fault failed)
+  failed_before standard input failed is_open is = record {
+    channel = refl;
+    only = reads_none standard input.file;
+    counted = λ format. fault_counts format failed _ _ refl;
+    at_hand = λ some. (refl, refl);
+    known = λ known. known;
+    given = λ format. device_fails format failed input.window input.window _ _ (Keeps-refl _);
   }
 
-  module _ (between : I) (moved : Input F) (so_far : IsAsked left left_in format first input between moved) where
-    -- the bytes tell the answer
-    pub told_after : (answer : Result (Option ℤ) SourceFault) (w : Window) → Tells format moved.window answer w
-        → w.is_over ≡ moved.window.is_over
-        → InputGives left left_in format first input answer between (record moved { window = w })
-    told_after answer w tells same = record {
-      channel = so_far.moved.channel;
-      known = λ known over. so_far.moved.known known (sym same ∙ over);
-      given = λ known. gives_after format input.window moved.window w _ _ _ answer so_far.moved.kept so_far.moved.lines
-          (tells_gives format moved.window answer w _ tells (so_far.moved.known known));
-      at_hand = λ at_hand.
-          let is = so_far.at_hand at_hand in (is.0, ap (λ (i : Input F). i.file) is.1);
+  module _ (format : ItemFormat) (first : I) (input : Input F) where
+    -- So far bytes have moved from the device to the window, and none if the answer was at hand.
+    pub at_start : IsAsked left left_in format first input first input
+    at_start = record {
+      moved = record {
+        channel = refl;
+        only = reads_none first input.file;
+        lines = refl;
+        kept = Keeps-refl _;
+        known = λ known. known;
+      };
+      at_hand = λ at_hand. (refl, refl);
     }
 
-    -- after too many reads
-    pub fails_at_last : InputGives left left_in format first input (Err Read) between moved
-    fails_at_last = record {
-      channel = so_far.moved.channel;
-      known = so_far.moved.known;
-      given = λ known. read_fails format input.window moved.window _ _ so_far.moved.kept;
-      at_hand = λ at_hand.
-          let is = so_far.at_hand at_hand in (is.0, ap (λ (i : Input F). i.file) is.1);
-    }
+    module _ (between : I) (moved : Input F) (so_far : IsAsked left left_in format first input between moved) where
+      -- the bytes tell the answer
+      pub told_after : (answer : Result (Option ℤ) SourceFault) (w : Window) → Tells format moved.window answer w
+          → w.is_over ≡ moved.window.is_over
+          → InputGives left left_in format first input answer between (record moved { window = w })
+      told_after answer w tells same = record {
+        channel = so_far.moved.channel;
+        only = so_far.moved.only;
+        counted =
+            counts_after format answer _ _ _ so_far.moved.lines (tells_counts format moved.window answer w tells);
+        known = λ known over. so_far.moved.known known (sym same ∙ over);
+        given = λ known. gives_after format input.window moved.window w _ _ _ answer so_far.moved.kept
+            (tells_gives format moved.window answer w _ tells (so_far.moved.known known));
+        at_hand = λ at_hand.
+            let is = so_far.at_hand at_hand in (is.0, ap (λ (i : Input F). i.file) is.1);
+      }
 
-    -- the bytes tell nothing yet
-    module _ (w : Window) (same : w ≡ moved.window) (needs : NeedsMore format moved.window) (read : I)
-        (after : Input F) where
-      not_at_hand : (NeedsMore format input.window → ⊥) → ⊥
-      not_at_hand at_hand =
-          at_hand (subst (λ (i : Input F). NeedsMore format i.window) (so_far.at_hand at_hand).1 needs)
+      -- after too many reads
+      pub fails_at_last : InputGives left left_in format first input (Err Read) between moved
+      fails_at_last = record {
+        channel = so_far.moved.channel;
+        only = so_far.moved.only;
+        counted = fault_counts format look_fault.Read _ _ so_far.moved.lines;
+        known = so_far.moved.known;
+        given = λ known. device_fails format look_fault.Read input.window moved.window _ _ so_far.moved.kept;
+        at_hand = λ at_hand.
+            let is = so_far.at_hand at_hand in (is.0, ap (λ (i : Input F). i.file) is.1);
+      }
 
-      -- some more move
-      pub more_after : HaveMoved left left_in between (record moved { window = w }) read after
-          → IsAsked left left_in format first input read after
-      more_after more =
-          let next = subst (λ (x : Window). HaveMoved left left_in between (record moved { window = x }) read after) same more in
-          record {
-            moved = record {
-              channel = next.channel ∙ so_far.moved.channel;
-              lines = next.lines ∙ so_far.moved.lines;
-              kept = Keeps-trans _ _ _ so_far.moved.kept next.kept;
-              known = λ known. next.known (so_far.moved.known known);
-            };
-            at_hand = λ at_hand. absurd (not_at_hand at_hand);
-          }
+      -- the bytes tell nothing yet
+      module _ (w : Window) (same : w ≡ moved.window) (needs : NeedsMore format moved.window) (read : I)
+          (after : Input F) where
+        -- so the first ones told nothing, and the answer was at hand only if a look had failed
+        needed : (Waits format input → ⊥) → input.failed ≡ None → ⊥
+        needed at_hand none =
+            at_hand (subst (λ (i : Input F). NeedsMore format i.window) (so_far.at_hand at_hand).1 needs, none)
 
-      -- the next read fails
-      pub fails_after : (fault : SourceFault) → FailsToRead left left_in between (record moved { window = w }) read after fault
-          → InputGives left left_in format first input (Err fault) read after
-      fails_after fault fails =
-          let last = subst (λ (x : Window). FailsToRead left left_in between (record moved { window = x }) read after fault) same fails in
-          record {
-            channel = last.channel ∙ so_far.moved.channel;
-            known = λ known. last.known (so_far.moved.known known);
-            given = λ known. gives_after format input.window moved.window after.window _ _ _ (Err fault)
-                so_far.moved.kept so_far.moved.lines (last.given format);
-            at_hand = λ at_hand. absurd (not_at_hand at_hand);
-          }
+        -- some more move
+        pub more_after : HaveMoved left left_in between (record moved { window = w }) read after
+            → moved.failed ≡ None → IsAsked left left_in format first input read after
+        more_after more none =
+            let next = subst (λ (x : Window). HaveMoved left left_in between (record moved { window = x }) read after) same more in
+            record {
+              moved = record {
+                channel = next.channel ∙ so_far.moved.channel;
+                only = reads_more first between read input.file moved.file after.file so_far.moved.only next.only;
+                lines = next.lines ∙ so_far.moved.lines;
+                kept = Keeps-trans _ _ _ so_far.moved.kept next.kept;
+                known = λ known. next.known (so_far.moved.known known);
+              };
+              at_hand = λ at_hand.
+                  absurd (needed at_hand (subst (λ (i : Input F). i.failed ≡ None) (so_far.at_hand at_hand).1 none));
+            }
+
+        -- the next read fails, or a look has failed
+        pub fails_after : (fault : SourceFault)
+            → FailsToRead left left_in between (record moved { window = w }) read after fault
+            → InputGives left left_in format first input (Err fault) read after
+        fails_after fault fails =
+            let last = subst (λ (x : Window). FailsToRead left left_in between (record moved { window = x }) read after fault) same fails in
+            record {
+              channel = last.channel ∙ so_far.moved.channel;
+              only = reads_more first between read input.file moved.file after.file so_far.moved.only last.only;
+              counted = counts_after format (Err fault) _ _ _ so_far.moved.lines (last.counted format);
+              known = λ known. last.known (so_far.moved.known known);
+              given = λ known. gives_after format input.window moved.window after.window _ _ _ (Err fault)
+                  so_far.moved.kept (last.given format);
+              at_hand = λ at_hand.
+                  let is = so_far.at_hand at_hand in
+                  let none = last.at_hand
+                  (λ none. needed at_hand (subst (λ (i : Input F). i.failed ≡ None) is.1 none)) in
+                  (none.0 ∙ is.0, ap (λ (i : Input F). i.file) (none.1 ∙ is.1));
+            }
 
 -- and so may memory
 pub memory_fails : (format : ItemFormat) (first w after : Window) (device between read : Option (List ℕ))
     (bytes : List ℕ) → Keeps (left_of first device) (left_of w between) → Consumes between read bytes
     → Gives format first device (Err NoMemory) after read
 memory_fails format first w after device between read bytes kept took =
-    if_some (λ left rest. FormatGives format first.lines left rest (Err NoMemory)) (memory_any format first.lines)
+    if_some (λ left rest. FormatGives format left rest (Err NoMemory)) (fault_any format look_fault.NoMemory)
     first.unused w.unused after.unused bytes device between read kept took
 
 -- a read that gave nothing has come to the end
@@ -193,7 +264,8 @@ handed format item before kept after (Ok done) bytes has put on =
     (has, Appends-kept before kept after (item_bytes format item) put on.1)
 handed format item before kept after (Err Gone) bytes has put on = tt
 handed format item before kept after (Err Write) bytes has put on = tt
-handed format item before kept after (Err (NoSample other)) bytes has put on = absurd on
+handed format item before kept after (Err sink_fault.NoMemory) bytes has put on = absurd on.1
+handed format item before kept after (Err (NoSample other)) bytes has put on = absurd on.1
 
 -- bytes that are kept were put
 pub kept_more : (device : Option (List ℕ)) (old new bytes : List ℕ) → new ≡ old ++ bytes

@@ -1,5 +1,5 @@
 -- What the unused bytes of a window tell of the first line, whatever bytes come behind them.
-use Rattle.std.proofs.Common.{◌≡◌, ℕ, ◌+◌, ◌-◌, ◌<◌, ◌≤◌, Bool, true, false, cond, eqb, ltb, List, [], ◌∷◌, ◌++◌, length, get_or, take, drop, length-take, length-append, Option, Some, None, refl, sym, ap, ◌∙◌, subst, arith, append_assoc, append-nil}
+use Rattle.std.proofs.Common.{◌≡◌, ℕ, ◌+◌, ◌-◌, ◌<◌, ◌≤◌, Bool, true, false, cond, eqb, ltb, List, [], ◌∷◌, ◌++◌, length, take, drop, length-take, length-append, Option, Some, None, refl, sym, ap, ◌∙◌, arith, append_assoc, append-nil}
 use Rattle.std.specs.Prelude.{ℤ, ◌==◌, slice_index}
 use Rattle.std.specs.List.{All, position, position_or_len}
 use Rattle.std.specs.Str.Lines.{lines, strip_carriage_return}
@@ -11,9 +11,8 @@ use Rattle.std.proofs.lemmas.Bool.{eqb-true, ltb-true}
 use Rattle.std.proofs.lemmas.Bool.Decides.{nat_tests}
 use Rattle.std.proofs.lemmas.Grind.{common_steps}
 use Rattle.std.specs.Str.Parse.{starts_with_minus}
-use Rattle.kpn_limits.specs.declared.TheConstants.{MAX_DIGITS}
-use Rattle.kpn_items.specs.ItemLine.{SpellsItem, without_minus}
-use Rattle.kpn_items.proofs.LineLemmas.{lines-feed, lines-found, lines-none, split-at_feed}
+use Rattle.kpn_text_items.specs.ItemLine.{SpellsItem}
+use Rattle.kpn_text_items.proofs.LineLemmas.{lines-feed, lines-found, lines-none, split-at_feed}
 
 -- a line feed
 abbrev pub is_feed : ℕ → Bool
@@ -41,6 +40,17 @@ pub only_line : (us : List ℕ) → 0 < length us → position is_feed us ≡ No
 only_line us some none =
     ap lines (append-nil us) ∙ lines-none us some none
     ∙ ap (λ rest. us ∷ lines (rest ++ [])) (sym (drop-length us))
+
+-- there is a first line, if there is a byte
+pub begins : (us ds : List ℕ) → 22 ≤ length us
+    → (line : List ℕ) × (more : List (List ℕ)) × (lines (us ++ ds) ≡ line ∷ more)
+begins us ds many = begins_at (us ++ ds) (position is_feed (us ++ ds)) refl (omega (arith, length-append us ds, many))
+  where
+    begins_at : (bytes : List ℕ) (found : Option ℕ) → position is_feed bytes ≡ found → 0 < length bytes
+        → (line : List ℕ) × (more : List (List ℕ)) × (lines bytes ≡ line ∷ more)
+    begins_at bytes None none some = (bytes, [], lines-none bytes some none)
+    begins_at bytes (Some i) found some =
+        (strip_carriage_return (take i bytes), lines (drop (i + 1) bytes), lines-found bytes i found)
 
 -- ---- a line that is too long
 

@@ -1,10 +1,10 @@
 -- How items are written in the inputs and outputs of a stream.
-use Rattle.std.specs.Prelude.{ℕ, ◌+◌, ℤ, List, take, FitsSigned}
+use Rattle.std.specs.Prelude.{ℕ, ℤ, List, FitsSigned}
 use Rattle.std.specs.Int.{w16, w32, w64}
 use Rattle.byteorder.specs.Endian.{little_number, little_bytes, low_bytes, twos_complement}
-use Rattle.kpn_items.specs.ItemFile.{item_line}
-use Rattle.kpn_request.specs.declared.stream.ItemFormat.{ItemFormat}
-use Rattle.kpn_request.specs.declared.stream.ItemFormat.TheVariants.{Lines, S16, S32, S64}
+use Rattle.kpn_text_items.specs.ItemFile.{item_line}
+use Rattle.kpn_command_base.specs.declared.stream_request.ItemFormat.{ItemFormat}
+use Rattle.kpn_command_base.specs.declared.stream_request.ItemFormat.TheVariants.{Lines, S16, S32, S64}
 
 -- how many bytes a sample has; lines have none
 abbrev pub sample_width : ItemFormat → ℕ

@@ -1,10 +1,13 @@
 -- The inputs of a stream, as the devices of its sources.
-use Rattle.std.specs.Prelude.{◌≡◌, ℕ, nat_eq, ℤ, List, position, get_or, slice_set, Option, Some, None, Result, Ok, Err}
-use Rattle.kpn_request.specs.declared.stream.ItemFormat.{ItemFormat}
+use Rattle.std.specs.Prelude.{◌≡◌, ℕ, nat_eq, ℤ, List, position, get_or, slice_set, Option, Some, None, Result, Ok, Err, ⊤}
+use Rattle.kpn_command_base.specs.declared.stream_request.ItemFormat.{ItemFormat}
 use Rattle.kpn_stream.specs.declared.faults.SourceFault.{SourceFault}
+use Rattle.kpn_stream.specs.declared.faults.SourceFault.TheVariants as source_fault
+use Rattle.kpn_stream_devices.specs.declared.inputs.Failed.{Failed}
+use Rattle.kpn_stream_devices.specs.declared.inputs.Failed.TheVariants as look_fault
 use Rattle.kpn_stream_devices.specs.declared.inputs.Input.{Input}
 use Rattle.kpn_stream_devices.specs.declared.inputs.Inputs.{Inputs}
-use Rattle.kpn_stream_devices.specs.Window.{Gives, IsEndKnown, NeedsMore, left_of}
+use Rattle.kpn_stream_devices.specs.Window.{Gives, Counts, IsEndKnown, NeedsMore, left_of}
 use Rattle.std.specs.Io.KnownBytes.{Keeps}
 
 -- what a device has left: the file, or else standard input
@@ -13,19 +16,31 @@ abbrev pub device_left : {I F : Type 0} → (left : I → Option (List ℕ)) (le
 device_left left left_in standard None = left standard
 device_left left left_in standard (Some file) = left_in file
 
+-- only the device of this input is read: standard input stays as it was beside a file
+abbrev pub ReadsOnly : {I F : Type 0} → (standard read : I) → (file after : Option F) → Type 0
+ReadsOnly standard read None None = ⊤
+ReadsOnly standard read (Some file) (Some after) = read ≡ standard
+ReadsOnly standard read file after = ⊥
+
+-- an input waits for its device: the unused bytes are too few to tell, and no look has met a fault
+abbrev pub Waits : {F : Type 0} → ItemFormat → Input F → Type 0
+Waits format input = NeedsMore format input.window × (input.failed ≡ None)
+
 -- What one input gives. Given are standard input and the input, each as it was and as it is afterwards.
 pub record InputGives {I F : Type 0} (left : I → Option (List ℕ)) (left_in : F → Option (List ℕ))
     (format : ItemFormat) (standard : I) (input : Input F) (answer : Result (Option ℤ) SourceFault) (read : I)
     (after : Input F) : Type 0 where
   pub channel : after.channel ≡ input.channel
+  pub only : ReadsOnly standard read input.file after.file
+  pub counted : Counts format answer input.window.lines after.window.lines
   -- if the input is known to be over only where its device is at its end, this stays so, and the answer is right
   pub known : IsEndKnown input.window (device_left left left_in standard input.file)
       → IsEndKnown after.window (device_left left left_in read after.file)
   pub given : IsEndKnown input.window (device_left left left_in standard input.file)
       → Gives format input.window (device_left left left_in standard input.file) answer
       after.window (device_left left left_in read after.file)
-  -- no device is asked if the unused bytes tell the answer
-  pub at_hand : (NeedsMore format input.window → ⊥) → (read ≡ standard) × (after.file ≡ input.file)
+  -- no device is asked if the answer is at hand
+  pub at_hand : (Waits format input → ⊥) → (read ≡ standard) × (after.file ≡ input.file)
 
 -- which input is that of a source: the first for its channel
 abbrev pub input_of : {F : Type 0} → List (Input F) → (source : ℕ) → Option ℕ
@@ -36,42 +51,76 @@ input_of inputs source = position (λ input. nat_eq input.channel source) inputs
 pub data InputsGive {I F : Type 0} (left : I → Option (List ℕ)) (left_in : F → Option (List ℕ)) (before : Inputs I F)
     (source : ℕ) (answer : Result (Option ℤ) SourceFault) (after : Inputs I F) : Type 0 where
   by_input : (i : ℕ) (input read : Input F) → input_of before.each.now.items source ≡ Some i →
-      get_or before.each.now.items i input ≡ input → InputGives left left_in before.format before.standard.now input answer
-      after.standard.now read → after.each.now.items ≡ slice_set before.each.now.items i read →
+      get_or before.each.now.items i input ≡ input →
+      InputGives left left_in before.format before.standard.now input answer after.standard.now read → after.each.now.items ≡ slice_set before.each.now.items i read →
       after.format ≡ before.format → after.standard.ghost_name ≡ before.standard.ghost_name →
       after.each.ghost_name ≡ before.each.ghost_name →
       InputsGive left left_in before source answer after
   by_none : input_of before.each.now.items source ≡ None → answer ≡ Ok None → after ≡ before →
       InputsGive left left_in before source answer after
 
--- the answer of a source is at hand: the unused bytes of its input tell it
+-- the answer of a source is at hand: its input does not wait
 abbrev pub IsAtHand : {I F : Type 0} → Inputs I F → (source : ℕ) → Type 0
 IsAtHand {F = F} inputs source =
     (i : ℕ) (input : Input F) → input_of inputs.each.now.items source ≡ Some i
-    → get_or inputs.each.now.items i input ≡ input → NeedsMore inputs.format input.window → ⊥
+    → get_or inputs.each.now.items i input ≡ input → Waits inputs.format input → ⊥
 
--- ---- scaffolding: what reads do before the bytes tell
+-- What a look at an input does: what has come moves from the device to the window, and nothing else happens; or a fault
+-- is kept, which the next call tells.
+pub record InputLooks {I F : Type 0} (left : I → Option (List ℕ)) (left_in : F → Option (List ℕ))
+    (standard : I) (input : Input F) (read : I) (after : Input F) : Type 0 where
+  pub channel : after.channel ≡ input.channel
+  pub only : ReadsOnly standard read input.file after.file
+  pub lines : after.window.lines ≡ input.window.lines
+  pub known : IsEndKnown input.window (device_left left left_in standard input.file)
+      → IsEndKnown after.window (device_left left left_in read after.file)
+  pub kept : after.failed ≡ None
+      → Keeps (left_of input.window (device_left left left_in standard input.file))
+      (left_of after.window (device_left left left_in read after.file))
+
+-- What a look at the input of a source does. It has an input, and the others stay as they were; or it has none, and
+-- nothing changes.
+pub data InputsLook {I F : Type 0} (left : I → Option (List ℕ)) (left_in : F → Option (List ℕ)) (before : Inputs I F)
+    (source : ℕ) (after : Inputs I F) : Type 0 where
+  at_input : (i : ℕ) (input read : Input F) → input_of before.each.now.items source ≡ Some i →
+      get_or before.each.now.items i input ≡ input → InputLooks left left_in before.standard.now input
+      after.standard.now read → after.each.now.items ≡ slice_set before.each.now.items i read →
+      after.format ≡ before.format → after.standard.ghost_name ≡ before.standard.ghost_name →
+      after.each.ghost_name ≡ before.each.ghost_name →
+      InputsLook left left_in before source after
+  at_none : input_of before.each.now.items source ≡ None → after ≡ before → InputsLook left left_in before source after
+
+-- ---- scaffolding: what looks keep, and what reads do before the bytes tell
+
+-- the fault that is told
+abbrev pub kept_fault : Failed → SourceFault
+kept_fault look_fault.Read = source_fault.Read
+kept_fault look_fault.NoMemory = source_fault.NoMemory
 
 -- bytes have moved from the device to the window, and no others
 pub record HaveMoved {I F : Type 0} (left : I → Option (List ℕ)) (left_in : F → Option (List ℕ))
     (standard : I) (input : Input F) (read : I) (after : Input F) : Type 0 where
   pub channel : after.channel ≡ input.channel
+  pub only : ReadsOnly standard read input.file after.file
   pub lines : after.window.lines ≡ input.window.lines
   pub kept : Keeps (left_of input.window (device_left left left_in standard input.file))
       (left_of after.window (device_left left left_in read after.file))
   pub known : IsEndKnown input.window (device_left left left_in standard input.file)
       → IsEndKnown after.window (device_left left left_in read after.file)
 
--- so far bytes have moved, and none if the first ones tell the answer
+-- so far bytes have moved, and none if the answer was at hand
 pub record IsAsked {I F : Type 0} (left : I → Option (List ℕ)) (left_in : F → Option (List ℕ)) (format : ItemFormat)
     (standard : I) (input : Input F) (read : I) (after : Input F) : Type 0 where
   pub moved : HaveMoved left left_in standard input read after
-  pub at_hand : (NeedsMore format input.window → ⊥) → (read ≡ standard) × (after ≡ input)
+  pub at_hand : (Waits format input → ⊥) → (read ≡ standard) × (after ≡ input)
 
--- a read fails, or there is no memory for what it gave
+-- a read fails, or there is no memory for what it gave; or a look has failed before, and no device is asked
 pub record FailsToRead {I F : Type 0} (left : I → Option (List ℕ)) (left_in : F → Option (List ℕ))
     (standard : I) (input : Input F) (read : I) (after : Input F) (fault : SourceFault) : Type 0 where
   pub channel : after.channel ≡ input.channel
+  pub only : ReadsOnly standard read input.file after.file
+  pub counted : (format : ItemFormat) → Counts format (Err fault) input.window.lines after.window.lines
+  pub at_hand : (input.failed ≡ None → ⊥) → (read ≡ standard) × (after ≡ input)
   pub known : IsEndKnown input.window (device_left left left_in standard input.file)
       → IsEndKnown after.window (device_left left left_in read after.file)
   pub given : (format : ItemFormat) → Gives format input.window (device_left left left_in standard input.file)

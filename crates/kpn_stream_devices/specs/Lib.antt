@@ -2,3 +2,4 @@ pub mod Formats
 pub mod Window
 pub mod Inputs
 pub mod Outputs
+pub mod Out

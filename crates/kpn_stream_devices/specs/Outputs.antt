@@ -1,9 +1,9 @@
 -- The outputs of a stream, as the devices of its sinks.
 use Rattle.std.specs.Prelude.{◌≡◌, ℕ, nat_eq, ℤ, List, [], position, get_or, slice_set, Option, Some, None, Result, Ok, Err, ⊤}
 use Rattle.std.specs.Io.KnownBytes.{append_known, Appends, Keeps}
-use Rattle.kpn_request.specs.declared.stream.ItemFormat.{ItemFormat}
+use Rattle.kpn_command_base.specs.declared.stream_request.ItemFormat.{ItemFormat}
 use Rattle.kpn_stream.specs.declared.faults.SinkFault.{SinkFault}
-use Rattle.kpn_stream.specs.declared.faults.SinkFault.TheVariants.{Gone, NoSample, Write}
+use Rattle.kpn_stream.specs.declared.faults.SinkFault.TheVariants.{Gone, NoMemory, NoSample, Write}
 use Rattle.kpn_stream_devices.specs.declared.outputs.Output.{Output}
 use Rattle.kpn_stream_devices.specs.declared.outputs.Outputs.{Outputs}
 use Rattle.kpn_stream_devices.specs.Formats.{HasItem, item_bytes}
@@ -20,25 +20,34 @@ abbrev pub was_put : {O G : Type 0} → (holds : O → Option (List ℕ)) (holds
 was_put holds holds_in standard output =
     append_known (device_holds holds holds_in standard output.file) output.bytes.items
 
--- What an output does with an item: it takes the item's text; or the format has none, and nothing was taken; or nobody
--- knows what went out.
+-- What an output does with an item: it takes the item's text; or the format has none, or there is no memory for it, and
+-- nothing was taken; or nobody knows what went out.
 abbrev pub TakesItem : ItemFormat → (item : ℤ) → Result (Unit {0}) SinkFault → (before after : Option (List ℕ)) → Type 0
 TakesItem format item (Ok done) before after = HasItem format item × Appends before after (item_bytes format item)
 TakesItem format item (Err (NoSample other)) before after =
     (other ≡ item) × (¬ HasItem format item) × Keeps before after
+TakesItem format item (Err NoMemory) before after = HasItem format item × Keeps before after
 TakesItem format item (Err Gone) before after = ⊤
 TakesItem format item (Err Write) before after = ⊤
 
--- a fault of a device, and not of an item
+-- a fault of a device, and not of an item or of memory
 abbrev pub IsOfDevice : SinkFault → Type 0
 IsOfDevice (NoSample item) = ⊥
+IsOfDevice NoMemory = ⊥
 IsOfDevice Gone = ⊤
 IsOfDevice Write = ⊤
 
--- What an output does when it hands on what it kept: the device gets all of it; or nobody knows what went out.
+-- What an output does when it hands on what it kept, and keeps nothing then: the device gets all of it; or nobody knows
+-- what went out.
 abbrev pub HandsOn : Result (Unit {0}) SinkFault → (kept : List ℕ) (before after : Option (List ℕ)) → Type 0
 HandsOn (Ok done) kept before after = (kept ≡ []) × Keeps before after
-HandsOn (Err fault) kept before after = IsOfDevice fault
+HandsOn (Err fault) kept before after = (kept ≡ []) × IsOfDevice fault
+
+-- only the device of this output is written: standard output stays as it was beside a file
+abbrev pub WritesOnly : {O G : Type 0} → (standard written : O) → (file after : Option G) → Type 0
+WritesOnly standard written None None = ⊤
+WritesOnly standard written (Some file) (Some after) = written ≡ standard
+WritesOnly standard written file after = ⊥
 
 -- A call for a sink, which has this output. Given are standard output and the output, each as it was and as it is
 -- afterwards.
@@ -55,6 +64,7 @@ pub data OutputsDo {O G : Type 0} (Does : ItemFormat → OutputRel O G) (before 
     (sink : ℕ) (answer : Result (Unit {0}) SinkFault) (after : Outputs O G) : Type 0 where
   by_output : (i : ℕ) (output written : Output G) → output_of before.each.now.items sink ≡ Some i →
       get_or before.each.now.items i output ≡ output → written.channel ≡ output.channel →
+      WritesOnly before.standard.now after.standard.now output.file written.file →
       Does before.format before.standard.now output after.standard.now written →
       after.each.now.items ≡ slice_set before.each.now.items i written → after.format ≡ before.format →
       after.standard.ghost_name ≡ before.standard.ghost_name → after.each.ghost_name ≡ before.each.ghost_name →

@@ -1,23 +1,39 @@
 //! The inputs of a stream, as the devices of its sources.
-ghost use Rattle.std.specs.Prelude.{◌≡◌, false, OnOk, IfErr};
+ghost use Rattle.std.specs.Prelude.{◌≡◌, false, None, OnOk, IfErr};
 ghost use Rattle.std.specs.Io.{ReadsAtMost};
 ghost use Rattle.std.specs.Io.KnownBytes.{ReadConsumes};
-ghost use Rattle.kpn_stream_devices.specs.Inputs.{device_left, input_of, FailsToRead, HaveMoved, InputGives};
+ghost use Rattle.kpn_shelf.specs.Look.{LookConsumes, LooksAtMost};
+ghost use Rattle.kpn_stream.specs.declared.devices.Look.TheVariants as look;
+ghost use Rattle.kpn_stream_devices.specs.Inputs.{device_left, input_of, kept_fault, FailsToRead, HaveMoved, InputGives, InputLooks, ReadsOnly, Waits};
 
 use crate::window::{Answer, Window};
-use kpn_request::ItemFormat;
-use kpn_stream::{SourceFault, Sources};
-use std::io::{ErrorKind, Read};
+use kpn_command_base::ItemFormat;
+use kpn_shelf::Look;
+use kpn_stream::{Look as Shown, SourceFault, Sources};
+use kpn_text_items::{ItemFault, read_some};
+use std::io;
+use std::io::Read;
 
 /// How many bytes one read asks for.
 const CHUNK: usize = 8192;
 
-/// The input of a source: that of this file, or else standard input.
+/// A fault that a look has met.
+#[derive(Clone, Copy)]
+pub enum Failed {
+    /// The device failed.
+    Read,
+    /// Memory ran out.
+    NoMemory,
+}
+
+/// The input of a source: that of this file, or else standard input. A fault that a look has met is told by the next
+/// call that waits for its bytes.
 #[derive(Drop)]
 pub struct Input<F: Drop> {
     pub channel: usize,
     pub file: Option<F>,
     pub window: Window,
+    pub failed: Option<Failed>,
 }
 
 /// The inputs of all sources. They are lent, so that the lender has them as the last read left them.
@@ -28,10 +44,12 @@ pub struct Inputs<'i, I, F: Drop> {
     pub each: &'i mut Vec<Input<F>>,
 }
 
-impl<I: Read, F: Read + Drop> Sources for Inputs<'_, I, F> {
-    ghost use Rattle.kpn_stream_devices.specs.Inputs.{InputsGive, IsAtHand};
+impl<I: Look, F: Look + Drop> Sources for Inputs<'_, I, F> {
+    ghost use Rattle.kpn_stream_devices.specs.Inputs.{InputsGive, InputsLook, IsAtHand};
 
     ghost gives = { InputsGive I.remaining F.remaining };
+
+    ghost looks = { InputsLook I.remaining F.remaining };
 
     ghost at_hand = { IsAtHand };
 
@@ -45,9 +63,21 @@ impl<I: Read, F: Read + Drop> Sources for Inputs<'_, I, F> {
 
     fn is_at_hand(&self, source: usize) -> bool {
         match input_of(self.each, source) {
-            Some(i) => self.each[i].window.is_at_hand(self.format),
+            Some(i) => is_told(&self.each[i], self.format),
             None => true,
         }
+    }
+
+    fn look(&mut self, source: usize) -> Shown {
+        let Some(i) = input_of(self.each, source) else {
+            return Shown::AtHand;
+        };
+        let format = self.format;
+        look_at(&mut self.each[i], self.standard, format)
+    }
+
+    fn linger(&self) {
+        self.standard.linger();
     }
 }
 
@@ -56,6 +86,81 @@ fn input_of<F: Drop>(inputs: &[Input<F>], source: usize) -> Option<usize>
     ensures { result ≡ input_of inputs.now source }
 {
     inputs.iter().position(|input| input.channel == source)
+}
+
+/// Whether an input has an answer without its device.
+fn is_told<F: Drop>(input: &Input<F>, format: ItemFormat) -> bool
+    ensures told { Waits format input.now → result ≡ false }
+    ensures open { result ≡ false → input.now.window.is_over ≡ false }
+{
+    input.failed.is_some() || input.window.is_at_hand(format)
+}
+
+/// Takes in what has come, unless the answer of the input is at hand. Shows whether it is then.
+fn look_at<I: Look, F: Look + Drop>(
+    input: &mut Input<F>,
+    standard: &mut I,
+    format: ItemFormat,
+) -> Shown
+    ensures looks { InputLooks I.remaining F.remaining standard.old input.old
+        standard.new input.new }
+    ensures at_hand { result ≡ look.AtHand → Waits format input.new → ⊥ }
+{
+    if is_told(input, format) {
+        return Shown::AtHand;
+    }
+    take_in(input, standard);
+    if is_told(input, format) {
+        return Shown::AtHand;
+    }
+    if can_look(input, standard) {
+        Shown::NotYet
+    } else {
+        Shown::Unknown
+    }
+}
+
+/// Whether a look can tell what has come to an input.
+fn can_look<I: Look, F: Look + Drop>(input: &Input<F>, standard: &I) -> bool {
+    match &input.file {
+        Some(file) => file.can_look(),
+        None => standard.can_look(),
+    }
+}
+
+/// Takes into the window what has come, and keeps the fault if that fails. It is apart since the chunk is large.
+#[inline(never)]
+fn take_in<I: Look, F: Look + Drop>(input: &mut Input<F>, standard: &mut I)
+    requires { input.old.window.is_over ≡ false }
+    ensures { InputLooks I.remaining F.remaining standard.old input.old standard.new input.new }
+{
+    let mut chunk = [0; CHUNK];
+    match look_device(standard, &mut input.file, &mut chunk) {
+        Ok(None) => {}
+        Ok(Some(count)) => {
+            if input.window.add(&chunk[..count]).is_err() {
+                input.failed = Some(Failed::NoMemory);
+            }
+        }
+        Err(_) => input.failed = Some(Failed::Read),
+    }
+}
+
+/// One look at the file, or else at standard input.
+fn look_device<I: Look, F: Look + Drop>(
+    standard: &mut I,
+    file: &mut Option<F>,
+    chunk: &mut [u8],
+) -> io::Result<Option<usize>>
+    ensures bound { LooksAtMost result chunk.new }
+    ensures bytes { LookConsumes (device_left I.remaining F.remaining standard.old file.old)
+        (device_left I.remaining F.remaining standard.new file.new) result chunk.new }
+    ensures only { ReadsOnly standard.old standard.new file.old file.new }
+{
+    match file {
+        Some(file) => file.look(chunk),
+        None => standard.look(chunk),
+    }
 }
 
 /// The answer of an input. It reads until there are bytes enough to tell.
@@ -71,11 +176,38 @@ fn next_of<I: Read, F: Read + Drop>(
         if let Some(answer) = input.window.next(format) {
             return answer;
         }
-        if let Err(fault) = read_more(input, standard) {
+        if let Err(fault) = read_on(input, standard) {
             return Err(fault);
         }
     }
     Err(SourceFault::Read)
+}
+
+/// One read into the window of an input, unless a look has met a fault, which is told.
+fn read_on<I: Read, F: Read + Drop>(
+    input: &mut Input<F>,
+    standard: &mut I,
+) -> Result<(), SourceFault>
+    requires { input.old.window.is_over ≡ false }
+    ensures moved { OnOk result (HaveMoved I.remaining F.remaining standard.old input.old
+        standard.new input.new) }
+    ensures unfailed { OnOk result (input.old.failed ≡ None) }
+    ensures fault { IfErr result (FailsToRead I.remaining F.remaining standard.old input.old
+        standard.new input.new) }
+{
+    match input.failed {
+        Some(failed) => Err(fault_of(failed)),
+        None => read_more(input, standard),
+    }
+}
+
+fn fault_of(failed: Failed) -> SourceFault
+    ensures { result ≡ kept_fault failed }
+{
+    match failed {
+        Failed::Read => SourceFault::Read,
+        Failed::NoMemory => SourceFault::NoMemory,
+    }
 }
 
 /// One read into the window of an input. It is apart since the chunk is large.
@@ -84,7 +216,8 @@ fn read_more<I: Read, F: Read + Drop>(
     input: &mut Input<F>,
     standard: &mut I,
 ) -> Result<(), SourceFault>
-    requires { input.old.window.is_over ≡ false }
+    requires open { input.old.window.is_over ≡ false }
+    requires unfailed { input.old.failed ≡ None }
     ensures moved { OnOk result (HaveMoved I.remaining F.remaining standard.old input.old
         standard.new input.new) }
     ensures fault { IfErr result (FailsToRead I.remaining F.remaining standard.old input.old
@@ -105,28 +238,14 @@ fn read_device<I: Read, F: Read + Drop>(
     standard: &mut I,
     file: &mut Option<F>,
     chunk: &mut [u8],
-) -> Result<usize, SourceFault>
+) -> Result<usize, ItemFault>
     ensures bound { ReadsAtMost result chunk.new }
     ensures bytes { ReadConsumes (device_left I.remaining F.remaining standard.old file.old)
         (device_left I.remaining F.remaining standard.new file.new) result chunk.new }
+    ensures only { ReadsOnly standard.old standard.new file.old file.new }
 {
     match file {
         Some(file) => read_some(file, chunk),
         None => read_some(standard, chunk),
     }
-}
-
-/// One read. As long as a signal interrupts it, it reads again.
-fn read_some<R: Read>(reader: &mut R, chunk: &mut [u8]) -> Result<usize, SourceFault>
-    ensures bound { ReadsAtMost result chunk.new }
-    ensures bytes { ReadConsumes (R.remaining reader.old) (R.remaining reader.new) result chunk.new }
-{
-    for _attempt in 0..u64::MAX {
-        match reader.read(chunk) {
-            Ok(count) => return Ok(count),
-            Err(error) if error.kind() == ErrorKind::Interrupted => {}
-            Err(_) => return Err(SourceFault::Read),
-        }
-    }
-    Err(SourceFault::Read)
 }

@@ -2,9 +2,10 @@
 #![tactic(auto)]
 
 mod inputs;
+pub mod laws;
 mod outputs;
 mod window;
 
-pub use inputs::{Input, Inputs};
+pub use inputs::{Failed, Input, Inputs};
 pub use outputs::{Output, Outputs};
 pub use window::Window;

@@ -1,13 +1,13 @@
 //! The outputs of a stream, as the devices of its sinks.
-ghost use Rattle.std.specs.Prelude.{◌≡◌, ◌≤◌, ◌↔◌, ◌++◌, ℤ, IsTrue, OnOk, IfErr};
+ghost use Rattle.std.specs.Prelude.{◌≡◌, ◌≤◌, ◌↔◌, ◌++◌, ℤ, IsTrue, OnOk, OnErr, IfErr};
 ghost use Rattle.std.specs.Io.KnownBytes.{Appends};
-ghost use Rattle.kpn_items.specs.ItemFile.{item_line};
+ghost use Rattle.kpn_text_items.specs.ItemFile.{item_line};
 ghost use Rattle.kpn_stream_devices.specs.Formats.{HasItem, item_bytes, sample_bytes};
-ghost use Rattle.kpn_stream_devices.specs.Outputs.{device_holds, output_of, was_put, TakesItem, HandsOn, IsOfDevice};
+ghost use Rattle.kpn_stream_devices.specs.Outputs.{device_holds, output_of, was_put, TakesItem, HandsOn, IsOfDevice, WritesOnly};
 
 use byteorder::{ByteOrder, LittleEndian};
 use itoa::Buffer;
-use kpn_request::ItemFormat;
+use kpn_command_base::ItemFormat;
 use kpn_stream::{SinkFault, Sinks};
 use std::alloc::AllocError;
 use std::io;
@@ -64,7 +64,7 @@ fn output_of<G: Drop>(outputs: &[Output<G>], sink: usize) -> Option<usize>
     outputs.iter().position(|output| output.channel == sink)
 }
 
-/// Puts an item to an output.
+/// Puts an item to an output. Without memory for it the output is as it was.
 fn put_to<O: Write, G: Write + Drop>(
     output: &mut Output<G>,
     standard: &mut O,
@@ -72,6 +72,7 @@ fn put_to<O: Write, G: Write + Drop>(
     item: i64,
 ) -> Result<(), SinkFault>
     ensures channel { output.new.channel ≡ output.old.channel }
+    ensures only { WritesOnly standard.old standard.new output.old.file output.new.file }
     ensures taken { TakesItem format item result
         (was_put O.contents G.contents standard.old output.old)
         (was_put O.contents G.contents standard.new output.new) }
@@ -80,7 +81,7 @@ fn put_to<O: Write, G: Write + Drop>(
         return Err(SinkFault::NoSample(item));
     }
     if push(&mut output.bytes, format, item).is_err() {
-        return Err(SinkFault::Write);
+        return Err(SinkFault::NoMemory);
     }
     output.wanted = one_less(output.wanted);
     if output.bytes.len() < FULL && !is_none_wanted(output.wanted) {
@@ -109,9 +110,10 @@ fn has_item(format: ItemFormat, item: i64) -> bool
     }
 }
 
-/// Puts the text of an item behind these bytes.
+/// Puts the text of an item behind these bytes, all of it or nothing.
 fn push(bytes: &mut Vec<u8>, format: ItemFormat, item: i64) -> Result<(), AllocError>
-    ensures { OnOk result (bytes.new.items ≡ bytes.old.items ++ item_bytes format item) }
+    ensures whole { OnOk result (bytes.new.items ≡ bytes.old.items ++ item_bytes format item) }
+    ensures nothing { OnErr result (bytes.new.items ≡ bytes.old.items) }
 {
     match format {
         ItemFormat::Lines => push_line(bytes, item),
@@ -122,18 +124,22 @@ fn push(bytes: &mut Vec<u8>, format: ItemFormat, item: i64) -> Result<(), AllocE
 }
 
 fn push_line(bytes: &mut Vec<u8>, item: i64) -> Result<(), AllocError>
-    ensures { OnOk result (bytes.new.items ≡ bytes.old.items ++ item_line item) }
+    ensures whole { OnOk result (bytes.new.items ≡ bytes.old.items ++ item_line item) }
+    ensures nothing { OnErr result (bytes.new.items ≡ bytes.old.items) }
 {
     let mut buffer = Buffer::new();
-    bytes.extend_from_slice(buffer.format(item).as_bytes())?;
-    bytes.push(b'\n')?;
+    let digits = buffer.format(item).as_bytes();
+    bytes.reserve(digits.len() + 1)?;
+    bytes.extend_from_slice(digits)?;
+    bytes.push_reserved(b'\n');
     Ok(())
 }
 
 fn push_sample(bytes: &mut Vec<u8>, item: i64, width: usize) -> Result<(), AllocError>
     requires low { 1 ≤ width }
     requires high { width ≤ 8 }
-    ensures { OnOk result (bytes.new.items ≡ bytes.old.items ++ sample_bytes width item) }
+    ensures whole { OnOk result (bytes.new.items ≡ bytes.old.items ++ sample_bytes width item) }
+    ensures nothing { OnErr result (bytes.new.items ≡ bytes.old.items) }
 {
     let mut sample = [0; 8];
     LittleEndian::write_int(&mut sample, item, width);
@@ -146,6 +152,7 @@ fn hand_on<O: Write, G: Write + Drop>(
     standard: &mut O,
 ) -> Result<(), SinkFault>
     ensures channel { output.new.channel ≡ output.old.channel }
+    ensures only { WritesOnly standard.old standard.new output.old.file output.new.file }
     ensures handed_on { HandsOn result output.new.bytes.items
         (was_put O.contents G.contents standard.old output.old)
         (was_put O.contents G.contents standard.new output.new) }
@@ -167,6 +174,7 @@ fn write_device<O: Write, G: Write + Drop>(
     ensures written { OnOk result
         (Appends (device_holds O.contents G.contents standard.old file.old)
         (device_holds O.contents G.contents standard.new file.new) bytes.now) }
+    ensures only { WritesOnly standard.old standard.new file.old file.new }
     ensures fault { IfErr result IsOfDevice }
 {
     match file {

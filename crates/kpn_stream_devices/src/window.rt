@@ -1,12 +1,11 @@
 //! The bytes of an input that were read and not yet used, and the items that they spell.
 ghost use Rattle.std.specs.Prelude.{◌≡◌, ◌+◌, ◌<◌, ◌≤◌, ◌++◌, [], true, false, Ok, Err, Some, None, drop, length, vec_len, IfOk, OnOk, OnErr, IfSome, MatchOption, position, ◌==◌};
-ghost use Rattle.std.specs.Str.Lines.{strip_carriage_return};
 ghost use Rattle.kpn_stream_devices.specs.Window.{fresh, line_after, with_unused, with_line, NeedsMore, LineNeedsMore, SampleNeedsMore, Tells, LineTells, SampleTells};
 
 use byteorder::{ByteOrder, LittleEndian};
-use kpn_items::item_of_line;
-use kpn_request::ItemFormat;
+use kpn_command_base::ItemFormat;
 use kpn_stream::SourceFault;
+use kpn_text_items::{item_of_line, line_feed, without_carriage_return};
 use std::alloc::{AllocError, Global};
 use std::marker::Model;
 
@@ -121,7 +120,8 @@ impl Window {
 
     /// Whether `next` needs no more bytes.
     pub fn is_at_hand(&self, format: ItemFormat) -> bool
-        ensures { NeedsMore format self.now → result ≡ false }
+        ensures told { NeedsMore format self.now → result ≡ false }
+        ensures open { result ≡ false → self.now.is_over ≡ false }
     {
         let unused = self.unused();
         self.is_over
@@ -242,17 +242,4 @@ fn told(item: Option<i64>, line: u64) -> Answer
         Some(item) => Ok(Some(item)),
         None => Err(SourceFault::BadItem(line)),
     }
-}
-
-fn line_feed(bytes: &[u8]) -> Option<usize>
-    ensures { result ≡ position (λ byte. byte == 10) bytes.now }
-{
-    bytes.iter().position(|&byte| byte == b'\n')
-}
-
-/// A line without the carriage return at its end, if it has one.
-fn without_carriage_return(line: &[u8]) -> &[u8]
-    ensures { result.now ≡ strip_carriage_return line.now }
-{
-    line.strip_suffix(b"\r").unwrap_or(line)
 }

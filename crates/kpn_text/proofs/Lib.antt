@@ -8,3 +8,14 @@ pub mod NamedProcesses
 pub mod NamedItems
 pub mod RoundTrip
 pub mod NamesAreText
+-- The lemmas.
+mod TokenLemmas
+mod TermLemmas
+mod StatementLemmas
+mod ListLemmas
+mod ProcessLemmas
+mod NetworkLemmas
+mod ProperLemmas
+mod PrintingLemmas
+mod BlockLemmas
+mod ChannelLemmas

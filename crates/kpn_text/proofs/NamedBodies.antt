@@ -4,16 +4,16 @@ use Rattle.std.specs.List.{position_or_len}
 use Rattle.std.specs.Str.{bytes_eq}
 use Rattle.kpn_lang.specs.Syntax as lang
 use Rattle.kpn_lang.specs.Tree.{Tree}
-use Rattle.kpn_grammar.specs.Syntax.{Name, Term, numeral, variable, minus, negation, binary, Statement, assign, receive, send, choice, loop, Statements, no_statements, statement}
-use Rattle.kpn_names.specs.declared.scope.Scope.{Scope}
-use Rattle.kpn_tokens.specs.Results.{and_then}
-use Rattle.kpn_names.specs.Names.{known, with_name, name_at}
-use Rattle.kpn_names.specs.Scope.{is_port, target}
-use Rattle.kpn_names.specs.Body.{term_in, statement_in, tree_in}
-use Rattle.kpn_names.specs.declared.network_names.ProcessNames.{ProcessNames}
-use Rattle.kpn_canonical.specs.Named.{term_named, statements_named}
-use Rattle.kpn_names.proofs.Chains.{ok_is, went}
-use Rattle.kpn_names.proofs.KnownNames.{IsNamed, is_named-append, known_named, target_named, with_name_longer, if_not}
+use Rattle.kpn_text_grammar.specs.Syntax.{Name, Term, numeral, variable, minus, negation, binary, Statement, assign, receive, send, choice, loop, Statements, no_statements, statement}
+use Rattle.kpn_text_names.specs.declared.scope.Scope.{Scope}
+use Rattle.kpn_text_tokens.specs.Results.{and_then}
+use Rattle.kpn_text_names.specs.Names.{known, with_name, name_at}
+use Rattle.kpn_text_names.specs.Scope.{is_port, target}
+use Rattle.kpn_text_names.specs.Body.{term_in, statement_in, tree_in}
+use Rattle.kpn_text_names.specs.declared.network_names.ProcessNames.{ProcessNames}
+use Rattle.kpn_text.specs.Named.{term_named, statements_named}
+use Rattle.kpn_text_names.proofs.Chains.{ok_is, went}
+use Rattle.kpn_text_names.proofs.KnownNames.{IsNamed, is_named-append, known_named, target_named, with_name_longer, if_not}
 
 -- ---- expressions
 

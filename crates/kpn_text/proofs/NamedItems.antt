@@ -6,17 +6,17 @@ use Rattle.std.proofs.lemmas.List.Sums.{fold-append}
 use Rattle.kpn_net.specs.declared.tables.ChannelSpec.{ChannelSpec}
 use Rattle.kpn_net.specs.declared.tables.ChannelSpec.TheVariants.{Inner, Source, Sink}
 use Rattle.kpn_net.specs.declared.tables.Instance as net
-use Rattle.kpn_grammar.specs.Syntax.{Name, Literal, plain, negated, literal_value, Instance, Item, channel, source, sink, instance}
-use Rattle.kpn_names.specs.Fault.{NameError, each}
-use Rattle.kpn_tokens.specs.Results.{and_then}
-use Rattle.kpn_names.specs.Names.{has, known, all_known, declared, with_name, name_at}
-use Rattle.kpn_names.specs.Network.{within_32_bits, with_channel_name, all_channels, Wiring, with_channel, instance_of, with_instance, with_item, wiring}
-use Rattle.kpn_names.specs.declared.network_names.NetworkNames.{NetworkNames}
-use Rattle.kpn_names.specs.NetworkNames.{process_names, paired}
-use Rattle.kpn_canonical.specs.Named.{literal_named, channel_named, call_named, instance_named}
-use Rattle.kpn_canonical.specs.Proper.{IsProperLiteral, IsProperInstance, IsProperItem}
-use Rattle.kpn_names.proofs.Chains.{ok_is, went, then_ok}
-use Rattle.kpn_names.proofs.KnownNames.{known_named, all_known_named, declared_is, declared_new, with_name_new}
+use Rattle.kpn_text_grammar.specs.Syntax.{Name, Literal, plain, negated, literal_value, Instance, Item, channel, source, sink, instance}
+use Rattle.kpn_text_names.specs.Fault.{NameError, each}
+use Rattle.kpn_text_tokens.specs.Results.{and_then}
+use Rattle.kpn_text_names.specs.Names.{has, known, all_known, declared, with_name, name_at}
+use Rattle.kpn_text_names.specs.Network.{within_32_bits, with_channel_name, all_channels, Wiring, with_channel, instance_of, with_instance, with_item, wiring}
+use Rattle.kpn_text_names.specs.declared.network_names.NetworkNames.{NetworkNames}
+use Rattle.kpn_text_names.specs.NetworkNames.{process_names, paired}
+use Rattle.kpn_text.specs.Named.{literal_named, channel_named, call_named, instance_named}
+use Rattle.kpn_text.specs.Proper.{IsProperLiteral, IsProperInstance, IsProperItem}
+use Rattle.kpn_text_names.proofs.Chains.{ok_is, went, then_ok}
+use Rattle.kpn_text_names.proofs.KnownNames.{known_named, all_known_named, declared_is, declared_new, with_name_new}
 
 -- ---- values and capacities
 

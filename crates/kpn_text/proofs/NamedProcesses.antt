@@ -2,19 +2,19 @@
 use Rattle.std.proofs.Common.{◌≡◌, List, [], ◌∷◌, ◌++◌, length, map, take, Ok, refl, sym, ap, subst, ◌∙◌, append_assoc, append-nil}
 use Rattle.std.proofs.Math.Seq.{take-append_seam}
 use Rattle.kpn_lang.specs.Tree.{Tree, tree_of}
-use Rattle.kpn_grammar.specs.Syntax.{Name, Process}
-use Rattle.kpn_names.specs.declared.scope.Scope.{Scope}
-use Rattle.kpn_names.specs.Fault.{each}
-use Rattle.kpn_names.specs.Scope.{are_distinct}
-use Rattle.kpn_names.specs.Body.{tree_in}
-use Rattle.kpn_names.specs.Blocks.{blocks_of, Written}
-use Rattle.kpn_names.specs.Laws.{BlocksAreTheTree}
-use Rattle.kpn_names.specs.Named.{NamedProgram, program_with, program_of, Programs, with_process, programs_of}
-use Rattle.kpn_names.specs.declared.network_names.ProcessNames.{ProcessNames}
-use Rattle.kpn_names.specs.NetworkNames.{paired, process_names_in}
-use Rattle.kpn_canonical.specs.Named.{statements_named, process_named}
-use Rattle.kpn_names.proofs.Chains.{ok_is, went}
-use Rattle.kpn_names.proofs.KnownNames.{if_so, declared_is}
+use Rattle.kpn_text_grammar.specs.Syntax.{Name, Process}
+use Rattle.kpn_text_names.specs.declared.scope.Scope.{Scope}
+use Rattle.kpn_text_names.specs.Fault.{each}
+use Rattle.kpn_text_names.specs.Scope.{are_distinct}
+use Rattle.kpn_text_names.specs.Body.{tree_in}
+use Rattle.kpn_text_names.specs.Blocks.{blocks_of, Written}
+use Rattle.kpn_text_names.specs.Laws.{BlocksAreTheTree}
+use Rattle.kpn_text_names.specs.Named.{NamedProgram, program_with, program_of, Programs, with_process, programs_of}
+use Rattle.kpn_text_names.specs.declared.network_names.ProcessNames.{ProcessNames}
+use Rattle.kpn_text_names.specs.NetworkNames.{paired, process_names_in}
+use Rattle.kpn_text.specs.Named.{statements_named, process_named}
+use Rattle.kpn_text_names.proofs.Chains.{ok_is, went}
+use Rattle.kpn_text_names.proofs.KnownNames.{if_so, declared_is}
 use Rattle.kpn_text.proofs.NamedBodies.{block_back}
 
 -- ---- one process

@@ -13,17 +13,17 @@ use Rattle.std.proofs.lemmas.Str.Ascii.{IsAscii-from_all}
 use Rattle.kpn_net.specs.declared.tables.ChannelSpec.{ChannelSpec}
 use Rattle.kpn_net.specs.declared.tables.ChannelSpec.TheVariants.{Inner, Source, Sink}
 use Rattle.kpn_net.specs.Tables.{Tables}
-use Rattle.kpn_tokens.specs.Lexing.{begins_name}
-use Rattle.kpn_tokens.specs.Rules.{IsName}
-use Rattle.kpn_grammar.specs.Syntax.{Name}
-use Rattle.kpn_names.specs.declared.network_names.NetworkNames.{NetworkNames}
-use Rattle.kpn_names.specs.Names.{name_at}
-use Rattle.kpn_names.specs.NetworkNames.{AreNamed, paired, process_names}
-use Rattle.kpn_names.proofs.Counts.{are_named, resolved_each}
-use Rattle.kpn_names.specs.Laws.{BlocksAreTheTree}
-use Rattle.kpn_canonical.specs.Laws.{ReadDescriptionsAreProper}
-use Rattle.kpn_canonical.specs.Named.{process_named, channel_named, instance_named, description_named}
-use Rattle.kpn_canonical.specs.Proper.{IsProperProcess, IsProperItem, IsProper}
+use Rattle.kpn_text_tokens.specs.Lexing.{begins_name}
+use Rattle.kpn_text_tokens.specs.Rules.{IsName}
+use Rattle.kpn_text_grammar.specs.Syntax.{Name}
+use Rattle.kpn_text_names.specs.declared.network_names.NetworkNames.{NetworkNames}
+use Rattle.kpn_text_names.specs.Names.{name_at}
+use Rattle.kpn_text_names.specs.NetworkNames.{AreNamed, paired, process_names}
+use Rattle.kpn_text_names.proofs.Counts.{are_named, resolved_each}
+use Rattle.kpn_text_names.specs.Laws.{BlocksAreTheTree}
+use Rattle.kpn_text.specs.CanonicalLaws.{ReadDescriptionsAreProper}
+use Rattle.kpn_text.specs.Named.{process_named, channel_named, instance_named, description_named}
+use Rattle.kpn_text.specs.Proper.{IsProperProcess, IsProperItem, IsProper}
 use Rattle.kpn_text.specs.Document.{Document}
 use Rattle.kpn_text.specs.Laws.{AreText, NamesAreText}
 use Rattle.kpn_text.proofs.RoundTrip.{LimitsAreInRange, proper, spelled_kept}

@@ -3,16 +3,16 @@ use Rattle.std.proofs.Common.{◌≡◌, ◌≤◌, Ok, List, [], ◌∷◌, ◌
 use Rattle.std.specs.Prelude.{All}
 use Rattle.std.proofs.lemmas.List.Elements.{All-nil, All-cons, All-append, All-map}
 use Rattle.kpn_lang.specs.Parts.{Parts}
-use Rattle.kpn_grammar.specs.Syntax.{Process, Description}
-use Rattle.kpn_names.specs.declared.scope.Scope.{Scope}
-use Rattle.kpn_names.specs.Names.{declared}
-use Rattle.kpn_names.specs.Scope.{head}
-use Rattle.kpn_names.specs.Body.{tree_in}
-use Rattle.kpn_names.specs.Blocks.{Written, body_of}
-use Rattle.kpn_names.specs.Network.{wiring}
-use Rattle.kpn_names.specs.Named.{Named, NamedProgram, Programs, program_of, programs_of, with_process, resolve}
-use Rattle.kpn_names.proofs.Chains.{ok_is, went}
-use Rattle.kpn_names.proofs.Steps.{keeps}
+use Rattle.kpn_text_grammar.specs.Syntax.{Process, Description}
+use Rattle.kpn_text_names.specs.declared.scope.Scope.{Scope}
+use Rattle.kpn_text_names.specs.Names.{declared}
+use Rattle.kpn_text_names.specs.Scope.{head}
+use Rattle.kpn_text_names.specs.Body.{tree_in}
+use Rattle.kpn_text_names.specs.Blocks.{Written, body_of}
+use Rattle.kpn_text_names.specs.Network.{wiring}
+use Rattle.kpn_text_names.specs.Named.{Named, NamedProgram, Programs, program_of, programs_of, with_process, resolve}
+use Rattle.kpn_text_names.proofs.Chains.{ok_is, went}
+use Rattle.kpn_text_names.proofs.Steps.{keeps}
 use Rattle.kpn_text.proofs.NamedBodies.{Grows, block_back}
 
 -- the parameters are among the variables

@@ -11,27 +11,27 @@ use Rattle.kpn_net.specs.declared.fault.NetFault.{NetFault}
 use Rattle.kpn_net.specs.Tables.{Tables}
 use Rattle.kpn_net.specs.Faults as net
 use Rattle.kpn_net.specs.Faults.{IsNetwork}
-use Rattle.kpn_tokens.specs.declared.lexer.LexFault.{LexFault}
-use Rattle.kpn_tokens.specs.declared.lexer.LexFault.TheVariants as lex
-use Rattle.kpn_tokens.specs.declared.tokens.Lexeme.{Lexeme}
-use Rattle.kpn_tokens.specs.declared.tokens.Token.{Token}
-use Rattle.kpn_tokens.specs.Laws.{tokens_in, tokens_of}
-use Rattle.kpn_tokens.specs.Lexing.{lexemes_of, scan}
-use Rattle.kpn_tokens.proofs.TokenLaws.{short_text}
-use Rattle.kpn_grammar.specs.declared.fault.GrammarFault.{GrammarFault}
-use Rattle.kpn_grammar.specs.Syntax.{Description}
-use Rattle.kpn_grammar.specs.Spelling.{IsDescription, kinds}
-use Rattle.kpn_grammar.specs.Reading.{description_of}
-use Rattle.kpn_grammar.proofs.DescriptionLaws.{description_takes, description_again}
-use Rattle.kpn_names.specs.Fault.{NameError}
-use Rattle.kpn_names.specs.Named.{Named, resolve}
+use Rattle.kpn_text_tokens.specs.declared.lexer.LexFault.{LexFault}
+use Rattle.kpn_text_tokens.specs.declared.lexer.LexFault.TheVariants as lex
+use Rattle.kpn_text_tokens.specs.declared.tokens.Lexeme.{Lexeme}
+use Rattle.kpn_text_tokens.specs.declared.tokens.Token.{Token}
+use Rattle.kpn_text_tokens.specs.Laws.{tokens_in, tokens_of}
+use Rattle.kpn_text_tokens.specs.Lexing.{lexemes_of, scan}
+use Rattle.kpn_text_tokens.proofs.TokenLaws.{short_text}
+use Rattle.kpn_text_grammar.specs.declared.fault.GrammarFault.{GrammarFault}
+use Rattle.kpn_text_grammar.specs.Syntax.{Description}
+use Rattle.kpn_text_grammar.specs.Spelling.{IsDescription, kinds}
+use Rattle.kpn_text_grammar.specs.Reading.{description_of}
+use Rattle.kpn_text_grammar.proofs.DescriptionLaws.{description_takes, description_again}
+use Rattle.kpn_text_names.specs.Fault.{NameError}
+use Rattle.kpn_text_names.specs.Named.{Named, resolve}
 use Rattle.kpn_text.specs.Document.{Document, document_named}
 use Rattle.kpn_text.specs.Spells.{Spells, IsSpelled}
-use Rattle.kpn_names.specs.NetworkNames.{AreNamed}
+use Rattle.kpn_text_names.specs.NetworkNames.{AreNamed}
 use Rattle.kpn_text.specs.Phases.{Cause, in_tokens, in_grammar, in_names, phase, unless, programs_cause, program_or, network_cause, or_else, tables_cause, document_of}
-use Rattle.kpn_tokens.specs.Results.{and_then}
-use Rattle.kpn_names.proofs.Chains.{ok_is}
-use Rattle.kpn_names.proofs.Counts.{are_named, resolved_each}
+use Rattle.kpn_text_tokens.specs.Results.{and_then}
+use Rattle.kpn_text_names.proofs.Chains.{ok_is}
+use Rattle.kpn_text_names.proofs.Counts.{are_named, resolved_each}
 use Rattle.kpn_text.proofs.Parameters.{resolved_has}
 
 -- ---- tokens

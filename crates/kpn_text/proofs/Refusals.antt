@@ -4,26 +4,26 @@ use Rattle.std.specs.Prelude.{◌⊎◌}
 use Rattle.std.specs.Global.{Global}
 use Rattle.kpn_net.specs.Tables.{Tables}
 use Rattle.kpn_net.specs.Faults.{IsNetwork}
-use Rattle.kpn_tokens.specs.declared.lexer.LexFault.{LexFault}
-use Rattle.kpn_tokens.specs.declared.lexer.LexFault.TheVariants as lex
-use Rattle.kpn_tokens.specs.declared.tokens.Lexeme.{Lexeme}
-use Rattle.kpn_tokens.specs.Lexing as lexing
-use Rattle.kpn_tokens.specs.Lexing.{lexemes_of}
-use Rattle.kpn_tokens.specs.Results.{OkOr}
-use Rattle.kpn_grammar.specs.declared.fault.GrammarFault.{GrammarFault}
-use Rattle.kpn_grammar.specs.declared.fault.GrammarFault.TheVariants as grammar
-use Rattle.kpn_grammar.specs.Syntax.{Description}
-use Rattle.kpn_grammar.specs.Reading as reading
-use Rattle.kpn_grammar.specs.Reading.{description_of}
-use Rattle.kpn_names.specs.declared.fault.NameFault.{NameFault}
-use Rattle.kpn_names.specs.declared.fault.NameFault.TheVariants as name
-use Rattle.kpn_names.specs.Fault as names
-use Rattle.kpn_names.specs.Fault.{unknown, double}
-use Rattle.kpn_names.specs.Named.{Named, resolve}
-use Rattle.kpn_names.specs.declared.network_names.NetworkNames.{NetworkNames}
+use Rattle.kpn_text_tokens.specs.declared.lexer.LexFault.{LexFault}
+use Rattle.kpn_text_tokens.specs.declared.lexer.LexFault.TheVariants as lex
+use Rattle.kpn_text_tokens.specs.declared.tokens.Lexeme.{Lexeme}
+use Rattle.kpn_text_tokens.specs.Lexing as lexing
+use Rattle.kpn_text_tokens.specs.Lexing.{lexemes_of}
+use Rattle.kpn_text_tokens.specs.Results.{OkOr}
+use Rattle.kpn_text_grammar.specs.declared.fault.GrammarFault.{GrammarFault}
+use Rattle.kpn_text_grammar.specs.declared.fault.GrammarFault.TheVariants as grammar
+use Rattle.kpn_text_grammar.specs.Syntax.{Description}
+use Rattle.kpn_text_grammar.specs.Reading as reading
+use Rattle.kpn_text_grammar.specs.Reading.{description_of}
+use Rattle.kpn_text_names.specs.declared.fault.NameFault.{NameFault}
+use Rattle.kpn_text_names.specs.declared.fault.NameFault.TheVariants as name
+use Rattle.kpn_text_names.specs.Fault as names
+use Rattle.kpn_text_names.specs.Fault.{unknown, double}
+use Rattle.kpn_text_names.specs.Named.{Named, resolve}
+use Rattle.kpn_text_names.specs.declared.network_names.NetworkNames.{NetworkNames}
 use Rattle.kpn_text.specs.declared.fault.TextFault.{TextFault}
 use Rattle.kpn_text.specs.declared.fault.TextFault.TheVariants as text
-use Rattle.kpn_names.specs.NetworkNames.{names_in}
+use Rattle.kpn_text_names.specs.NetworkNames.{names_in}
 use Rattle.kpn_text.specs.Document.{Document, document_named, document_with}
 use Rattle.kpn_text.specs.Spells.{Spells}
 use Rattle.kpn_text.specs.Fault.{lex_fault, grammar_fault, name_fault}

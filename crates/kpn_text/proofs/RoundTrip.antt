@@ -10,23 +10,23 @@ use Rattle.kpn_net.specs.declared.tables.Policy.{Policy}
 use Rattle.kpn_net.specs.declared.tables.Policy.TheVariants as policy
 use Rattle.kpn_net.specs.Tables.{Tables}
 use Rattle.kpn_net.specs.Faults.{IsNetwork}
-use Rattle.kpn_tokens.specs.Laws.{tokens_of}
-use Rattle.kpn_grammar.specs.Syntax.{Description}
-use Rattle.kpn_grammar.specs.Spelling.{spell_description, ProcessIsWithin, IsDescription}
-use Rattle.kpn_tokens.specs.Results.{and_then}
-use Rattle.kpn_names.specs.Laws.{BlocksAreTheTree}
-use Rattle.kpn_names.specs.Network.{growth_of, limit_of, policy_of, Settings, settings_of, Wiring, wiring}
-use Rattle.kpn_names.specs.Named.{Programs, programs_of, Named, named_with, resolve}
-use Rattle.kpn_names.specs.declared.network_names.NetworkNames.{NetworkNames}
-use Rattle.kpn_canonical.specs.Laws.{DescriptionIsRead, ReadDescriptionsAreProper}
-use Rattle.kpn_canonical.specs.Named.{growth_named, limit_named, policy_named, description_named}
-use Rattle.kpn_canonical.specs.Proper.{IsProperProcess, IsProperLimit, IsProperItem, IsProper}
-use Rattle.kpn_canonical.specs.Text.{description_text}
-use Rattle.kpn_names.specs.NetworkNames.{names_in}
+use Rattle.kpn_text_tokens.specs.Laws.{tokens_of}
+use Rattle.kpn_text_grammar.specs.Syntax.{Description}
+use Rattle.kpn_text_grammar.specs.Spelling.{spell_description, ProcessIsWithin, IsDescription}
+use Rattle.kpn_text_tokens.specs.Results.{and_then}
+use Rattle.kpn_text_names.specs.Laws.{BlocksAreTheTree}
+use Rattle.kpn_text_names.specs.Network.{growth_of, limit_of, policy_of, Settings, settings_of, Wiring, wiring}
+use Rattle.kpn_text_names.specs.Named.{Programs, programs_of, Named, named_with, resolve}
+use Rattle.kpn_text_names.specs.declared.network_names.NetworkNames.{NetworkNames}
+use Rattle.kpn_text.specs.CanonicalLaws.{DescriptionIsRead, ReadDescriptionsAreProper}
+use Rattle.kpn_text.specs.Named.{growth_named, limit_named, policy_named, description_named}
+use Rattle.kpn_text.specs.Proper.{IsProperProcess, IsProperLimit, IsProperItem, IsProper}
+use Rattle.kpn_text.specs.Text.{description_text}
+use Rattle.kpn_text_names.specs.NetworkNames.{names_in}
 use Rattle.kpn_text.specs.Document.{Document, canonical_text}
 use Rattle.kpn_text.specs.Spells.{Spells, IsSpelled}
 use Rattle.kpn_text.specs.Again.{PrintedTextSpells}
-use Rattle.kpn_names.proofs.Chains.{ok_is, went, then_ok}
+use Rattle.kpn_text_names.proofs.Chains.{ok_is, went, then_ok}
 use Rattle.kpn_text.proofs.NamedProcesses.{processes_back}
 use Rattle.kpn_text.proofs.NamedItems.{items_back}
 

@@ -19,12 +19,12 @@ use Rattle.kpn_net.specs.Tables.{Tables}
 use Rattle.kpn_net.specs.Faults.{first_fault as first_network_fault}
 use Rattle.kpn_text.specs.declared.fault.TextFault.{TextFault}
 use Rattle.kpn_text.specs.declared.fault.TextFault.TheVariants as text
-use Rattle.kpn_names.specs.declared.document.Named.{Named}
-use Rattle.kpn_names.specs.declared.process.ProgramParts.{ProgramParts}
-use Rattle.kpn_names.specs.View.{named_seen, program_seen}
-use Rattle.kpn_names.specs.declared.network_names.NetworkNames.{NetworkNames}
-use Rattle.kpn_names.specs.declared.network_names.ProcessNames.{ProcessNames}
-use Rattle.kpn_names.specs.NetworkNames.{names_in, process_names_in, paired}
+use Rattle.kpn_text_names.specs.declared.document.Named.{Named}
+use Rattle.kpn_text_names.specs.declared.process.ProgramParts.{ProgramParts}
+use Rattle.kpn_text_names.specs.View.{named_seen, program_seen}
+use Rattle.kpn_text_names.specs.declared.network_names.NetworkNames.{NetworkNames}
+use Rattle.kpn_text_names.specs.declared.network_names.ProcessNames.{ProcessNames}
+use Rattle.kpn_text_names.specs.NetworkNames.{names_in, process_names_in, paired}
 use Rattle.kpn_text.specs.Fault.{net_fault}
 use Rattle.kpn_text.specs.Making.{TellsCause, program_told}
 

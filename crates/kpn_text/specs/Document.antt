@@ -1,13 +1,13 @@
 -- Documents: the tables of a network with the names of its parts.
 use Rattle.std.specs.Prelude.{ℕ, List, [], map, slice_index_or}
 use Rattle.kpn_net.specs.Tables.{Tables}
-use Rattle.kpn_names.specs.Named.{Named}
-use Rattle.kpn_names.specs.Names.{name_at}
-use Rattle.kpn_names.specs.NetworkNames.{names_in}
-use Rattle.kpn_names.specs.declared.network_names.NetworkNames.{NetworkNames}
-use Rattle.kpn_names.specs.declared.network_names.ProcessNames.{ProcessNames}
-use Rattle.kpn_canonical.specs.Named.{description_named}
-use Rattle.kpn_canonical.specs.Text.{description_text}
+use Rattle.kpn_text_names.specs.Named.{Named}
+use Rattle.kpn_text_names.specs.Names.{name_at}
+use Rattle.kpn_text_names.specs.NetworkNames.{names_in}
+use Rattle.kpn_text_names.specs.declared.network_names.NetworkNames.{NetworkNames}
+use Rattle.kpn_text_names.specs.declared.network_names.ProcessNames.{ProcessNames}
+use Rattle.kpn_text.specs.Named.{description_named}
+use Rattle.kpn_text.specs.Text.{description_text}
 
 -- the tables of a network, and the names of its processes, instances and channels, each by number
 pub record Document : Type 0 where

@@ -2,12 +2,12 @@
 use Rattle.kpn_lang.specs.declared.program.ProgramFault.TheVariants as program
 use Rattle.kpn_net.specs.declared.fault.NetFault.{NetFault}
 use Rattle.kpn_net.specs.declared.fault.NetFault.TheVariants as net
-use Rattle.kpn_tokens.specs.declared.lexer.LexFault.{LexFault}
-use Rattle.kpn_tokens.specs.declared.lexer.LexFault.TheVariants as lex
-use Rattle.kpn_grammar.specs.declared.fault.GrammarFault.{GrammarFault}
-use Rattle.kpn_grammar.specs.declared.fault.GrammarFault.TheVariants as grammar
-use Rattle.kpn_names.specs.declared.fault.NameFault.{NameFault}
-use Rattle.kpn_names.specs.declared.fault.NameFault.TheVariants as name
+use Rattle.kpn_text_tokens.specs.declared.lexer.LexFault.{LexFault}
+use Rattle.kpn_text_tokens.specs.declared.lexer.LexFault.TheVariants as lex
+use Rattle.kpn_text_grammar.specs.declared.fault.GrammarFault.{GrammarFault}
+use Rattle.kpn_text_grammar.specs.declared.fault.GrammarFault.TheVariants as grammar
+use Rattle.kpn_text_names.specs.declared.fault.NameFault.{NameFault}
+use Rattle.kpn_text_names.specs.declared.fault.NameFault.TheVariants as name
 use Rattle.kpn_text.specs.declared.fault.TextFault.{TextFault}
 use Rattle.kpn_text.specs.declared.fault.TextFault.TheVariants as text
 

@@ -1,10 +1,10 @@
 -- The laws of reading.
 use Rattle.std.specs.Prelude.{◌≡◌, ◌↔◌, ℕ, List, Ok}
 use Rattle.std.specs.Str.{IsUtf8}
-use Rattle.kpn_names.specs.declared.network_names.NetworkNames.{NetworkNames}
-use Rattle.kpn_names.specs.Names.{name_at}
-use Rattle.kpn_names.specs.NetworkNames.{process_names}
-use Rattle.kpn_names.specs.Once.{EachStandsOnce}
+use Rattle.kpn_text_names.specs.declared.network_names.NetworkNames.{NetworkNames}
+use Rattle.kpn_text_names.specs.Names.{name_at}
+use Rattle.kpn_text_names.specs.NetworkNames.{process_names}
+use Rattle.kpn_text_names.specs.Once.{EachStandsOnce}
 use Rattle.kpn_text.specs.Document.{Document}
 use Rattle.kpn_text.specs.Spells.{Spells, IsSpelled}
 use Rattle.kpn_text.specs.Phases.{document_of}

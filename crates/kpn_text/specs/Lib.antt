@@ -7,3 +7,10 @@ pub mod Phases
 pub mod Laws
 pub mod Making
 pub mod Again
+-- The definitions that contracts cite: the canonical text of a description, which trees have one, its laws, and the
+-- description that tables and names stand for.
+pub mod Text
+pub mod Proper
+pub mod CanonicalLaws
+pub mod Named
+pub mod Writing

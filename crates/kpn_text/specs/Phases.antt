@@ -7,13 +7,13 @@ use Rattle.kpn_lang.specs.Parts.{Parts}
 use Rattle.kpn_net.specs.declared.fault.NetFault.{NetFault}
 use Rattle.kpn_net.specs.Tables.{Tables}
 use Rattle.kpn_net.specs.Faults as net
-use Rattle.kpn_tokens.specs.declared.lexer.LexFault.{LexFault}
-use Rattle.kpn_tokens.specs.Results.{◌>>=◌}
-use Rattle.kpn_tokens.specs.Lexing.{lexemes_of}
-use Rattle.kpn_grammar.specs.declared.fault.GrammarFault.{GrammarFault}
-use Rattle.kpn_grammar.specs.Reading.{description_of}
-use Rattle.kpn_names.specs.Fault.{NameError, unknown, double}
-use Rattle.kpn_names.specs.Named.{resolve}
+use Rattle.kpn_text_tokens.specs.declared.lexer.LexFault.{LexFault}
+use Rattle.kpn_text_tokens.specs.Results.{◌>>=◌}
+use Rattle.kpn_text_tokens.specs.Lexing.{lexemes_of}
+use Rattle.kpn_text_grammar.specs.declared.fault.GrammarFault.{GrammarFault}
+use Rattle.kpn_text_grammar.specs.Reading.{description_of}
+use Rattle.kpn_text_names.specs.Fault.{NameError, unknown, double}
+use Rattle.kpn_text_names.specs.Named.{resolve}
 use Rattle.kpn_text.specs.declared.fault.TextFault.{TextFault}
 use Rattle.kpn_text.specs.declared.fault.TextFault.TheVariants as fault
 use Rattle.kpn_text.specs.Document.{Document, document_named}

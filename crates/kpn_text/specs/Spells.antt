@@ -1,12 +1,12 @@
 -- What it is for a text to spell a document.
 use Rattle.std.specs.Prelude.{◌≡◌, ℕ, ◌≤◌, List, length, Some, Ok}
 use Rattle.kpn_limits.specs.declared.TheConstants.{MAX_TEXT_BYTES}
-use Rattle.kpn_tokens.specs.declared.tokens.Token.{Token}
-use Rattle.kpn_tokens.specs.Laws.{tokens_of}
+use Rattle.kpn_text_tokens.specs.declared.tokens.Token.{Token}
+use Rattle.kpn_text_tokens.specs.Laws.{tokens_of}
 use Rattle.kpn_net.specs.Faults.{IsNetwork}
-use Rattle.kpn_grammar.specs.Syntax.{Description}
-use Rattle.kpn_grammar.specs.Spelling.{IsDescription}
-use Rattle.kpn_names.specs.Named.{Named, resolve}
+use Rattle.kpn_text_grammar.specs.Syntax.{Description}
+use Rattle.kpn_text_grammar.specs.Spelling.{IsDescription}
+use Rattle.kpn_text_names.specs.Named.{Named, resolve}
 use Rattle.kpn_text.specs.Document.{Document, document_named}
 
 -- A text spells a document: it is within the limit of bytes, its tokens are those of a tree, and what the tree names is

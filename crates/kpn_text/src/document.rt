@@ -2,15 +2,15 @@
 
 ghost use Rattle.std.specs.Prelude.{◌≡◌, map};
 ghost use Rattle.std.specs.Str.{IsUtf8};
-ghost use Rattle.kpn_names.specs.NetworkNames.{AreNamed, process_names};
-ghost use Rattle.kpn_names.specs.Names.{number_of, name_at};
+ghost use Rattle.kpn_text_names.specs.NetworkNames.{AreNamed, process_names};
+ghost use Rattle.kpn_text_names.specs.Names.{number_of, name_at};
 ghost use Rattle.kpn_text.specs.Document as spec;
 ghost use Rattle.kpn_text.specs.Spells.{IsSpelled};
 
 use crate::laws::names_are_text;
 use kpn_lang::Sequence;
-use kpn_names::{NetworkNames, ProcessNames};
 use kpn_net::Network;
+use kpn_text_names::{NetworkNames, ProcessNames};
 use std::marker::Model;
 use std::str;
 

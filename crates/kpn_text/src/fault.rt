@@ -1,10 +1,10 @@
 //! Why a text is no description of a network.
 
-use kpn_grammar::GrammarFault;
 use kpn_lang::ProgramFault;
-use kpn_names::NameFault;
 use kpn_net::NetFault;
-use kpn_tokens::LexFault;
+use kpn_text_grammar::GrammarFault;
+use kpn_text_names::NameFault;
+use kpn_text_tokens::LexFault;
 use std::alloc::{AllocError, AllocFailed};
 use thiserror::Error;
 

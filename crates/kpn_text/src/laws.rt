@@ -4,9 +4,9 @@
 ghost use Rattle.kpn_text.specs.Again.{PrintedTextSpells};
 ghost use Rattle.kpn_text.specs.Laws.{NamesAreText, NamesStandOnce, PhasesGiveWhatIsSpelled, SpelledOnce};
 
-use kpn_canonical::{description_is_read, read_descriptions_are_proper};
-use kpn_names::blocks_are_the_tree;
+use crate::canonical_laws::{description_is_read, read_descriptions_are_proper};
 use kpn_net::laws::capacities_are_in_range;
+use kpn_text_names::blocks_are_the_tree;
 
 /// The phases return a document if and only if the text spells it.
 pub fn phases_give_what_is_spelled()
@@ -32,7 +32,7 @@ pub fn read_again()
 pub fn names_stand_once()
     ensures { NamesStandOnce }
 {
-    kpn_names::names_stand_once();
+    kpn_text_names::names_stand_once();
 }
 
 /// The names of a document are text: their bytes are UTF-8.

@@ -1,11 +1,11 @@
 //! The names of a description, copied out of its text.
 
 ghost use Rattle.std.specs.Prelude.{◌≡◌, map, IfOk};
-ghost use Rattle.kpn_names.specs.NetworkNames.{paired, names_in, process_names_in};
-ghost use Rattle.kpn_names.specs.View.{named_seen, program_seen};
+ghost use Rattle.kpn_text_names.specs.NetworkNames.{paired, names_in, process_names_in};
+ghost use Rattle.kpn_text_names.specs.View.{named_seen, program_seen};
 
 use kpn_lang::Sequence;
-use kpn_names::{NameTable, Named, NetworkNames, ProcessNames, ProgramParts, Scope};
+use kpn_text_names::{NameTable, Named, NetworkNames, ProcessNames, ProgramParts, Scope};
 use std::alloc::{AllocError, Global};
 
 /// A copy of a name.

@@ -2,14 +2,14 @@
 
 ghost use Rattle.std.specs.Prelude.{◌≡◌, None, length, map};
 ghost use Rattle.kpn_lang.specs.Parts.{first_fault};
-ghost use Rattle.kpn_names.specs.View.{named_seen, program_seen};
+ghost use Rattle.kpn_text_names.specs.View.{named_seen, program_seen};
 ghost use Rattle.kpn_text.specs.Phases.{program_or, programs_cause, tables_cause};
 ghost use Rattle.kpn_text.specs.Making.{Makes, program_told};
 
 use crate::fault::TextFault;
 use kpn_lang::{Program, ProgramFault};
-use kpn_names::{Named, ProgramParts};
 use kpn_net::Network;
+use kpn_text_names::{Named, ProgramParts};
 use std::alloc::Global;
 
 /// The program of the process with this number.

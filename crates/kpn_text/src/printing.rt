@@ -7,7 +7,7 @@ ghost use Rattle.kpn_text.specs.Spells.{Spells};
 
 use crate::document::Document;
 use crate::laws::read_again;
-use kpn_canonical::canonical_text;
+use crate::networks::canonical_text;
 use std::alloc::{AllocError, Global};
 
 /// The canonical text of a document. It has two spaces for each level, one statement or item on each line, and a line

@@ -1,7 +1,7 @@
 //! Reading a description, phase by phase.
 
 ghost use Rattle.std.specs.Prelude.{◌≡◌, IfOk, IfErr};
-ghost use Rattle.kpn_tokens.specs.Results.{OkOr};
+ghost use Rattle.kpn_text_tokens.specs.Results.{OkOr};
 ghost use Rattle.kpn_text.specs.Document as spec;
 ghost use Rattle.kpn_text.specs.Spells.{Spells};
 ghost use Rattle.kpn_text.specs.Phases.{Refuses};
@@ -11,9 +11,9 @@ use crate::document::Document;
 use crate::fault::TextFault;
 use crate::names::names_of;
 use crate::network::network;
-use kpn_grammar::description;
-use kpn_names::resolve;
-use kpn_tokens::lexemes;
+use kpn_text_grammar::description;
+use kpn_text_names::resolve;
+use kpn_text_tokens::lexemes;
 use std::alloc::Global;
 
 /// The document that a text spells, phase by phase.

@@ -1,9 +1,19 @@
-//! For users of the library: the events of a run, its history, and traces as text. This crate passes on what lies in
-//! others: events and histories in `kpn_history`, traces in `kpn_trace_text`, and the fault of a writer in `kpn_items`.
+//! Traces: the events of a run as text, written and read. This crate also passes on events and histories, of
+//! `kpn_run_history`, and the fault of a writer, of `kpn_text_items`.
 #![tactic(auto)]
 
-pub use kpn_history::{Event, History, How};
-pub use kpn_items::WriteFault;
-pub use kpn_trace_text::{
-    BadEvent, Trace, TraceFault, Version, event_line, read_event, read_trace, write_trace,
-};
+mod fault;
+mod head;
+mod kind;
+pub mod laws;
+mod parts;
+mod reading;
+mod words;
+mod writing;
+
+pub use fault::{BadEvent, TraceFault};
+pub use kind::how_word;
+pub use kpn_run_history::{Event, History, How, Trace, Version};
+pub use kpn_text_items::WriteFault;
+pub use reading::{read_event, read_trace};
+pub use writing::{event_line, write_trace};

@@ -28,7 +28,7 @@ def inputs(count: int) -> Dict[str, List[int]]:
 
 def rounded(value: int) -> int:
     """A product without its bits behind the point; a half goes away from 0."""
-    return (abs(value) + 2 ** (BITS - 1)) // 2**BITS * (1 if value > 0 else -1)
+    return (abs(value) + (1 << BITS - 1) >> BITS) * (1 if value > 0 else -1)
 
 
 def transform(re: List[int], im: List[int]) -> None:

@@ -1,8 +1,9 @@
 """Parts that compute an item of one item of each stream."""
 from __future__ import annotations
 
-from typing import Optional, Sequence, Union
+from typing import Optional, Sequence, Union, cast
 
+from ..errors import whole
 from ..process import Process, Stream
 from .wiring import need
 
@@ -41,7 +42,8 @@ def pointwise(expression: str, *, name: str = 'pointwise', cap: Optional[int] = 
               **given: Union[Stream, int]) -> Stream:
     """Computes an expression of the language of one item of each stream, as in `pointwise('(a * k)', a=x, k=3)`.
 
-    The other words of the call name the streams and the numbers of the expression. `name` is that of the process.
+    The other words of the call name the streams, 1 to 16, and the numbers of the expression. `name` is that of the
+    process. What is wrong in the expression raises KpnError with the place in the text of the process.
     Rates: one out for one on each in. Faults: those of the expression, `overflow` and `zero-divisor`.
     """
     streams = {it: stream for it, stream in given.items() if isinstance(stream, Stream)}
@@ -51,7 +53,7 @@ def pointwise(expression: str, *, name: str = 'pointwise', cap: Optional[int] = 
     reads = ' '.join(f'read in_{it} {it};' for it in streams)
     process = Process.from_text(f'process {name}(in {", ".join(ports)}; out result{pars}) {{\n'
                                 f'  while 1 {{ {reads} write result {expression}; }}\n}}')
-    return process(*streams.values(), *numbers.values(), cap=cap)
+    return cast(Stream, process(*streams.values(), *numbers.values(), cap=cap))
 
 
 def gain(stream: Stream, k: int) -> Stream:
@@ -95,7 +97,7 @@ def multiply(a: Stream, b: Stream) -> Stream:
 
 
 def sum_of(streams: Sequence[Stream]) -> Stream:
-    """The sum of an item of each stream, by a tree of adders.
+    """The sum of an item of each of one or more streams, by a tree of adders.
 
     Rates: one out for one on each in. Faults: overflow, also of a sum of some of them.
     """
@@ -107,31 +109,30 @@ def sum_of(streams: Sequence[Stream]) -> Stream:
 
 
 def scale(stream: Stream, divisor: int, multiplier: int = 1, rounding: str = 'nearest') -> Stream:
-    """Multiplies each item, divides it by a positive divisor, and rounds.
+    """Multiplies each item, divides it by a divisor of 1 or more, and rounds.
 
     `rounding` is `nearest` (a half goes away from 0), `floor` (down) or `truncate` (towards 0).
     Rates: one out for one in. Faults: overflow, of the product and with `nearest` of that and half the divisor.
     """
-    need(divisor > 0, f'the divisor is {divisor}: it has to be positive')
+    divisor = whole('the divisor', divisor, 1)
     need(rounding in ROUNDINGS, f'rounding is {rounding!r}: it has to be one of {", ".join(ROUNDINGS)}')
     process = Process.from_text(f'process scale_{rounding}(in i; out o; par multiplier, divisor) {{ while 1 {{ '
                                 f'read i x; x = (x * multiplier); {ROUNDINGS[rounding]} write o y; }} }}')
-    return process(stream, multiplier, divisor)
+    return cast(Stream, process(stream, multiplier, divisor))
 
 
 def saturate(stream: Stream, low: int, high: int) -> Stream:
-    """Brings each item below `low` up to it, and each above `high` down to it.
+    """Brings each item below `low` up to it, and each above `high`, not less than `low`, down to it.
 
     Rates: one out for one in. Faults: none.
     """
     need(low <= high, f'low is {low} and high is {high}: low may not be larger')
-    return SATURATE(stream, low, high)
+    return cast(Stream, SATURATE(stream, low, high))
 
 
 def modulus(bits: int) -> int:
     """The modulus of numbers of so many bits."""
-    need(1 <= bits <= MOST_BITS, f'{bits} bits: they have to be from 1 to {MOST_BITS}')
-    return 2**bits
+    return 1 << whole('the number of bits', bits, 1, MOST_BITS)
 
 
 def wrap(stream: Stream, bits: int) -> Stream:
@@ -139,4 +140,4 @@ def wrap(stream: Stream, bits: int) -> Stream:
 
     Rates: one out for one in. Faults: none. `bits` is 1 to 62.
     """
-    return WRAP(stream, modulus(bits))
+    return cast(Stream, WRAP(stream, modulus(bits)))

@@ -3,10 +3,11 @@ from __future__ import annotations
 
 import cmath
 import math
-from typing import List, Sequence, Tuple
+from typing import List, Sequence, Tuple, cast
 
+from ..errors import whole
 from ..process import Process, Stream
-from .arithmetic import ROUNDINGS, WRAPPED, gain, modulus
+from .arithmetic import MOST_BITS, ROUNDINGS, WRAPPED, gain, modulus
 from .wiring import deal, downsample, merge, need
 
 # A tap multiplies the item, adds the sum of the taps before, and hands on the item before. The last hands on none.
@@ -71,7 +72,9 @@ process butterfly(in ar, ai, br, bi; out cr, ci, dr, di; par wr, wi, divisor) {{
 
 
 def fir(stream: Stream, taps: Sequence[int]) -> Stream:
-    """The sum of taps[k] times the item k places before, with 0 before the first item. There is a process for each tap.
+    """The sum of taps[k] times the item k places before, with 0 before the first item. There is one tap or more.
+
+    There is a process for each tap.
 
     Rates: one out for one in. Faults: overflow.
     """
@@ -81,16 +84,16 @@ def fir(stream: Stream, taps: Sequence[int]) -> Stream:
     stream, total = FIRST_TAP(stream, taps[0])
     for tap in taps[1:-1]:
         stream, total = TAP(stream, total, tap)
-    return LAST_TAP(stream, total, taps[-1])
+    return cast(Stream, LAST_TAP(stream, total, taps[-1]))
 
 
 def cic(stream: Stream, order: int, factor: int, bits: int = 62) -> Stream:
     """A filter of `order` integrators, a downsampling by `factor` and `order` combs; its gain is factor^order.
 
-    Its registers have `bits` bits, 1 to 62, and wrap. The items that come out are right if they fit into these.
-    Rates: one out for `factor` in. Faults: overflow of items near 2^63.
+    Both are 1 or more. Its registers have `bits` bits, 1 to 62, and wrap. The items that come out are right if they
+    fit into these. Rates: one out for `factor` in. Faults: overflow of items near 2^63.
     """
-    need(order >= 1, f'order is {order}: it has to be at least 1')
+    order, factor = whole('the order', order, 1), whole('the factor', factor, 1)
     for _ in range(order):
         stream = INTEGRATE(stream, modulus(bits))
     stream = downsample(stream, factor, factor - 1)
@@ -102,20 +105,22 @@ def cic(stream: Stream, order: int, factor: int, bits: int = 62) -> Stream:
 def biquad(stream: Stream, b: Sequence[int], a: Sequence[int], shift: int) -> Stream:
     """y[n] = (b[0] x[n] + b[1] x[n-1] + b[2] x[n-2] - a[0] y[n-1] - a[1] y[n-2]) / 2^shift, rounded to nearest.
 
-    A half goes away from 0. Rates: one out for one in. Faults: overflow.
+    A half goes away from 0. `shift` is 0 to 62. Rates: one out for one in. Faults: overflow.
     """
     need(len(b) == 3 and len(a) == 2, f'a biquad has 3 and 2 coefficients: {len(b)} and {len(a)} are given')
-    return BIQUAD(stream, *b, *a, 2**shift)
+    return cast(Stream, BIQUAD(stream, *b, *a, 1 << whole('the shift', shift, 0, MOST_BITS)))
 
 
 def fft(re: Stream, im: Stream, points: int, bits: int = 14) -> Tuple[Stream, Stream]:
-    """The transforms of frames of `points` complex numbers, a power of two; not divided by their number.
+    """The transforms of frames of `points` complex numbers, a power of two from 2 on; not divided by their number.
 
-    Its factors have `bits` bits behind the point, and each product is rounded to nearest. There is a process for each
-    butterfly, so a network has room for 32 points. Rates: one out for one in, by whole frames. Faults: overflow.
+    Its factors have `bits` bits behind the point, 0 to 62, and each product is rounded to nearest. There is a process
+    for each butterfly, so a network has room for 32 points.
+    Rates: one out for one in, by whole frames. Faults: overflow.
     """
-    need(points >= 2 and points & (points - 1) == 0, f'{points} points: they have to be a power of two, and at least 2')
-    spectrum = butterflies(list(zip(deal(re, points), deal(im, points))), 2**bits)
+    points, one = whole('the number of points', points, 2), 1 << whole('the number of bits', bits, 0, MOST_BITS)
+    need(points & (points - 1) == 0, f'{points} points: they have to be a power of two')
+    spectrum = butterflies(list(zip(deal(re, points), deal(im, points))), one)
     return merge([it for it, _ in spectrum]), merge([it for _, it in spectrum])
 
 

@@ -1,9 +1,9 @@
 """Parts that bring items to other places or in another number, and do not compute with them."""
 from __future__ import annotations
 
-from typing import TYPE_CHECKING, Optional, Sequence, Tuple
+from typing import TYPE_CHECKING, Optional, Sequence, Tuple, cast
 
-from ..errors import KpnError
+from ..errors import KpnError, whole
 from ..process import MOST_PORTS, Process, Stream, forking
 
 if TYPE_CHECKING:
@@ -107,33 +107,34 @@ def largest_divisor(number: int) -> int:
 
 
 def fork(stream: Stream, n: int = 2) -> Tuple[Stream, ...]:
-    """Makes n streams of one. Each has all its items.
+    """Makes n streams of one, and gives a tuple of them; n is at least 1. Each has all items.
 
     Rates: one item on each out for one in. Faults: none.
     """
-    need(n >= 1, f'{n} streams are asked of a fork: it makes at least 1')
+    n = whole('the number of streams of a fork', n, 1)
     if n <= MOST_PORTS:
-        outs = forking(n)(stream)
-        return outs if n > 1 else (outs,)
+        outs: Tuple[Stream, ...] = forking(n)(stream)
+        return outs if n > 1 else (cast(Stream, outs),)
     sizes = [n // MOST_PORTS + (it < n % MOST_PORTS) for it in range(MOST_PORTS)]
     parts = ([out] if size == 1 else fork(out, size) for out, size in zip(fork(stream, MOST_PORTS), sizes))
     return tuple(it for part in parts for it in part)
 
 
 def drop(stream: Stream, n: int = 1) -> Stream:
-    """Leaves out the first n items.
+    """Leaves out the first n items; n is 0 or more.
 
     Rates: one out for one in, n items in before. Faults: none.
     """
-    return DROP(stream, n)
+    return cast(Stream, DROP(stream, whole('the number of items to drop', n)))
 
 
 def constant(net: Network, value: int, times: Optional[int] = None) -> Stream:
-    """Gives the value again and again, or so many times.
+    """Gives the value again and again, or so many times, 0 or more.
 
     Rates: no items in. Faults: none. Without `times` it never ends: `take=` or a reader that waits ends the run.
     """
-    return CONSTANT(value, net=net) if times is None else REPEAT(value, times, net=net)
+    made = CONSTANT(value, net=net) if times is None else REPEAT(value, whole('`times`', times), net=net)
+    return cast(Stream, made)
 
 
 def count(net: Network, start: int = 0, step: int = 1) -> Stream:
@@ -141,48 +142,49 @@ def count(net: Network, start: int = 0, step: int = 1) -> Stream:
 
     Rates: no items in. Faults: overflow behind the last number. It ends only so.
     """
-    return COUNT(start, step, net=net)
+    return cast(Stream, COUNT(start, step, net=net))
 
 
 def delay(stream: Stream, n: int = 1, initial: int = 0, cap: Optional[int] = None) -> Stream:
-    """Gives n items `initial`, and then the stream. Each loop needs one.
+    """Gives n items `initial`, 0 or more, and then the stream. Each loop needs one.
 
     Rates: one out for one in, n items out before. Faults: none. Its channel has room for n items if no `cap` is given.
     """
-    return DELAY(stream, n, initial, cap=min(max(n, 1), stream.net.limit) if cap is None else cap)
+    n = whole('the delay', n)
+    return cast(Stream, DELAY(stream, n, initial, cap=min(max(n, 1), stream.net.limit) if cap is None else cap))
 
 
 def downsample(stream: Stream, n: int, phase: int = 0) -> Stream:
-    """Keeps the item at place `phase`, counted from 0, of each n items.
+    """Keeps the item at place `phase` of each n items, 1 or more; it is from 0 to n - 1.
 
     Rates: one out for n in. Faults: none.
     """
-    need(0 <= phase < n, f'phase {phase} of {n} items: it has to be from 0 to {n - 1}')
-    return DOWNSAMPLE(stream, n, phase)
+    n = whole('the factor of a downsampling', n, 1)
+    return cast(Stream, DOWNSAMPLE(stream, n, whole(f'the phase of {n} items', phase, 0, n - 1)))
 
 
 def upsample(stream: Stream, n: int, fill: int = 0) -> Stream:
-    """Puts n - 1 items `fill` behind each item.
+    """Puts n - 1 items `fill` behind each item; n is 1 or more.
 
     Rates: n out for one in. Faults: none.
     """
-    return UPSAMPLE(stream, n, fill)
+    return cast(Stream, UPSAMPLE(stream, whole('the factor of an upsampling', n, 1), fill))
 
 
 def hold(stream: Stream, n: int) -> Stream:
-    """Gives each item n times.
+    """Gives each item n times, 0 or more.
 
     Rates: n out for one in. Faults: none.
     """
-    return HOLD(stream, n)
+    return cast(Stream, HOLD(stream, whole('how often an item is held', n)))
 
 
 def deal(stream: Stream, n: int) -> Tuple[Stream, ...]:
-    """Deals the items to n streams by turns: stream k gets the items k, k + n, k + 2 n and so on.
+    """Deals the items to a tuple of n streams by turns: stream k gets the items k, k + n, k + 2 n and so on.
 
-    Rates: one item on each out for n in. Faults: none. If n is over 16 it must be a product of numbers up to 16.
+    Rates: one item on each out for n in. Faults: none. n is 1 to 16, or a product of such numbers.
     """
-    first = largest_divisor(n)
+    first = largest_divisor(whole('the number of streams of a deal', n, 1))
     need(first > 1 or n == 1, f'a deal to {n} streams: the number has to be a product of numbers up to {MOST_PORTS}')
     if n == 1:
         return (stream,)
@@ -197,7 +199,7 @@ def merge(streams: Sequence[Stream]) -> Stream:
     """Takes an item of each stream by turns, from the first one on.
 
     Rates: as many out as there are streams, for one item of each. Faults: none. It ends with the first stream that has
-    no item at its turn. More than 16 streams must be a product of numbers up to 16.
+    no item at its turn. The number of streams is 1 to 16, or a product of such numbers.
     """
     first = largest_divisor(len(streams)) if streams else 0
     need(first > 1 or len(streams) == 1,
@@ -207,11 +209,13 @@ def merge(streams: Sequence[Stream]) -> Stream:
     ports = [f'i{it}' for it in range(1, first + 1)]
     process = Process.from_text(f'process merge{first}(in {", ".join(ports)}; out o) {{ while 1 {{ '
                                 + ' '.join(f'read {port} x; write o x;' for port in ports) + ' } }')
-    return process(*(merge(streams[it::first]) for it in range(first)))
+    return cast(Stream, process(*(merge(streams[it::first]) for it in range(first))))
 
 
 def zip_streams(*streams: Stream) -> Tuple[Stream, ...]:
-    """Gives the streams in step: an item of each goes on only once all have one. So all are as long as the shortest.
+    """Gives a tuple of the streams in step: an item of each goes on only once all have one. There are 2 to 16.
+
+    So all are as long as the shortest.
 
     Rates: one item on each out for one on each in. Faults: none.
     """
@@ -229,7 +233,7 @@ def select(control: Stream, if_true: Stream, if_false: Stream) -> Stream:
 
     Rates: one out for one of `control` and one of the stream that it selects. Faults: none.
     """
-    return SELECT(control, if_true, if_false)
+    return cast(Stream, SELECT(control, if_true, if_false))
 
 
 def switch(control: Stream, stream: Stream) -> Tuple[Stream, Stream]:
@@ -237,16 +241,16 @@ def switch(control: Stream, stream: Stream) -> Tuple[Stream, Stream]:
 
     Rates: one out, on one of the two, for one of `control` and one in. Faults: none.
     """
-    return SWITCH(control, stream)
+    return cast(Tuple[Stream, Stream], SWITCH(control, stream))
 
 
 def run_length_encode(stream: Stream, longest: int = 2**62) -> Tuple[Stream, Stream]:
-    """Gives the values of the runs of equal items, and how long these are; `longest` cuts longer runs.
+    """Gives the values of the runs of equal items, and how long these are; `longest`, 1 or more, cuts longer runs.
 
     Rates: one item on each out for each run. Faults: none. A run comes out once an item follows that is not of it, so
     the last one never does.
     """
-    return ENCODE(stream, longest)
+    return cast(Tuple[Stream, Stream], ENCODE(stream, whole('the longest run', longest, 1)))
 
 
 def run_length_decode(values: Stream, counts: Stream) -> Stream:
@@ -254,4 +258,4 @@ def run_length_decode(values: Stream, counts: Stream) -> Stream:
 
     Rates: for one item on each in, so many out as the count is. Faults: none.
     """
-    return DECODE(values, counts)
+    return cast(Stream, DECODE(values, counts))

@@ -1,4 +1,4 @@
-use Rattle.kpn_configuration.specs.Configuration.{IsConfiguration}
+use Rattle.kpn_run_configuration.specs.Configuration.{IsConfiguration}
 use Rattle.check_replays.proofs.replay_lines.Given as goal
 
 abbrev pub invariant-loop-line : goal.invariant-loop-line

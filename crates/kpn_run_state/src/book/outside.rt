@@ -7,10 +7,18 @@ use super::Book;
 use crate::answers::Refused;
 use crate::open_book::{number, wake};
 use kpn_chan::Channel;
-use kpn_history::Event;
-use std::alloc::Allocator;
+use kpn_run_history::Event;
+use std::alloc::{AllocError, Allocator};
 
 impl<'n, A: Allocator> Book<'n, A> {
+    /// Makes room in the history for so many events more: calls that append no more take no memory there. The error is
+    /// that memory ran out.
+    pub fn reserve(&mut self, events: usize) -> Result<(), AllocError>
+        ensures { self.new ≡ self.old }
+    {
+        self.parts.history.reserve(events)
+    }
+
     /// Why a feed would be refused, whatever memory there is. `None` if only want of memory could refuse it. Use it if
     /// you have no memory of your own for the feed: want of memory is the last cause.
     pub fn feed_fault(&self, source: usize, item: i64, bound: usize) -> Option<Refused>

@@ -3,9 +3,9 @@ ghost use Rattle.std.specs.Prelude.{◌≡◌, ◌↔◌, ◌+◌, ◌<◌, ◌^
 ghost use Rattle.kpn_net.specs.Tables.{program_of};
 ghost use Rattle.kpn_step.specs.Frame.{fits};
 ghost use Rattle.kpn_step.specs.Stops.{IsAdvance, IsAtPort, advanced_of};
-ghost use Rattle.kpn_configuration.specs.Configuration.{frame_in};
+ghost use Rattle.kpn_run_configuration.specs.Configuration.{frame_in};
 ghost use Rattle.kpn_run_state.specs.Book.{IsHeld, IsClaimed, held_count, put_back};
-ghost use Rattle.kpn_run_state.specs.InARow.{RunsOn};
+ghost use Rattle.kpn_run_state.specs.InARow.{RunsOn, RunsInVain};
 ghost use Rattle.kpn_run_state.specs.Commits.{Commits};
 ghost use Rattle.kpn_run_state.specs.Refusals.{RefusesCommit, RefusesPutBack};
 ghost use Rattle.kpn_run_state.specs.Stepping.{ClaimsNobody, IsStep, StepsInVain};
@@ -15,8 +15,8 @@ use super::Book;
 use crate::answers::{Done, Refused};
 use crate::claim::Claim;
 use crate::open_book::Hold;
-use kpn_history::State;
 use kpn_lang::same;
+use kpn_run_history::State;
 use kpn_step::{Advance, Frame, Stop};
 use std::alloc::{AllocError, Allocator};
 
@@ -178,13 +178,15 @@ impl<'n, A: Allocator> Book<'n, A> {
     }
 
     /// Makes steps in place, as `step_next` does, one after another, until one has put an item on a sink or no process
-    /// is ready, and at most `most`. It returns that sink. The error is that memory ran out: the process whose turn it
-    /// is may have made its steps, and is ready.
+    /// is ready, and at most `most`. It returns that sink. The error is that memory ran out: the steps before stay
+    /// committed, and none of them has put an item on a sink. The process whose turn it then is may have made its
+    /// steps. It is ready and the first of the queue, unlike behind `step_next`.
     pub fn run_on(&mut self, quota: u32, most: u64) -> Result<Option<usize>, AllocError>
     where
         A: Copy,
         requires { self.old.commits + held_count self.old + most < 2 ^ 64 }
-        ensures { IfOk result (λ sink. RunsOn quota most sink self.old self.new) }
+        ensures runs { IfOk result (λ sink. RunsOn quota most sink self.old self.new) }
+        ensures in_vain { OnErr result (RunsInVain quota most self.old self.new) }
     {
         self.parts.run_on(quota, most)
     }

@@ -1,8 +1,8 @@
 //! Who waits at the ends of a channel, and for what.
 ghost use Rattle.std.specs.Prelude.{◌≡◌, ◌<◌, is_some, length};
 ghost use Rattle.kpn_chan.specs.Channel.{next_item};
-ghost use Rattle.kpn_configuration.specs.Configuration.{channel_in};
-ghost use Rattle.kpn_configuration.specs.Woken.{waiting_reader};
+ghost use Rattle.kpn_run_configuration.specs.Configuration.{channel_in};
+ghost use Rattle.kpn_run_configuration.specs.Woken.{waiting_reader};
 
 use super::Book;
 use kpn_net::{End, Wait};

@@ -7,13 +7,13 @@ ghost use Rattle.kpn_step.specs.declared.stop.Stop.TheVariants.{Faulted, Paused}
 ghost use Rattle.kpn_step.specs.Frame.{Frame};
 ghost use Rattle.kpn_step.specs.Stops.{IsAtPort};
 ghost use Rattle.kpn_chan.specs.Channel.{is_full, unread};
-ghost use Rattle.kpn_history.specs.Legal.{OwesGrowth, growth_after};
-ghost use Rattle.kpn_history.specs.Stops.{OwesNoCycleGrowth};
-ghost use Rattle.kpn_history.specs.Views.{is_ready};
-ghost use Rattle.kpn_configuration.specs.Configuration.{channel_in};
-ghost use Rattle.kpn_configuration.specs.Due.{Stands, ReadsFrom, WritesTo, stop_of};
-ghost use Rattle.kpn_configuration.specs.Owed.{IsAwaitedBelowLimit};
-ghost use Rattle.kpn_schedule.specs.Schedule.{made_ready, with_state};
+ghost use Rattle.kpn_run_history.specs.Legal.{OwesGrowth, growth_after};
+ghost use Rattle.kpn_run_history.specs.Stops.{OwesNoCycleGrowth};
+ghost use Rattle.kpn_run_history.specs.Views.{is_ready};
+ghost use Rattle.kpn_run_configuration.specs.Configuration.{channel_in};
+ghost use Rattle.kpn_run_configuration.specs.Due.{Stands, ReadsFrom, WritesTo, stop_of};
+ghost use Rattle.kpn_run_configuration.specs.Owed.{IsAwaitedBelowLimit};
+ghost use Rattle.kpn_run_state.specs.Schedule.{made_ready, with_state};
 ghost use Rattle.kpn_run_state.specs.declared.answers.Done.TheVariants as done;
 ghost use Rattle.kpn_run_state.specs.Appending.{all_made_ready};
 ghost use Rattle.kpn_run_state.specs.Book.{IsHeld};
@@ -23,10 +23,10 @@ ghost use Rattle.kpn_run_state.specs.Open.{book_of, reserves_by, IsSound, IsHeld
 
 use super::{Hold, OpenBook, number, wake};
 use crate::answers::Done;
-use kpn_configuration::{in_channel, out_channel};
-use kpn_history::{Event, How, State};
+use crate::schedule::Schedule;
 use kpn_lang::Fault;
-use kpn_schedule::Schedule;
+use kpn_run_configuration::{in_channel, out_channel};
+use kpn_run_history::{Event, How, State};
 use kpn_step::Stop;
 use std::alloc::{AllocError, Allocator};
 

@@ -3,12 +3,12 @@
 ghost use Rattle.std.specs.Prelude.{◌≡◌, ◌<◌, ◌≤◌, ◌+◌, true, false, IsSome, Some};
 ghost use Rattle.kpn_net.specs.Tables.{channel_at, is_source, is_sink};
 ghost use Rattle.kpn_chan.specs.Channel.{next_item};
-ghost use Rattle.kpn_history.specs.declared.event.Event.TheVariants as event;
-ghost use Rattle.kpn_configuration.specs.Configuration.{channel_in, closed_in};
+ghost use Rattle.kpn_run_history.specs.declared.event.Event.TheVariants as event;
+ghost use Rattle.kpn_run_configuration.specs.Configuration.{channel_in, closed_in};
 ghost use Rattle.kpn_run_state.specs.Open.{book_of, IsSound, Follows};
 
 use super::{OpenBook, number, wake};
-use kpn_history::Event;
+use kpn_run_history::Event;
 use std::alloc::Allocator;
 
 impl<'n, A: Allocator> OpenBook<'n, A> {

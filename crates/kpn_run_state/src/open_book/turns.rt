@@ -1,25 +1,26 @@
 //! Turns in a row: the first process of the queue makes steps and is committed, again and again. A process that gets or
 //! puts an item stays ready, so its state is not written: the queue is rotated.
-ghost use Rattle.std.specs.Prelude.{◌≡◌, ◌<◌, ◌≤◌, ◌+◌, ◌*◌, ◌^◌, true, false, length, slice_get, Some, IfOk, OnErr, IsTrue};
+ghost use Rattle.std.specs.Prelude.{◌≡◌, ◌≢◌, ◌<◌, ◌≤◌, ◌+◌, ◌*◌, ◌^◌, true, false, length, slice_get, Some, IfOk, OnErr, IsTrue};
 ghost use Rattle.kpn_chan.specs.Channel.{is_full};
 ghost use Rattle.kpn_net.specs.Tables.{program_of};
 ghost use Rattle.kpn_step.specs.Frame.{Frame};
+ghost use Rattle.kpn_step.specs.declared.stop.Stop.TheVariants as stops;
 ghost use Rattle.kpn_step.specs.Stops.{IsAtPort};
-ghost use Rattle.kpn_configuration.specs.Configuration.{channel_in};
-ghost use Rattle.kpn_configuration.specs.Due.{Stands, WritesTo};
-ghost use Rattle.kpn_schedule.specs.Schedule.{HoldsFirst, first_held};
+ghost use Rattle.kpn_run_configuration.specs.Configuration.{channel_in};
+ghost use Rattle.kpn_run_configuration.specs.Due.{Stands, WritesTo};
+ghost use Rattle.kpn_run_state.specs.Schedule.{HoldsFirst, first_held};
 ghost use Rattle.kpn_run_state.specs.declared.open_book.Hold.TheVariants as hold;
 ghost use Rattle.kpn_run_state.specs.Book.{held_count};
 ghost use Rattle.kpn_run_state.specs.Commits.{IsWriteTo};
 ghost use Rattle.kpn_run_state.specs.Kept.{IsKept};
-ghost use Rattle.kpn_run_state.specs.InARow.{RunsOn};
+ghost use Rattle.kpn_run_state.specs.InARow.{RunsOn, RunsInVain, StepsUncommitted};
 ghost use Rattle.kpn_run_state.specs.Open.{book_of, first_claimed, MayCommit, if_sink, AnsweredFirst, HandlesFirst, IsTurn};
 
 use super::{Hold, OpenBook};
 use crate::answers::Done;
 use kpn_chan::Channel;
-use kpn_configuration::out_channel;
 use kpn_net::Network;
+use kpn_run_configuration::out_channel;
 use kpn_step::Stop;
 use std::alloc::{AllocError, Allocator};
 
@@ -34,6 +35,7 @@ impl<'n, A: Allocator> OpenBook<'n, A> {
         requires countable { self.old.commits + held_count (book_of self.old) + most < 2 ^ 64 }
         ensures runs { IfOk result (λ sink.
             RunsOn quota most sink (book_of self.old) (book_of self.new)) }
+        ensures in_vain { OnErr result (RunsInVain quota most (book_of self.old) (book_of self.new)) }
         ensures kept { IsKept (book_of self.new) }
     {
         let mut made = 0;
@@ -65,6 +67,7 @@ impl<'n, A: Allocator> OpenBook<'n, A> {
         requires countable { self.old.commits + held_count (book_of self.old) + 1 < 2 ^ 64 }
         requires room { 2 ≤ self.old.history.room }
         ensures turn { IfOk result (λ sink. IsTurn quota sink (book_of self.old) (book_of self.new)) }
+        ensures in_vain { OnErr result (StepsUncommitted quota (book_of self.old) (book_of self.new)) }
         ensures kept { IsKept (book_of self.new) }
         ensures room { self.old.history.room ≤ self.new.history.room + 2 }
     {
@@ -91,6 +94,7 @@ impl<'n, A: Allocator> OpenBook<'n, A> {
         requires port { (f : Frame) × IsAtPort (program_of self.old.network.now p) f stop }
         ensures handles { IfOk result (λ sink.
             HandlesFirst p stop sink (first_claimed p (book_of self.old)) (book_of self.new)) }
+        ensures wants { OnErr result (stop ≢ stops.Paused) }
         ensures as_before { OnErr result (book_of self.new ≡ book_of self.old) }
         ensures room { self.old.history.room ≤ self.new.history.room + 2 }
     {

@@ -1,7 +1,7 @@
 use denote.Param.Send.{sendable}
 use Rattle.std.proofs.Crossing.{crosses}
-use Rattle.kpn_workers.proofs.Sharing.{shared_sync}
-use Rattle.commit_gates.proofs.flag.Flag.TheSendSync as flag
+use Rattle.kpn_pool.proofs.Sharing.{shared_sync}
+use Rattle.check_pool.proofs.flag.Flag.TheSendSync as flag
 use Rattle.check_pool.proofs.batching.Calls.TheSendSync as calls
 use Rattle.check_pool.proofs.batching.works.Goals as goal
 

@@ -1,7 +1,7 @@
 use denote.Param.Send.{sendable}
 use Rattle.std.proofs.Crossing.{crosses}
-use Rattle.kpn_workers.proofs.Sharing.{shared_sync, seat_send}
-use Rattle.commit_gates.proofs.flag.Flag.TheSendSync as flag
+use Rattle.kpn_pool.proofs.Sharing.{shared_sync, seat_send}
+use Rattle.check_pool.proofs.flag.Flag.TheSendSync as flag
 use Rattle.check_pool.proofs.locking.Door.TheSendSync as door
 use Rattle.check_pool.proofs.locking.work_and_look.Goals as goal
 

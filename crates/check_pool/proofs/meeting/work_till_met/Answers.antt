@@ -1,7 +1,7 @@
 use denote.Param.Send.{sendable}
 use Rattle.std.proofs.Crossing.{crosses}
-use Rattle.kpn_workers.proofs.Sharing.{shared_sync}
-use Rattle.commit_gates.proofs.holding.Holding.TheSendSync as holding
+use Rattle.kpn_pool.proofs.Sharing.{shared_sync}
+use Rattle.check_pool.proofs.holding.Holding.TheSendSync as holding
 use Rattle.check_pool.proofs.meeting.work_till_met.Goals as goal
 
 -- both workers may ask the gate

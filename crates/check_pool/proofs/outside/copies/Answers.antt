@@ -1,7 +1,7 @@
 use denote.Param.Send.{sendable}
 use Rattle.std.proofs.Crossing.{crosses}
-use Rattle.kpn_workers.proofs.Sharing.{shared_sync, seat_send}
-use Rattle.commit_gates.proofs.always.Always.TheSendSync as gate
+use Rattle.kpn_pool.proofs.Sharing.{shared_sync, seat_send}
+use Rattle.check_pool.proofs.always.Always.TheSendSync as gate
 use Rattle.check_pool.proofs.outside.copies.Goals as goal
 
 -- the worker may be on another thread

@@ -1,8 +1,8 @@
 use denote.Param.Send.{sendable}
 use Rattle.std.proofs.Crossing.{crosses}
-use Rattle.kpn_workers.proofs.Sharing.{shared_sync, seat_send}
+use Rattle.kpn_pool.proofs.Sharing.{shared_sync, seat_send}
 use Rattle.check_pool.proofs.gates.Pausing.TheSendSync as gate
-use Rattle.commit_gates.proofs.flag.Flag.TheSendSync as flag
+use Rattle.check_pool.proofs.flag.Flag.TheSendSync as flag
 use Rattle.check_pool.proofs.waking.work_and_serve.Goals as goal
 
 -- the workers may be on another thread

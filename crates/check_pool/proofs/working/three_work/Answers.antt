@@ -1,6 +1,6 @@
 use denote.Param.Send.{sendable}
 use Rattle.std.proofs.Crossing.{crosses}
-use Rattle.kpn_workers.proofs.Sharing.{shared_sync, seat_send}
+use Rattle.kpn_pool.proofs.Sharing.{shared_sync, seat_send}
 use Rattle.check_pool.proofs.working.three_work.Goals as goal
 
 -- the worker that has this seat may be on another thread

@@ -1,9 +1,9 @@
 -- What is found of an event is said of the events before it, and of the place where it stands.
 use Rattle.std.proofs.Common.{◌≡◌, pos, take, subst, arith}
 use Rattle.std.proofs.lemmas.List.{take_all}
-use Rattle.kpn_history.specs.declared.event.Event.TheVariants.{Get}
-use Rattle.kpn_history.proofs.Growth.{none_owed_at_first}
-use Rattle.kpn_configuration.specs.Run.{IsRun}
+use Rattle.kpn_run_history.specs.declared.event.Event.TheVariants.{Get}
+use Rattle.kpn_run_history.proofs.Growth.{none_owed_at_first}
+use Rattle.kpn_run_configuration.specs.Run.{IsRun}
 use Rattle.kpn_audit.specs.declared.judged.Judged.{Judged}
 use Rattle.kpn_audit.specs.declared.judged.Judged.TheVariants.{Follows, Illegal, Budget}
 use Rattle.kpn_audit.specs.Judged.{ArePlaces, Owes}

@@ -1,7 +1,7 @@
 -- The events so far are a legal history, which leads to the configuration and owes what is kept beside it, each
 -- process stands at its place, and none of them was out of steps.
 use Rattle.std.proofs.Common.{take}
-use Rattle.kpn_configuration.specs.Run.{IsRun}
+use Rattle.kpn_run_configuration.specs.Run.{IsRun}
 use Rattle.kpn_audit.specs.Judged.{ArePlaces, Owes}
 use Rattle.kpn_audit.specs.Audit.{AreWithinSteps}
 use Rattle.kpn_audit.specs.Stored.{history_of}

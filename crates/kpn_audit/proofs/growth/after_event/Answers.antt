@@ -1,5 +1,5 @@
 use Rattle.std.proofs.Common.{[], ◌∷◌, ◌++◌}
-use Rattle.kpn_history.proofs.Growth.{no_cycle_owed_after}
+use Rattle.kpn_run_history.proofs.Growth.{no_cycle_owed_after}
 use Rattle.kpn_audit.proofs.Stopping.{owes_at_stop}
 use Rattle.kpn_audit.proofs.growth.after_event.Goals as goal
 

@@ -1,8 +1,8 @@
 -- The growth that is owed is made, and nothing else may follow.
 use Rattle.std.proofs.Common.{◌≡◌, None, refl, subst}
 use Rattle.kpn_net.specs.Tables.{larger_capacity}
-use Rattle.kpn_history.specs.Channels.{capacity_or_zero}
-use Rattle.kpn_history.specs.declared.event.Event.TheVariants.{Grow}
+use Rattle.kpn_run_history.specs.Channels.{capacity_or_zero}
+use Rattle.kpn_run_history.specs.declared.event.Event.TheVariants.{Grow}
 use Rattle.kpn_audit.specs.Judged.{IsFollowed}
 use Rattle.kpn_audit.proofs.Refused.{only_growth}
 use Rattle.kpn_audit.proofs.Followed.{followed, goes_outside}

@@ -1,8 +1,8 @@
 -- Each arm says of its event what the call for it says.
 use Rattle.std.proofs.Common.{◌≡◌, IfOk, to_z, of_z, w64, rules, sym, ap, ◌∙◌, subst}
 use Rattle.std.proofs.lemmas.Bool.{eq-eqb}
-use Rattle.kpn_history.specs.Talks.{is_of}
-use Rattle.kpn_history.specs.declared.event.Event.TheVariants.{Get, Put, WaitEmpty, WaitFull, Ended}
+use Rattle.kpn_run_history.specs.Talks.{is_of}
+use Rattle.kpn_run_history.specs.declared.event.Event.TheVariants.{Get, Put, WaitEmpty, WaitFull, Ended}
 use Rattle.kpn_audit.specs.Judged.{IsFound}
 use Rattle.kpn_audit.proofs.judging.judge_at_stop.Goals as goal
 

@@ -1,6 +1,6 @@
 -- Each arm says of its event what the call for it says.
 use Rattle.std.proofs.Common.{◌≡◌, IfOk, to_z, of_z, w64, rules, subst}
-use Rattle.kpn_history.specs.declared.event.Event.TheVariants.{Feed, Close, Take, Leave}
+use Rattle.kpn_run_history.specs.declared.event.Event.TheVariants.{Feed, Close, Take, Leave}
 use Rattle.kpn_audit.specs.Judged.{IsFound}
 use Rattle.kpn_audit.proofs.Refused.{growth_of_nothing}
 use Rattle.kpn_audit.proofs.judging.judge_outside.Goals as goal

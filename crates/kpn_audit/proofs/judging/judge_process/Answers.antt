@@ -1,6 +1,6 @@
 -- The process comes to a stop and is judged there, or was judged on the way.
 use Rattle.std.proofs.lemmas.Result.{IfOk-weaker}
-use Rattle.kpn_history.proofs.AfterEvent.{of_process}
+use Rattle.kpn_run_history.proofs.AfterEvent.{of_process}
 use Rattle.kpn_audit.proofs.Followed.{judged_if_made, made_after_steps}
 use Rattle.kpn_audit.proofs.judging.judge_process.Goals as goal
 

@@ -1,8 +1,8 @@
 -- Where the source is there and open the close is made; else it may not follow.
 use Rattle.std.proofs.Common.{refl}
-use Rattle.kpn_history.specs.declared.event.Event.TheVariants.{Close}
+use Rattle.kpn_run_history.specs.declared.event.Event.TheVariants.{Close}
 use Rattle.std.proofs.lemmas.Bool.{both_ways}
-use Rattle.kpn_configuration.proofs.Exact.{due_outside}
+use Rattle.kpn_run_configuration.proofs.Exact.{due_outside}
 use Rattle.kpn_audit.proofs.Followed.{goes_outside}
 use Rattle.kpn_audit.proofs.outside.close.Goals as goal
 

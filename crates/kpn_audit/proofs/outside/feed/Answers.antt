@@ -1,12 +1,12 @@
 -- Where the source is there and open the feed is made; else it may not follow.
 use Rattle.std.proofs.Common.{is_ok, [], ◌∷◌, ◌++◌, w64, refl, subst}
 use Rattle.std.proofs.lemmas.Int.{to_z-of_z}
-use Rattle.kpn_history.specs.declared.event.Event.TheVariants.{Feed}
+use Rattle.kpn_run_history.specs.declared.event.Event.TheVariants.{Feed}
 use Rattle.kpn_chan.specs.Channel.{with_room}
-use Rattle.kpn_configuration.specs.Configuration.{channel_in}
-use Rattle.kpn_configuration.specs.Run.{IsRun}
+use Rattle.kpn_run_configuration.specs.Configuration.{channel_in}
+use Rattle.kpn_run_configuration.specs.Run.{IsRun}
 use Rattle.std.proofs.lemmas.Bool.{both_ways}
-use Rattle.kpn_configuration.proofs.Exact.{due_outside}
+use Rattle.kpn_run_configuration.proofs.Exact.{due_outside}
 use Rattle.kpn_audit.proofs.Followed.{followed, goes_outside, frames_kept, frames_from}
 use Rattle.kpn_audit.proofs.outside.feed.Goals as goal
 

@@ -1,6 +1,6 @@
 -- Where the sink is there and was not left the leave is made; else it may not follow.
 use Rattle.std.proofs.Common.{refl, sym, ◌∙◌, ap}
-use Rattle.kpn_history.specs.declared.event.Event.TheVariants.{Leave}
+use Rattle.kpn_run_history.specs.declared.event.Event.TheVariants.{Leave}
 use Rattle.kpn_audit.proofs.Refused.{leave_of_no_sink, leave_of_left}
 use Rattle.kpn_audit.proofs.Followed.{goes_outside}
 use Rattle.kpn_audit.proofs.outside.leave.Goals as goal

@@ -1,6 +1,6 @@
 -- Where the sink is there and has the item the take is made; else it may not follow.
 use Rattle.std.proofs.Common.{SFits, w64, of_z, rules, refl, sym, ap, ◌∙◌, subst}
-use Rattle.kpn_history.specs.declared.event.Event.TheVariants.{Take}
+use Rattle.kpn_run_history.specs.declared.event.Event.TheVariants.{Take}
 use Rattle.kpn_audit.proofs.Refused.{take_of_no_sink, take_of_nothing, take_of_another}
 use Rattle.kpn_audit.specs.Judged.{IsMade}
 use Rattle.kpn_audit.proofs.Followed.{same_word, goes_outside}

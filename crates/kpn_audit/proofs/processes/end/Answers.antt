@@ -1,7 +1,7 @@
 -- Where the process stands at this end it ends; else that may not follow.
 use Rattle.std.proofs.Common.{refl}
 use Rattle.std.proofs.lemmas.Bool.{both_ways, eq-eqb}
-use Rattle.kpn_history.specs.declared.event.Event.TheVariants.{Ended}
+use Rattle.kpn_run_history.specs.declared.event.Event.TheVariants.{Ended}
 use Rattle.kpn_audit.proofs.Refused.{no_such_end}
 use Rattle.kpn_audit.proofs.Followed.{goes_made}
 use Rattle.kpn_audit.proofs.processes.end.Goals as goal

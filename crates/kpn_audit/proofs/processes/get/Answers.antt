@@ -1,7 +1,7 @@
 -- Where the process stands at a read from the channel and that has the item the get is made; else it may not follow.
 use Rattle.std.proofs.Common.{None, SFits, w64, of_z, rules, refl, sym, ap, ◌∙◌, subst}
 use Rattle.std.proofs.lemmas.Bool.{both_ways, eq-eqb}
-use Rattle.kpn_history.specs.declared.event.Event.TheVariants.{Get}
+use Rattle.kpn_run_history.specs.declared.event.Event.TheVariants.{Get}
 use Rattle.kpn_audit.proofs.Refused.{get_elsewhere, get_of_nothing, get_of_another}
 use Rattle.kpn_audit.specs.Judged.{IsFollowed}
 use Rattle.kpn_audit.proofs.Followed.{followed, same_word, goes_made}

@@ -5,10 +5,10 @@ use Rattle.std.proofs.lemmas.Int.{to_z-of_z}
 use Rattle.std.proofs.lemmas.Bool.{both_ways, eq-eqb}
 use Rattle.kpn_net.specs.Tables.{instance_at}
 use Rattle.kpn_chan.specs.Channel.{is_full, with_room}
-use Rattle.kpn_configuration.specs.Configuration.{channel_in}
-use Rattle.kpn_configuration.specs.Run.{IsRun}
+use Rattle.kpn_run_configuration.specs.Configuration.{channel_in}
+use Rattle.kpn_run_configuration.specs.Run.{IsRun}
 use Rattle.kpn_audit.specs.Judged.{IsWriteOf}
-use Rattle.kpn_history.specs.declared.event.Event.TheVariants.{Put}
+use Rattle.kpn_run_history.specs.declared.event.Event.TheVariants.{Put}
 use Rattle.kpn_audit.proofs.Refused.{put_elsewhere, put_on_full}
 use Rattle.kpn_audit.proofs.Followed.{followed, goes_made, FramesAfter, frames_kept, frames_from}
 use Rattle.kpn_audit.proofs.processes.put.Goals as goal

@@ -3,7 +3,7 @@
 use Rattle.std.proofs.Common.{refl, ◌∙◌, ap}
 use Rattle.std.proofs.lemmas.Bool.{both_ways, eq-eqb}
 use Rattle.kpn_chan.specs.Channel.{unread}
-use Rattle.kpn_history.specs.declared.event.Event.TheVariants.{WaitEmpty}
+use Rattle.kpn_run_history.specs.declared.event.Event.TheVariants.{WaitEmpty}
 use Rattle.kpn_audit.proofs.Followed.{goes_made}
 use Rattle.kpn_audit.proofs.Refused.{empty_elsewhere, not_empty}
 use Rattle.kpn_audit.proofs.processes.wait_on_empty.Goals as goal

@@ -2,8 +2,8 @@
 use Rattle.std.proofs.Common.{is_ok, refl, sym, ◌∙◌, ap}
 use Rattle.std.proofs.lemmas.Bool.{both_ways, eq-eqb}
 use Rattle.kpn_chan.specs.Channel.{is_full, with_room}
-use Rattle.kpn_configuration.specs.Configuration.{channel_in}
-use Rattle.kpn_history.specs.declared.event.Event.TheVariants.{WaitFull}
+use Rattle.kpn_run_configuration.specs.Configuration.{channel_in}
+use Rattle.kpn_run_history.specs.declared.event.Event.TheVariants.{WaitFull}
 use Rattle.kpn_audit.proofs.Followed.{goes_made, frames_kept, frames_from}
 use Rattle.kpn_audit.proofs.Refused.{full_elsewhere, not_full}
 use Rattle.kpn_audit.proofs.processes.wait_on_full.Goals as goal

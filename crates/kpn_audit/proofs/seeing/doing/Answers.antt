@@ -1,7 +1,7 @@
 -- A process that is free makes steps, and is between two of them if it has used them up.
 use Rattle.std.proofs.Common.{subst, rules}
-use Rattle.kpn_configuration.specs.Configuration.{frame_in, IsFree}
-use Rattle.kpn_configuration.specs.Due.{Stands}
+use Rattle.kpn_run_configuration.specs.Configuration.{frame_in, IsFree}
+use Rattle.kpn_run_configuration.specs.Due.{Stands}
 use Rattle.kpn_audit.proofs.Replaying.{out_of_steps}
 use Rattle.kpn_audit.proofs.seeing.doing.Goals as goal
 

@@ -1,7 +1,7 @@
 -- The port is one of the process, and its channel one of the network.
 use Rattle.std.proofs.Common.{ap, ◌∙◌, arith}
 use Rattle.kpn_chan.specs.Channel.{next_item}
-use Rattle.kpn_configuration.proofs.Ports.{reads_below}
+use Rattle.kpn_run_configuration.proofs.Ports.{reads_below}
 use Rattle.kpn_audit.proofs.Asked.{in_port, reads_there}
 use Rattle.kpn_audit.proofs.seeing.reads.Goals as goal
 

@@ -1,7 +1,7 @@
 -- The port is one of the process, and its channel one of the network.
 use Rattle.std.proofs.Common.{ap, ◌∙◌, rules, arith}
 use Rattle.kpn_chan.specs.Channel.{is_full}
-use Rattle.kpn_configuration.proofs.Ports.{writes_below}
+use Rattle.kpn_run_configuration.proofs.Ports.{writes_below}
 use Rattle.kpn_audit.proofs.Asked.{out_port, writes_there}
 use Rattle.kpn_audit.proofs.seeing.writes.Goals as goal
 

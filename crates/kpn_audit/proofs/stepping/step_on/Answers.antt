@@ -4,8 +4,8 @@ use Rattle.kpn_net.specs.Tables.{program_of}
 use Rattle.kpn_step.specs.Step.{step_of, Steps}
 use Rattle.kpn_step.proofs.StepCases.{Steps-append}
 use Rattle.kpn_step.specs.Frame.{Frame}
-use Rattle.kpn_configuration.specs.Configuration.{Configuration, frame_in, with_frame}
-use Rattle.kpn_configuration.proofs.Calls.{frame_in-other}
+use Rattle.kpn_run_configuration.specs.Configuration.{Configuration, frame_in, with_frame}
+use Rattle.kpn_run_configuration.proofs.Calls.{frame_in-other}
 use Rattle.kpn_audit.proofs.Followed.{stays_free}
 use Rattle.kpn_audit.proofs.InTime.{no_step, stops_within}
 use Rattle.kpn_audit.proofs.stepping.step_on.Goals as goal

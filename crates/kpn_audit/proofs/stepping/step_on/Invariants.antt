@@ -2,9 +2,9 @@
 use Rattle.std.proofs.Common.{◌≡◌, ◌≢◌, ℕ, ◌≤◌, ◌-◌, List}
 use Rattle.kpn_net.specs.Tables.{program_of}
 use Rattle.kpn_step.specs.Step.{Steps}
-use Rattle.kpn_history.specs.declared.event.Event.{Event}
-use Rattle.kpn_configuration.specs.Configuration.{frame_in, IsConfiguration, IsFree}
-use Rattle.kpn_configuration.specs.Run.{IsRun}
+use Rattle.kpn_run_history.specs.declared.event.Event.{Event}
+use Rattle.kpn_run_configuration.specs.Configuration.{frame_in, IsConfiguration, IsFree}
+use Rattle.kpn_run_configuration.specs.Run.{IsRun}
 use Rattle.kpn_audit.proofs.stepping.step_on.Given as goal
 
 abbrev pub invariant-steps : goal.invariant-steps

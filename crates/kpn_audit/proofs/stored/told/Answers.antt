@@ -1,7 +1,7 @@
 -- The capacity of the channel in the configuration is that of the history.
 use Rattle.std.proofs.Common.{ap, ◌∙◌}
-use Rattle.kpn_history.specs.declared.event.Event.TheVariants.{Grow}
-use Rattle.kpn_history.specs.Channels.{capacity_after}
+use Rattle.kpn_run_history.specs.declared.event.Event.TheVariants.{Grow}
+use Rattle.kpn_run_history.specs.Channels.{capacity_after}
 use Rattle.kpn_audit.specs.Stored.{told_capacity}
 use Rattle.kpn_audit.proofs.Telling.{has_room, same_capacity}
 use Rattle.kpn_audit.proofs.stored.told.Goals as goal

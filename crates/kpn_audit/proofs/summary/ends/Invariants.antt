@@ -1,6 +1,6 @@
 use Rattle.std.proofs.Common.{◌≡◌, map}
 use Rattle.std.specs.List.{range_with_len}
-use Rattle.kpn_configuration.specs.Configuration.{end_in}
+use Rattle.kpn_run_configuration.specs.Configuration.{end_in}
 use Rattle.kpn_audit.proofs.summary.ends.Given as goal
 
 abbrev pub invariant-loop-p : goal.invariant-loop-p

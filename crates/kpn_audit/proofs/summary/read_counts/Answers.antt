@@ -1,6 +1,6 @@
 use Rattle.std.proofs.Common.{[], ◌∷◌, ◌++◌, ap, ◌∙◌}
-use Rattle.kpn_configuration.specs.Configuration.{channel_in}
-use Rattle.kpn_configuration.proofs.Numbered.{one_more}
+use Rattle.kpn_run_configuration.specs.Configuration.{channel_in}
+use Rattle.kpn_run_configuration.proofs.Numbered.{one_more}
 use Rattle.kpn_audit.proofs.summary.read_counts.Goals as goal
 
 pub loop-c-preserved : goal.loop-c-preserved

@@ -1,5 +1,5 @@
 use Rattle.std.proofs.Common.{refl, subst, inl}
-use Rattle.kpn_flat.specs.Calls.{TellsComplete}
+use Rattle.kpn_c.specs.Calls.{TellsComplete}
 use Rattle.kpn_c.specs.Exports.{TellsIfComplete}
 use Rattle.kpn_c.proofs.Leading.{leads}
 use Rattle.kpn_c.proofs.sessions.kpn_c_is_complete.Goals as goal

@@ -1,9 +1,9 @@
 -- A text that fits is put to the front of the room.
 use Rattle.std.proofs.Common.{refl, subst, sym, ap, ◌∙◌, inl, length}
 use Rattle.std.specs.Prelude.{◌≡◌, IfOk}
-use Rattle.kpn_history.specs.declared.stored.Version.TheVariants.{Two}
-use Rattle.kpn_trace_text.specs.TraceText.{trace_text}
-use Rattle.kpn_flat.specs.Slices.{PutsIfFits}
+use Rattle.kpn_run_history.specs.declared.stored.Version.TheVariants.{Two}
+use Rattle.kpn_trace.specs.TraceText.{trace_text}
+use Rattle.kpn_c.specs.Slices.{PutsIfFits}
 use Rattle.kpn_c.specs.Exports.{TellsTrace}
 use Rattle.kpn_c.proofs.Leading.{leads}
 use Rattle.kpn_c.proofs.sessions.kpn_c_trace.Goals as goal

@@ -1,7 +1,7 @@
 -- The files are stored and the text goes out; or it can't be written; or a file is not stored.
-use Rattle.std.proofs.Common.{List, map, refl, rules, subst, ap}
+use Rattle.std.proofs.Common.{List, map, refl, subst, ap}
 use Rattle.std.specs.Io.KnownBytes.{Appends}
-use Rattle.kpn_conclusion.specs.Conclusion.{StoredFile, stored_as}
+use Rattle.kpn_command_base.specs.Conclusion.{StoredFile, stored_as}
 use Rattle.kpn_cli.specs.Concludes.{AreStored, IsCutShort, whole, unwritten, cut_short}
 use Rattle.kpn_cli.proofs.concluding.conclude.Goals as goal
 

@@ -1,7 +1,7 @@
 -- One more file is stored, or the shelf does not take it.
 use Rattle.std.proofs.Common.{Ok, subst, arith}
 use Rattle.kpn_shelf.specs.Shelf.{KeepsOthers}
-use Rattle.kpn_conclusion.specs.Conclusion.{stored_as}
+use Rattle.kpn_command_base.specs.Conclusion.{stored_as}
 use Rattle.kpn_cli.proofs.Stores.{stored_more, cut_here, if_error}
 use Rattle.kpn_cli.proofs.concluding.store_files.Goals as goal
 

@@ -1,6 +1,6 @@
 -- The files so far are stored.
 use Rattle.std.proofs.Common.{map, take}
-use Rattle.kpn_conclusion.specs.Conclusion.{stored_as}
+use Rattle.kpn_command_base.specs.Conclusion.{stored_as}
 use Rattle.kpn_cli.specs.Concludes.{AreStored}
 use Rattle.kpn_cli.proofs.concluding.store_files.Given as goal
 

@@ -1,5 +1,5 @@
 -- Each command answers what it is asked for.
-use Rattle.std.proofs.Common.{List, map, refl, rules, subst}
+use Rattle.std.proofs.Common.{refl, rules}
 use Rattle.kpn_cli.proofs.here.answer_here.Goals as goal
 
 pub returns-in-Alone : goal.returns-in-Alone

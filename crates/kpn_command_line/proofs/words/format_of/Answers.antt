@@ -1,7 +1,7 @@
 -- The format is the one that is named, and another word names none.
 use Rattle.std.proofs.Common.{◌≡◌, ◌∙◌, ℕ, List, Option, Some, sym, ap, option_map, codes}
 use Rattle.std.specs.Prelude.{◌≢◌, unwrap_or}
-use Rattle.kpn_request.specs.declared.stream.ItemFormat.TheVariants.{Lines, S16, S32, S64}
+use Rattle.kpn_command_base.specs.declared.stream_request.ItemFormat.TheVariants.{Lines, S16, S32, S64}
 use Rattle.kpn_command_line.specs.Asked.{IsNoFormat}
 use Rattle.kpn_command_line.proofs.Given.{none_of}
 use Rattle.kpn_command_line.proofs.Nothing.{usage_if}

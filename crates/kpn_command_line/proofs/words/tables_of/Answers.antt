@@ -1,7 +1,7 @@
 -- The tables are those that are named, and another text names none.
 use Rattle.std.proofs.Common.{◌≡◌, ◌∙◌, ℕ, List, Option, Some, sym, ap, option_map, codes}
 use Rattle.std.specs.Prelude.{◌≢◌, unwrap_or}
-use Rattle.kpn_request.specs.declared.tables.StatsTables.TheVariants.{People, Channels, Processes}
+use Rattle.kpn_command_base.specs.declared.tables.StatsTables.TheVariants.{People, Channels, Processes}
 use Rattle.kpn_command_line.specs.Asked.{IsNoTable}
 use Rattle.kpn_command_line.proofs.Given.{none_of}
 use Rattle.kpn_command_line.proofs.Nothing.{usage_if}

@@ -1,4 +1,4 @@
-use Rattle.kpn_configuration.proofs.Moments.{quiet_now, least_when_quiet}
+use Rattle.kpn_run_configuration.proofs.Moments.{quiet_now, least_when_quiet}
 use Rattle.kpn_run_state.proofs.laws.a_quiet_book.Goals as goal
 
 pub returns : goal.returns

@@ -1,4 +1,4 @@
-use Rattle.kpn_configuration.proofs.Moments.{goes_on_now}
+use Rattle.kpn_run_configuration.proofs.Moments.{goes_on_now}
 use Rattle.kpn_run_state.proofs.laws.frames_go_on.Goals as goal
 
 pub returns : goal.returns

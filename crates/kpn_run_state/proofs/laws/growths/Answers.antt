@@ -1,5 +1,5 @@
-use Rattle.kpn_history.proofs.Growth.{nothing_can_grow}
-use Rattle.kpn_history.proofs.OwedGrowth.{no_wait_left}
+use Rattle.kpn_run_history.proofs.Growth.{nothing_can_grow}
+use Rattle.kpn_run_history.proofs.OwedGrowth.{no_wait_left}
 use Rattle.kpn_run_state.proofs.Standing.{owed_then, told_then}
 use Rattle.kpn_run_state.proofs.laws.growths.Goals as goal
 

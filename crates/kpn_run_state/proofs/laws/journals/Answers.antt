@@ -1,4 +1,4 @@
-use Rattle.kpn_configuration.proofs.Moments.{journal_now, within_capacity, below_least_now}
+use Rattle.kpn_run_configuration.proofs.Moments.{journal_now, within_capacity, below_least_now}
 use Rattle.kpn_run_state.proofs.laws.journals.Goals as goal
 
 pub returns-clause-written : goal.returns-clause-written

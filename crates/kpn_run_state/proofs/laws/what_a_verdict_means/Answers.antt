@@ -1,4 +1,4 @@
-use Rattle.kpn_history.proofs.Stops.{quiet_where_ended, jammed_at_limit, waits_for_blocked, only_a_leave}
+use Rattle.kpn_run_history.proofs.Stops.{quiet_where_ended, jammed_at_limit, waits_for_blocked, only_a_leave}
 use Rattle.kpn_run_state.proofs.laws.what_a_verdict_means.Goals as goal
 
 pub returns-clause-ended : goal.returns-clause-ended

@@ -1,5 +1,5 @@
-use Rattle.kpn_configuration.specs.Configuration.{channel_in}
-use Rattle.kpn_configuration.proofs.Numbered.{one_more}
+use Rattle.kpn_run_configuration.specs.Configuration.{channel_in}
+use Rattle.kpn_run_configuration.proofs.Numbered.{one_more}
 use Rattle.kpn_run_state.proofs.view.copied_journals.Goals as goal
 
 pub channels-preserved : goal.channels-preserved

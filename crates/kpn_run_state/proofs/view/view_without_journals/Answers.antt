@@ -1,7 +1,7 @@
 use Rattle.std.proofs.Common.{sym, ◌∙◌, subst, ◌≡◌, map, arith}
-use Rattle.kpn_history.specs.Views.{AreCounts}
-use Rattle.kpn_configuration.specs.Configuration.{channel_in}
-use Rattle.kpn_configuration.proofs.Numbered.{one_more}
+use Rattle.kpn_run_history.specs.Views.{AreCounts}
+use Rattle.kpn_run_configuration.specs.Configuration.{channel_in}
+use Rattle.kpn_run_configuration.proofs.Numbered.{one_more}
 use Rattle.std.specs.List.{range_with_len}
 use Rattle.kpn_run_state.proofs.view.view_without_journals.Goals.{After-channels}
 use Rattle.kpn_run_state.proofs.view.view_without_journals.Given as given

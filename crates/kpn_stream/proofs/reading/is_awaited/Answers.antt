@@ -1,4 +1,4 @@
-use Rattle.std.proofs.Common.{◌≡◌, sym, ◌∙◌, inr}
+use Rattle.std.proofs.Common.{sym, ◌∙◌, inr}
 use Rattle.kpn_stream.proofs.Moments.{awaits}
 use Rattle.kpn_stream.proofs.reading.is_awaited.Goals as goal
 

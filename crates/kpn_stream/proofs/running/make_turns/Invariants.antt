@@ -1,12 +1,13 @@
 use Rattle.std.proofs.Common.{◌≡◌, None}
 use Rattle.kpn_net.specs.Tables.{is_source, is_sink}
-use Rattle.kpn_stream.specs.Ending.{end_numbers}
+use Rattle.kpn_stream.specs.Ending.{end_numbers, AreTaken}
 use Rattle.kpn_stream.specs.Streaming.{GoesOn}
 use Rattle.kpn_stream.proofs.running.make_turns.Given as goal
 
 abbrev pub invariant-turns : goal.invariant-turns
 invariant-turns g l = record {
-  goes_on : GoesOn g.S.Sources.gives g.S.Sources.at_hand g.K.Sinks.takes g.K.Sinks.flushes l.limits None
+  goes_on : GoesOn g.S.Sources.gives g.S.Sources.looks g.S.Sources.at_hand g.K.Sinks.takes g.K.Sinks.flushes l.limits
+      None
       l.initial.book
       l.book
       l.initial.sources
@@ -15,4 +16,5 @@ invariant-turns g l = record {
       l.sinks;
   sources : l.ends.sources.items ≡ end_numbers is_source l.book.tables;
   sinks : l.ends.sinks.items ≡ end_numbers is_sink l.book.tables;
+  taken : AreTaken l.book.tables l.book.history;
 }

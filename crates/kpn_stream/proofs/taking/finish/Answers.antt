@@ -1,8 +1,7 @@
 use Rattle.std.proofs.Common.{rules, Ok, Err, sym, ◌∙◌}
-use Rattle.std.proofs.lemmas.Result.{IfOk-weaker}
 use Rattle.kpn_stream.proofs.Going.{serves-refl}
-use Rattle.kpn_stream.proofs.Handling.{serves_enough, flushes_not, handled_taken}
-use Rattle.kpn_stream.proofs.Moments.{taken_if_retired, left_then}
+use Rattle.kpn_stream.proofs.Handling.{serves_enough, flushes_not, leaving_taken, handled_taken}
+use Rattle.kpn_stream.proofs.Moments.{taken_if_retired}
 use Rattle.kpn_stream.proofs.taking.finish.Goals as goal
 
 pub returns-then-is_left-clause-serves : goal.returns-then-is_left-clause-serves
@@ -11,34 +10,28 @@ returns-then-is_left-clause-serves g c =
 
 pub returns-then-is_left-clause-taken : goal.returns-then-is_left-clause-taken
 returns-then-is_left-clause-taken g c = λ _.
-    taken_if_retired c.args.book.now c.known.ensures c.args.c c.requires.sink (sym c.is_left.ensures ∙ c.if-is_left.true)
+    taken_if_retired c.args.book.now c.known.ensures c.args.c c.requires.sink (sym c.is_left.ensures ∙
+    c.if-is_left.true)
 
 pub returns-in-Ok-clause-serves : goal.returns-in-Ok-clause-serves
 returns-in-Ok-clause-serves g c =
     let answer : g.K.Sinks.flushes c.args.sinks.now c.args.c (Ok tt) c.flush.new.self = search rules in
-    IfOk-weaker c.leave.result _ _
-    (λ ended is.
-    serves_enough g.K.Sinks.takes g.K.Sinks.flushes c.args.limits.now c.args.c ended c.args.book.now c.leave.new.book
-    c.args.sinks.now c.flush.new.self c.requires.given answer is)
-    c.leave.ensures
+    serves_enough g.K.Sinks.takes g.K.Sinks.flushes c.args.limits.now c.args.c c.leave.result c.args.book.now
+    c.leave.new.book
+    c.args.sinks.now c.flush.new.self c.requires.given answer c.leave.ensures
 
 pub returns-in-Ok-clause-taken : goal.returns-in-Ok-clause-taken
 returns-in-Ok-clause-taken g c =
-    IfOk-weaker c.leave.result _ _
-    (λ ended is on. left_then c.args.c c.args.book.now c.leave.new.book is.happens) c.leave.ensures
+    leaving_taken c.args.limits.now c.args.c c.leave.result c.args.book.now c.leave.new.book c.leave.ensures
 
 pub returns-in-Err-clause-serves : goal.returns-in-Err-clause-serves
 returns-in-Err-clause-serves g c =
     let answer : g.K.Sinks.flushes c.args.sinks.now c.args.c (Err c.in-Err.fault) c.flush.new.self = search rules in
-    IfOk-weaker c.handle.result _ _
-    (λ ended is.
-    flushes_not g.K.Sinks.takes g.K.Sinks.flushes c.args.limits.now c.args.c c.in-Err.fault ended c.args.book.now
-    c.handle.new.book c.args.sinks.now c.flush.new.self answer is)
-    c.handle.ensures
+    flushes_not g.K.Sinks.takes g.K.Sinks.flushes c.args.limits.now c.args.c c.in-Err.fault c.handle.result
+    c.args.book.now
+    c.handle.new.book c.args.sinks.now c.flush.new.self answer c.handle.ensures
 
 pub returns-in-Err-clause-taken : goal.returns-in-Err-clause-taken
 returns-in-Err-clause-taken g c =
-    IfOk-weaker c.handle.result _ _
-    (λ ended is on.
-    handled_taken c.args.limits.now c.args.c c.in-Err.fault ended c.args.book.now c.handle.new.book is on)
-    c.handle.ensures
+    λ on. handled_taken c.args.limits.now c.args.c c.in-Err.fault c.handle.result c.args.book.now c.handle.new.book
+    c.handle.ensures on

@@ -1,5 +1,4 @@
 use Rattle.std.proofs.Common.{rules, Ok, Err, refl, sym, ◌∙◌, inl, inr}
-use Rattle.std.proofs.lemmas.Result.{IfOk-weaker}
 use Rattle.kpn_stream.proofs.Going.{serves-refl}
 use Rattle.kpn_stream.proofs.Handling.{serves_flush, flushes_not, handled_flushed}
 use Rattle.kpn_stream.proofs.Moments.{left_if_retired}
@@ -32,17 +31,13 @@ returns-in-Ok-clause-flushed g c = λ _.
 pub returns-in-Err-clause-serves : goal.returns-in-Err-clause-serves
 returns-in-Err-clause-serves g c =
     let answer : g.K.Sinks.flushes c.args.sinks.now c.args.c (Err c.in-Err.fault) c.flush.new.self = search rules in
-    IfOk-weaker c.handle.result _ _
-    (λ ended is.
-    flushes_not g.K.Sinks.takes g.K.Sinks.flushes c.args.limits.now c.args.c c.in-Err.fault ended c.args.book.now
-    c.handle.new.book c.args.sinks.now c.flush.new.self answer is)
-    c.handle.ensures
+    flushes_not g.K.Sinks.takes g.K.Sinks.flushes c.args.limits.now c.args.c c.in-Err.fault c.handle.result
+    c.args.book.now
+    c.handle.new.book c.args.sinks.now c.flush.new.self answer c.handle.ensures
 
 pub returns-in-Err-clause-flushed : goal.returns-in-Err-clause-flushed
 returns-in-Err-clause-flushed g c =
     let answer : g.K.Sinks.flushes c.args.sinks.now c.args.c (Err c.in-Err.fault) c.flush.new.self = search rules in
-    IfOk-weaker c.handle.result _ _
-    (λ ended is on.
-    handled_flushed g.K.Sinks.flushes c.args.limits.now c.args.c c.in-Err.fault ended c.args.book.now c.handle.new.book
-    c.args.sinks.now c.flush.new.self answer is on)
-    c.handle.ensures
+    λ on. handled_flushed g.K.Sinks.flushes c.args.limits.now c.args.c c.in-Err.fault c.handle.result c.args.book.now
+    c.handle.new.book
+    c.args.sinks.now c.flush.new.self answer c.handle.ensures on

@@ -15,8 +15,8 @@ sinks-init g c = record {
   ends = c.requires;
 }
 
-pub flush-requires-clause-sink : goal.flush-requires-clause-sink
-flush-requires-clause-sink g c =
+pub flush-ended-requires-clause-sink : goal.flush-ended-requires-clause-sink
+flush-ended-requires-clause-sink g c =
     let items = c.args.ends.now.sinks.items in
     let below : c.sinks.i < length items = search rules in
     (listed is_sink c.sinks.book.tables items c.sinks.i c.index.result.now c.sinks.invariant.ends below
@@ -24,36 +24,36 @@ flush-requires-clause-sink g c =
 
 pub returns-then-is_some-clause-serves : goal.returns-then-is_some-clause-serves
 returns-then-is_some-clause-serves g c =
-    serves-trans g.K.Sinks.takes g.K.Sinks.flushes c.args.limits.now c.in_ok-ended.ended c.args.book.now c.sinks.book
-    c.flush.new.book c.args.sinks.now c.sinks.sinks c.flush.new.sinks c.sinks.invariant.serves
-    c.in_ok-ended.ensures.serves
+    serves-trans g.K.Sinks.takes g.K.Sinks.flushes c.args.limits.now c.flush-ended.result c.args.book.now c.sinks.book
+    c.flush-ended.new.book c.args.sinks.now c.sinks.sinks c.flush-ended.new.sinks c.sinks.invariant.serves
+    c.flush-ended.ensures.serves
 
 pub sinks-preserved : goal.sinks-preserved
 sinks-preserved g c =
-    let on : c.in_ok-ended.ended ≡ None =
-    none_of c.in_ok-ended.ended (sym c.is_some.ensures ∙ c.if-is_some.false) in
+    let on : c.flush-ended.result ≡ None =
+    none_of c.flush-ended.result (sym c.is_some.ensures ∙ c.if-is_some.false) in
     record {
       serves =
           serves-trans g.K.Sinks.takes g.K.Sinks.flushes c.args.limits.now None c.args.book.now c.sinks.book
-          c.flush.new.book c.args.sinks.now c.sinks.sinks c.flush.new.sinks c.sinks.invariant.serves
+          c.flush-ended.new.book c.args.sinks.now c.sinks.sinks c.flush-ended.new.sinks c.sinks.invariant.serves
           (subst
           (λ e.
-          Serves g.K.Sinks.takes g.K.Sinks.flushes c.args.limits.now e c.sinks.book c.flush.new.book c.sinks.sinks
-          c.flush.new.sinks)
-          on c.in_ok-ended.ensures.serves);
-      ends = c.sinks.invariant.ends ∙ ap (end_numbers is_sink) (sym c.in_ok-ended.ensures.serves.besides.tables);
+          Serves g.K.Sinks.takes g.K.Sinks.flushes c.args.limits.now e c.sinks.book c.flush-ended.new.book c.sinks.sinks
+          c.flush-ended.new.sinks)
+          on c.flush-ended.ensures.serves);
+      ends = c.sinks.invariant.ends ∙ ap (end_numbers is_sink) (sym c.flush-ended.ensures.serves.besides.tables);
       flushed =
           let items = c.args.ends.now.sinks.items in
           let below : c.sinks.i < length items = search rules in
           subst
           (λ xs.
-          AreFlushed g.K.Sinks.flushes xs c.args.book.now.history c.args.sinks.now c.flush.new.book.history
-          c.flush.new.sinks)
+          AreFlushed g.K.Sinks.flushes xs c.args.book.now.history c.args.sinks.now c.flush-ended.new.book.history
+          c.flush-ended.new.sinks)
           (ap (λ x. take c.sinks.i items ++ x ∷ []) c.index.ensures
           ∙ sym (take_more items c.sinks.i c.index.result.now below))
           (flushed_more g.K.Sinks.flushes (take c.sinks.i items) c.index.result.now c.args.book.now.history
-          c.sinks.book.history c.flush.new.book.history c.args.sinks.now c.sinks.sinks c.flush.new.sinks
-          c.sinks.invariant.flushed (c.in_ok-ended.ensures.flushed on));
+          c.sinks.book.history c.flush-ended.new.book.history c.args.sinks.now c.sinks.sinks c.flush-ended.new.sinks
+          c.sinks.invariant.flushed (c.flush-ended.ensures.flushed on));
     }
 
 pub returns-clause-flushed : goal.returns-clause-flushed

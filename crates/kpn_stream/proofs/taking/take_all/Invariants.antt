@@ -4,8 +4,8 @@ use Rattle.kpn_stream.specs.Ending.{end_numbers, IsTaken}
 use Rattle.kpn_stream.specs.Streaming.{Serves}
 use Rattle.kpn_stream.proofs.taking.take_all.Given as goal
 
-abbrev pub invariant-sinks : goal.invariant-sinks
-invariant-sinks g l = record {
+abbrev pub invariant-each : goal.invariant-each
+invariant-each g l = record {
   serves : Serves g.K.Sinks.takes g.K.Sinks.flushes l.limits None l.initial.book l.book l.initial.sinks l.sinks;
   ends : l.ends.sinks.items ≡ end_numbers is_sink l.book.tables;
   taken : (j : ℕ) → j < l.i → IsTaken l.book.history (get_or l.ends.sinks.items j 0);

@@ -1,6 +1,6 @@
 -- The bytes tell, or a read fails.
 use Rattle.std.proofs.Common.{rules}
-use Rattle.kpn_stream_devices.proofs.Devices.{at_start, told_after, more_after, fails_after, fails_at_last, needs_open}
+use Rattle.kpn_stream_devices.proofs.Devices.{at_start, told_after, more_after, fails_after, fails_at_last}
 use Rattle.kpn_stream_devices.proofs.inputs.next_of.Goals as goal
 
 pub loop-read-init : goal.loop-read-init
@@ -17,13 +17,13 @@ pub returns-in-Err : goal.returns-in-Err
 returns-in-Err g c =
     fails_after g.I.Read.remaining g.F.Read.remaining c.args.format c.args.standard.now c.args.input.now
     c.loop-read.standard c.loop-read.input c.loop-read.invariant c.next.new.self (search rules) (search rules)
-    c.read_more.new.standard c.read_more.new.input c.in-Err.fault c.in-Err.ensures.fault
+    c.read_on.new.standard c.read_on.new.input c.in-Err.fault c.in-Err.ensures.fault
 
 pub loop-read-preserved : goal.loop-read-preserved
 loop-read-preserved g c =
     more_after g.I.Read.remaining g.F.Read.remaining c.args.format c.args.standard.now c.args.input.now
     c.loop-read.standard c.loop-read.input c.loop-read.invariant c.next.new.self (search rules) (search rules)
-    c.read_more.new.standard c.read_more.new.input (search rules)
+    c.read_on.new.standard c.read_on.new.input (search rules) (search rules)
 
 pub returns : goal.returns
 returns g c =

@@ -1,5 +1,5 @@
 -- The item is kept, and all is handed on.
-use Rattle.std.proofs.Common.{◌≡◌, rules}
+use Rattle.std.proofs.Common.{rules}
 use Rattle.kpn_stream_devices.proofs.Devices.{handed, kept_more}
 use Rattle.kpn_stream_devices.proofs.outputs.put_to.Goals as goal
 

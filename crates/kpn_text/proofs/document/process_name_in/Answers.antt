@@ -2,7 +2,7 @@
 use Rattle.std.proofs.Common.{◌≡◌, List, ℕ, [], map, sym, ap, subst, ◌∙◌}
 use Rattle.std.specs.Str.{IsUtf8}
 use Rattle.std.proofs.lemmas.List.{get_or-map}
-use Rattle.kpn_names.specs.declared.network_names.ProcessNames.{ProcessNames}
+use Rattle.kpn_text_names.specs.declared.network_names.ProcessNames.{ProcessNames}
 use Rattle.kpn_text.proofs.document.process_name_in.Goals as goal
 
 pub text_of-requires : goal.text_of-requires

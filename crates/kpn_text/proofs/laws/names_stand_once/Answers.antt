@@ -1,6 +1,6 @@
 -- A document has the names of a description.
 use Rattle.std.proofs.Common.{subst}
-use Rattle.kpn_names.specs.Once.{EachStandsOnce}
+use Rattle.kpn_text_names.specs.Once.{EachStandsOnce}
 use Rattle.kpn_text.proofs.laws.names_stand_once.Goals as goal
 
 pub returns : goal.returns

@@ -1,6 +1,6 @@
 -- What is copied, and what is left of both tables.
-use Rattle.kpn_names.specs.View.{program_seen}
-use Rattle.kpn_names.specs.NetworkNames.{process_names_in}
+use Rattle.kpn_text_names.specs.View.{program_seen}
+use Rattle.kpn_text_names.specs.NetworkNames.{process_names_in}
 use Rattle.kpn_text.proofs.Tables.{Pairs}
 use Rattle.kpn_text.proofs.names.of_processes.Given as goal
 

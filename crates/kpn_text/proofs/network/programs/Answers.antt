@@ -3,8 +3,8 @@ use Rattle.std.proofs.Common.{◌≡◌, List, [], ◌∷◌, length, map, refl,
 use Rattle.std.proofs.lemmas.Result.{err_from_is_err_and}
 use Rattle.std.specs.Vec.Iter.{into_iter_items}
 use Rattle.kpn_lang.specs.Parts.{Parts, first_fault}
-use Rattle.kpn_names.specs.declared.process.ProgramParts.{ProgramParts}
-use Rattle.kpn_names.specs.View.{program_seen}
+use Rattle.kpn_text_names.specs.declared.process.ProgramParts.{ProgramParts}
+use Rattle.kpn_text_names.specs.View.{program_seen}
 use Rattle.kpn_text.proofs.Tables.{made_all, made_broken, made_next, made_start, program_keeps}
 use Rattle.kpn_text.proofs.network.programs.Goals as goal
 

@@ -1,8 +1,8 @@
 -- Phase by phase.
 use Rattle.std.proofs.Common.{sym, subst}
 use Rattle.std.proofs.lemmas.Result.{err_from_is_err_and}
-use Rattle.kpn_grammar.specs.View as grammar
-use Rattle.kpn_names.specs.View.{named_seen}
+use Rattle.kpn_text_grammar.specs.View as grammar
+use Rattle.kpn_text_names.specs.View.{named_seen}
 use Rattle.kpn_text.specs.Document.{Document}
 use Rattle.kpn_text.specs.Spells.{Spells}
 use Rattle.kpn_text.proofs.Refusals.{made_spelled, names_refused, network_refused, phases, tokens_refused, tree_refused}

@@ -3,8 +3,8 @@ use Rattle.kpn_net.specs.Tables.{program_of}
 use Rattle.kpn_step.specs.Frame.{Frame}
 use Rattle.kpn_step.specs.declared.stop.Stop.{Stop}
 use Rattle.kpn_step.specs.Stops.{IsAdvance, IsAtPort, advanced_of}
-use Rattle.kpn_configuration.specs.Configuration.{channel_in, frame_in}
-use Rattle.kpn_configuration.proofs.Moving.{advanced_as}
+use Rattle.kpn_run_configuration.specs.Configuration.{channel_in, frame_in}
+use Rattle.kpn_run_configuration.proofs.Moving.{advanced_as}
 use Rattle.kpn_run_state.specs.Book.{Book}
 use Rattle.kpn_run_state.specs.Commits.{IsOwnAdvance, Commits}
 use Rattle.kpn_run_state.specs.Kept.{IsKept}

@@ -1,12 +1,12 @@
 use Rattle.std.proofs.Common.{◌<◌, length, refl, sym, ap, subst, ◌∙◌, ◌∷◌, ◌++◌, [], arith, w64, SFits, to_z, of_z, rules, IsTrue}
 use Rattle.std.proofs.lemmas.Int.{to_z-of_z}
 use Rattle.std.specs.Option.{option_to_list}
-use Rattle.kpn_history.specs.declared.event.Event.TheVariants as event
-use Rattle.kpn_configuration.specs.Changes.{Changes}
+use Rattle.kpn_run_history.specs.declared.event.Event.TheVariants as event
+use Rattle.kpn_run_configuration.specs.Changes.{Changes}
 use Rattle.kpn_run_state.specs.Kept.{IsKept}
 use Rattle.kpn_run_state.specs.Refusals.{AcceptsItem, Feeds}
 use Rattle.kpn_run_state.specs.Open.{book_of}
-use Rattle.kpn_configuration.specs.Configuration.{channel_in}
+use Rattle.kpn_run_configuration.specs.Configuration.{channel_in}
 use Rattle.kpn_run_state.proofs.Reserved.{is_reserved_here}
 use Rattle.kpn_run_state.proofs.Following.{own_none, may_be_woken, channel_fits, recorded}
 use Rattle.kpn_run_state.proofs.Committing.{kept_outside, source_there}

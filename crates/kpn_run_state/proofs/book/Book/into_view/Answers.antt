@@ -1,9 +1,9 @@
 use Rattle.std.proofs.Common.{sym, ◌∙◌, subst}
 use Rattle.kpn_chan.specs.Channel.{ChannelState}
-use Rattle.kpn_history.specs.Views.{Agrees}
+use Rattle.kpn_run_history.specs.Views.{Agrees}
 use Rattle.kpn_run_state.specs.Open.{book_of}
 use Rattle.kpn_run_state.proofs.Agreeing.{Agrees-of}
-use Rattle.kpn_configuration.proofs.Numbered.{by_number}
+use Rattle.kpn_run_configuration.proofs.Numbered.{by_number}
 use Rattle.kpn_run_state.proofs.book.Book.into_view.Goals as goal
 
 pub returns-clause-agrees : goal.returns-clause-agrees

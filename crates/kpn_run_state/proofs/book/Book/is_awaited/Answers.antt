@@ -1,5 +1,5 @@
 use Rattle.kpn_net.specs.declared.wait.Wait.TheVariants.{Empty}
-use Rattle.kpn_configuration.proofs.Woken.{below}
+use Rattle.kpn_run_configuration.proofs.Woken.{below}
 use Rattle.kpn_run_state.proofs.book.Book.is_awaited.Goals as goal
 
 pub wait-requires : goal.wait-requires

@@ -1,5 +1,5 @@
 use Rattle.std.proofs.Common.{◌↔◌, IsTrue, subst}
-use Rattle.kpn_history.specs.Complete.{IsComplete}
+use Rattle.kpn_run_history.specs.Complete.{IsComplete}
 use Rattle.kpn_run_state.specs.Open.{book_of}
 use Rattle.kpn_run_state.proofs.book.Book.is_complete.Goals as goal
 

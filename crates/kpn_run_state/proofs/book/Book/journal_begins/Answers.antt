@@ -1,6 +1,6 @@
 use Rattle.std.proofs.Common.{ap, sym, subst, ◌∙◌}
 use Rattle.kpn_lang.specs.Prefix.{IsPrefix}
-use Rattle.kpn_configuration.specs.Configuration.{channel_in}
+use Rattle.kpn_run_configuration.specs.Configuration.{channel_in}
 use Rattle.kpn_run_state.proofs.Journals.{prefix_from_take, take_from_prefix}
 use Rattle.kpn_run_state.proofs.book.Book.journal_begins.Goals as goal
 

@@ -1,5 +1,5 @@
 use Rattle.std.proofs.Common.{refl, ap, ◌∙◌}
-use Rattle.kpn_schedule.specs.Schedule.{all_ready}
+use Rattle.kpn_run_state.specs.Schedule.{all_ready}
 use Rattle.kpn_run_state.specs.Book.{Book}
 use Rattle.kpn_run_state.proofs.Starting.{kept_at_start}
 use Rattle.kpn_run_state.proofs.book.Book.new.Goals as goal

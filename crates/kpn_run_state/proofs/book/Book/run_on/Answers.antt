@@ -1,6 +1,7 @@
 use Rattle.std.proofs.Common.{◌+◌, ◌<◌, ◌^◌, sym, subst, IfOk}
+use Rattle.std.specs.Prelude.{OnErr}
 use Rattle.kpn_run_state.specs.Book.{Book, held_count}
-use Rattle.kpn_run_state.specs.InARow.{RunsOn}
+use Rattle.kpn_run_state.specs.InARow.{RunsOn, RunsInVain}
 use Rattle.kpn_run_state.specs.Open.{book_of}
 use Rattle.kpn_run_state.proofs.book.Book.run_on.Goals as goal
 
@@ -9,6 +10,11 @@ run_on-requires-clause-countable g c =
     subst (λ (b : Book). b.commits + held_count b + c.args.most < 2 ^ 64) (sym c.self.view_is) c.requires
 
 pub returns : goal.returns
-returns g c =
-    subst (λ (b : Book). IfOk c.run_on.result (λ sink. RunsOn c.args.quota c.args.most sink b
-    (book_of c.run_on.new.self))) c.self.view_is c.run_on.ensures.runs
+returns g c = record {
+  runs =
+      subst (λ (b : Book). IfOk c.run_on.result (λ sink. RunsOn c.args.quota c.args.most sink b
+      (book_of c.run_on.new.self))) c.self.view_is c.run_on.ensures.runs;
+  in_vain =
+      subst (λ (b : Book). OnErr c.run_on.result (RunsInVain c.args.quota c.args.most b (book_of c.run_on.new.self)))
+      c.self.view_is c.run_on.ensures.in_vain;
+}

@@ -1,6 +1,6 @@
 -- What is copied agrees with the history, and what a view that agrees shows.
 use Rattle.std.proofs.Common.{◌≡◌, subst}
-use Rattle.kpn_history.specs.Views.{Agrees}
+use Rattle.kpn_run_history.specs.Views.{Agrees}
 use Rattle.kpn_run_state.specs.Open.{book_of}
 use Rattle.kpn_run_state.proofs.Agreeing.{Agrees-of}
 use Rattle.kpn_run_state.proofs.Snapshots.{run_shown, below_shown, at_rest_shown}

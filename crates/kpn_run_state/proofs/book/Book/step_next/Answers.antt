@@ -1,7 +1,7 @@
 use Rattle.std.proofs.Common.{◌+◌, ◌<◌, ◌^◌, refl, sym, ap, ◌∙◌, subst, rules}
 use Rattle.kpn_net.specs.Tables.{program_of}
 use Rattle.kpn_step.specs.Stops.{advanced_of}
-use Rattle.kpn_configuration.specs.Configuration.{frame_in}
+use Rattle.kpn_run_configuration.specs.Configuration.{frame_in}
 use Rattle.kpn_run_state.specs.Book.{put_back}
 use Rattle.kpn_run_state.specs.Kept.{IsKept}
 use Rattle.kpn_run_state.specs.Open.{book_of}

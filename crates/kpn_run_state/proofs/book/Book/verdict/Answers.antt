@@ -1,7 +1,7 @@
 use Rattle.std.proofs.Common.{◌≡◌, false, refl, subst, rules}
 use Rattle.std.proofs.lemmas.Bool.{both_ways}
-use Rattle.kpn_history.specs.Ends.{IsSettled, IsVerdict}
-use Rattle.kpn_configuration.proofs.Settling.{verdict_now}
+use Rattle.kpn_run_history.specs.Ends.{IsSettled, IsVerdict}
+use Rattle.kpn_run_configuration.proofs.Settling.{verdict_now}
 use Rattle.kpn_run_state.specs.Open.{book_of}
 use Rattle.kpn_run_state.proofs.Seen.{not_settled}
 use Rattle.kpn_run_state.proofs.book.Book.verdict.Goals as goal

@@ -1,6 +1,6 @@
 use Rattle.std.proofs.Common.{refl, ap, []}
-use Rattle.kpn_history.specs.declared.event.Event.TheVariants as event
-use Rattle.kpn_configuration.proofs.Due.{Legal-due}
+use Rattle.kpn_run_history.specs.declared.event.Event.TheVariants as event
+use Rattle.kpn_run_configuration.proofs.Due.{Legal-due}
 use Rattle.kpn_run_state.specs.Open.{book_of}
 use Rattle.kpn_run_state.proofs.Following.{own_none, followed, channel_fits}
 use Rattle.kpn_run_state.proofs.Committing.{source_there}

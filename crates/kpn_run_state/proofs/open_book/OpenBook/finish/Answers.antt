@@ -1,6 +1,6 @@
 use Rattle.std.proofs.Common.{refl, ap, ◌∙◌, arith}
-use Rattle.kpn_history.specs.declared.event.Event.TheVariants as event
-use Rattle.kpn_configuration.proofs.Due.{Legal-due}
+use Rattle.kpn_run_history.specs.declared.event.Event.TheVariants as event
+use Rattle.kpn_run_configuration.proofs.Due.{Legal-due}
 use Rattle.kpn_run_state.specs.Open.{book_of, held_by, Follows}
 use Rattle.kpn_run_state.proofs.Following.{own_held, held_is_there, held_is_free, may_be_woken, followed, recorded, process_fits}
 use Rattle.kpn_run_state.proofs.Answering.{no_cycle_then, answered_ended}

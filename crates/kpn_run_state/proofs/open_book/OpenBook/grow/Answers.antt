@@ -1,7 +1,7 @@
 use Rattle.std.proofs.Common.{◌≡◌, ℕ, refl, ap, ◌∙◌, subst}
 use Rattle.std.specs.Option.{option_to_list}
-use Rattle.kpn_history.specs.declared.event.Event.TheVariants as event
-use Rattle.kpn_configuration.proofs.Growing.{owed_below, Legal-grown}
+use Rattle.kpn_run_history.specs.declared.event.Event.TheVariants as event
+use Rattle.kpn_run_configuration.proofs.Growing.{owed_below, Legal-grown}
 use Rattle.kpn_run_state.specs.Book.{Book}
 use Rattle.kpn_run_state.specs.Open.{book_of, Follows}
 use Rattle.kpn_run_state.proofs.Following.{own_none, may_be_woken, followed, process_fits, channel_fits}

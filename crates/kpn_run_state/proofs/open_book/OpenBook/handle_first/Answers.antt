@@ -6,8 +6,8 @@ use Rattle.kpn_net.specs.Tables.{instance_at, program_of}
 use Rattle.kpn_net.proofs.Networks.{IsInstance-of}
 use Rattle.kpn_net.proofs.PortsApart.{out_is_there}
 use Rattle.kpn_step.specs.Stops.{IsAtPort}
-use Rattle.kpn_configuration.specs.Configuration.{channel_in}
-use Rattle.kpn_configuration.specs.Due.{WritesTo}
+use Rattle.kpn_run_configuration.specs.Configuration.{channel_in}
+use Rattle.kpn_run_configuration.specs.Due.{WritesTo}
 use Rattle.kpn_run_state.specs.declared.answers.Done.TheVariants as done
 use Rattle.kpn_run_state.specs.Commits.{IsWriteTo}
 use Rattle.kpn_run_state.specs.Open.{book_of, first_claimed, reserved_on, sink_by, Answered, AnsweredFirst, IsSound}
@@ -15,7 +15,7 @@ use Rattle.kpn_run_state.specs.Kept.{IsKept}
 use Rattle.kpn_run_state.proofs.Following.{held_is_there, recorded}
 use Rattle.kpn_run_state.proofs.Committing.{no_pause, kept_reserved_on, writes_to}
 use Rattle.kpn_run_state.proofs.Reserved.{is_reserved_here}
-use Rattle.kpn_run_state.proofs.FirstOfQueue.{held_first, puts_on_it, puts_nowhere, handles_write}
+use Rattle.kpn_run_state.proofs.FirstOfQueue.{held_first, refused_with, puts_on_it, puts_nowhere, handles_write}
 use Rattle.kpn_run_state.proofs.open_book.OpenBook.handle_first.Given as given
 use Rattle.kpn_run_state.proofs.open_book.OpenBook.handle_first.Goals as goal
 use Rattle.kpn_run_state.proofs.open_book.OpenBook.handle_first.Goals.{After-known, After-out_channel-c}
@@ -161,6 +161,12 @@ returns-in_default g c =
               ∙ puts_nowhere b.tables c.args.p c.args.stop c.handle_stop.result c.in_default.not-WantWrite);
         };
       };
+      wants = tt;
       as_before = tt;
       room = c.handle_stop.ensures.room;
     }
+
+pub returns-in_err-reserve_one-clause-wants : goal.returns-in_err-reserve_one-clause-wants
+returns-in_err-reserve_one-clause-wants g c =
+    refused_with c.from_residual.result
+    (λ paused. no_pause c.args.stop c.in-WantWrite.port c.in-WantWrite.item c.in-WantWrite.is paused)

@@ -1,11 +1,11 @@
 use Rattle.std.proofs.Common.{refl, ap, subst, ◌∙◌, arith, w64, SFits, to_z, of_z, rules}
 use Rattle.std.proofs.lemmas.Int.{to_z-of_z}
 use Rattle.std.specs.Option.{option_to_list}
-use Rattle.kpn_history.specs.declared.event.Event.TheVariants as event
-use Rattle.kpn_configuration.specs.Changes.{Changes}
-use Rattle.kpn_configuration.proofs.Ports.{writes_below}
-use Rattle.kpn_configuration.proofs.Due.{Legal-due}
-use Rattle.kpn_schedule.specs.Schedule.{made_ready}
+use Rattle.kpn_run_history.specs.declared.event.Event.TheVariants as event
+use Rattle.kpn_run_configuration.specs.Changes.{Changes}
+use Rattle.kpn_run_configuration.proofs.Ports.{writes_below}
+use Rattle.kpn_run_configuration.proofs.Due.{Legal-due}
+use Rattle.kpn_run_state.specs.Schedule.{made_ready}
 use Rattle.kpn_run_state.specs.Open.{book_of, held_by}
 use Rattle.kpn_run_state.proofs.Following.{own_held, held_is_there, held_is_free, may_be_woken, followed, recorded, process_fits, channel_fits}
 use Rattle.kpn_run_state.proofs.Answering.{answered_put}

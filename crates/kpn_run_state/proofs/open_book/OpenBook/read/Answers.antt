@@ -1,11 +1,11 @@
 use Rattle.std.proofs.Common.{◌≡◌, false, refl, sym, ap, ◌∙◌, subst, arith, w64, SFits, to_z, of_z, rules}
 use Rattle.std.proofs.lemmas.Int.{to_z-of_z}
 use Rattle.std.specs.Option.{option_to_list}
-use Rattle.kpn_history.specs.declared.event.Event.TheVariants as event
-use Rattle.kpn_configuration.proofs.Ports.{reads_below}
-use Rattle.kpn_configuration.proofs.Due.{Legal-due}
-use Rattle.kpn_configuration.proofs.Exact.{gets_or_waits}
-use Rattle.kpn_schedule.specs.Schedule.{made_ready}
+use Rattle.kpn_run_history.specs.declared.event.Event.TheVariants as event
+use Rattle.kpn_run_configuration.proofs.Ports.{reads_below}
+use Rattle.kpn_run_configuration.proofs.Due.{Legal-due}
+use Rattle.kpn_run_configuration.proofs.Exact.{gets_or_waits}
+use Rattle.kpn_run_state.specs.Schedule.{made_ready}
 use Rattle.kpn_run_state.specs.declared.answers.Done.TheVariants as done
 use Rattle.kpn_run_state.specs.Commits.{IsReadFrom}
 use Rattle.kpn_run_state.specs.Open.{book_of, held_by, Answered}

@@ -1,7 +1,7 @@
 use Rattle.std.proofs.Common.{◌≡◌, ◌+◌, true, false, refl, sym, ap, ◌∙◌, subst, arith, rules}
 use Rattle.kpn_run_state.specs.Open.{book_of}
 use Rattle.kpn_run_state.proofs.Following.{recorded}
-use Rattle.kpn_run_state.proofs.FirstOfQueue.{IsSoFar, none_so_far, more_so_far, runs_to_sink, runs_so_far, runs_till_idle}
+use Rattle.kpn_run_state.proofs.FirstOfQueue.{IsSoFar, none_so_far, more_so_far, runs_to_sink, runs_so_far, runs_till_idle, refused_with, refused_before, refused_in_turn}
 use Rattle.kpn_run_state.proofs.open_book.OpenBook.run_on.Goals as goal
 
 pub rows-init : goal.rows-init
@@ -94,3 +94,21 @@ pub returns-clause-runs : goal.returns-clause-runs
 returns-clause-runs g c =
     runs_so_far c.args.quota c.args.most c.rows.made (book_of c.args.self.now) (book_of c.rows.self)
     c.rows.invariant.so_far c.rows.invariant.within (λ below. absurd (omega (arith, below, c.rows-test.false)))
+
+pub returns-in_err-reserve-clause-in_vain : goal.returns-in_err-reserve-clause-in_vain
+returns-in_err-reserve-clause-in_vain g c =
+    let now = book_of c.rows.self in
+    refused_with c.from_residual.result
+    (refused_before c.args.quota c.args.most c.rows.made (book_of c.args.self.now) now
+    (recorded now c.reserve.new.self.events now.configuration now.schedule)
+    (ap (λ H. recorded now H now.configuration now.schedule) c.in_err-reserve.ensures.events) c.rows.invariant.so_far
+    c.rows-test.true)
+
+pub returns-in_err-sink-clause-in_vain : goal.returns-in_err-sink-clause-in_vain
+returns-in_err-sink-clause-in_vain g c =
+    let below = c.turns-test.true in
+    let within = c.turns_for-more.ensures.within in
+    refused_with c.from_residual-in_err-sink.result
+    (refused_in_turn c.args.quota c.args.most (c.rows.made + c.turns._turn) (book_of c.args.self.now)
+    (book_of c.turns.self) (book_of c.turn.new.self) c.in_err-sink.ensures.in_vain c.turns.invariant.so_far
+    (omega (arith, below, within, c.rows-test.true)))

@@ -2,8 +2,8 @@ use Rattle.std.proofs.Common.{refl, sym, ap, subst, ◌∙◌, w64, SFits, to_z,
 use Rattle.std.proofs.lemmas.Int.{to_z-of_z}
 use Rattle.std.specs.Option.{option_to_list}
 use Rattle.kpn_net.proofs.Networks.{sink_there}
-use Rattle.kpn_history.specs.declared.event.Event.TheVariants as event
-use Rattle.kpn_configuration.proofs.Due.{Legal-due}
+use Rattle.kpn_run_history.specs.declared.event.Event.TheVariants as event
+use Rattle.kpn_run_configuration.proofs.Due.{Legal-due}
 use Rattle.kpn_run_state.specs.Open.{book_of, Follows}
 use Rattle.kpn_run_state.proofs.Following.{own_none, may_be_woken, followed, recorded, channel_fits}
 use Rattle.kpn_run_state.proofs.open_book.OpenBook.take.Goals as goal

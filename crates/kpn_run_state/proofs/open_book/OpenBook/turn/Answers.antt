@@ -1,10 +1,11 @@
 use Rattle.std.proofs.Common.{◌+◌, ◌<◌, ◌^◌, refl, sym, subst, arith, rules}
 use Rattle.kpn_net.specs.Tables.{program_of}
 use Rattle.kpn_step.specs.Stops.{advanced_of}
-use Rattle.kpn_configuration.specs.Configuration.{frame_in}
+use Rattle.kpn_run_configuration.specs.Configuration.{frame_in}
 use Rattle.kpn_run_state.specs.Kept.{IsKept}
 use Rattle.kpn_run_state.specs.Open.{book_of}
-use Rattle.kpn_run_state.proofs.FirstOfQueue.{holds_first, first_kept, kept_in_vain, turn_fits, turn_made}
+use Rattle.kpn_run_state.specs.InARow.{StepsUncommitted}
+use Rattle.kpn_run_state.proofs.FirstOfQueue.{holds_first, first_kept, kept_in_vain, turn_in_vain, refused_with, turn_fits, turn_made}
 use Rattle.kpn_run_state.proofs.open_book.OpenBook.turn.Goals as goal
 
 pub step-stop-requires-clause-process : goal.step-stop-requires-clause-process
@@ -75,3 +76,18 @@ returns-clause-turn g c =
 
 pub returns-clause-kept : goal.returns-clause-kept
 returns-clause-kept g c = (returns-clause-turn g c).kept
+
+pub returns-in_err-sink-clause-in_vain : goal.returns-in_err-sink-clause-in_vain
+returns-in_err-sink-clause-in_vain g c =
+    let b = book_of c.args.self.now in
+    let p = c.args.p in
+    let s = c.step-stop.new.self in
+    let x =
+    advanced_of (program_of b.tables p) (frame_in b.configuration p) (frame_in s p) c.step-stop.result.0
+    c.step-stop.result.1 in
+    let holds = holds_first b.schedule c.known-2.ensures.schedule p c.requires.first in
+    refused_with c.from_residual.result
+    (subst (StepsUncommitted c.args.quota b) (sym c.in_err-sink.ensures.as_before)
+    (turn_in_vain c.args.quota p b c.requires.kept holds c.requires.countable s x
+    (record { program = refl; from = refl }) c.step-stop.ensures.advance c.step-stop.ensures.quota
+    c.step-stop.ensures.after c.in_err-sink.ensures.wants c.requires.first))

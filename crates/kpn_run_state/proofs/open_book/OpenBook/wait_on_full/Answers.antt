@@ -1,7 +1,7 @@
 use Rattle.std.proofs.Common.{[], refl, ap, ◌∙◌, inr, arith}
-use Rattle.kpn_history.specs.declared.event.Event.TheVariants as event
-use Rattle.kpn_configuration.proofs.Ports.{writes_below}
-use Rattle.kpn_configuration.proofs.Due.{Legal-due}
+use Rattle.kpn_run_history.specs.declared.event.Event.TheVariants as event
+use Rattle.kpn_run_configuration.proofs.Ports.{writes_below}
+use Rattle.kpn_run_configuration.proofs.Due.{Legal-due}
 use Rattle.kpn_run_state.specs.Commits.{IsWriteTo}
 use Rattle.kpn_run_state.specs.Open.{book_of, held_by, Follows}
 use Rattle.kpn_run_state.proofs.Following.{own_held, held_is_there, held_is_free, followed, recorded, process_fits, channel_fits}

@@ -1,6 +1,6 @@
 use Rattle.std.proofs.Common.{sym, subst, w64, SFits, rules}
 use Rattle.std.proofs.lemmas.Int.{to_z-of_z}
-use Rattle.kpn_configuration.proofs.Ports.{writes_below}
+use Rattle.kpn_run_configuration.proofs.Ports.{writes_below}
 use Rattle.kpn_run_state.specs.declared.answers.Done.TheVariants as done
 use Rattle.kpn_run_state.specs.Commits.{IsWriteTo}
 use Rattle.kpn_run_state.specs.Open.{book_of, first_claimed, Answered}

@@ -2,9 +2,9 @@ use Rattle.std.proofs.Common.{◌<◌, length, take, get_or, arith, sym, ap, ◌
 use Rattle.std.proofs.Math.Numerals.{suc-eq-add-one}
 use Rattle.std.proofs.Math.Seq.{take-suc}
 use Rattle.std.proofs.lemmas.List.Elements.{Contains-get_or}
-use Rattle.kpn_configuration.proofs.Ending.{not_before}
-use Rattle.kpn_history.specs.Views.{is_ready}
-use Rattle.kpn_schedule.specs.Schedule.{state_at, made_ready}
+use Rattle.kpn_run_configuration.proofs.Ending.{not_before}
+use Rattle.kpn_run_history.specs.Views.{is_ready}
+use Rattle.kpn_run_state.specs.Schedule.{state_at, made_ready}
 use Rattle.kpn_run_state.specs.Appending.{all_made_ready}
 use Rattle.kpn_run_state.proofs.AllReady.{states_length, are_as_before, all_made_ready-push}
 use Rattle.kpn_run_state.proofs.open_book.commits.wake_all.Goals as goal

@@ -1,9 +1,9 @@
 -- The bytes are the only line.
-use Rattle.std.proofs.Common.{◌≡◌, ◌∙◌, ℕ, List, length, drop, Err, sym, ap, subst, arith}
-use Rattle.std.specs.Prelude.{ℤ, MatchOption}
-use Rattle.kpn_items.specs.ItemLine.{SpellsItem}
+use Rattle.std.proofs.Common.{◌∙◌, ℕ, drop, Err, sym, ap, subst, arith}
+use Rattle.std.specs.Prelude.{MatchOption}
+use Rattle.kpn_text_items.specs.ItemLine.{SpellsItem}
 use Rattle.kpn_stream.specs.declared.faults.SourceFault.TheVariants.{BadItem}
-use Rattle.kpn_stream_devices.specs.Window.{LineTells, with_line}
+use Rattle.kpn_stream_devices.specs.Window.{SpellsNone, LineTells, with_line}
 use Rattle.kpn_stream_devices.proofs.Telling.{whole_tells}
 use Rattle.kpn_stream_devices.proofs.window.Window.whole_line.Goals as goal
 
@@ -14,6 +14,6 @@ returns-clause-told c =
     subst (λ after. LineTells w c.told.result after)
     (sym (c.pass_line-line.ensures.passed ∙ ap (λ (n : ℕ). with_line (drop n w.unused) w) c.requires.count))
     (whole_tells w item c.told.result (omega (arith, c.requires.count, c.requires.some)) c.requires.over c.requires.line
-    (subst (λ line. MatchOption item ((v : ℤ) → SpellsItem line v → ⊥) (SpellsItem line)) c.unused.ensures
+    (subst (λ line. MatchOption item (SpellsNone line) (SpellsItem line)) c.unused.ensures
     c.item_of_line-item.ensures) c.told.ensures.item
     (λ none. c.told.ensures.none none ∙ ap (λ (l : ℕ). Err (BadItem l)) c.pass_line-line.ensures.line))

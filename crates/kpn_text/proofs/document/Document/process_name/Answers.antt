@@ -1,8 +1,8 @@
 -- By the table of the processes.
 use Rattle.std.proofs.Common.{List, map, sym, ap, subst, ◌∙◌}
 use Rattle.std.specs.Str.{IsUtf8}
-use Rattle.kpn_names.specs.Names.{name_at}
-use Rattle.kpn_names.specs.declared.network_names.ProcessNames.{ProcessNames}
+use Rattle.kpn_text_names.specs.Names.{name_at}
+use Rattle.kpn_text_names.specs.declared.network_names.ProcessNames.{ProcessNames}
 use Rattle.kpn_text.specs.Document.{Document}
 use Rattle.kpn_text.proofs.document.Document.process_name.Goals as goal
 

@@ -1,0 +1,87 @@
+#!/usr/bin/env python3
+"""Measures compiled networks beside `kpn run`, and beside Go if it is there: million items a channel in a second of a
+processor, of the whole program. Then the filter of the gallery beside a loop in C with the same checks.
+
+The programs run in turn; the best of the runs counts. The machine should do nothing else.
+"""
+import os
+import pathlib
+import shutil
+import sys
+import tempfile
+
+TOP = pathlib.Path(__file__).resolve().parents[2]
+sys.path[:0] = [str(TOP / 'bench'), str(TOP / 'python')]
+
+import measure  # noqa: E402
+import networks  # noqa: E402
+from kpn.native import command  # noqa: E402
+from kpn.program import answer, find_program  # noqa: E402
+
+# The name, what makes the text for so many items, the channels that each item goes through.
+ROWS = (
+    ('pipeline of 8, capacity 1', lambda items: networks.pipeline(8, 1, items), 9),
+    ('pipeline of 8, capacity 64', lambda items: networks.pipeline(8, 64, items), 9),
+    ('pipeline of 64, capacity 64', lambda items: networks.pipeline(64, 64, items), 65),
+    ('split and join of 2, capacity 64', lambda items: networks.split_and_join(64, items), 4),
+)
+HOPS_HERE, HOPS_COMPILED = 2_000_000, 60_000_000
+
+
+def compiled(folder, name, text, schedule, runtime):
+    """A network as a program."""
+    program = pathlib.Path(folder, f'{name}.{schedule}')
+    if command.build(command.c_of(answer('print', text), schedule), find_program(), str(program), runtime):
+        sys.exit(f'{name}: the compiler refuses the C')
+    return str(program)
+
+
+def rates(folder, row, runtime, runs):
+    """A line of the table."""
+    name, made, channels = row
+    few, many = HOPS_HERE // channels, HOPS_COMPILED // channels
+    source = pathlib.Path(folder, 'description')
+    source.write_text(made(few))
+    commands = {'kpn run': ([find_program(), 'run', str(source), '--max-commits', '1000000000'], HOPS_HERE)}
+    for schedule in reversed(command.SCHEDULES):
+        words = [compiled(folder, 'net', made(many), schedule, runtime), 'run', '--max-commits', '1000000000']
+        commands[schedule] = words, HOPS_COMPILED
+    if shutil.which('go'):
+        go = pathlib.Path(folder, 'net.go')
+        go.write_text(networks.as_go(made(few), []))
+        measure.Run(['go', 'build', '-o', str(go.with_suffix('')), str(go)])
+        commands['Go'] = [str(go.with_suffix(''))], HOPS_HERE
+    best = {}
+    for _ in range(runs):
+        for who, (words, hops) in commands.items():
+            seconds = measure.Run(words, {**os.environ, 'GOMAXPROCS': '1'}).seconds
+            best[who] = max(best.get(who, 0), hops / seconds / 1e6)
+    return f'{name:34}' + ''.join(f'{who} {rate:7.1f}  ' for who, rate in best.items())
+
+
+def filters(folder, runtime, runs):
+    """Nanoseconds an item of the filter, beyond what reading and writing take; and those of the loop."""
+    items = 3_000_000
+    given = pathlib.Path(folder, 'items')
+    given.write_text(''.join(f'{k * 2654435761 % 40001 - 20000}\n' for k in range(items)))
+    fir, copy = ((TOP / 'examples' / name).read_text() for name in ('gallery/fir.kpn', 'copy.kpn'))
+    programs = [[compiled(folder, 'fir', fir, 'fuse', runtime), 'run', '--source', f'x={given}'],
+                [compiled(folder, 'copy', copy, 'fuse', runtime), 'run', '--source', f's={given}'],
+                [str(pathlib.Path(folder, 'loop')), str(10 * items)]]
+    measure.Run([*command.compiler(), str(TOP / 'bench/native/fir.c'), '-o', programs[2][0]])
+    best = [min(measure.Run(words).seconds for _ in range(runs)) for words in programs]
+    of_filter, of_loop = 1e9 * (best[0] - best[1]) / items, 1e8 * best[2] / items
+    return f'filter of 8 processes {of_filter:.1f} ns, loop {of_loop:.1f} ns an item'
+
+
+def main():
+    runs = measure.asked(__doc__, {}, {'runs': 5}).runs
+    with tempfile.TemporaryDirectory(prefix='kpn-') as folder:
+        runtime = command.compile_runtime(folder)
+        for row in ROWS:
+            print(rates(folder, row, runtime, runs), flush=True)
+        print(filters(folder, runtime, runs))
+
+
+if __name__ == '__main__':
+    main()

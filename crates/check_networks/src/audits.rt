@@ -1,0 +1,80 @@
+//! Audits in a heap. If the heap is too small for the configuration on which an audit replays, or for the items that
+//! come, the audit fails. So does each audit in a heap that is smaller than the first that suffices.
+use kpn_audit::{AuditFault, audit};
+use kpn_lang::Sequence;
+use kpn_net::{Growth, Network, Policy};
+use kpn_run_history::{Event, Trace, Version};
+use kpn_text::read_network;
+use linked_list_allocator::LocalHeap;
+use std::alloc::{AllocError, Global};
+use std::test::Fail;
+use test_support::texts::COPY;
+
+const ONE: [Event; 1] = [Event::Feed(0, 5)];
+
+/// The trace of these events, under the usual rules.
+fn trace_of(alloc: Global, events: &[Event]) -> Result<Trace, AllocError> {
+    let mut list = Vec::new(alloc);
+    list.extend_from_slice(events)?;
+    Ok(Trace {
+        version: Version::Two,
+        policy: Policy::Cycles,
+        growth: Growth::One,
+        events: Sequence::from_vec(list),
+    })
+}
+
+/// Why an audit of these events in a heap of this size fails, or `None` if it finds a legal history.
+fn fault_in(
+    alloc: Global,
+    network: &Network,
+    events: &[Event],
+    size: usize,
+) -> Result<Option<AuditFault>, AllocError> {
+    let trace = trace_of(alloc, events)?;
+    let heap = LocalHeap::new(alloc, size)?;
+    Ok(audit(&heap, network, &trace, 1_000).err())
+}
+
+/// The size of the first heap, of 64 bytes and then of 16 more each time, in which an audit of these events gets enough
+/// memory.
+fn sufficient_size(
+    alloc: Global,
+    network: &Network,
+    events: &[Event],
+) -> Result<Option<usize>, AllocError> {
+    for steps in 0..256 {
+        let size = 64 + 16 * steps;
+        if fault_in(alloc, network, events, size)? != Some(AuditFault::NoMemory) {
+            return Ok(Some(size));
+        }
+    }
+    Ok(None)
+}
+
+#[test]
+fn an_audit_is_refused_at_its_start_and_in_its_course(rt: HostRuntime) -> Result<(), Fail> {
+    let alloc = rt.alloc();
+    let document = read_network(alloc, COPY.as_bytes())?;
+    let many = vec![in alloc; Event::Feed(0, 5); 1_000]?;
+    for (events, size, fault) in [
+        (ONE.as_slice(), 64, Some(AuditFault::NoMemory)),
+        (ONE.as_slice(), 4_096, None),
+        (many.as_slice(), 4_096, Some(AuditFault::NoMemory)),
+        (many.as_slice(), 65_536, None),
+    ] {
+        assert_eq!(rt; fault_in(alloc, document.network(), events, size)?, fault);
+    }
+    Ok(())
+}
+
+/// An audit is refused until its heap suffices, and then it finds the history legal.
+#[test]
+fn refutes_always_out_of_memory(rt: HostRuntime) -> Result<(), Fail> {
+    let alloc = rt.alloc();
+    let document = read_network(alloc, COPY.as_bytes())?;
+    let size = sufficient_size(alloc, document.network(), &ONE)?.unwrap_or(0);
+    assert!(rt; size > 64);
+    assert_eq!(rt; fault_in(alloc, document.network(), &ONE, size)?, None);
+    Ok(())
+}

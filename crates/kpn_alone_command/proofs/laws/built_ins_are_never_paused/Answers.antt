@@ -1,5 +1,0 @@
-use Rattle.kpn_alone_command.proofs.Pauses.{never_paused}
-use Rattle.kpn_alone_command.proofs.laws.built_ins_are_never_paused.Goals as goal
-
-pub returns : goal.returns
-returns c = never_paused

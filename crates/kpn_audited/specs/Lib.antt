@@ -1,3 +1,0 @@
-pub mod AuditText
-pub mod Flaw
-pub mod Audited

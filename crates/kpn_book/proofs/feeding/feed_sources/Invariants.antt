@@ -1,0 +1,17 @@
+use Rattle.std.proofs.Common.{◌≡◌, count_by, take}
+use Rattle.std.specs.List.{flat_map, range_with_len}
+use Rattle.kpn_net.specs.Tables.{is_source}
+use Rattle.kpn_net.specs.Iteration.{given_by}
+use Rattle.kpn_run_state.specs.Appending.{AllHappen}
+use Rattle.kpn_book.specs.RunHere.{supply_of}
+use Rattle.kpn_book.specs.Running.{IsFedBelow}
+use Rattle.kpn_book.proofs.feeding.feed_sources.Given as goal
+
+abbrev pub invariant-channels : goal.invariant-channels
+invariant-channels l = record {
+  source : l.source ≡ count_by is_source (take l.c l.network.channels);
+  supplies : AllHappen (flat_map (supply_of l.network (given_by l.network l.lists)) (range_with_len 0 l.c))
+      l.initial.book
+      l.book;
+  so_far : IsFedBelow l.network (given_by l.network l.lists) l.c l.book;
+}

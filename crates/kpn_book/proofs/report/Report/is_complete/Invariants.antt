@@ -1,0 +1,11 @@
+use Rattle.std.proofs.Common.{◌<◌, length}
+use Rattle.kpn_run_history.proofs.CompleteWalks.{Walked}
+use Rattle.kpn_book.specs.Reports.{events_of}
+use Rattle.kpn_book.proofs.report.Report.is_complete.Given as goal
+
+abbrev pub invariant-loop-step : goal.invariant-loop-step
+invariant-loop-step l =
+    record {
+      there : l.at < length l.network.channels;
+      walked : Walked l.network (events_of l.self) l.c l._step l.at;
+    }

@@ -1,0 +1,61 @@
+//! A run on the calling thread only.
+ghost use Rattle.std.specs.Prelude.{◌≡◌, ◌≤◌, length, IfOk};
+ghost use Rattle.kpn_net.specs.Iteration.{sources};
+ghost use Rattle.kpn_book.specs.Reports.{events_of, AreSupplied, IsReport};
+ghost use Rattle.kpn_book.specs.RunHere.{IsReportHere};
+ghost use Rattle.kpn_book.specs.Running.{IsLeftToItself, ComesToOutcome};
+
+use crate::feeding::feed_sources;
+use crate::outcome::{Limits, Outcome};
+use crate::report::Report;
+use crate::stepping::step;
+use crate::stopping::{has_enough, outcome_unless_enough};
+use crate::telling::report_of;
+use kpn_lang::Sequence;
+use kpn_net::Network;
+use kpn_run_state::Book;
+use std::alloc::{AllocError, Global};
+
+/// Runs a network on these lists, one for each source in order of channel number, until there is an outcome under the
+/// limits.
+///
+/// It feeds each source its whole list and closes it. Then it steps the processes, one after the other, and takes at
+/// once what they put on the sinks. The error is that memory ran out.
+pub fn run_here(
+    alloc: Global,
+    network: &Network,
+    lists: &[Sequence<i64>],
+    limits: &Limits,
+) -> Result<Report, AllocError>
+    requires { length lists.now ≡ sources network.now }
+    ensures report { IfOk result (λ report. IsReport network.now lists.now limits.now report) }
+    ensures here { IfOk result (λ report. IsReportHere network.now lists.now limits.now report) }
+    ensures supplied { IfOk result (λ report.
+        AreSupplied network.now lists.now (events_of report)) }
+    ensures commits { IfOk result (λ report. report.commits ≤ limits.now.commits) }
+{
+    let mut book = Book::new(alloc, network)?;
+    feed_sources(&mut book, network, lists)?;
+    let outcome = run(&mut book, limits)?;
+    book.known();
+    report_of(alloc, book, outcome)
+}
+
+/// Steps processes until there is an outcome.
+fn run(book: &mut Book<'_>, limits: &Limits) -> Result<Outcome, AllocError>
+    requires { IsLeftToItself book.old }
+    ensures { IfOk result (λ outcome. ComesToOutcome limits.now outcome book.old book.new) }
+{
+    if has_enough(book, limits.take) {
+        return Ok(Outcome::Enough);
+    }
+    let quota = limits.quota.max(1);
+    'run: loop {
+        if let Some(outcome) = outcome_unless_enough(book, limits) {
+            return Ok(outcome);
+        }
+        if step(book, limits, quota)? {
+            return Ok(Outcome::Enough);
+        }
+    }
+}

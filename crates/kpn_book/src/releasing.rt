@@ -1,0 +1,26 @@
+//! What workers hold when a run is over is put back.
+ghost use Rattle.std.specs.Prelude.{◌≡◌};
+ghost use Rattle.kpn_run_state.specs.Book.{held_count};
+ghost use Rattle.kpn_book.specs.Releasing.{Releases};
+
+use kpn_run_state::Book;
+
+/// Puts back each process that is held.
+pub fn put_back_held(book: &mut Book<'_>)
+    ensures tables { book.new.tables ≡ book.old.tables }
+    ensures none { held_count book.new ≡ 0 }
+{
+    'processes: for p in 0..book.network().instances() {
+        release(book, p);
+    }
+    book.known();
+}
+
+/// Puts back process `p`, if it is held.
+#[tactic(auto, using(crate::proofs::Release::released, crate::proofs::Release::not_held))]
+fn release(book: &mut Book<'_>, p: usize)
+    ensures { Releases p book.old book.new }
+{
+    // if it is not held, this is refused, and nothing changes
+    let _ = book.put_back(p);
+}

@@ -1,0 +1,62 @@
+-- No call changes the network.
+use Rattle.std.proofs.Common.{◌≡◌, ℕ, Bool, true, false, List, [], ◌∷◌, Result, Ok, Err, refl, ap, ◌∙◌}
+use Rattle.std.specs.Prelude.{OnOk, OnErr}
+use Rattle.kpn_run_history.specs.declared.event.Event.{Event}
+use Rattle.kpn_run_history.specs.declared.event.Event.TheVariants.{Close}
+use Rattle.kpn_run_configuration.specs.Configuration.{closed_in}
+use Rattle.kpn_run_state.specs.declared.answers.Done.{Done}
+use Rattle.kpn_run_state.specs.declared.answers.Refused.{Refused}
+use Rattle.kpn_run_state.specs.Book.{Book}
+use Rattle.kpn_run_state.specs.Appending.{Happens, AllHappen}
+use Rattle.kpn_run_state.specs.Refusals.{closes_by, Closes}
+use Rattle.kpn_run_state.specs.Stepping.{StepsNext, StepsInVain}
+use Rattle.kpn_run_state.proofs.Appended.{tables_stay, commit_tables}
+use Rattle.kpn_c.specs.Calls.{Turns, no_turn, one_turn_more, stops_by, StepsEach}
+use Rattle.kpn_c.specs.declared.stepping.Stepped.{Stepped}
+
+happens_tables : (e : Event) (before after : Book) → Happens e before after → after.tables ≡ before.tables
+happens_tables e before after is = tables_stay (e ∷ is.growth) before after is.appends
+
+pub all_tables : (events : List Event) (before after : Book) → AllHappen events before after
+    → after.tables ≡ before.tables
+all_tables [] before after same = ap (λ b. b.tables) same
+all_tables (e ∷ events) before after happen =
+    all_tables events happen.0 after happen.2 ∙ happens_tables e before happen.0 happen.1
+
+closes_tables : (was_closed : Bool) (c : ℕ) (before after : Book) → closes_by was_closed c before after
+    → after.tables ≡ before.tables
+closes_tables true c before after same = ap (λ b. b.tables) same
+closes_tables false c before after happens = happens_tables (Close c) before after happens
+
+pub close_tables : (c : ℕ) (closed : Result (Unit {0}) Refused) (before after : Book)
+    → OnOk closed (Closes c before after) → OnErr closed (after ≡ before) → after.tables ≡ before.tables
+close_tables c (Ok done) before after closes same =
+    closes_tables (closed_in before.configuration c) c before after closes.closes
+close_tables c (Err cause) before after closes same = ap (λ b. b.tables) same
+
+step_tables : (quota : ℕ) (answer : Done) (before after : Book) → StepsNext quota answer before after
+    → after.tables ≡ before.tables
+step_tables quota answer before after steps =
+    commit_tables steps.process steps.advance answer steps.between after steps.commits
+    ∙ ap (λ b. b.tables) steps.steps.claimed.same
+
+turns_tables : (quota : ℕ) (first : Book) (n : ℕ) (after : Book) → Turns quota first n after
+    → after.tables ≡ first.tables
+turns_tables quota first _ _ no_turn = refl
+turns_tables quota first _ _ (one_turn_more before after answer turns step) =
+    step_tables quota answer before after step ∙ turns_tables quota first _ before turns
+
+vain_tables : (quota : ℕ) (before after : Book) → StepsInVain quota before after → after.tables ≡ before.tables
+vain_tables quota before after vain =
+    ap (λ b. b.tables) vain.back ∙ ap (λ b. b.tables) vain.steps.claimed.same
+
+stops_tables : (is_refused : Bool) (quota most made : ℕ) (last after : Book)
+    → stops_by is_refused quota most made last after → after.tables ≡ last.tables
+stops_tables false quota most made last after stops = ap (λ b. b.tables) stops.0
+stops_tables true quota most made last after stops = vain_tables quota last after stops
+
+pub steps_tables : (quota most : ℕ) (stepped : Stepped) (before after : Book)
+    → StepsEach quota most stepped before after → after.tables ≡ before.tables
+steps_tables quota most stepped before after steps =
+    stops_tables stepped.is_refused quota most stepped.commits steps.last after steps.stops
+    ∙ turns_tables quota before stepped.commits steps.last steps.turns

@@ -1,0 +1,35 @@
+-- A book is attached to the network of its session, and detached again.
+use Rattle.std.proofs.Common.{◌≡◌, refl, sym, ap, ◌∙◌, subst}
+use Rattle.kpn_text.specs.Document.{Document}
+use Rattle.kpn_run_state.specs.declared.detached.Detached.{Detached}
+use Rattle.kpn_run_state.specs.Book.{Book}
+use Rattle.kpn_run_state.specs.Kept.{IsBook}
+use Rattle.kpn_run_state.specs.Detached.{book_on}
+use Rattle.kpn_c.specs.Session.{Session, session_of}
+
+-- from the attached book to the one that is detached
+module _ (d : Document) (before : Detached) (opened last : Book) (after : Detached)
+    (is : opened ≡ book_on d.tables before) (stays : last.tables ≡ opened.tables)
+    (same : book_on last.tables after ≡ last) where
+  tables_are : last.tables ≡ d.tables
+  tables_are = stays ∙ ap (λ b. b.tables) is
+
+  pub book_after : IsBook (book_on last.tables after) → IsBook (book_on d.tables after)
+  book_after book = subst (λ t. IsBook (book_on t after)) tables_are book
+
+  detached_is : book_on d.tables after ≡ last
+  detached_is = ap (λ t. book_on t after) (sym tables_are) ∙ same
+
+  -- what holds of the two books holds of those of the session
+  pub of_session : (session : Session) → session_of d before ≡ session → (R : Book → Book → Type 0) → R opened last
+      → R session.book (book_on d.tables after)
+  of_session session view R holds =
+      subst (λ s. R s.book (book_on d.tables after)) view
+      (subst (λ b. R b (book_on d.tables after)) is (subst (R opened) (sym detached_is) holds))
+
+-- nothing has happened in between
+pub session_same : (d : Document) (before : Detached) (opened : Book) (after : Detached)
+    → opened ≡ book_on d.tables before → book_on opened.tables after ≡ opened
+    → (session : Session) → session_of d before ≡ session → session_of d after ≡ session
+session_same d before opened after is same session view =
+    ap (λ b. record { document = d; book = b }) (detached_is d before opened opened after is refl same ∙ is) ∙ view

@@ -1,0 +1,11 @@
+use Rattle.std.proofs.Common.{◌<◌, map, take}
+use Rattle.kpn_run_history.specs.declared.event.Event.TheVariants.{Feed}
+use Rattle.kpn_run_state.specs.Appending.{AllHappen}
+use Rattle.kpn_run_state.specs.Refusals.{IsOpenSource}
+use Rattle.kpn_c.proofs.feeding.feed_each.Given as goal
+
+abbrev pub invariant-items : goal.invariant-items
+invariant-items l = record {
+  feeds : AllHappen (map (Feed l.source) (take l.count l.items)) l.initial.book l.book;
+  source : 0 < l.count → IsOpenSource l.initial.book l.source;
+}

@@ -1,0 +1,5 @@
+pub mod PieceLemmas
+pub mod SourceLemmas
+pub mod InputLemmas
+-- Lemmas: outputs that are apart.
+pub mod Apart

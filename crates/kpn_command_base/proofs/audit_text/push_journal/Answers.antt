@@ -1,0 +1,29 @@
+use Rattle.std.proofs.Common.{◌≡◌, ◌+◌, ℤ, ℕ, List, ◌++◌, length, take, drop, arith, sym, ap, ◌∙◌, length-drop}
+use Rattle.std.proofs.lemmas.List.{append_assoc, drop-drop, length-take, take-append-drop}
+use Rattle.std.proofs.lemmas.Grind.{flat_map-append}
+use Rattle.std.specs.String.{string_bytes}
+use Rattle.kpn_command_base.specs.ListText.{spaced, spaced_item}
+use Rattle.kpn_command_base.proofs.audit_text.push_journal.Goals as goal
+
+-- what is written of the items from a place on: of a piece, and of what comes past it
+piece_and_more : (journal piece : List ℤ) (place : ℕ) → piece ≡ take (length piece) (drop place journal)
+    → spaced piece ++ spaced (drop (place + length piece) journal) ≡ spaced (drop place journal)
+piece_and_more journal piece place lies =
+    let rest = drop place journal in
+    sym (ap (λ l. spaced piece ++ spaced l) (drop-drop (length piece) place journal))
+    ∙ sym (flat_map-append spaced_item piece (drop (length piece) rest))
+    ∙ ap (λ l. spaced (l ++ drop (length piece) rest)) lies
+    ∙ ap spaced (take-append-drop (length piece) rest)
+
+pub pieces-preserved : goal.pieces-preserved
+pieces-preserved c =
+    let journal = c.args.journal.now in
+    let piece = c.piece_at-piece.result.now in
+    let more = piece_and_more journal piece c.pieces.place c.piece_at-piece.ensures.items in
+    let long = ap (λ (l : List ℤ). length l) c.piece_at-piece.ensures.items
+    ∙ length-take (length piece) (drop c.pieces.place journal) in (
+      ap (λ text. text ++ spaced (drop (c.pieces.place + length piece) journal)) c.in_ok-push_spaced_items.ensures
+          ∙ append_assoc (string_bytes c.pieces.text) (spaced piece) (spaced (drop (c.pieces.place + length piece) journal))
+          ∙ ap (λ t. string_bytes c.pieces.text ++ t) more ∙ c.pieces.invariant.0,
+      omega (arith, long, length-drop c.pieces.place journal, c.pieces.invariant.1),
+    )

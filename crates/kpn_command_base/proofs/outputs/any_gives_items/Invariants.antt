@@ -1,0 +1,8 @@
+-- The words so far give no source the items of the file of this name.
+use Rattle.std.proofs.Common.{◌≢◌, All, take}
+use Rattle.kpn_command_base.specs.Sources.{HasEquals, file_in}
+use Rattle.kpn_command_base.proofs.outputs.any_gives_items.Given as goal
+
+abbrev pub invariant-loop-word : goal.invariant-loop-word
+invariant-loop-word g l =
+    All (λ word. HasEquals word.now → l.name ≢ file_in word.now) (take l.word-index l.words)

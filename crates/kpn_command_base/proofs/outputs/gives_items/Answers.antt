@@ -1,0 +1,11 @@
+-- The file that the word names stands behind its first `=`.
+use Rattle.std.proofs.Common.{rules, ◌≡◌, ◌≢◌, subst}
+use Rattle.std.proofs.lemmas.Result.{IfOk-weaker}
+use Rattle.kpn_command_base.specs.Sources.{file_in}
+use Rattle.kpn_command_base.proofs.outputs.gives_items.Goals as goal
+
+pub returns-in-Some-clause-apart : goal.returns-in-Some-clause-apart
+returns-in-Some-clause-apart g c =
+    let file : c.in-Some.file.now ≡ file_in c.args.word.now = search rules in
+    IfOk-weaker c.is_input.result _ _
+    (λ gives apart same has. subst (λ f. c.args.name.now ≢ f) file (apart same)) c.is_input.ensures.apart

@@ -1,0 +1,19 @@
+pub mod Conclusion
+pub mod RunRequest
+pub mod StreamRequest
+pub mod Counts
+pub mod ListText
+pub mod Faulted
+pub mod Added
+pub mod AuditText
+pub mod Flaw
+pub mod Audited
+pub mod Description
+pub mod Sources
+pub mod SourceRefusals
+pub mod Inputs
+pub mod FaultLine
+pub mod Refusal
+-- What the contracts of this crate speak of: the outputs of a run, and the text of its report.
+pub mod Outputs
+pub mod ReportText

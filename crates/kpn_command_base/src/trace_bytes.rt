@@ -1,0 +1,27 @@
+//! The text of the trace of a run.
+ghost use Rattle.std.specs.Prelude.{◌≡◌, IfOk, IfErr};
+ghost use Rattle.kpn_trace.specs.TraceText.{trace_text};
+
+use crate::refusal::Refusal;
+use kpn_net::Network;
+use kpn_run_history::{History, Version};
+use kpn_trace::write_trace;
+use std::alloc::Global;
+
+// How many bytes are reserved for each line. The longest has 37 with its line feed: a `put` of the least item, if the
+// two numbers are 65535.
+const LINE: usize = 40;
+
+/// The text of a trace. There is room for each line before the first is made.
+pub fn trace_of(alloc: Global, network: &Network, history: &History) -> Result<Vec<u8>, Refusal>
+    ensures ok { let t = network.now in IfOk result (λ text.
+        text.items ≡ trace_text Version.Two t.policy t.growth history.now.events) }
+    ensures refused { IfErr result (λ refusal. refusal ≡ Refusal.NoMemory) }
+{
+    let lines = history.len().saturating_add(2);
+    let mut text = Vec::with_capacity(alloc, lines.saturating_mul(LINE))?;
+    match write_trace(&mut text, network.policy(), network.growth(), history) {
+        Ok(()) => Ok(text),
+        Err(_) => Err(Refusal::NoMemory),
+    }
+}

@@ -1,0 +1,71 @@
+//! What may stand at a place of a description: each word with which a reading of the text up to there gets further.
+
+use kpn_text_grammar::{GrammarFault, description};
+use kpn_text_tokens::{Keyword, LexFault, Mark, lexemes};
+use std::alloc::{AllocError, Global};
+
+/// Adds all that may stand behind this text, with a space before each: any name, or else words of settings; any number;
+/// and each word and mark of the language.
+pub(crate) fn push_choices(
+    alloc: Global,
+    told: &mut Vec<u8>,
+    front: &[u8],
+) -> Result<(), AllocError> {
+    if may_stand(alloc, front, b"x")? {
+        told.extend_from_slice(b" NAME")?;
+    } else {
+        push_word(alloc, told, front, b"cycles")?;
+        push_word(alloc, told, front, b"all")?;
+        push_word(alloc, told, front, b"one")?;
+        push_word(alloc, told, front, b"double")?;
+    }
+    if may_stand(alloc, front, b"0")? {
+        told.extend_from_slice(b" NUMBER")?;
+    }
+    for word in &Keyword::ALL {
+        push_word(alloc, told, front, word.spelling())?;
+    }
+    for mark in &Mark::ALL {
+        push_word(alloc, told, front, mark.spelling())?;
+    }
+    Ok(())
+}
+
+// A word between backticks, if it may stand behind the text.
+fn push_word(
+    alloc: Global,
+    told: &mut Vec<u8>,
+    front: &[u8],
+    word: &[u8],
+) -> Result<(), AllocError> {
+    if may_stand(alloc, front, word)? {
+        told.extend_from_slice(b" `")?;
+        told.extend_from_slice(word)?;
+        told.push(b'`')?;
+    }
+    Ok(())
+}
+
+/// Whether a word may stand behind a text. The empty word may, if the text is whole.
+pub(crate) fn may_stand(alloc: Global, front: &[u8], word: &[u8]) -> Result<bool, AllocError> {
+    let mut text = Vec::new(alloc);
+    text.extend_from_slice(front)?;
+    text.push(b'\n')?;
+    text.extend_from_slice(word)?;
+    is_taken(alloc, &text, front.len().saturating_add(1))
+}
+
+/// Whether a text is not refused at this byte.
+pub(crate) fn is_taken(alloc: Global, text: &[u8], at: usize) -> Result<bool, AllocError> {
+    let tokens = match lexemes(alloc, text) {
+        Ok(tokens) => tokens,
+        Err(LexFault::NoMemory) => return Err(AllocError),
+        Err(_) => return Ok(false),
+    };
+    match description(alloc, tokens.as_slice(), text.len()) {
+        Ok(_) => Ok(true),
+        Err(GrammarFault::Grammar(place)) => Ok(place != at),
+        Err(GrammarFault::TooDeep(_)) => Ok(false),
+        Err(GrammarFault::NoMemory) => Err(AllocError),
+    }
+}

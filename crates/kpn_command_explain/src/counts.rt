@@ -1,0 +1,45 @@
+//! How many parts a description that follows the grammar has, by its tokens.
+
+use crate::concerned::process_end;
+use crate::spots::{Spot, behind, starts};
+use kpn_text_tokens::{Keyword, Lexeme, Mark, Token};
+use std::alloc::{AllocError, Global};
+
+/// How many names stand at a spot.
+pub fn count_of(alloc: Global, tokens: &[Lexeme<'_>], wanted: Spot) -> Result<usize, AllocError> {
+    let found = starts(alloc, tokens, wanted)?;
+    Ok(found.len())
+}
+
+/// How many nodes the process has whose name begins at this byte: its statements, and the numbers, names and operators
+/// of their expressions.
+pub fn nodes_of(alloc: Global, tokens: &[Lexeme<'_>], at: usize) -> Result<usize, AllocError> {
+    let end = process_end(alloc, tokens, at)?;
+    let mut count = 0usize;
+    let mut now = Spot::Outside;
+    for lexeme in tokens {
+        if at < lexeme.start && lexeme.start < end && is_node(now, &lexeme.token) {
+            count = count.saturating_add(1);
+        }
+        now = behind(now, &lexeme.token);
+    }
+    Ok(count)
+}
+
+// Whether a token in a process stands for a node.
+fn is_node(now: Spot, token: &Token<'_>) -> bool {
+    match token {
+        Token::Name(_) => matches!(now, Spot::Target | Spot::OutPort | Spot::Variable),
+        Token::Number(_) => true,
+        Token::Mark(mark) => is_operator(*mark),
+        Token::Keyword(keyword) => matches!(keyword, Keyword::If | Keyword::While),
+    }
+}
+
+fn is_operator(mark: Mark) -> bool {
+    match mark {
+        Mark::LeftParen | Mark::RightParen | Mark::LeftBrace | Mark::RightBrace => false,
+        Mark::Semicolon | Mark::Comma | Mark::Assign => false,
+        _ => true,
+    }
+}

@@ -1,0 +1,109 @@
+//! Which limit a program or a network passes, and by how much.
+
+use crate::counts::{count_of, nodes_of};
+use crate::sentences::{Excess, Part};
+use crate::spots::Spot;
+use kpn_command_base::push_number;
+use kpn_limits::{MAX_CHANNELS, MAX_NODES, MAX_PORTS, MAX_PROCESSES, MAX_VARIABLES};
+use kpn_text_grammar::{GrammarFault, description};
+use kpn_text_names::{NameFault, resolve};
+use kpn_text_tokens::Lexeme;
+use std::alloc::{AllocError, Global};
+
+/// How many ports and variables a process has.
+#[derive(Clone, Copy)]
+struct Sizes {
+    ins: usize,
+    outs: usize,
+    vars: usize,
+}
+
+const NO_SIZES: Sizes = Sizes {
+    ins: 0,
+    outs: 0,
+    vars: 0,
+};
+
+/// Which limit the process with this number passes, if its name begins at this byte: that of variables, of in ports, of
+/// out ports, or else of nodes.
+pub(crate) fn process_excess<'a>(
+    alloc: Global,
+    text: &[u8],
+    tokens: &'a [Lexeme<'a>],
+    process: usize,
+    at: usize,
+) -> Result<Excess, AllocError> {
+    let sizes = sizes_of(alloc, tokens, text.len(), process)?;
+    let excess = if sizes.vars > MAX_VARIABLES {
+        excess(Part::Variables, sizes.vars, MAX_VARIABLES)
+    } else if sizes.ins > MAX_PORTS {
+        excess(Part::InPorts, sizes.ins, MAX_PORTS)
+    } else if sizes.outs > MAX_PORTS {
+        excess(Part::OutPorts, sizes.outs, MAX_PORTS)
+    } else {
+        excess(Part::Nodes, nodes_of(alloc, tokens, at)?, MAX_NODES)
+    };
+    Ok(excess)
+}
+
+fn excess(part: Part, count: usize, limit: usize) -> Excess {
+    Excess { part, count, limit }
+}
+
+// The sizes of the process with this number; none, if the tokens spell no description whose names are right.
+fn sizes_of<'a>(
+    alloc: Global,
+    tokens: &'a [Lexeme<'a>],
+    end: usize,
+    process: usize,
+) -> Result<Sizes, AllocError> {
+    let tree = match description(alloc, tokens, end) {
+        Ok(tree) => tree,
+        Err(GrammarFault::NoMemory) => return Err(AllocError),
+        Err(_) => return Ok(NO_SIZES),
+    };
+    let named = match resolve(alloc, &tree) {
+        Ok(named) => named,
+        Err(NameFault::NoMemory) => return Err(AllocError),
+        Err(_) => return Ok(NO_SIZES),
+    };
+    match named.programs.as_slice().get(process) {
+        Some(parts) => Ok(Sizes {
+            ins: parts.scope.ins.len(),
+            outs: parts.scope.outs.len(),
+            vars: parts.scope.vars.len(),
+        }),
+        None => Ok(NO_SIZES),
+    }
+}
+
+/// Which limit the network passes: that of processes, of instances, or else of channels.
+pub(crate) fn network_excess(alloc: Global, tokens: &[Lexeme<'_>]) -> Result<Excess, AllocError> {
+    let processes = count_of(alloc, tokens, Spot::Process)?;
+    let instances = count_of(alloc, tokens, Spot::Instance)?;
+    let channels = count_of(alloc, tokens, Spot::Channel)?;
+    if processes > MAX_PROCESSES {
+        Ok(excess(Part::Processes, processes, MAX_PROCESSES))
+    } else if instances > MAX_PROCESSES {
+        Ok(excess(Part::Instances, instances, MAX_PROCESSES))
+    } else {
+        Ok(excess(Part::Channels, channels, MAX_CHANNELS))
+    }
+}
+
+/// How many there are, and by how many the limit is passed.
+pub(crate) fn push_excess(told: &mut Vec<u8>, excess: Excess) -> Result<(), AllocError> {
+    let part: &[u8] = match excess.part {
+        Part::Variables => b" variables, ",
+        Part::InPorts => b" in ports, ",
+        Part::OutPorts => b" out ports, ",
+        Part::Nodes => b" statements and operands, ",
+        Part::Processes => b" processes, ",
+        Part::Instances => b" instances, ",
+        Part::Channels => b" channels, ",
+    };
+    let above = excess.count.saturating_sub(excess.limit);
+    push_number(told, b" has ", excess.count, part)?;
+    push_number(told, b"", above, b" above the limit of ")?;
+    push_number(told, b"", excess.limit, b"")
+}

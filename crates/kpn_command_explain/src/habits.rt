@@ -1,0 +1,266 @@
+//! Ways of writing that other languages have and this one has not.
+
+use crate::choices::{is_taken, may_stand};
+use crate::lines::{back, front};
+use crate::names::name_at;
+use crate::sentences::Case;
+use crate::spots::{Spot, spot_at, start_before};
+use crate::stands::{Stand, stand_of};
+use crate::words::is_fraction;
+use kpn_text_tokens::{LexFault, Lexeme, lexemes};
+use std::alloc::{AllocError, Global};
+
+/// A way of writing that this language has not.
+#[derive(Clone, Copy)]
+pub(crate) enum Habit {
+    /// An operator stands without parentheses.
+    Sides,
+    /// Parentheses stand around something else than an operator with two sides.
+    Parentheses,
+    /// `>>`
+    ShiftRight,
+    /// `<<`
+    ShiftLeft,
+    /// `//` or `/*` in place of `#`.
+    Comment,
+    /// The same behind an expression, where `//` may be meant as a quotient.
+    Slashes,
+    /// `for`
+    For,
+    /// `break`
+    Break,
+    /// `else if`, `elif` and the like.
+    ElseIf,
+    /// An `if` without `else`.
+    NoElse,
+    /// `++`, `--`, `+=` and the like.
+    Changes,
+    /// `=` in place of `==`.
+    Compares,
+    /// `==` in place of `=`.
+    Assigns,
+    /// `:=`
+    Becomes,
+    /// `and`
+    And,
+    /// `or`
+    Or,
+    /// `not`
+    Not,
+    /// `<>`
+    Differs,
+    /// `&` or `|`
+    Bits,
+    /// `true` or `false`
+    Truth,
+    /// `let`, `var` or `int` before a variable.
+    Declares,
+    /// `read` in an expression.
+    Reads,
+    /// `in`, `out` or `par` before each port.
+    Ports,
+    /// A channel or a sink without `cap`.
+    NoCapacity,
+    /// A number with a point.
+    Fraction,
+}
+
+/// The way of writing at the first place of a fault of this kind.
+pub(crate) fn habit_of(
+    alloc: Global,
+    text: &[u8],
+    tokens: &[Lexeme<'_>],
+    at: usize,
+    case: Case,
+) -> Result<Option<Habit>, AllocError> {
+    let (last, here) = (back(text, start_before(tokens, at)), back(text, at));
+    match case {
+        Case::Misplaced => Ok(habit_at(stand_of(alloc, text, tokens, at)?, last, here)),
+        Case::Reserved => Ok(reserved_habit(spot_at(tokens, at), last, here)),
+        Case::NoToken if here.starts_with(b".") => point_habit(alloc, text, at),
+        Case::NoToken => byte_habit(alloc, front(text, at), here),
+        Case::UnknownVariable => Ok(habit_if(
+            is_word(here, b"true") || is_word(here, b"false"),
+            Habit::Truth,
+        )),
+        _ => Ok(None),
+    }
+}
+
+fn habit_if(is_one: bool, habit: Habit) -> Option<Habit> {
+    if is_one { Some(habit) } else { None }
+}
+
+// A token that may not stand there, with the one before it.
+fn habit_at(stand: Stand, last: &[u8], here: &[u8]) -> Option<Habit> {
+    match stand {
+        Stand::Assigning => assigning_habit(last, here),
+        Stand::FirstSide => side_habit(last, here),
+        Stand::Whole => whole_habit(last, here),
+        Stand::Operand => operand_habit(last),
+        Stand::Statement if begins_comment(here) => Some(Habit::Comment),
+        Stand::Statement => habit_if(changes(here), Habit::Changes),
+        Stand::BeforeElse => Some(else_habit(here)),
+        Stand::BeforeCapacity if begins_comment(here) => Some(Habit::Comment),
+        Stand::BeforeCapacity => Some(Habit::NoCapacity),
+        Stand::Elsewhere if begins_comment(here) => Some(Habit::Comment),
+        Stand::Elsewhere => habit_if(
+            is_word(last, b"else") && is_word(here, b"if"),
+            Habit::ElseIf,
+        ),
+    }
+}
+
+// Whether the first word of a text is this one.
+fn is_word(text: &[u8], word: &[u8]) -> bool {
+    name_at(text, 0) == word
+}
+
+// Whether a text begins with one of these marks.
+fn begins_any(text: &[u8], marks: &[&[u8]]) -> bool {
+    marks.iter().any(|mark| text.starts_with(*mark))
+}
+
+fn begins_comment(text: &[u8]) -> bool {
+    begins_any(text, &[b"//", b"/*"])
+}
+
+// `++`, `--`, or `=` behind an operator of sums and products.
+fn changes(text: &[u8]) -> bool {
+    begins_any(text, &[b"++", b"--", b"+=", b"-=", b"*=", b"/=", b"%="])
+}
+
+fn is_operator(text: &[u8]) -> bool {
+    begins_any(
+        text,
+        &[
+            b"+", b"-", b"*", b"/", b"%", b"<", b">", b"==", b"!=", b"&&", b"||",
+        ],
+    )
+}
+
+// `=`, unless it is a part of `=>` or `=<`.
+fn assigns(text: &[u8]) -> bool {
+    text.starts_with(b"=") && !begins_any(text, &[b"=>", b"=<"])
+}
+
+fn shift(text: &[u8]) -> Option<Habit> {
+    if text.starts_with(b">>") {
+        Some(Habit::ShiftRight)
+    } else {
+        habit_if(text.starts_with(b"<<"), Habit::ShiftLeft)
+    }
+}
+
+// Behind the name of a variable that begins a statement.
+fn assigning_habit(last: &[u8], here: &[u8]) -> Option<Habit> {
+    let declares = is_word(last, b"let") || is_word(last, b"var") || is_word(last, b"int");
+    if changes(here) {
+        Some(Habit::Changes)
+    } else if here.starts_with(b"==") {
+        Some(Habit::Assigns)
+    } else if is_word(last, b"for") {
+        Some(Habit::For)
+    } else if is_word(last, b"break") {
+        Some(Habit::Break)
+    } else if declares && !name_at(here, 0).is_empty() {
+        Some(Habit::Declares)
+    } else {
+        shift(here)
+    }
+}
+
+// `and`, `or`, or an operand behind `not`.
+fn word_habit(last: &[u8], here: &[u8]) -> Option<Habit> {
+    if is_word(here, b"and") {
+        Some(Habit::And)
+    } else if is_word(here, b"or") {
+        Some(Habit::Or)
+    } else {
+        habit_if(is_word(last, b"not"), Habit::Not)
+    }
+}
+
+// Between parentheses, behind the first side of an operator.
+fn side_habit(last: &[u8], here: &[u8]) -> Option<Habit> {
+    if here.starts_with(b")") {
+        Some(Habit::Parentheses)
+    } else if assigns(here) {
+        Some(Habit::Compares)
+    } else {
+        word_habit(last, here)
+    }
+}
+
+// Behind a whole expression.
+fn whole_habit(last: &[u8], here: &[u8]) -> Option<Habit> {
+    let shifts = shift(here);
+    if shifts.is_some() {
+        shifts
+    } else if changes(here) {
+        Some(Habit::Changes)
+    } else if begins_comment(here) {
+        Some(Habit::Slashes)
+    } else if is_operator(here) {
+        Some(Habit::Sides)
+    } else if assigns(here) {
+        Some(Habit::Compares)
+    } else {
+        word_habit(last, here)
+    }
+}
+
+// Where an operand is to begin.
+fn operand_habit(last: &[u8]) -> Option<Habit> {
+    if last.starts_with(b"//") {
+        Some(Habit::Slashes)
+    } else if last.starts_with(b"<>") {
+        Some(Habit::Differs)
+    } else {
+        shift(last)
+    }
+}
+
+// Behind the first block of an `if`.
+fn else_habit(here: &[u8]) -> Habit {
+    if begins_comment(here) {
+        Habit::Comment
+    } else if is_word(here, b"elif") || is_word(here, b"elsif") || is_word(here, b"elseif") {
+        Habit::ElseIf
+    } else {
+        Habit::NoElse
+    }
+}
+
+// A word of the language, where a name is meant. Behind a comma `in`, `out` and `par` are meant to stand before each
+// port.
+fn reserved_habit(spot: Spot, last: &[u8], here: &[u8]) -> Option<Habit> {
+    let begins_ports = is_word(here, b"in") || is_word(here, b"out") || is_word(here, b"par");
+    match spot {
+        Spot::Port => habit_if(last.starts_with(b",") && begins_ports, Habit::Ports),
+        Spot::Variable => habit_if(is_word(here, b"read"), Habit::Reads),
+        _ => None,
+    }
+}
+
+// A point: the last token before it may be a number, if one may stand there.
+fn point_habit(alloc: Global, text: &[u8], at: usize) -> Result<Option<Habit>, AllocError> {
+    let before = match lexemes(alloc, front(text, at)) {
+        Ok(tokens) => start_before(tokens.as_slice(), at),
+        Err(LexFault::NoMemory) => return Err(AllocError),
+        Err(_) => return Ok(None),
+    };
+    let is_number = is_fraction(back(text, before)) && is_taken(alloc, front(text, at), before)?;
+    Ok(habit_if(is_number, Habit::Fraction))
+}
+
+// Another byte than a point with which no token begins, if the mark that the advice names may stand there.
+fn byte_habit(alloc: Global, front: &[u8], here: &[u8]) -> Result<Option<Habit>, AllocError> {
+    if here.starts_with(b":=") {
+        Ok(habit_if(may_stand(alloc, front, b"=")?, Habit::Becomes))
+    } else if begins_any(here, &[b"&", b"|"]) {
+        Ok(habit_if(may_stand(alloc, front, b"&&")?, Habit::Bits))
+    } else {
+        Ok(None)
+    }
+}

@@ -1,0 +1,94 @@
+//! `kpn explain FILE --items` reads an item file, and counts its items or explains its first bad line.
+ghost use Rattle.std.specs.Prelude.{◌≡◌, length, IfOk, IfErr};
+ghost use Rattle.kpn_command_base.specs.Conclusion.{Tells};
+ghost use Rattle.kpn_command_base.specs.declared.refusal.Refusal.TheVariants.{NoMemory};
+ghost use Rattle.kpn_command_explain.specs.Answers.{AreItemsExplained, ExplainsLine, IsRefusalOfItems, items_line};
+
+use crate::excerpt::{push_excerpt, push_where};
+use crate::explained::push_bracket;
+use crate::lines::{back, line_start};
+use crate::loading::load;
+use crate::words::is_fraction;
+use kpn_command_base::{Conclusion, Refusal, push_number};
+use kpn_shelf::Shelf;
+use kpn_text_items::{ItemFault, items_of};
+use std::alloc::{AllocError, Global};
+
+/// What `kpn explain FILE --items` comes to.
+pub fn explain_items_command<S: Shelf>(
+    alloc: Global,
+    file: &str,
+    shelf: &S,
+) -> Result<Conclusion, Refusal>
+    ensures ok { IfOk result (Tells (AreItemsExplained (S.may_give shelf.now) file.now)) }
+    ensures refused { IfErr result (IsRefusalOfItems (S.may_give shelf.now) file.now) }
+{
+    let bytes = load(alloc, shelf, file)?;
+    let text = bytes.as_slice();
+    match items_of(alloc, text) {
+        Ok(items) => right(alloc, items.as_slice()),
+        Err(ItemFault::BadItem(line)) => wrong(alloc, file, text, line),
+        Err(_) => Err(Refusal::Input(ItemFault::NoMemory)),
+    }
+}
+
+// The line that counts the items.
+fn right(alloc: Global, items: &[i64]) -> Result<Conclusion, Refusal>
+    ensures ok { IfOk result
+        (Tells (λ text status. (text ≡ items_line (length items.now)) × (status ≡ 0))) }
+    ensures refused { IfErr result (λ refusal. refusal ≡ NoMemory) }
+{
+    let mut text = Vec::new(alloc);
+    push_number(&mut text, b"ok: ", items.len(), b" items\n")?;
+    Ok(Conclusion {
+        text,
+        status: 0,
+        files: Vec::new(alloc),
+    })
+}
+
+// The first bad line, explained.
+fn wrong(alloc: Global, file: &str, bytes: &[u8], line: usize) -> Result<Conclusion, Refusal>
+    ensures ok { IfOk result (Tells (λ text status.
+        ExplainsLine file.now bytes.now line text × (status ≡ 1))) }
+    ensures refused { IfErr result (λ refusal. refusal ≡ NoMemory) }
+{
+    let text = explanation_of(alloc, file.as_bytes(), bytes, line)?;
+    Ok(Conclusion {
+        text,
+        status: 1,
+        files: Vec::new(alloc),
+    })
+}
+
+// The place of a bad line, what the error line says, the line itself, and what helps.
+fn explanation_of(
+    alloc: Global,
+    file: &[u8],
+    text: &[u8],
+    line: usize,
+) -> Result<Vec<u8>, AllocError>
+    ensures { IfOk result (λ told. ExplainsLine file.now text.now line told.items) }
+{
+    let at = line_start(text, line);
+    let rest = rest_of(alloc, text, line, at)?;
+    let mut told = Vec::new(alloc);
+    push_where(&mut told, file, text, at)?;
+    told.extend_from_slice(&rest)?;
+    Ok(told)
+}
+
+fn rest_of(alloc: Global, text: &[u8], line: usize, at: usize) -> Result<Vec<u8>, AllocError> {
+    let mut told = Vec::new(alloc);
+    told.extend_from_slice(b"this line spells no item")?;
+    push_bracket(alloc, &mut told, &Refusal::Input(ItemFault::BadItem(line)))?;
+    push_excerpt(&mut told, text, at)?;
+    let here = back(text, at);
+    let advice: &[u8] = if is_fraction(here.strip_prefix(b"-").unwrap_or(here)) {
+        b"Items are whole numbers: scale them first, as 2.5 to 25 tenths.\n"
+    } else {
+        b"Write one item on each line: an optional `-` and 1 to 19 digits, and nothing else.\n"
+    };
+    told.extend_from_slice(advice)?;
+    Ok(told)
+}

@@ -1,0 +1,30 @@
+//! `kpn explain` of a description, an item file or a trace: what is wrong, where, and what helps.
+#![tactic(auto)]
+
+mod cases;
+mod choices;
+mod concerned;
+mod counts;
+mod description;
+mod excerpt;
+mod excess;
+mod explained;
+mod habits;
+mod items;
+mod lines;
+mod loading;
+mod names;
+mod not_exact;
+mod remedies;
+mod sentences;
+mod spots;
+mod stands;
+mod trace;
+mod trace_names;
+mod trace_text;
+mod trace_words;
+mod words;
+
+pub use description::explain_command;
+pub use items::explain_items_command;
+pub use trace::explain_trace_command;

@@ -1,0 +1,37 @@
+//! What helps where another language would write it so.
+
+use crate::habits::Habit;
+
+/// What helps with a way of writing.
+pub(crate) fn remedy(habit: Habit) -> &'static [u8] {
+    match habit {
+        Habit::Sides => b"Put parentheses around each operator with two sides: `((x + y) + 1)`.",
+        Habit::Parentheses =>
+            b"Leave these parentheses out: they stand only around an operator with two sides, as in `(x + 1)`.",
+        Habit::ShiftRight => b"There is no shift: divide by a power of two, as in `(x / 4)`.",
+        Habit::ShiftLeft => b"There is no shift: multiply by a power of two, as in `(x * 4)`.",
+        Habit::Comment => b"A comment begins with `#` and ends with its line.",
+        Habit::Slashes =>
+            b"A comment begins with `#` and ends with its line. A quotient is written `(x / 2)`.",
+        Habit::For => b"There is no `for`: use `while`, and count in a variable.",
+        Habit::Break => b"There is no `break`: let the condition of the loop end it.",
+        Habit::ElseIf => b"Open a block behind `else`, and close it: `else { if x { } else { } }`.",
+        Habit::NoElse => b"Each `if` has an `else`, whose block may be empty: `else { }`.",
+        Habit::Changes => b"A variable changes only by an assignment of its own: `x = (x + 1);`.",
+        Habit::Compares => b"`=` assigns. Compare by `==`, between parentheses: `(x == 1)`.",
+        Habit::Assigns => b"`==` compares. Assign by `=`: `x = 1;`.",
+        Habit::Becomes => b"Write `=` in place of `:=`.",
+        Habit::And => b"Write `&&` for and, between parentheses: `(x && y)`.",
+        Habit::Or => b"Write `||` for or, between parentheses: `(x || y)`.",
+        Habit::Not => b"Write `!` for not: `!x`.",
+        Habit::Differs => b"Write `!=` in place of `<>`.",
+        Habit::Bits => b"There are no operators on bits: `&&` is and, `||` is or.",
+        Habit::Truth => b"Write 1 for true and 0 for false.",
+        Habit::Declares =>
+            b"The first assignment makes a variable: `x = 0;`, with no word before it.",
+        Habit::Reads => b"An item comes by a statement of its own: `read PORT VARIABLE;`.",
+        Habit::Ports => b"Write `in`, `out` and `par` once each, as in `in a, b; out c, d; par k`.",
+        Habit::NoCapacity => b"Write a capacity behind the name, as in `channel a cap 1;`.",
+        Habit::Fraction => b"Numbers are whole: scale them first, or divide, as in `(x / 2)`.",
+    }
+}

@@ -1,0 +1,202 @@
+//! The kinds of faults of a description, as they are explained, and the sentences for each.
+
+/// What a limit counts.
+#[derive(Clone, Copy)]
+pub(crate) enum Part {
+    Variables,
+    InPorts,
+    OutPorts,
+    /// Statements, and the numbers, names and operators of expressions.
+    Nodes,
+    Processes,
+    Instances,
+    Channels,
+}
+
+/// A limit that is passed, and how many there are of what it counts.
+#[derive(Clone, Copy)]
+pub(crate) struct Excess {
+    pub part: Part,
+    pub count: usize,
+    pub limit: usize,
+}
+
+/// A kind of fault.
+#[derive(Clone, Copy)]
+pub(crate) enum Case {
+    /// The text has too many bytes.
+    LongText,
+    /// A name has too many bytes.
+    LongName,
+    /// A number is out of range.
+    BadNumber,
+    /// No token begins at a byte.
+    NoToken,
+    /// A word of the language stands where a name is meant.
+    Reserved,
+    /// Another token may not stand there.
+    Misplaced,
+    /// The text ends too early.
+    EarlyEnd,
+    /// A variable is not known.
+    UnknownVariable,
+    /// A variable gets its first value further down.
+    LateVariable,
+    /// A port stands in place of a variable.
+    PortAsVariable,
+    /// An in port is not known.
+    UnknownInPort,
+    /// An out port is not known.
+    UnknownOutPort,
+    /// A process is not known.
+    UnknownProcess,
+    /// A channel is not known.
+    UnknownChannel,
+    /// A process has the name of another.
+    DoubleProcess,
+    /// A port or a parameter has the name of another.
+    DoublePort,
+    /// A port is used as a variable.
+    AssignedPort,
+    /// An instance has the name of another.
+    DoubleInstance,
+    /// A channel has the name of another.
+    DoubleChannel,
+    /// A process is too large.
+    LargeProgram(Excess),
+    /// A process nests too deep.
+    DeepProgram,
+    /// A process breaks another rule.
+    BrokenProgram,
+    /// The network has too many parts.
+    LargeNetwork(Excess),
+    /// An instance does not fit its process.
+    PortCount,
+    /// A channel has no writer.
+    NoWriter,
+    /// A channel has two writers.
+    TwoWriters,
+    /// A channel has no reader.
+    NoReader,
+    /// A channel has two readers.
+    TwoReaders,
+    /// The capacity of a channel is out of range.
+    BadCapacity,
+    /// The limit is out of range.
+    BadLimit,
+    /// The network breaks another rule.
+    BrokenNetwork,
+    /// Memory ran out.
+    NoMemory,
+}
+
+/// Whether the sentence begins with the name at the place.
+pub(crate) fn is_named(case: Case) -> bool {
+    match case {
+        Case::LongText | Case::LongName | Case::BadNumber => false,
+        Case::NoToken | Case::Misplaced | Case::EarlyEnd => false,
+        Case::LargeNetwork(_) | Case::BadLimit | Case::NoMemory => false,
+        _ => true,
+    }
+}
+
+/// What is wrong. If the sentence begins with a name, this is what follows it. A limit that is passed follows this.
+pub(crate) fn said(case: Case) -> &'static [u8] {
+    match case {
+        Case::LongText => b"the text has more than 1048576 bytes",
+        Case::LongName => b"this name has more than 32 bytes",
+        Case::BadNumber => b"this number has more than 19 digits or is above 9223372036854775807",
+        Case::NoToken => b"no name, number or mark begins with this byte",
+        Case::Reserved => b" is a word of the language, and no name",
+        Case::Misplaced => b"this may not stand here",
+        Case::EarlyEnd => b"the text ends too early",
+        Case::UnknownVariable => b" is used before anything is assigned to it",
+        Case::LateVariable => b" is used here, and first gets a value further down",
+        Case::PortAsVariable => b" is a port of this process, and no variable",
+        Case::UnknownInPort => b" is no in port of this process",
+        Case::UnknownOutPort => b" is no out port of this process",
+        Case::UnknownProcess => b" is no process of this text",
+        Case::UnknownChannel => b" is no channel of this network",
+        Case::DoubleProcess => b" is the name of an earlier process too",
+        Case::DoublePort => b" is the name of an earlier port or parameter of this process too",
+        Case::AssignedPort => b" is a port of this process, and no variable",
+        Case::DoubleInstance => b" is the name of an earlier instance too",
+        Case::DoubleChannel => b" is the name of an earlier channel too",
+        Case::LargeProgram(_) => b"",
+        Case::DeepProgram => b" nests blocks or expressions deeper than 32 levels",
+        Case::BrokenProgram => b" is no program",
+        Case::LargeNetwork(_) => b"the text",
+        Case::PortCount =>
+            b" has not as many channels and values as its process has ports and parameters",
+        Case::NoWriter => b" has no writer",
+        Case::TwoWriters => b" has more than one writer",
+        Case::NoReader => b" has no reader",
+        Case::TwoReaders => b" has more than one reader",
+        Case::BadCapacity => b" has the capacity 0, or one above the limit",
+        Case::BadLimit => b"the limit of this network is 0 or above 1048576",
+        Case::BrokenNetwork => b" names a part that is not there",
+        Case::NoMemory => b"memory ran out",
+    }
+}
+
+/// What helps.
+pub(crate) fn advice(case: Case) -> &'static [u8] {
+    match case {
+        Case::LongText => b"Cut the text down: leave out comments, or make two networks.",
+        Case::LongName => b"Choose a shorter name.",
+        Case::BadNumber =>
+            b"Write a smaller number. The least value is that of `(-9223372036854775807 - 1)`.",
+        Case::NoToken =>
+            b"Names have letters, digits and `_`. A comment goes from `#` to the end of its line.",
+        Case::Reserved => b"Choose another name, or write the name that is missing just before it.",
+        Case::Misplaced =>
+            b"Look also at what stands just before it: something may be missing there.",
+        Case::EarlyEnd => b"Close each `{` by a `}`. Behind all processes has to come a network.",
+        Case::UnknownVariable =>
+            b"Assign to it first, or make it a parameter. An item comes by `read PORT VARIABLE;`.",
+        Case::LateVariable => b"Give it a value before this place, or make it a parameter.",
+        Case::PortAsVariable =>
+            b"Write a variable in its place. An item of an in port comes by `read PORT VARIABLE;`.",
+        Case::UnknownInPort =>
+            b"Behind `read` stand an in port and a variable. Declare the port behind `in`.",
+        Case::UnknownOutPort =>
+            b"Behind `write` stand an out port and an expression. Declare the port behind `out`.",
+        Case::UnknownProcess => b"Write the process before the network, or correct the name.",
+        Case::UnknownChannel =>
+            b"Declare it by `channel`, `source` or `sink`, or correct the name.",
+        Case::DoubleProcess => b"Give one of the two another name.",
+        Case::DoublePort => b"Give one of the two another name.",
+        Case::AssignedPort => b"Choose another name for the variable.",
+        Case::DoubleInstance => b"Give one of the two another name.",
+        Case::DoubleChannel => b"Give one of the two another name.",
+        Case::LargeProgram(_) =>
+            b"At most 16 in ports, 16 out ports, 64 variables, 4096 statements and operands.",
+        Case::DeepProgram =>
+            b"Set a variable to a part of the expression first, or nest fewer blocks.",
+        Case::BrokenProgram => b"Read the process again from its head on.",
+        Case::LargeNetwork(_) =>
+            b"There are at most 256 processes, 256 instances and 1024 channels.",
+        Case::PortCount =>
+            b"Name a channel for each port, in order, and a value for each parameter.",
+        Case::NoWriter => b"Give it to an instance as an out port, or declare it as a `source`.",
+        Case::TwoWriters =>
+            b"Give each writer a channel of its own. The outside writes a `source`.",
+        Case::NoReader => b"Give it to an instance as an in port, or declare it as a `sink`.",
+        Case::TwoReaders => b"Give each reader a channel of its own. The outside reads a `sink`.",
+        Case::BadCapacity =>
+            b"Choose a capacity from 1 to the limit, which is 1048576 if the network sets none.",
+        Case::BadLimit => b"Choose a limit from 1 to 1048576.",
+        Case::BrokenNetwork => b"Read the instance again.",
+        Case::NoMemory => b"Try again with more memory.",
+    }
+}
+
+/// What stands at the second place, if there is one.
+pub(crate) fn other(case: Case) -> &'static [u8] {
+    match case {
+        Case::LateVariable => b"it gets a value here",
+        Case::TwoWriters => b"the last instance that writes it",
+        Case::TwoReaders => b"the last instance that reads it",
+        _ => b"the same name stands here",
+    }
+}

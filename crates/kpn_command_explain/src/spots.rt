@@ -1,0 +1,205 @@
+//! Where a token stands in a description that follows the grammar.
+ghost use Rattle.std.specs.Prelude.{◌≡◌, IfOk};
+ghost use Rattle.kpn_command_explain.specs.Spots as spec;
+
+use crate::names::name_at;
+use kpn_text_tokens::{Keyword, Lexeme, Mark, Token};
+use std::alloc::{AllocError, Global};
+
+/// Where a token stands, by what a name there is.
+#[derive(Clone, Copy)]
+pub enum Spot {
+    /// Before all processes. The word `network` counts as outside too.
+    Outside,
+    /// A process that is declared.
+    Process,
+    /// A port or a parameter that is declared.
+    Port,
+    /// A variable that gets a value, by an assignment or by `read`. Where a statement may begin is such a place too.
+    Target,
+    /// A variable in an expression.
+    Variable,
+    /// The in port behind `read`.
+    InPort,
+    /// The out port behind `write`.
+    OutPort,
+    /// An instance that is declared.
+    Instance,
+    /// A channel, a source or a sink that is declared.
+    Channel,
+    /// The process of an instance.
+    Program,
+    /// A channel that an instance reads.
+    Reads,
+    /// A channel that an instance writes.
+    Writes,
+    /// Among the values of an instance.
+    Values,
+    /// In the rest of an item or of a setting of the network.
+    Rest,
+}
+
+fn behind_keyword(now: Spot, keyword: Keyword) -> Spot
+    ensures { result ≡ spec.behind_keyword now keyword }
+{
+    match keyword {
+        Keyword::Process => Spot::Process,
+        Keyword::Read => Spot::InPort,
+        Keyword::Write => Spot::OutPort,
+        Keyword::Network => Spot::Instance,
+        Keyword::Channel | Keyword::Source | Keyword::Sink => Spot::Channel,
+        Keyword::Limit | Keyword::Policy | Keyword::Grow => Spot::Rest,
+        Keyword::If | Keyword::Else | Keyword::While => Spot::Variable,
+        _ => now,
+    }
+}
+
+fn behind_name(now: Spot) -> Spot
+    ensures { result ≡ spec.behind_name now }
+{
+    match now {
+        Spot::Process => Spot::Port,
+        Spot::InPort => Spot::Target,
+        Spot::Target | Spot::OutPort => Spot::Variable,
+        Spot::Channel => Spot::Rest,
+        Spot::Instance => Spot::Program,
+        other => other,
+    }
+}
+
+fn behind_semicolon(now: Spot) -> Spot
+    ensures { result ≡ spec.behind_semicolon now }
+{
+    match now {
+        Spot::Variable => Spot::Target,
+        Spot::Rest => Spot::Instance,
+        Spot::Reads => Spot::Writes,
+        Spot::Writes => Spot::Values,
+        other => other,
+    }
+}
+
+fn behind_bracket(now: Spot) -> Spot
+    ensures { result ≡ spec.behind_bracket now }
+{
+    match now {
+        Spot::Writes | Spot::Values => Spot::Rest,
+        other => other,
+    }
+}
+
+// Behind a brace in a process a statement may begin.
+fn behind_brace(now: Spot) -> Spot
+    ensures { result ≡ spec.behind_brace now }
+{
+    match now {
+        Spot::Port | Spot::Variable => Spot::Target,
+        other => other,
+    }
+}
+
+fn behind_mark(now: Spot, mark: Mark) -> Spot
+    ensures { result ≡ spec.behind_mark now mark }
+{
+    match (now, mark) {
+        (_, Mark::LeftBrace) => behind_brace(now),
+        (Spot::Program, Mark::LeftParen) => Spot::Reads,
+        (_, Mark::Semicolon) => behind_semicolon(now),
+        (_, Mark::RightParen) => behind_bracket(now),
+        _ => now,
+    }
+}
+
+/// Where the token behind this one stands.
+pub(crate) fn behind(now: Spot, token: &Token<'_>) -> Spot
+    ensures { result ≡ spec.behind now token.now }
+{
+    match token {
+        Token::Name(_) => behind_name(now),
+        Token::Number(_) => now,
+        Token::Mark(mark) => behind_mark(now, *mark),
+        Token::Keyword(keyword) => behind_keyword(now, *keyword),
+    }
+}
+
+fn is_same(left: Spot, right: Spot) -> bool
+    ensures { result ≡ spec.is_same left right }
+{
+    left == right
+}
+
+// A name at a spot, or the word `network`.
+fn is_at(wanted: Spot, now: Spot, token: &Token<'_>) -> bool
+    ensures { result ≡ spec.is_at wanted now token.now }
+{
+    match token {
+        Token::Name(_) => is_same(wanted, now),
+        Token::Keyword(Keyword::Network) => is_same(wanted, Spot::Outside),
+        _ => false,
+    }
+}
+
+/// The first bytes of the names at a spot, in order. For `Outside` it is the byte of the word `network`.
+pub(crate) fn starts(
+    alloc: Global,
+    tokens: &[Lexeme<'_>],
+    wanted: Spot,
+) -> Result<Vec<usize>, AllocError>
+    ensures { IfOk result (λ found. found.items ≡ spec.starts_of wanted tokens.now) }
+{
+    let mut found = Vec::new(alloc);
+    let mut now = Spot::Outside;
+    for lexeme in tokens {
+        if is_at(wanted, now, &lexeme.token) {
+            found.push(lexeme.start)?;
+        }
+        now = behind(now, &lexeme.token);
+    }
+    Ok(found)
+}
+
+/// Where the token that begins at this byte stands; `Outside`, if no token begins there.
+pub fn spot_at(tokens: &[Lexeme<'_>], at: usize) -> Spot
+    ensures { result ≡ spec.spot_at at tokens.now }
+{
+    let mut now = Spot::Outside;
+    for lexeme in tokens {
+        if lexeme.start == at {
+            return now;
+        }
+        now = behind(now, &lexeme.token);
+    }
+    Spot::Outside
+}
+
+/// The first byte of the last token before a byte. If there is none, it is that byte.
+pub fn start_before(tokens: &[Lexeme<'_>], at: usize) -> usize {
+    let mut found = at;
+    for lexeme in tokens {
+        if lexeme.start < at {
+            found = lexeme.start;
+        }
+    }
+    found
+}
+
+/// Whether the head of the process in which this byte stands has the name there, as a port or a parameter. If the name
+/// is no variable, it is a port.
+pub fn is_port(text: &[u8], tokens: &[Lexeme<'_>], at: usize) -> bool {
+    let name = name_at(text, at);
+    let mut now = Spot::Outside;
+    let mut found = false;
+    for lexeme in tokens {
+        if lexeme.start == at {
+            return found;
+        }
+        // A process has ports of its own.
+        found = match now {
+            Spot::Process => false,
+            Spot::Port => found || name_at(text, lexeme.start) == name,
+            _ => found,
+        };
+        now = behind(now, &lexeme.token);
+    }
+    false
+}

@@ -1,0 +1,105 @@
+-- The devices of a stream keep the references to standard input and output.
+use Rattle.std.proofs.Common.{◌≡◌, ◌∙◌, ℕ, ℤ, List, Option, Some, None, Result, Ok, Err, refl, ap, subst}
+use Rattle.kpn_run_history.specs.declared.event.Event.{Event}
+use Rattle.kpn_stream.specs.declared.faults.SourceFault.{SourceFault}
+use Rattle.kpn_stream.specs.declared.faults.SinkFault.{SinkFault}
+use Rattle.kpn_stream.specs.Devices.{Fed, Served, at_first, by_others, by_look, by_item, by_end, by_fault, by_no_memory}
+use Rattle.kpn_stream.specs.Devices.{none_yet, meanwhile, took, took_not, flushed, flushed_not, took_in_vain, left, left_not, had_enough, had_enough_not}
+use Rattle.kpn_stream_devices.specs.declared.inputs.Inputs.{Inputs}
+use Rattle.kpn_stream_devices.specs.declared.outputs.Outputs.{Outputs}
+use Rattle.kpn_stream_devices.specs.Inputs.{InputsGive, InputsLook, by_input, by_none, at_input, at_none}
+use Rattle.kpn_stream_devices.specs.Outputs as outputs
+use Rattle.kpn_stream_devices.specs.Outputs.{OutputRel, OutputsDo, OutputsTake, OutputsFlush}
+use Rattle.kpn_command_base.specs.declared.stream_request.ItemFormat.{ItemFormat}
+use Rattle.kpn_command_stream.specs.Command as command
+use Rattle.kpn_net.specs.Tables.{Tables}
+use Rattle.kpn_run_state.specs.Book.{Book}
+use Rattle.kpn_book.specs.declared.outcome.Limits.{Limits}
+use Rattle.kpn_stream.specs.declared.ending.Ending.{Ending}
+use Rattle.kpn_command_stream.specs.declared.running.Lost.{Lost}
+use Rattle.kpn_command_stream.specs.Command.{HandedOn, Known, RanOver}
+
+module _ (t : Tables) {S N : Type 0} (gives : S → ℕ → Result (Option ℤ) SourceFault → S → Type 0)
+    (looks : S → ℕ → S → Type 0) (name : S → N)
+    (same : (before : S) (c : ℕ) (answer : Result (Option ℤ) SourceFault) (now : S) → gives before c answer now
+    → name now ≡ name before)
+    (same_by_look : (before : S) (c : ℕ) (now : S) → looks before c now → name now ≡ name before) (first : S) where
+  pub fed_keeps : (H : List Event) (failed : Option (ℕ × SourceFault)) (now : S) → Fed t gives looks first H failed now
+      → name now ≡ name first
+  fed_keeps H failed now at_first = refl
+  fed_keeps H failed now (by_others G e f n fed other) = fed_keeps G f n fed
+  fed_keeps H failed now (by_look G c before n fed looked) =
+      same_by_look before c n looked ∙ fed_keeps G None before fed
+  fed_keeps H failed now (by_item G c v before n fed may gave) =
+      same before c (Ok (Some v)) n gave ∙ fed_keeps G None before fed
+  fed_keeps H failed now (by_end G c before n fed may gave) = same before c (Ok None) n gave ∙ fed_keeps G None before fed
+  fed_keeps H failed now (by_fault G c fault before n fed may gave) =
+      same before c (Err fault) n gave ∙ fed_keeps G None before fed
+  fed_keeps H failed now (by_no_memory G c given before n fed may gave) =
+      same before c (Ok given) n gave ∙ fed_keeps G None before fed
+
+module _ {K N : Type 0} (takes : K → ℕ → ℤ → Result (Unit {0}) SinkFault → K → Type 0)
+    (flushes : K → ℕ → Result (Unit {0}) SinkFault → K → Type 0) (wanted : Option ℕ) (name : K → N)
+    (same_by_take : (before : K) (c : ℕ) (v : ℤ) (answer : Result (Unit {0}) SinkFault) (now : K)
+    → takes before c v answer now → name now ≡ name before)
+    (same_by_flush : (before : K) (c : ℕ) (answer : Result (Unit {0}) SinkFault) (now : K)
+    → flushes before c answer now → name now ≡ name before) (first : K) where
+  pub served_keeps : (H : List Event) (failed : Option (ℕ × SinkFault)) (now : K)
+      → Served takes flushes wanted first H failed now → name now ≡ name first
+  served_keeps H failed now none_yet = refl
+  served_keeps H failed now (meanwhile G e f n served other) = served_keeps G f n served
+  served_keeps H failed now (took G c v before n served wants taken) =
+      same_by_take before c v (Ok tt) n taken ∙ served_keeps G None before served
+  served_keeps H failed now (took_not G c v fault before n served wants taken) =
+      same_by_take before c v (Err fault) n taken ∙ served_keeps G None before served
+  served_keeps H failed now (flushed G c before n served flushes) =
+      same_by_flush before c (Ok tt) n flushes ∙ served_keeps G None before served
+  served_keeps H failed now (flushed_not G c fault before n served flushes) =
+      same_by_flush before c (Err fault) n flushes ∙ served_keeps G None before served
+  served_keeps H failed now (took_in_vain G c v before n served wants taken) =
+      same_by_take before c v (Ok tt) n taken ∙ served_keeps G None before served
+  served_keeps H failed now (left G c n served) = served_keeps G _ n served
+  served_keeps H failed now (left_not G c n served) = served_keeps G _ n served
+  served_keeps H failed now (had_enough G c before n served given flushes) =
+      same_by_flush before c (Ok tt) n flushes ∙ served_keeps G None before served
+  served_keeps H failed now (had_enough_not G c before n served given flushes) =
+      same_by_flush before c (Ok tt) n flushes ∙ served_keeps G None before served
+
+  pub handed_keeps : (sinks : List ℕ) (lost : List Lost) (now : K) → HandedOn flushes first sinks lost now
+      → name now ≡ name first
+  handed_keeps sinks lost now command.none_yet = refl
+  handed_keeps sinks lost now (command.one_more before_it c listed answer before n handed flushes) =
+      same_by_flush before c answer n flushes ∙ handed_keeps before_it listed before handed
+
+-- each call keeps them
+pub inputs_same : {I F : Type 0} (remaining : I → Option (List ℕ)) (in_file : F → Option (List ℕ)) (before : Inputs I F)
+    (c : ℕ) (answer : Result (Option ℤ) SourceFault) (after : Inputs I F)
+    → InputsGive remaining in_file before c answer after → after.standard.ghost_name ≡ before.standard.ghost_name
+inputs_same remaining in_file before c answer after (by_input i input read found at gives each format ghost lent) =
+    ghost
+inputs_same remaining in_file before c answer after (by_none found is same) =
+    ap (λ (x : Inputs _ _). x.standard.ghost_name) same
+
+pub looks_same : {I F : Type 0} (remaining : I → Option (List ℕ)) (in_file : F → Option (List ℕ)) (before : Inputs I F)
+    (c : ℕ) (after : Inputs I F) → InputsLook remaining in_file before c after
+    → after.standard.ghost_name ≡ before.standard.ghost_name
+looks_same remaining in_file before c after (at_input i input read found at looks each format ghost lent) = ghost
+looks_same remaining in_file before c after (at_none found same) = ap (λ (x : Inputs _ _). x.standard.ghost_name) same
+
+pub outputs_same : {O G : Type 0} (Does : ItemFormat → OutputRel O G) (before : Outputs O G) (c : ℕ)
+    (answer : Result (Unit {0}) SinkFault) (after : Outputs O G) → OutputsDo Does before c answer after
+    → after.standard.ghost_name ≡ before.standard.ghost_name
+outputs_same Does before c answer after
+    (outputs.by_output i output written found at channel only does each format ghost lent) =
+    ghost
+outputs_same Does before c answer after (outputs.by_none found is same) =
+    ap (λ (x : Outputs _ _). x.standard.ghost_name) same
+
+-- the same run, by other names of its limits and its network
+pub ran_by : {I F O G : Type 0} (known : Known I F O G) (limits others : Limits) (t tables : Tables) (sinks : List ℕ)
+    (inputs read : Inputs I F) (outputs written : Outputs O G) (ending : Ending) (b : Book) (lost : List Lost)
+    → limits ≡ others → t ≡ tables → RanOver known limits t sinks inputs read outputs written ending b lost
+    → RanOver known others tables sinks inputs read outputs written ending b lost
+ran_by known limits others t tables sinks inputs read outputs written ending b lost same same_tables ran =
+    subst (λ (l : Limits). RanOver known l tables sinks inputs read outputs written ending b lost) same
+    (subst (λ (u : Tables). RanOver known limits u sinks inputs read outputs written ending b lost) same_tables ran)

@@ -1,0 +1,136 @@
+-- Lists of places and of sinks, one more at a time.
+use Rattle.std.proofs.Common.{◌≡◌, ℕ, zero, suc, ◌+◌, ◌<◌, ◌≤◌, List, [], ◌∷◌, ◌++◌, map, take, length, get_or, slice_set, All, length-append, take_all, le_refl, Some, Result, Ok, Err, sym, ap, ◌∙◌, subst, arith, inl, inr, Option, None}
+use Rattle.std.specs.List.{AllZip}
+use Rattle.std.proofs.lemmas.Bool.{cases_lt}
+use Rattle.std.proofs.lemmas.List.{map-append, take_more, take_more_set, get_or_append_left}
+use Rattle.std.proofs.lemmas.List.Elements.{All-push, All-same}
+use Rattle.std.proofs.Math.Seq.{get_or-append_seam}
+use Rattle.kpn_text.specs.Document.{Document}
+use Rattle.kpn_command_base.specs.declared.sources.Ends.{Ends}
+use Rattle.kpn_command_base.specs.declared.sources.NamedEnd.{NamedEnd}
+use Rattle.kpn_command_base.specs.Sources.{is_end, ends_named}
+use Rattle.kpn_stream.specs.Ending.{end_numbers}
+use Rattle.kpn_text_items.proofs.FileLemmas.{AllZip-push}
+use Rattle.kpn_stream.specs.declared.faults.SinkFault.{SinkFault}
+use Rattle.kpn_stream.specs.declared.faults.SinkFault.TheVariants.{Gone, NoSample, Write, NoMemory}
+use Rattle.kpn_command_stream.specs.declared.places.Place.{Place}
+use Rattle.kpn_command_stream.specs.declared.running.Lost.{Lost}
+use Rattle.kpn_stream_devices.specs.declared.outputs.Output.{Output}
+use Rattle.kpn_command_stream.specs.Command.{HandedOn, IsOutputFor, IsOutputOf, KeepsName, one_more, losses}
+use Rattle.kpn_command_stream.specs.Places.{name_for, ArePlaced, AllPlaced, ArePlaces}
+
+-- one place more
+pub placed_more : (named : List NamedEnd) (ends : List ℕ) (number : ℕ) (places : List Place) (place : Place)
+    → ArePlaced named ends number places → number < length ends → place.channel ≡ get_or ends number place.channel
+    → name_for named number (length ends) ≡ Some place.name.now
+    → ArePlaced named ends (number + 1) (places ++ place ∷ [])
+placed_more named ends number places place placed below at name = record {
+  channels =
+      map-append (λ (p : Place). p.channel) places (place ∷ [])
+      ∙ ap (λ cs. cs ++ place.channel ∷ []) placed.channels
+      ∙ ap (λ (c : ℕ). take number ends ++ c ∷ []) at ∙ sym (take_more ends number place.channel below);
+  count = omega (arith, length-append places (place ∷ []), placed.count);
+  each = λ k other inside. elim (cases_lt k (length places)) [
+    | inl before ↦ placed.each k other before
+        ∙ ap (λ (p : Place). Some p.name.now) (sym (get_or_append_left places (place ∷ []) other k before))
+    | inr past ↦
+        let last : k ≡ length places = omega (arith, length-append places (place ∷ []), inside, past) in
+        let same : k ≡ number = omega (arith, last, placed.count) in
+        ap (λ (n : ℕ). name_for named n (length ends)) same ∙ name
+        ∙ ap (λ (p : Place). Some p.name.now)
+        (sym (ap (λ (n : ℕ). get_or (places ++ place ∷ []) n other) last ∙ get_or-append_seam places place [] other))
+  ];
+}
+
+-- all places go by what the options name
+pub all_placed : (ends : Ends) (d : Document) (names files : List (List ℕ)) (named : List NamedEnd)
+    (places : List Place) → ends_named ends d names ≡ Ok (map (λ end. end.number) named)
+    → map (λ end. end.file.now) named ≡ files → AllPlaced named (end_numbers (is_end ends) d.tables) places
+    → ArePlaces ends d names files places
+all_placed ends d names files named places numbers given placed =
+    let all = end_numbers (is_end ends) d.tables in
+    record {
+      named = named;
+      numbers = numbers;
+      given = given;
+      channels = placed.channels ∙ take_all (length all) all (le_refl (length all));
+      each = λ number place below.
+          ap (λ (n : ℕ). name_for named number n) placed.count ∙ placed.each number place below;
+    }
+
+-- one item more has what it needs
+pub zipped_more : {A B : Type 0} (R : A → B → Type 0) (xs : List A) (ys : List B) (i : ℕ) (x : A) (y : B)
+    → AllZip R (take i xs) ys → i < length xs → x ≡ get_or xs i x → R x y → AllZip R (take (i + 1) xs) (ys ++ y ∷ [])
+zipped_more R xs ys i x y so_far below at is =
+    subst (λ zs. AllZip R zs (ys ++ y ∷ []))
+    (ap (λ z. take i xs ++ z ∷ []) at ∙ sym (take_more xs i x below))
+    (AllZip-push R (take i xs) ys x y so_far is)
+
+-- places go by the names and the files of options
+pub placed_by : (ends : Ends) (d : Document) (names others files others_files : List (List ℕ)) (places : List Place)
+    → names ≡ others → files ≡ others_files → ArePlaces ends d names files places
+    → ArePlaces ends d others others_files places
+placed_by ends d names others files others_files places same same_files are =
+    subst (λ ns. ArePlaces ends d ns others_files places) same
+    (subst (λ fs. ArePlaces ends d names fs places) same_files are)
+
+-- ---- outputs
+
+-- each output stays one for its place if one of them is changed so that it does
+pub zipped_set : {A B : Type 0} (R : A → B → Type 0) (xs : List A) (ys : List B) (i : ℕ) (d y : B) → AllZip R xs ys
+    → i < length ys → ((x : A) → R x (get_or ys i d) → R x y) → AllZip R xs (slice_set ys i y)
+zipped_set R [] [] i d y are below same = absurd (omega arith)
+zipped_set R [] (z ∷ ys) i d y are below same = absurd are
+zipped_set R (x ∷ xs) [] i d y are below same = absurd are
+zipped_set R (x ∷ xs) (z ∷ ys) zero d y are below same = (same x are.0, are.1)
+zipped_set R (x ∷ xs) (z ∷ ys) (suc i) d y are below same =
+    (are.0, zipped_set R xs ys i d y are.1 (omega arith) same)
+
+-- an output whose file keeps its name stays one for its place
+pub still_for : {G : Type 0} (goes_to : G → List ℕ) (place : Place) (old new : Output G) → new.channel ≡ old.channel
+    → new.bytes ≡ old.bytes → KeepsName goes_to old.file new.file → IsOutputFor goes_to place old
+    → IsOutputFor goes_to place new
+still_for {G} goes_to place old new channel bytes name is = record {
+  channel = channel ∙ is.channel;
+  file = named old.file new.file name is.file;
+  bytes = ap (λ v. v.items) bytes ∙ is.bytes;
+}
+  where
+    named : (before after : Option G) → KeepsName goes_to before after → IsOutputOf goes_to place.name.now before
+        → IsOutputOf goes_to place.name.now after
+    named None None name is = is
+    named None (Some after) name is = absurd name
+    named (Some file) None name is = absurd name
+    named (Some file) (Some after) name is = (is.0, name ∙ is.1)
+
+-- what holds of the first ones holds of one more
+pub all_more : {A : Type 0} (P : A → Type 0) (xs : List A) (i : ℕ) (y : A) → All P (take i xs) → i < length xs → P y
+    → All P (take (i + 1) (slice_set xs i y))
+all_more P xs i y all below is =
+    All-same P _ _ (take_more_set xs i y below) (All-push P (take i xs) y all is)
+
+-- one output more hands on what it kept
+pub handed_more : {K : Type 0} (flushes : K → ℕ → Result (Unit {0}) SinkFault → K → Type 0) (first : K)
+    (places : List Place) (i : ℕ) (lost : List Lost) (answer : Result (Unit {0}) SinkFault) (before now : K)
+    (place : Place) (listed : List Lost)
+    → HandedOn flushes first (map (λ (p : Place). p.channel) (take i places)) lost before → i < length places
+    → place ≡ get_or places i place → flushes before place.channel answer now
+    → listed ≡ lost ++ losses place.channel answer
+    → HandedOn flushes first (map (λ (p : Place). p.channel) (take (i + 1) places)) listed now
+handed_more flushes first places i lost answer before now place listed so_far below at does lists =
+    subst (λ (cs : List ℕ). HandedOn flushes first cs listed now)
+    (sym
+    (ap (map (λ (p : Place). p.channel)) (take_more places i place below ∙ ap (λ p. take i places ++ p ∷ []) (sym at))
+    ∙ map-append (λ (p : Place). p.channel) (take i places) (place ∷ [])))
+    (subst
+    (λ (ls : List Lost).
+    HandedOn flushes first (map (λ (p : Place). p.channel) (take i places) ++ place.channel ∷ []) ls now)
+    (sym lists) (one_more _ place.channel lost answer before now so_far does))
+
+-- it loses at most one thing
+pub losses_few : (c : ℕ) (answer : Result (Unit {0}) SinkFault) → length (losses c answer) ≤ 1
+losses_few c (Ok done) = omega arith
+losses_few c (Err Gone) = omega arith
+losses_few c (Err Write) = omega arith
+losses_few c (Err NoMemory) = omega arith
+losses_few c (Err (NoSample item)) = omega arith

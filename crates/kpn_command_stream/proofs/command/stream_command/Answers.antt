@@ -1,0 +1,9 @@
+-- A stream, or a refusal that is reported.
+use Rattle.kpn_command_stream.specs.Command.{streamed, refused}
+use Rattle.kpn_command_stream.proofs.command.stream_command.Goals as goal
+
+pub returns-in-Ok : goal.returns-in-Ok
+returns-in-Ok g c = streamed c.in-Ok.ensures.streamed
+
+pub returns-in-Err : goal.returns-in-Err
+returns-in-Err g c = refused c.in-Err.refusal c.in-Err.ensures.refused c.report.ensures

@@ -1,0 +1,17 @@
+-- What the stream has come to, and what is told of it.
+use Rattle.std.proofs.Common.{subst, rules}
+use Rattle.kpn_book.specs.declared.outcome.Limits.{Limits}
+use Rattle.kpn_command_stream.specs.Ending.{IsOver}
+use Rattle.kpn_command_stream.specs.Command.{told, untold}
+use Rattle.kpn_command_stream.proofs.concluding.conclude.Goals as goal
+
+pub returns-in-Ok : goal.returns-in-Ok
+returns-in-Ok g c =
+    let done = c.conclude_over.ensures in
+    told c.in-Ok.over
+    (subst (λ (limits : Limits). IsOver limits c.args.streamed.ending c.args.streamed.book c.in-Ok.over) c.limits_of.ensures
+    c.in-Ok.ensures)
+    done.0 done.2 done.1 done.3
+
+pub returns-in-Err : goal.returns-in-Err
+returns-in-Err g c = untold (search rules) c.conclude_untold.ensures

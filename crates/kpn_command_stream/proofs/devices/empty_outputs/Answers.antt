@@ -1,0 +1,20 @@
+-- One file more holds nothing.
+use Rattle.std.proofs.Common.{◌≡◌, ◌<◌, length, get_or, subst, rules}
+use Rattle.kpn_command_stream.specs.Command.{IsEmptied, IsOutputFor}
+use Rattle.kpn_command_stream.proofs.Listing.{zipped_set, all_more, still_for}
+use Rattle.kpn_command_stream.proofs.devices.empty_outputs.Goals as goal
+
+pub loop-i-preserved : goal.loop-i-preserved
+loop-i-preserved g c =
+    let outputs = c.loop-i.outputs.items in
+    let below : c.loop-i.i < length outputs = search rules in
+    let at : get_or outputs c.loop-i.i c.index_mut.result.now ≡ c.index_mut.result.now = search rules in
+    let emptied = c.in_ok-empty_output.ensures in (
+      zipped_set (IsOutputFor g.S.Ports.goes_to) c.args.places.now.sinks.items outputs c.loop-i.i
+          c.index_mut.result.now c.empty_output.new.output c.loop-i.invariant.0 below
+          (λ place is.
+          still_for g.S.Ports.goes_to place c.index_mut.result.now c.empty_output.new.output emptied.channel emptied.bytes
+          emptied.name (subst (λ output. IsOutputFor g.S.Ports.goes_to place output) at is)),
+      all_more (IsEmptied g.S.Output.Write.contents) outputs c.loop-i.i c.empty_output.new.output c.loop-i.invariant.1
+          below emptied.emptied,
+    )

@@ -1,0 +1,9 @@
+-- The outputs so far.
+use Rattle.std.proofs.Common.{take}
+use Rattle.std.specs.List.{AllZip}
+use Rattle.kpn_command_stream.specs.Command.{IsOutputFor}
+use Rattle.kpn_command_stream.proofs.devices.open_outputs.Given as goal
+
+abbrev pub invariant-loop-i : goal.invariant-loop-i
+invariant-loop-i g l =
+    AllZip (IsOutputFor g.S.Ports.goes_to) (take l.i l.places.sinks.items) l.outputs.items

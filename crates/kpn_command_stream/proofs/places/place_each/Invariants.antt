@@ -1,0 +1,6 @@
+-- The places so far.
+use Rattle.kpn_command_stream.specs.Places.{ArePlaced}
+use Rattle.kpn_command_stream.proofs.places.place_each.Given as goal
+
+abbrev pub invariant-loop-number : goal.invariant-loop-number
+invariant-loop-number l = ArePlaced l.named l.channels l.number l.places.items

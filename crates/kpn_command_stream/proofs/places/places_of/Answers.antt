@@ -1,0 +1,21 @@
+-- The places of all ends by what the options name.
+use Rattle.std.proofs.Common.{List, subst}
+use Rattle.std.proofs.lemmas.Result.{IfOk-weaker}
+use Rattle.kpn_command_base.specs.declared.sources.NamedEnd.{NamedEnd}
+use Rattle.kpn_command_base.specs.Sources.{is_end}
+use Rattle.kpn_stream.specs.Ending.{end_numbers}
+use Rattle.kpn_command_stream.specs.Places.{AllPlaced}
+use Rattle.kpn_command_stream.proofs.Listing.{all_placed}
+use Rattle.kpn_command_stream.proofs.places.places_of.Goals as goal
+
+pub returns : goal.returns
+returns c =
+    IfOk-weaker c.places_by.result _ _
+    (λ places placed.
+    all_placed c.args.ends c.args.document.now _ _ c.in_ok-named.named.items places.items c.in_ok-named.ensures.named
+    c.in_ok-named.ensures.files
+    (subst
+    (λ (named : List NamedEnd).
+    AllPlaced named (end_numbers (is_end c.args.ends) c.args.document.now.tables) places.items)
+    c.deref.ensures.value placed))
+    c.places_by.ensures

@@ -1,0 +1,24 @@
+-- The run, from standard input and output as they were to what they are afterwards.
+use Rattle.std.proofs.Common.{refl, ap, rules}
+use Rattle.kpn_command_stream.proofs.Keeping.{ran_by}
+use Rattle.kpn_command_stream.proofs.running.run_between.Goals as goal
+
+pub returns-clause-ran : goal.returns-clause-ran
+returns-clause-ran g c =
+    record {
+      first_input = _;
+      last_input = c.run_over.new.sources;
+      first_output = _;
+      last_output = c.run_over.new.sinks;
+      ran =
+          ran_by _ _ _ _ _ _ _ _ _ _ _ _ _ c.limits_of-limits.ensures c.network-network.ensures
+          c.in_ok-streamed.ensures.ran;
+      inputs_are = refl;
+      input_is = refl;
+      input_read = search rules;
+      input_format = ap (λ r. r.format) c.request.view_is;
+      outputs_are = refl;
+      output_is = refl;
+      output_written = search rules;
+      output_format = ap (λ r. r.format) c.request.view_is;
+    }

@@ -1,0 +1,273 @@
+-- What `kpn stream` does.
+use Rattle.std.specs.Prelude.{◌≡◌, ◌≢◌, ℕ, ◌-◌, ◌≤◌, ◌^◌, Bool, List, [], ◌∷◌, ◌++◌, map, All, Option, Some, None}
+use Rattle.std.specs.Prelude.{⊤, unwrap_or, IfSome, Result, Ok, Err}
+use Rattle.std.specs.List.{AllZip}
+use Rattle.kpn_net.specs.Tables.{Tables}
+use Rattle.kpn_text.specs.Document.{Document}
+use Rattle.kpn_trace.specs.TraceText.{trace_text}
+use Rattle.kpn_run_history.specs.declared.stored.Version.TheVariants as version
+use Rattle.kpn_run_state.specs.Book.{Book}
+use Rattle.kpn_run_state.specs.Kept.{IsBook}
+use Rattle.kpn_book.specs.declared.outcome.Limits.{Limits}
+use Rattle.kpn_command_base.specs.StreamRequest.{StreamRequest}
+use Rattle.kpn_command_base.specs.declared.refusal.Refusal.{Refusal}
+use Rattle.kpn_shelf.specs.Shelf.{Loads, KeepsOthers}
+use Rattle.kpn_command_base.specs.declared.sources.Ends.TheVariants.{Sources, Sinks}
+use Rattle.kpn_command_base.specs.Description.{IsDescribed}
+use Rattle.kpn_command_base.specs.Sources.{name_in, file_in}
+use Rattle.kpn_stream.specs.declared.faults.SinkFault.{SinkFault}
+use Rattle.kpn_stream.specs.declared.faults.SinkFault.TheVariants.{Gone}
+use Rattle.kpn_stream.specs.declared.ending.Ending.{Ending}
+use Rattle.kpn_stream.specs.Devices.{Fed, Served, Called, EndsFlushed}
+use Rattle.kpn_stream.specs.Ending.{failed_source, failed_sink, IsEnding, LeavesNothing}
+use Rattle.kpn_stream_devices.specs.declared.inputs.Input.{Input}
+use Rattle.kpn_stream_devices.specs.declared.inputs.Inputs.{Inputs}
+use Rattle.kpn_stream_devices.specs.declared.outputs.Output.{Output}
+use Rattle.kpn_stream_devices.specs.declared.outputs.Outputs.{Outputs}
+use Rattle.kpn_stream_devices.specs.Window.{fresh}
+use Rattle.kpn_stream_devices.specs.Inputs.{InputsGive, InputsLook, IsAtHand}
+use Rattle.kpn_stream_devices.specs.Outputs.{OutputsTake, OutputsFlush}
+use Rattle.kpn_command_stream.specs.declared.places.Place.{Place}
+use Rattle.kpn_command_stream.specs.declared.places.Places.{Places}
+use Rattle.kpn_command_stream.specs.declared.command.Words.{Words}
+use Rattle.kpn_command_stream.specs.declared.ending.Over.{Over}
+use Rattle.kpn_command_stream.specs.declared.running.Lost.{Lost}
+use Rattle.kpn_command_stream.specs.declared.refusal.StreamRefusal.{StreamRefusal}
+use Rattle.kpn_command_stream.specs.Refusal.{refusal_status, ending_fault, lost_fault, trace_fault}
+use Rattle.kpn_command_stream.specs.Refusal.{summary_fault, first_of}
+use Rattle.kpn_command_stream.specs.Places.{standard, ArePlaces}
+use Rattle.kpn_command_stream.specs.Summary.{stream_status}
+use Rattle.kpn_command_stream.specs.Ending.{IsOver}
+
+-- ---- what is known of devices
+
+-- by which names files were opened
+pub record Names (F G : Type 0) : Type 0 where
+  pub comes_from : F → List ℕ
+  pub goes_to : G → List ℕ
+
+-- what is known of the bytes of the devices: what those for input have left, and what those for output hold
+pub record Known (I F O G : Type 0) : Type 0 where
+  pub left : I → Option (List ℕ)
+  pub left_in : F → Option (List ℕ)
+  pub holds : O → Option (List ℕ)
+  pub holds_in : G → Option (List ℕ)
+
+abbrev pub names_of : {F G : Type 0} → (F → List ℕ) → (G → List ℕ) → Names F G
+names_of comes_from goes_to = record { comes_from = comes_from; goes_to = goes_to }
+
+abbrev pub known_of : {I F O G : Type 0} → (I → Option (List ℕ)) → (F → Option (List ℕ)) → (O → Option (List ℕ))
+    → (G → Option (List ℕ)) → Known I F O G
+known_of left left_in holds holds_in = record { left = left; left_in = left_in; holds = holds; holds_in = holds_in }
+
+-- ---- the devices at the beginning
+
+-- standard input for the name `-`, and else the file of this name, which has left what the shelf may give
+abbrev pub IsInputOf : {F : Type 0} → (may_give : Loads) (comes_from : F → List ℕ) (left_in : F → Option (List ℕ))
+    (name : List ℕ) → Option F → Type 0
+IsInputOf may_give comes_from left_in name None = name ≡ standard
+IsInputOf may_give comes_from left_in name (Some file) =
+    (name ≢ standard) × (comes_from file ≡ name) × IfSome (left_in file) (λ bytes. may_give name (Ok bytes))
+
+-- standard output for the name `-`, and else the file of this name
+abbrev pub IsOutputOf : {G : Type 0} → (goes_to : G → List ℕ) (name : List ℕ) → Option G → Type 0
+IsOutputOf goes_to name None = name ≡ standard
+IsOutputOf goes_to name (Some file) = (name ≢ standard) × (goes_to file ≡ name)
+
+-- the input of a place: nothing was read
+pub record IsInputFor {F : Type 0} (may_give : Loads) (comes_from : F → List ℕ) (left_in : F → Option (List ℕ))
+    (place : Place) (input : Input F) : Type 0 where
+  pub channel : input.channel ≡ place.channel
+  pub file : IsInputOf may_give comes_from left_in place.name.now input.file
+  pub window : input.window ≡ fresh
+  pub failed : input.failed ≡ None
+
+-- the output of a place: nothing is kept
+pub record IsOutputFor {G : Type 0} (goes_to : G → List ℕ) (place : Place) (output : Output G) : Type 0 where
+  pub channel : output.channel ≡ place.channel
+  pub file : IsOutputOf goes_to place.name.now output.file
+  pub bytes : output.bytes.items ≡ []
+
+-- its file, if it has one, holds nothing
+abbrev pub IsEmptied : {G : Type 0} → (holds_in : G → Option (List ℕ)) → Output G → Type 0
+IsEmptied holds_in output = IfSome output.file (λ file. IfSome (holds_in file) (λ bytes. bytes ≡ []))
+
+-- ---- the run
+
+-- a stream has the limits that are asked for, and no end of its own
+abbrev pub limits_of : StreamRequest → Limits
+limits_of request = record {
+  commits = unwrap_or request.commits (2 ^ 64 - 1);
+  take = request.take;
+  quota = 1000;
+}
+
+-- what is lost if the output of sink c answers so at the end: nothing if nobody reads it
+abbrev pub losses : (c : ℕ) → Result (Unit {0}) SinkFault → List Lost
+losses c (Ok done) = []
+losses c (Err Gone) = []
+losses c (Err fault) = record { sink = c; fault = fault } ∷ []
+
+-- the outputs of these sinks handed on what they kept, one after the other, and this was lost
+pub data HandedOn {K : Type 0} (flushes : K → ℕ → Result (Unit {0}) SinkFault → K → Type 0) (first : K)
+    : (sinks : List ℕ) → List Lost → K → Type 0 where
+  none_yet : HandedOn flushes first [] [] first
+  one_more : (sinks : List ℕ) (c : ℕ) (lost : List Lost) (answer : Result (Unit {0}) SinkFault) (before now : K) →
+      HandedOn flushes first sinks lost before → flushes before c answer now →
+      HandedOn flushes first (sinks ++ c ∷ []) (lost ++ losses c answer) now
+
+-- what outputs do that hand on what they kept
+abbrev pub flushes_of : {O G : Type 0} → (O → Option (List ℕ)) → (G → Option (List ℕ)) → Outputs O G → ℕ
+    → Result (Unit {0}) SinkFault → Outputs O G → Type 0
+flushes_of holds holds_in = OutputsFlush holds holds_in
+
+-- The network ran over these devices, under these limits, from the beginning to this ending. Then the outputs of these
+-- sinks handed on what they kept, and this was lost.
+pub record RanOver {I F O G : Type 0} (known : Known I F O G) (limits : Limits) (t : Tables) (sinks : List ℕ)
+    (inputs : Inputs I F) (read : Inputs I F) (outputs : Outputs O G) (written : Outputs O G)
+    (ending : Ending) (b : Book) (lost : List Lost) : Type 0 where
+  pub same_input : read.standard.ghost_name ≡ inputs.standard.ghost_name
+  pub same_output : written.standard.ghost_name ≡ outputs.standard.ghost_name
+  pub tables : b.tables ≡ t
+  pub book : IsBook b
+  pub fed : Fed t (InputsGive known.left known.left_in) (InputsLook known.left known.left_in) inputs b.history
+      (failed_source (Some ending)) read
+  pub served : Outputs O G
+  pub is_served : Served (OutputsTake known.holds known.holds_in) (OutputsFlush known.holds known.holds_in)
+      limits.take outputs b.history (failed_sink (Some ending)) served
+  pub called : Called t (InputsGive known.left known.left_in) (InputsLook known.left known.left_in) IsAtHand
+      (OutputsTake known.holds known.holds_in) (OutputsFlush known.holds known.holds_in) limits.take inputs outputs
+      b.history read served
+  pub flushed : EndsFlushed (OutputsTake known.holds known.holds_in) (OutputsFlush known.holds known.holds_in)
+      limits.take t [] outputs (Some ending) b.history served
+  pub is_ending : IsEnding limits ending b
+  pub taken : LeavesNothing ending b
+  pub commits : b.commits ≤ limits.commits
+  pub handed_on : HandedOn (OutputsFlush known.holds known.holds_in) served sinks lost written
+
+-- The same, over standard input and output and these files. Standard input and output are given as they were, and as
+-- they are afterwards: they are those of the first and of the last devices.
+pub record Ran {I F O G : Type 0} (known : Known I F O G) (request : StreamRequest) (t : Tables) (sinks : List ℕ)
+    (inputs : List (Input F)) (outputs : List (Output G)) (input read : I) (out written : O) (ending : Ending)
+    (b : Book) (lost : List Lost) : Type 0 where
+  pub first_input : Inputs I F
+  pub last_input : Inputs I F
+  pub first_output : Outputs O G
+  pub last_output : Outputs O G
+  pub ran : RanOver known (limits_of request) t sinks first_input last_input first_output last_output ending b lost
+  pub inputs_are : first_input.each.now.items ≡ inputs
+  pub input_is : first_input.standard.now ≡ input
+  pub input_read : last_input.standard.now ≡ read
+  pub input_format : first_input.format ≡ request.format
+  pub outputs_are : first_output.each.now.items ≡ outputs
+  pub output_is : first_output.standard.now ≡ out
+  pub output_written : last_output.standard.now ≡ written
+  pub output_format : first_output.format ≡ request.format
+
+-- the sinks of places, in order
+abbrev pub sinks_of : Places → List ℕ
+sinks_of places = map (λ place. place.channel) places.sinks.items
+
+-- the same, over standard input and output and the files of these places
+pub record RanAt {I F O G : Type 0} (may_give : Loads) (names : Names F G) (known : Known I F O G)
+    (request : StreamRequest) (t : Tables) (places : Places) (input read : I) (out written : O) (ending : Ending)
+    (b : Book) (lost : List Lost) : Type 0 where
+  pub inputs : List (Input F)
+  pub are_inputs : AllZip (IsInputFor may_give names.comes_from known.left_in) places.sources.items inputs
+  pub outputs : List (Output G)
+  pub are_outputs : AllZip (IsOutputFor names.goes_to) places.sinks.items outputs
+  pub are_emptied : All (IsEmptied known.holds_in) outputs
+  pub ran : Ran known request t (sinks_of places) inputs outputs input read out written ending b lost
+
+-- ---- the end
+
+-- The trace is stored, if one is asked for, or it is not, for this cause. No other file changes.
+abbrev pub IsTraceKept : {S : Type 0} → (may_give : S → Loads) (trace : Option (List ℕ)) → Tables → Over
+    → (shelf kept : S) → Result (Unit {0}) Refusal → Type 0
+IsTraceKept may_give None t over shelf kept stored = (kept ≡ shelf) × (stored ≡ Ok tt)
+IsTraceKept may_give (Some name) t over shelf kept (Ok done) =
+    may_give kept name (Ok (trace_text version.Two t.policy t.growth over.history.events))
+    × KeepsOthers (may_give shelf) (may_give kept) name
+IsTraceKept may_give (Some name) t over shelf kept (Err refusal) = KeepsOthers (may_give shelf) (may_give kept) name
+
+-- The status at the end: that of the first fault that is told. They are told in this order: what has ended the stream,
+-- what outputs have lost, the trace that could not be stored, the summary if there was no memory for it. Without a
+-- fault it is that of the stream.
+abbrev pub end_status : Ending → List Lost → (stored : Result (Unit {0}) Refusal) → (is_told : Bool) → Over → ℕ
+end_status ending lost stored is_told over =
+    unwrap_or
+    (first_of (first_of (ending_fault ending) (lost_fault lost))
+    (first_of (trace_fault stored) (summary_fault is_told)))
+    (stream_status over.sinks.items over.states over.outcome)
+
+-- A stream that has ended: what is told of it, its trace, and the status; or there was no memory for what is told, and
+-- no trace is stored.
+pub data IsConcluded {S : Type 0} (may_give : S → Loads) (request : StreamRequest) (t : Tables) (ending : Ending)
+    (b : Book) (lost : List Lost) (shelf kept : S) (status : ℕ) : Type 0 where
+  told : (over : Over) → IsOver (limits_of request) ending b over → (stored : Result (Unit {0}) Refusal) →
+      IsTraceKept may_give request.trace t over shelf kept stored → (is_told : Bool) →
+      status ≡ end_status ending lost stored is_told over →
+      IsConcluded may_give request t ending b lost shelf kept status
+  untold : kept ≡ shelf → status ≡ unwrap_or (first_of (ending_fault ending) (lost_fault lost)) 6 →
+      IsConcluded may_give request t ending b lost shelf kept status
+
+-- ---- the whole
+
+-- each source has the input that is asked for, and each sink the output
+pub record AreAskedFor (request : StreamRequest) (d : Document) (places : Places) : Type 0 where
+  pub sources : ArePlaces Sources d (map name_in request.sources) (map file_in request.sources) places.sources.items
+  pub sinks : ArePlaces Sinks d (map name_in request.sinks) (map file_in request.sinks) places.sinks.items
+
+-- A stream of this network. Given are the shelf, standard input and standard output, each as it was and as it is
+-- afterwards.
+pub record IsStreamedOf {S I F O G : Type 0} (may_give : S → Loads) (names : Names F G) (known : Known I F O G)
+    (request : StreamRequest)
+    (d : Document) (shelf kept : S) (input read : I) (out written : O) (status : ℕ) : Type 0 where
+  pub places : Places
+  pub asked_for : AreAskedFor request d places
+  pub ending : Ending
+  pub book : Book
+  pub lost : List Lost
+  pub ran : RanAt (may_give shelf) names known request d.tables places input read out written ending book lost
+  pub concluded : IsConcluded may_give request d.tables ending book lost shelf kept status
+
+-- A stream of what is asked for.
+pub record IsStreamed {S I F O G : Type 0} (may_give : S → Loads) (names : Names F G) (known : Known I F O G)
+    (request : StreamRequest)
+    (shelf kept : S) (input read : I) (out written : O) (status : ℕ) : Type 0 where
+  pub document : Document
+  pub described : IsDescribed (may_give shelf) request.file document
+  pub trace : IfSome request.trace (λ name. name ≢ standard)
+  pub streamed : IsStreamedOf may_give names known request document shelf kept input read out written status
+
+-- nothing was begun: the shelf, standard input and standard output are as they were
+pub record NothingBegun {S I O : Type 0} (shelf kept : S) (input read : I) (out written : O) : Type 0 where
+  pub same_shelf : kept ≡ shelf
+  pub same_input : read ≡ input
+  pub same_output : written ≡ out
+
+-- A stream; or nothing is begun, and the refusal gives the status.
+pub data Streams {S I F O G : Type 0} (may_give : S → Loads) (names : Names F G) (known : Known I F O G)
+    (request : StreamRequest)
+    (shelf kept : S) (input read : I) (out written : O) (status : ℕ) : Type 0 where
+  streamed : IsStreamed may_give names known request shelf kept input read out written status →
+      Streams may_give names known request shelf kept input read out written status
+  refused : (refusal : StreamRefusal) → NothingBegun shelf kept input read out written →
+      status ≡ refusal_status refusal →
+      Streams may_give names known request shelf kept input read out written status
+
+-- ---- scaffolding
+
+-- a file stays the one of its name
+abbrev pub KeepsName : {G : Type 0} → (goes_to : G → List ℕ) → (before after : Option G) → Type 0
+KeepsName goes_to None None = ⊤
+KeepsName goes_to (Some file) (Some after) = goes_to after ≡ goes_to file
+KeepsName goes_to before after = ⊥
+
+-- these are the words of the request, taken apart
+pub record AreWordsOf (request : StreamRequest) (words : Words) : Type 0 where
+  pub source_names : map (λ o. o.name.now) words.sources.items ≡ map name_in request.sources
+  pub source_files : map (λ o. o.file.now) words.sources.items ≡ map file_in request.sources
+  pub sink_names : map (λ o. o.name.now) words.sinks.items ≡ map name_in request.sinks
+  pub sink_files : map (λ o. o.file.now) words.sinks.items ≡ map file_in request.sinks
+  pub trace : IfSome request.trace (λ name. name ≢ standard)

@@ -1,0 +1,38 @@
+-- What a stream has come to.
+use Rattle.std.specs.Prelude.{◌≡◌, Bool, true, false, Option, Some, None}
+use Rattle.kpn_run_history.specs.declared.event.Event.{Event}
+use Rattle.kpn_run_history.specs.declared.event.Event.TheVariants.{Close, Grow}
+use Rattle.kpn_run_state.specs.Book.{Book}
+use Rattle.kpn_book.specs.declared.outcome.Limits.{Limits}
+use Rattle.kpn_book.specs.declared.outcome.Outcome.{Outcome}
+use Rattle.kpn_book.specs.Outcomes.{IsOutcome}
+use Rattle.kpn_stream.specs.Streaming.{HappensBesides}
+use Rattle.kpn_stream.specs.declared.ending.Ending.{Ending}
+use Rattle.kpn_stream.specs.declared.ending.Ending.TheVariants as ending
+use Rattle.kpn_command_stream.specs.declared.ending.Over.{Over}
+use Rattle.kpn_command_stream.specs.Summary.{AreSinkEnds}
+
+-- an event that is neither the close of a source nor a growth
+abbrev pub is_no_close : Event → Bool
+is_no_close (Close c) = false
+is_no_close (Grow p d n) = false
+is_no_close e = true
+
+-- sources were closed, and nothing else happened but growths that follow from that
+abbrev pub AreClosed : (before after : Book) → Type 0
+AreClosed before after = HappensBesides is_no_close before after
+
+-- the outcome of a stream, and its book then: if it rests, its sources are closed before
+abbrev pub IsOutcomeAt : Limits → Ending → (before : Book) → Option Outcome → (after : Book) → Type 0
+IsOutcomeAt limits (ending.Outcome outcome) before told after = (told ≡ Some outcome) × (after ≡ before)
+IsOutcomeAt limits ending.Resting before told after =
+    AreClosed before after × IsOutcome after.tables after.history after.commits limits told
+IsOutcomeAt limits other before told after = (told ≡ None) × (after ≡ before)
+
+-- what is told of a stream: of its sinks before sources are closed that nobody reads, and the rest afterwards
+pub record IsOver (limits : Limits) (ending : Ending) (b : Book) (over : Over) : Type 0 where
+  pub sinks : AreSinkEnds b over.sinks.items
+  pub after : Book
+  pub outcome : IsOutcomeAt limits ending b over.outcome after
+  pub history : over.history.events ≡ after.history
+  pub states : over.states ≡ after.schedule.states

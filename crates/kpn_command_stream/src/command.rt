@@ -1,0 +1,199 @@
+//! The command: it opens the inputs and the outputs, runs the network over them, and concludes.
+ghost use Rattle.std.specs.Prelude.{◌≡◌, ◌≢◌, false, map, option_map, IfOk, IfSome, OnErr};
+ghost use Rattle.kpn_command_base.specs.declared.sources.Ends.TheVariants as ends;
+ghost use Rattle.kpn_command_base.specs.Sources.{name_in, file_in};
+ghost use Rattle.kpn_command_stream.specs.Places.{ArePlaces, standard};
+ghost use Rattle.kpn_command_stream.specs.Command.{AreWordsOf, IsStreamed, IsStreamedOf, NothingBegun, Streams, known_of, names_of};
+
+use crate::concluding::conclude;
+use crate::places::{Places, is_dash, places_of, share_an_input};
+use crate::refusal::StreamRefusal;
+use crate::running::run;
+use kpn_command_base::{
+    Ends, FileOption, FileWords, Refusal, StreamRequest, check_outputs, load_document, options_of,
+};
+use kpn_shelf::{Look, Ports, Shelf};
+use kpn_text::Document;
+use std::alloc::{AllocError, Global};
+use std::io::Write;
+
+/// What `kpn stream FILE` does. It returns the status of the program.
+pub fn stream_command<S: Shelf + Ports, I: Look, O: Write, E: Write>(
+    alloc: Global,
+    request: &StreamRequest<'_>,
+    shelf: &mut S,
+    input: &mut I,
+    out: &mut O,
+    err: &mut E,
+) -> u8
+    ensures { Streams S.may_give (names_of S.comes_from S.goes_to)
+        (known_of I.remaining S.Input.remaining O.contents S.Output.contents) request.now
+        shelf.old shelf.new input.old input.new out.old out.new result }
+{
+    match carry_out(alloc, request, shelf, input, out, err) {
+        Ok(status) => status,
+        Err(refusal) => refusal.report(err),
+    }
+}
+
+/// The same, with no report of a refusal.
+fn carry_out<S: Shelf + Ports, I: Look, O: Write, E: Write>(
+    alloc: Global,
+    request: &StreamRequest<'_>,
+    shelf: &mut S,
+    input: &mut I,
+    out: &mut O,
+    err: &mut E,
+) -> Result<u8, StreamRefusal>
+    ensures streamed { IfOk result (IsStreamed S.may_give (names_of S.comes_from S.goes_to)
+        (known_of I.remaining S.Input.remaining O.contents S.Output.contents) request.now
+        shelf.old shelf.new input.old input.new out.old out.new) }
+    ensures refused { OnErr result
+        (NothingBegun shelf.old shelf.new input.old input.new out.old out.new) }
+{
+    let words = check_words(alloc, request, shelf)?;
+    let document = load_document(alloc, shelf, request.file)?;
+    stream_document(alloc, request, &words, &document, shelf, input, out, err)
+}
+
+/// Streams a network between the inputs and outputs that these words name, and concludes.
+// It owns no document: a function that owns one and may fail behind it is dear to prove.
+fn stream_document<S: Shelf + Ports, I: Look, O: Write, E: Write>(
+    alloc: Global,
+    request: &StreamRequest<'_>,
+    words: &Words<'_>,
+    document: &Document,
+    shelf: &mut S,
+    input: &mut I,
+    out: &mut O,
+    err: &mut E,
+) -> Result<u8, StreamRefusal>
+    requires { AreWordsOf request.now words.now }
+    ensures streamed { IfOk result (IsStreamedOf S.may_give (names_of S.comes_from S.goes_to)
+        (known_of I.remaining S.Input.remaining O.contents S.Output.contents) request.now
+        document.now shelf.old shelf.new input.old input.new out.old out.new) }
+    ensures refused { OnErr result
+        (NothingBegun shelf.old shelf.new input.old input.new out.old out.new) }
+{
+    let places = places_for(alloc, document, words, shelf)?;
+    make_ready(shelf, request.trace)?;
+    let mut lost = Vec::with_capacity(alloc, places.sinks.len())?;
+    let streamed = run(
+        alloc, request, document, &places, shelf, input, out, &mut lost,
+    )?;
+    Ok(conclude(
+        alloc, request, document, streamed, &lost, &places, shelf, err,
+    ))
+}
+
+/// What the words behind `--source` and `--sink` name.
+#[derive(Drop)]
+struct Words<'a> {
+    sources: Vec<FileOption<'a>>,
+    sinks: Vec<FileOption<'a>>,
+}
+
+/// What the words name. No output is an input or another output, and the trace has a file.
+fn check_words<'a, S: Shelf>(
+    alloc: Global,
+    request: &StreamRequest<'a>,
+    shelf: &S,
+) -> Result<Words<'a>, Refusal>
+    ensures { IfOk result (AreWordsOf request.now) }
+{
+    if is_dash_asked(request.trace) {
+        return Err(Refusal::TraceWord);
+    }
+    let sources = sources_of(alloc, request)?;
+    let files = files_of(alloc, &request.sources)?;
+    let asked = asked_of(request, &files);
+    let outputs = check_outputs(alloc, &asked, shelf)?;
+    Ok(Words {
+        sources,
+        sinks: outputs.sinks,
+    })
+}
+
+/// Whether the file for the trace has the name of standard output.
+fn is_dash_asked(trace: Option<&str>) -> bool
+    ensures { result ≡ false → IfSome (option_map (λ name. name.now) trace.entry)
+        (λ name. name ≢ standard) }
+{
+    match trace {
+        Some(name) => is_dash(name),
+        None => false,
+    }
+}
+
+/// What the words behind `--source` name. A word without `=` is refused.
+fn sources_of<'a>(
+    alloc: Global,
+    request: &StreamRequest<'a>,
+) -> Result<Vec<FileOption<'a>>, Refusal>
+    ensures names { IfOk result (λ sources.
+        map (λ o. o.name.now) sources.items ≡ map name_in request.now.sources) }
+    ensures files { IfOk result (λ sources.
+        map (λ o. o.file.now) sources.items ≡ map file_in request.now.sources) }
+{
+    options_of(alloc, &request.sources, Refusal::SourceWord)
+}
+
+/// The words that name files. Standard input is no file.
+fn asked_of<'w, 'a>(request: &'w StreamRequest<'a>, files: &'w [&'a str]) -> FileWords<'w, 'a>
+    ensures { result.sinks ≡ request.now.sinks }
+{
+    FileWords {
+        file: request.file,
+        sources: files,
+        sinks: request.sinks.as_slice(),
+        trace: request.trace,
+    }
+}
+
+/// The words that name no standard input.
+fn files_of<'a>(alloc: Global, words: &[&'a str]) -> Result<Vec<&'a str>, AllocError> {
+    let mut files = Vec::new(alloc);
+    for word in words {
+        if !is_standard(word) {
+            files.push(*word)?;
+        }
+    }
+    Ok(files)
+}
+
+fn is_standard(word: &str) -> bool {
+    match word.split_once('=') {
+        Some((_, file)) => is_dash(file),
+        None => false,
+    }
+}
+
+/// The inputs of all sources, and the outputs of all sinks.
+fn places_for<'a, S: Ports>(
+    alloc: Global,
+    document: &Document,
+    words: &Words<'a>,
+    shelf: &S,
+) -> Result<Places<'a>, StreamRefusal>
+    ensures sources { IfOk result (λ places. ArePlaces ends.Sources document.now
+        (map (λ o. o.name.now) words.now.sources.items)
+        (map (λ o. o.file.now) words.now.sources.items) places.sources.items) }
+    ensures sinks { IfOk result (λ places. ArePlaces ends.Sinks document.now
+        (map (λ o. o.name.now) words.now.sinks.items)
+        (map (λ o. o.file.now) words.now.sinks.items) places.sinks.items) }
+{
+    let sources = places_of(alloc, document, Ends::Sources, &words.sources)?;
+    if share_an_input(shelf, &sources) {
+        return Err(StreamRefusal::SharedInput);
+    }
+    let sinks = places_of(alloc, document, Ends::Sinks, &words.sinks)?;
+    Ok(Places { sources, sinks })
+}
+
+/// Makes ready for the trace, if there is to be one.
+fn make_ready<S: Shelf>(shelf: &S, trace: Option<&str>) -> Result<(), Refusal> {
+    match trace {
+        Some(name) => shelf.make_ready(name).map_err(Refusal::Output),
+        None => Ok(()),
+    }
+}

@@ -1,0 +1,235 @@
+//! The end of a stream: what is told of it, its trace, and the status.
+ghost use Rattle.std.specs.Prelude.{◌≡◌, Bool, Some, unwrap_or, Result as Answer};
+ghost use Rattle.kpn_command_base.specs.declared.refusal.Refusal.{Refusal as Cause};
+ghost use Rattle.kpn_command_stream.specs.Command.{IsConcluded, IsTraceKept, end_status};
+ghost use Rattle.kpn_command_stream.specs.Refusal.{ending_fault, first_of, lost_fault, summary_fault, trace_fault};
+
+use crate::ending::{Over, over_of};
+use crate::places::{Places, place_of};
+use crate::refusal::{report_memory, report_sink, report_source};
+use crate::running::{Lost, limits_of};
+use crate::summary::{stream_status, summary_of};
+use kpn_command_base::{Refusal, StreamRequest, trace_of};
+use kpn_net::Network;
+use kpn_shelf::Shelf;
+use kpn_stream::{Ending, Streamed};
+use kpn_text::Document;
+use std::alloc::Global;
+use std::io::Write;
+
+/// Tells how the stream has ended, stores the trace, and returns the status.
+pub(crate) fn conclude<S: Shelf, E: Write>(
+    alloc: Global,
+    request: &StreamRequest<'_>,
+    document: &Document,
+    streamed: Streamed<'_>,
+    lost: &[Lost],
+    places: &Places<'_>,
+    shelf: &mut S,
+    err: &mut E,
+) -> u8
+    ensures { IsConcluded S.may_give request.now document.now.tables
+        streamed.entry.ending streamed.entry.book lost.now shelf.old shelf.new result }
+{
+    let ending = streamed.ending;
+    match over_of(alloc, streamed, &limits_of(request)) {
+        Ok(over) => conclude_over(
+            alloc, request, document, ending, lost, &over, places, shelf, err,
+        ),
+        Err(_) => conclude_untold(document, ending, lost, places, err),
+    }
+}
+
+/// The same of what the stream has come to.
+fn conclude_over<S: Shelf, E: Write>(
+    alloc: Global,
+    request: &StreamRequest<'_>,
+    document: &Document,
+    ending: Ending,
+    lost: &[Lost],
+    over: &Over,
+    places: &Places<'_>,
+    shelf: &mut S,
+    err: &mut E,
+) -> u8
+    ensures { let t = document.now.tables in
+        (stored : Answer (Unit {0}) Cause) × (is_told : Bool)
+        × IsTraceKept S.may_give request.now.trace t over.now shelf.old shelf.new stored
+        × (result ≡ end_status ending lost.now stored is_told over.now) }
+{
+    let is_told = tell(alloc, request.quiet, document, over, err);
+    let failed = report_failed(ending, document, lost, places, err);
+    let stored = store_trace(alloc, request, document.network(), over, shelf);
+    let unstored = report_trace(&stored, err);
+    let untold = report_summary(is_told, err);
+    let status = first_of(failed, first_of(unstored, untold));
+    status.unwrap_or(stream_status(&over.sinks, over.states.as_slice(), over.outcome))
+}
+
+/// There was no memory for what is to be told. So there is none for the trace either.
+fn conclude_untold<E: Write>(
+    document: &Document,
+    ending: Ending,
+    lost: &[Lost],
+    places: &Places<'_>,
+    err: &mut E,
+) -> u8
+    ensures { result ≡ unwrap_or (first_of (ending_fault ending) (lost_fault lost.now)) 6 }
+{
+    let failed = report_failed(ending, document, lost, places, err);
+    let memory = report_memory(err);
+    failed.unwrap_or(memory)
+}
+
+/// Stores the trace, if one was asked for.
+fn store_trace<S: Shelf>(
+    alloc: Global,
+    request: &StreamRequest<'_>,
+    network: &Network,
+    over: &Over,
+    shelf: &mut S,
+) -> Result<(), Refusal>
+    ensures { IsTraceKept S.may_give request.now.trace network.now over.now
+        shelf.old shelf.new result }
+{
+    let Some(name) = request.trace else {
+        return Ok(());
+    };
+    store_under(alloc, name, network, over, shelf)
+}
+
+/// Stores the trace under this name.
+fn store_under<S: Shelf>(
+    alloc: Global,
+    name: &str,
+    network: &Network,
+    over: &Over,
+    shelf: &mut S,
+) -> Result<(), Refusal>
+    ensures { IsTraceKept S.may_give (Some name.now) network.now over.now
+        shelf.old shelf.new result }
+{
+    let bytes = match trace_of(alloc, network, &over.history) {
+        Ok(bytes) => bytes,
+        Err(refusal) => return Err(refusal),
+    };
+    match shelf.store(name, &bytes) {
+        Ok(()) => Ok(()),
+        Err(fault) => Err(Refusal::Output(fault)),
+    }
+}
+
+/// Tells how the stream has ended, if it is not to be quiet. If it can't, memory ran out.
+fn tell<E: Write>(
+    alloc: Global,
+    quiet: bool,
+    document: &Document,
+    over: &Over,
+    err: &mut E,
+) -> bool {
+    if quiet {
+        return true;
+    }
+    match summary_of(
+        alloc,
+        document,
+        &over.sinks,
+        over.states.as_slice(),
+        over.outcome,
+    ) {
+        Ok(text) => {
+            let _ = err.write_all(text.as_bytes());
+            true
+        }
+        Err(_) => false,
+    }
+}
+
+// ---- what has failed
+
+/// The first of two statuses.
+fn first_of(first: Option<u8>, later: Option<u8>) -> Option<u8>
+    ensures { result ≡ first_of first later }
+{
+    match first {
+        Some(status) => Some(status),
+        None => later,
+    }
+}
+
+/// Reports what has ended the stream, if something has failed, and what was lost at its end. Returns the status of the
+/// first.
+fn report_failed<E: Write>(
+    ending: Ending,
+    document: &Document,
+    lost: &[Lost],
+    places: &Places<'_>,
+    err: &mut E,
+) -> Option<u8>
+    ensures { result ≡ first_of (ending_fault ending) (lost_fault lost.now) }
+{
+    let first = report_ending(ending, document, places, err);
+    let second = report_lost(document, lost, places, err);
+    first_of(first, second)
+}
+
+/// Reports a device that has failed, or that memory ran out.
+fn report_ending<E: Write>(
+    ending: Ending,
+    document: &Document,
+    places: &Places<'_>,
+    err: &mut E,
+) -> Option<u8>
+    ensures { result ≡ ending_fault ending }
+{
+    match ending {
+        Ending::SourceFailed(c, fault) => {
+            let place = place_of(&places.sources, c);
+            Some(report_source(document, fault, place, err))
+        }
+        Ending::SinkFailed(c, fault) => {
+            let place = place_of(&places.sinks, c);
+            Some(report_sink(document, fault, place, err))
+        }
+        Ending::NoMemory => Some(report_memory(err)),
+        _ => None,
+    }
+}
+
+/// Reports each output that could not hand on what it kept.
+fn report_lost<E: Write>(
+    document: &Document,
+    lost: &[Lost],
+    places: &Places<'_>,
+    err: &mut E,
+) -> Option<u8>
+    ensures { result ≡ lost_fault lost.now }
+{
+    let mut status = None;
+    for one in lost {
+        let place = place_of(&places.sinks, one.sink);
+        let told = report_sink(document, one.fault, place, err);
+        status = first_of(status, Some(told));
+    }
+    status
+}
+
+/// Reports that the trace could not be stored.
+fn report_trace<E: Write>(stored: &Result<(), Refusal>, err: &mut E) -> Option<u8>
+    ensures { result ≡ trace_fault stored.now }
+{
+    match stored {
+        Ok(()) => None,
+        Err(refusal) => Some(refusal.report(err)),
+    }
+}
+
+/// Reports that there was no memory for the summary.
+fn report_summary<E: Write>(is_told: bool, err: &mut E) -> Option<u8>
+    ensures { result ≡ summary_fault is_told }
+{
+    if is_told {
+        return None;
+    }
+    Some(report_memory(err))
+}

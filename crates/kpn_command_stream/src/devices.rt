@@ -1,0 +1,147 @@
+//! The devices of a stream, opened.
+ghost use Rattle.std.specs.Prelude.{◌≡◌, [], All, IfOk, IfSome, OnOk};
+ghost use Rattle.std.specs.List.{AllZip};
+ghost use Rattle.kpn_command_stream.specs.Command.{IsEmptied, IsInputFor, IsInputOf, IsOutputFor, IsOutputOf, KeepsName};
+
+use crate::places::{Place, Places, is_dash};
+use kpn_command_base::Refusal;
+use kpn_shelf::Ports;
+use kpn_stream_devices::{Input, Output, Window};
+use kpn_text_items::{ItemFault, WriteFault};
+use std::alloc::Global;
+
+/// An input for each source.
+pub(crate) fn open_inputs<S: Ports>(
+    alloc: Global,
+    shelf: &S,
+    places: &Places<'_>,
+) -> Result<Vec<Input<S::Input>>, Refusal>
+    ensures { IfOk result (λ inputs.
+        AllZip (IsInputFor (S.may_give shelf.now) S.comes_from S.Input.remaining)
+        places.now.sources.items inputs.items) }
+{
+    let mut inputs = Vec::new(alloc);
+    for i in 0..places.sources.len() {
+        let place = places.sources[i];
+        let input = input_for(alloc, shelf, place)?;
+        inputs.push(input)?;
+    }
+    Ok(inputs)
+}
+
+fn input_for<S: Ports>(
+    alloc: Global,
+    shelf: &S,
+    place: Place<'_>,
+) -> Result<Input<S::Input>, Refusal>
+    ensures { IfOk result
+        (IsInputFor (S.may_give shelf.now) S.comes_from S.Input.remaining place.entry) }
+{
+    match open_input(shelf, place.name) {
+        Ok(file) => Ok(Input {
+            channel: place.channel,
+            file,
+            window: Window::new(alloc),
+            failed: None,
+        }),
+        Err(fault) => Err(Refusal::Input(fault)),
+    }
+}
+
+/// The file of this name, if it is not standard input.
+fn open_input<S: Ports>(shelf: &S, name: &str) -> Result<Option<S::Input>, ItemFault>
+    ensures { IfOk result
+        (IsInputOf (S.may_give shelf.now) S.comes_from S.Input.remaining name.now) }
+{
+    if is_dash(name) {
+        return Ok(None);
+    }
+    Ok(Some(shelf.open_input(name)?))
+}
+
+/// An output for each sink, which is to take so many items at most. Files keep what they hold until all are open.
+pub(crate) fn open_outputs<S: Ports>(
+    alloc: Global,
+    shelf: &S,
+    places: &Places<'_>,
+    wanted: Option<u64>,
+) -> Result<Vec<Output<S::Output>>, Refusal>
+    ensures { IfOk result (λ outputs.
+        AllZip (IsOutputFor S.goes_to) places.now.sinks.items outputs.items) }
+{
+    let mut outputs = Vec::new(alloc);
+    for i in 0..places.sinks.len() {
+        let place = places.sinks[i];
+        let output = output_for(alloc, shelf, place, wanted)?;
+        outputs.push(output)?;
+    }
+    Ok(outputs)
+}
+
+fn output_for<S: Ports>(
+    alloc: Global,
+    shelf: &S,
+    place: Place<'_>,
+    wanted: Option<u64>,
+) -> Result<Output<S::Output>, Refusal>
+    ensures { IfOk result (IsOutputFor S.goes_to place.entry) }
+{
+    match open_output(shelf, place.name) {
+        Ok(file) => Ok(Output {
+            channel: place.channel,
+            file,
+            bytes: Vec::new(alloc),
+            wanted,
+        }),
+        Err(fault) => Err(Refusal::Output(fault)),
+    }
+}
+
+/// The file of this name, if it is not standard output.
+fn open_output<S: Ports>(shelf: &S, name: &str) -> Result<Option<S::Output>, WriteFault>
+    ensures { IfOk result (IsOutputOf S.goes_to name.now) }
+{
+    if is_dash(name) {
+        return Ok(None);
+    }
+    Ok(Some(shelf.open_output(name)?))
+}
+
+/// Removes what the plain files of the outputs held. All inputs and outputs are open.
+pub(crate) fn empty_outputs<S: Ports>(
+    shelf: &S,
+    places: &Places<'_>,
+    outputs: &mut Vec<Output<S::Output>>,
+) -> Result<(), Refusal>
+    requires { AllZip (IsOutputFor S.goes_to) places.now.sinks.items outputs.old.items }
+    ensures outputs { OnOk result
+        (AllZip (IsOutputFor S.goes_to) places.now.sinks.items outputs.new.items) }
+    ensures emptied { OnOk result (All (IsEmptied S.Output.contents) outputs.new.items) }
+{
+    for i in 0..outputs.len() {
+        empty_output(shelf, &mut outputs[i])?;
+    }
+    Ok(())
+}
+
+fn empty_output<S: Ports>(shelf: &S, output: &mut Output<S::Output>) -> Result<(), Refusal>
+    ensures channel { output.new.channel ≡ output.old.channel }
+    ensures bytes { output.new.bytes ≡ output.old.bytes }
+    ensures name { KeepsName S.goes_to output.old.file output.new.file }
+    ensures emptied { OnOk result (IsEmptied S.Output.contents output.new) }
+{
+    match &mut output.file {
+        Some(file) => empty_file(shelf, file),
+        None => Ok(()),
+    }
+}
+
+fn empty_file<S: Ports>(shelf: &S, file: &mut S::Output) -> Result<(), Refusal>
+    ensures named { S.goes_to file.new ≡ S.goes_to file.old }
+    ensures empty { OnOk result (IfSome (S.Output.contents file.new) (λ bytes. bytes ≡ [])) }
+{
+    match shelf.empty(file) {
+        Ok(()) => Ok(()),
+        Err(fault) => Err(Refusal::Output(fault)),
+    }
+}

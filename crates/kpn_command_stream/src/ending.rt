@@ -1,0 +1,89 @@
+//! What a stream has come to: its sinks, its outcome, the states of its processes, and its history.
+ghost use Rattle.std.specs.Prelude.{◌≡◌, IfOk};
+ghost use Rattle.kpn_command_stream.specs.Ending.{AreClosed, IsOutcomeAt, IsOver};
+
+use crate::summary::{SinkEnd, sink_ends};
+use kpn_book::outcome_of;
+use kpn_lang::Sequence;
+use kpn_run_history::{History, State, View};
+use kpn_run_state::Book;
+use kpn_stream::{Ending, Limits, Outcome, Streamed, end_numbers_of};
+use std::alloc::{AllocError, Global};
+
+/// What a stream has come to.
+#[derive(Drop)]
+pub(crate) struct Over {
+    pub(crate) sinks: Vec<SinkEnd>,
+    pub(crate) outcome: Option<Outcome>,
+    pub(crate) states: Sequence<State>,
+    pub(crate) history: History,
+}
+
+/// What a stream has come to. If it rests, the sources that nobody reads are closed, and it has an outcome then: which
+/// sinks are complete is told before. The error is that memory ran out.
+pub(crate) fn over_of(
+    alloc: Global,
+    streamed: Streamed<'_>,
+    limits: &Limits,
+) -> Result<Over, AllocError>
+    ensures { IfOk result (IsOver limits.now streamed.entry.ending streamed.entry.book) }
+{
+    let Streamed { ending, mut book } = streamed;
+    let sinks = sink_ends(alloc, &book)?;
+    let outcome = outcome_at(alloc, ending, &mut book, limits)?;
+    let (view, history) = book.into_view(alloc)?;
+    let View {
+        journals: _,
+        read: _,
+        caps: _,
+        retired: _,
+        states,
+        counts: _,
+    } = view;
+    Ok(Over {
+        sinks,
+        outcome,
+        states,
+        history,
+    })
+}
+
+/// The outcome of a stream, if it has one.
+fn outcome_at(
+    alloc: Global,
+    ending: Ending,
+    book: &mut Book<'_>,
+    limits: &Limits,
+) -> Result<Option<Outcome>, AllocError>
+    ensures { IfOk result (λ outcome.
+        IsOutcomeAt limits.now ending book.old outcome book.new) }
+{
+    match ending {
+        Ending::Outcome(outcome) => Ok(Some(outcome)),
+        Ending::Resting => {
+            close_all(alloc, book)?;
+            Ok(outcome_of(book, limits))
+        }
+        _ => Ok(None),
+    }
+}
+
+/// Closes the sources that are open.
+fn close_all(alloc: Global, book: &mut Book<'_>) -> Result<(), AllocError>
+    ensures { IfOk result (λ _. AreClosed book.old book.new) }
+{
+    let ends = end_numbers_of(alloc, book.network())?;
+    for i in 0..ends.sources.len() {
+        close(book, ends.sources[i])?;
+    }
+    Ok(())
+}
+
+fn close(book: &mut Book<'_>, c: usize) -> Result<(), AllocError>
+    ensures { IfOk result (λ _. AreClosed book.old book.new) }
+{
+    match book.close_source(c) {
+        Ok(()) => Ok(()),
+        Err(_) => Err(AllocError),
+    }
+}

@@ -1,0 +1,141 @@
+//! Which input and which output each end of a network gets.
+ghost use Rattle.std.specs.Prelude.{◌≡◌, ◌↔◌, map, option_map, IfOk, IsTrue};
+ghost use Rattle.kpn_command_base.specs.Sources.{is_end};
+ghost use Rattle.kpn_stream.specs.Ending.{end_numbers};
+ghost use Rattle.kpn_command_stream.specs.Places.{AllPlaced, ArePlaces, name_for, standard};
+
+use crate::refusal::StreamRefusal;
+use kpn_command_base::{Ends, FileOption, NamedEnd, ends_of, file_for};
+use kpn_shelf::Ports;
+use kpn_stream::end_numbers_of;
+use kpn_text::Document;
+use std::alloc::Global;
+
+/// The name of standard input and of standard output.
+pub(crate) const STANDARD: &str = "-";
+
+/// Whether this is the name of standard input and of standard output.
+pub(crate) fn is_dash(name: &str) -> bool
+    ensures { IsTrue result ↔ (name.now ≡ standard) }
+{
+    name == STANDARD
+}
+
+/// An end of a network by the number of its channel, and the name of its input or output.
+#[derive(Clone, Copy)]
+pub(crate) struct Place<'a> {
+    pub(crate) channel: usize,
+    pub(crate) name: &'a str,
+}
+
+/// The places of all sources and of all sinks.
+#[derive(Drop)]
+pub(crate) struct Places<'a> {
+    pub(crate) sources: Vec<Place<'a>>,
+    pub(crate) sinks: Vec<Place<'a>>,
+}
+
+/// The place of each of these ends, in order of their channels. The only one may be left out by the options, and is
+/// standard input or output then. If another is left out, the refusal names it.
+pub(crate) fn places_of<'a>(
+    alloc: Global,
+    document: &Document,
+    ends: Ends,
+    options: &[FileOption<'a>],
+) -> Result<Vec<Place<'a>>, StreamRefusal>
+    ensures { IfOk result (λ places. ArePlaces ends document.now
+        (map (λ o. o.name.now) options.now) (map (λ o. o.file.now) options.now) places.items) }
+{
+    let named = ends_of(alloc, document, ends, options)?;
+    places_by(alloc, document, ends, &named)
+}
+
+/// The places by the names that options give.
+fn places_by<'a>(
+    alloc: Global,
+    document: &Document,
+    ends: Ends,
+    named: &[NamedEnd<'a>],
+) -> Result<Vec<Place<'a>>, StreamRefusal>
+    ensures { IfOk result (λ places.
+        AllPlaced named.now (end_numbers (is_end ends) document.now.tables) places.items) }
+{
+    let numbers = end_numbers_of(alloc, document.network())?;
+    match ends {
+        Ends::Sources => place_each(alloc, document, ends, named, &numbers.sources),
+        Ends::Sinks => place_each(alloc, document, ends, named, &numbers.sinks),
+    }
+}
+
+/// The places of these channels.
+fn place_each<'a>(
+    alloc: Global,
+    document: &Document,
+    ends: Ends,
+    named: &[NamedEnd<'a>],
+    channels: &[usize],
+) -> Result<Vec<Place<'a>>, StreamRefusal>
+    ensures { IfOk result (λ places. AllPlaced named.now channels.now places.items) }
+{
+    let mut places = Vec::new(alloc);
+    for number in 0..channels.len() {
+        let channel = channels[number];
+        let Some(name) = name_for(named, number, channels.len()) else {
+            return Err(unnamed(alloc, ends, document.channel_name(channel)));
+        };
+        places.push(Place { channel, name })?;
+    }
+    Ok(places)
+}
+
+/// The refusal of a stream one of whose ends has no option.
+fn unnamed(alloc: Global, ends: Ends, name: &str) -> StreamRefusal {
+    match String::from_str(alloc, name) {
+        Ok(name) => StreamRefusal::Unnamed(ends, name),
+        Err(error) => StreamRefusal::from(error),
+    }
+}
+
+/// The name for the end of this number, of so many.
+fn name_for<'a>(named: &[NamedEnd<'a>], number: usize, count: usize) -> Option<&'a str>
+    ensures { option_map (λ name. name.now) result ≡ name_for named.now number count }
+{
+    match file_for(named, number) {
+        Some(name) => Some(name),
+        None if count == 1 => Some(STANDARD),
+        None => None,
+    }
+}
+
+/// The place of a channel; an end without one has standard input or output.
+pub(crate) fn place_of<'a>(places: &[Place<'a>], channel: usize) -> Place<'a> {
+    for place in places {
+        if place.channel == channel {
+            return *place;
+        }
+    }
+    Place {
+        channel,
+        name: STANDARD,
+    }
+}
+
+/// Whether two sources have one input that is no plain file.
+pub(crate) fn share_an_input<S: Ports>(shelf: &S, places: &[Place<'_>]) -> bool {
+    for i in 0..places.len() {
+        if has_input(shelf, &places[..i], places[i].name) {
+            return true;
+        }
+    }
+    false
+}
+
+/// Whether one of these has the input of this name, and that is no plain file.
+fn has_input<S: Ports>(shelf: &S, places: &[Place<'_>], name: &str) -> bool {
+    for place in places {
+        if shelf.is_one_input(place.name, name) {
+            return true;
+        }
+    }
+    false
+}

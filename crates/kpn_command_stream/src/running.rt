@@ -1,0 +1,175 @@
+//! The run of a stream between its inputs and outputs.
+ghost use Rattle.std.specs.Prelude.{◌≡◌, ◌≤◌, ◌<◌, ◌++◌, [], length, vec_capacity, IfOk, OnErr};
+ghost use Rattle.kpn_command_stream.specs.Command.{HandedOn, Ran, RanAt, RanOver, flushes_of, known_of, limits_of, losses, names_of, sinks_of};
+
+use crate::devices::{empty_outputs, open_inputs, open_outputs};
+use crate::places::Places;
+use kpn_command_base::{Refusal, StreamRequest};
+use kpn_net::Network;
+use kpn_shelf::{Look, Ports, Shelf};
+use kpn_stream::{Limits, SinkFault, Sinks, Streamed, stream};
+use kpn_stream_devices::{Input, Inputs, Output, Outputs};
+use kpn_text::Document;
+use std::alloc::{AllocError, Global};
+use std::io::Write;
+
+/// How many steps a process makes at most before it is the turn of the next.
+const QUOTA: u32 = 1_000;
+
+/// The limits of a stream. It has no end of its own.
+pub(crate) fn limits_of(request: &StreamRequest<'_>) -> Limits
+    ensures { result ≡ limits_of request.now }
+{
+    Limits {
+        commits: request.commits.unwrap_or(u64::MAX),
+        take: request.take,
+        quota: QUOTA,
+    }
+}
+
+/// What an output has lost: at the end it could not hand on what it kept.
+#[derive(Clone, Copy)]
+pub(crate) struct Lost {
+    pub(crate) sink: usize,
+    pub(crate) fault: SinkFault,
+}
+
+/// Opens the inputs and the outputs, and runs the network between them. It lists what is lost at the end.
+pub(crate) fn run<'n, S: Shelf + Ports, I: Look, O: Write>(
+    alloc: Global,
+    request: &StreamRequest<'_>,
+    document: &'n Document,
+    places: &Places<'_>,
+    shelf: &S,
+    input: &mut I,
+    out: &mut O,
+    lost: &mut Vec<Lost>,
+) -> Result<Streamed<'n>, Refusal>
+    requires none { lost.old.items ≡ [] }
+    requires room { length places.now.sinks.items ≤ vec_capacity lost.old }
+    ensures ran { IfOk result (λ streamed. RanAt (S.may_give shelf.now)
+        (names_of S.comes_from S.goes_to)
+        (known_of I.remaining S.Input.remaining O.contents S.Output.contents) request.now
+        document.now.tables places.now input.old input.new out.old out.new
+        streamed.ending streamed.book lost.new.items) }
+    ensures input { OnErr result (input.new ≡ input.old) }
+    ensures output { OnErr result (out.new ≡ out.old) }
+{
+    let mut inputs = open_inputs(alloc, shelf, places)?;
+    let mut outputs = open_outputs(alloc, shelf, places, request.take)?;
+    empty_outputs(shelf, places, &mut outputs)?;
+    run_between(
+        alloc,
+        request,
+        document,
+        places,
+        &mut inputs,
+        &mut outputs,
+        input,
+        out,
+        lost,
+    )
+}
+
+/// Runs the network between these inputs and outputs.
+fn run_between<'n, I: Look, F: Look + Drop, O: Write, G: Write + Drop>(
+    alloc: Global,
+    request: &StreamRequest<'_>,
+    document: &'n Document,
+    places: &Places<'_>,
+    inputs: &mut Vec<Input<F>>,
+    outputs: &mut Vec<Output<G>>,
+    input: &mut I,
+    out: &mut O,
+    lost: &mut Vec<Lost>,
+) -> Result<Streamed<'n>, Refusal>
+    requires none { lost.old.items ≡ [] }
+    requires room { length places.now.sinks.items ≤ vec_capacity lost.old }
+    ensures ran { IfOk result (λ streamed. Ran
+        (known_of I.remaining F.remaining O.contents G.contents) request.now
+        document.now.tables (sinks_of places.now)
+        inputs.old.items outputs.old.items input.old input.new out.old out.new
+        streamed.ending streamed.book lost.new.items) }
+    ensures input { OnErr result (input.new ≡ input.old) }
+    ensures output { OnErr result (out.new ≡ out.old) }
+{
+    let format = request.format;
+    let mut sources = Inputs {
+        standard: input,
+        format,
+        each: inputs,
+    };
+    let mut sinks = Outputs {
+        standard: out,
+        format,
+        each: outputs,
+    };
+    let limits = limits_of(request);
+    let network = document.network();
+    let streamed = run_over(
+        alloc,
+        network,
+        places,
+        &limits,
+        &mut sources,
+        &mut sinks,
+        lost,
+    )?;
+    Ok(streamed)
+}
+
+/// Runs the network over devices. At the end the outputs hand on what they kept.
+fn run_over<'n, I: Look, F: Look + Drop, O: Write, G: Write + Drop>(
+    alloc: Global,
+    network: &'n Network,
+    places: &Places<'_>,
+    limits: &Limits,
+    sources: &mut Inputs<'_, I, F>,
+    sinks: &mut Outputs<'_, O, G>,
+    lost: &mut Vec<Lost>,
+) -> Result<Streamed<'n>, AllocError>
+    requires none { lost.old.items ≡ [] }
+    requires room { length places.now.sinks.items ≤ vec_capacity lost.old }
+    ensures ran { IfOk result (λ streamed. RanOver
+        (known_of I.remaining F.remaining O.contents G.contents) limits.now network.now
+        (sinks_of places.now)
+        sources.old sources.new sinks.old sinks.new
+        streamed.ending streamed.book lost.new.items) }
+    ensures no_source { OnErr result (sources.new ≡ sources.old) }
+    ensures no_sink { OnErr result (sinks.new ≡ sinks.old) }
+{
+    let streamed = stream(alloc, network, sources, sinks, limits)?;
+    flush_each(places, sinks, lost);
+    Ok(streamed)
+}
+
+/// Lets the outputs of all sinks hand on what they kept, and lists what is lost. If a device has failed, nobody else
+/// has told them to.
+fn flush_each<O: Write, G: Write + Drop>(
+    places: &Places<'_>,
+    sinks: &mut Outputs<'_, O, G>,
+    lost: &mut Vec<Lost>,
+)
+    requires none { lost.old.items ≡ [] }
+    requires room { length places.now.sinks.items ≤ vec_capacity lost.old }
+    ensures { HandedOn (flushes_of O.contents G.contents) sinks.old
+        (sinks_of places.now) lost.new.items sinks.new }
+{
+    for i in 0..places.sinks.len() {
+        let place = places.sinks[i];
+        let answer = sinks.flush(place.channel);
+        note(lost, place.channel, answer);
+    }
+}
+
+/// Lists what is lost if an output answers so at the end. Nothing is if nobody reads it.
+fn note(lost: &mut Vec<Lost>, sink: usize, answer: Result<(), SinkFault>)
+    requires { length lost.old.items < vec_capacity lost.old }
+    ensures listed { lost.new.items ≡ lost.old.items ++ losses sink answer }
+    ensures room { vec_capacity lost.new ≡ vec_capacity lost.old }
+{
+    match answer {
+        Ok(()) | Err(SinkFault::Gone) => {}
+        Err(fault) => lost.push_reserved(Lost { sink, fault }),
+    }
+}

@@ -1,0 +1,77 @@
+-- A picture of few ticks has only small numbers. And what is drawn of a box, whose places are known.
+use Rattle.std.proofs.Common.{◌≡◌, ℕ, ℤ, ◌-◌, ◌≤◌, Bool, true, false, nat_eq, if◌then◌else◌, List, [], min, codes, arith, refl, sym, ap, ap₂, subst, ◌∙◌}
+use Rattle.std.proofs.lemmas.Bool.{ne_eqb}
+use Rattle.std.proofs.Math.Nat.{min-le_right}
+use Rattle.kpn_net.specs.Tables.{Tables}
+use Rattle.kpn_run_history.specs.declared.event.Event.{Event}
+use Rattle.kpn_run_history.specs.declared.event.Event.TheVariants.{Get, Put}
+use Rattle.kpn_text_names.specs.Names.{name_at}
+use Rattle.kpn_ticks.specs.Ticks.{Clocks, latest_of, get_tick, put_tick}
+use Rattle.kpn_command_views.specs.declared.scale.Scale.{Scale}
+use Rattle.kpn_command_views.specs.PictureText.{tick_width, longest_below, scale_for, ticks_in, place_of, row_of, whole_box, box, move_boxes, event_boxes}
+use Rattle.kpn_command_views.specs.Drawable.{IsDrawable}
+
+either : (b : Bool) (x y most : ℕ) → x ≤ most → y ≤ most → (if b then x else y) ≤ most
+either true x y most one other = one
+either false x y most one other = other
+
+width_is_small : (ticks : ℕ) → tick_width ticks ≤ 44
+width_is_small ticks =
+    either _ 44 _ 44 (omega arith)
+    (either _ 20 _ 44 (omega arith) (either _ 10 _ 44 (omega arith) (either _ 5 2 44 (omega arith) (omega arith))))
+
+pub is_drawable : (names : List (List ℕ)) (processes first last length : ℕ)
+    → ticks_in (scale_for names processes first last length) ≤ 2000
+    → IsDrawable (scale_for names processes first last length)
+is_drawable names processes first last length few =
+    let short = min-le_right (longest_below names processes) 32 in
+    record { ticks = few; left = omega (arith, short); wide = width_is_small (min last length - (first - 1)) }
+
+otherwise : (b : Bool) (xs ys : List ℕ) → b ≡ false → ys ≡ if b then xs else ys
+otherwise true xs ys none = absurd cc
+otherwise false xs ys none = refl
+
+pub boxed : (s : Scale) (kind : List ℕ) (p begin end x row wide far : ℕ) (title name : List ℕ)
+    → x ≡ place_of s begin → row ≡ row_of p → far ≡ place_of s end → wide ≡ far - x → (wide ≡ 0 → ⊥)
+    → whole_box kind x row wide title name ≡ box s kind p begin end title name
+boxed s kind p begin end x row wide far title name left top right is some =
+    let between : wide ≡ place_of s end - place_of s begin = is ∙ ap₂ (λ (m n : ℕ). m - n) right left in
+    ap (λ n. whole_box kind n row wide title name) left
+    ∙ ap (λ n. whole_box kind (place_of s begin) n wide title name) top
+    ∙ ap (λ n. whole_box kind (place_of s begin) (row_of p) n title name) between
+    ∙ otherwise (nat_eq (place_of s end - place_of s begin) 0) []
+    (whole_box kind (place_of s begin) (row_of p) (place_of s end - place_of s begin) title name)
+    (ne_eqb (place_of s end - place_of s begin) 0 (subst (λ n. n ≡ 0 → ⊥) between some))
+
+pub moved : (Added : List ℕ → Type 0) (s : Scale) (p latest l tick m : ℕ) (word kind what name n : List ℕ) (item v : ℤ)
+    → latest ≡ l → tick ≡ m → name ≡ n → item ≡ v
+    → Added (move_boxes s p latest tick word kind what name item) → Added (move_boxes s p l m word kind what n v)
+moved Added s p latest l tick m word kind what name n item v one two three four added =
+    subst (λ x. Added (move_boxes s p x m word kind what n v)) one
+    (subst (λ x. Added (move_boxes s p latest x word kind what n v)) two
+    (subst (λ x. Added (move_boxes s p latest tick word kind what x v)) three
+    (subst (λ (x : ℤ). Added (move_boxes s p latest tick word kind what name x)) four added)))
+
+-- the boxes of a get are those of the event
+pub got : (Added : List ℕ → Type 0) (names : List (List ℕ)) (t : Tables) (s : Scale) (k : Clocks) (event : Event)
+    (p q c d : ℕ) (item v : ℤ) → event ≡ Get q d v → p ≡ q → c ≡ d → item ≡ v
+    → Added
+    (move_boxes s p (latest_of k p) (get_tick k p c) (codes "get") (codes "empty") (codes "an item") (name_at names c)
+    item) → Added (event_boxes names t s k event)
+got Added names t s k event p q c d item v is one two three added =
+    subst (λ (e : Event). Added (event_boxes names t s k e)) (sym is)
+    (subst (λ x. Added (event_boxes names t s k (Get x d v))) one
+    (subst (λ x. Added (event_boxes names t s k (Get p x v))) two
+    (subst (λ (x : ℤ). Added (event_boxes names t s k (Get p c x))) three added)))
+
+-- so are those of a put
+pub had_put : (Added : List ℕ → Type 0) (names : List (List ℕ)) (t : Tables) (s : Scale) (k : Clocks) (event : Event)
+    (p q c d : ℕ) (item v : ℤ) → event ≡ Put q d v → p ≡ q → c ≡ d → item ≡ v
+    → Added
+    (move_boxes s p (latest_of k p) (put_tick t k p c) (codes "put") (codes "full") (codes "room") (name_at names c)
+    item) → Added (event_boxes names t s k event)
+had_put Added names t s k event p q c d item v is one two three added =
+    subst (λ (e : Event). Added (event_boxes names t s k e)) (sym is)
+    (subst (λ x. Added (event_boxes names t s k (Put x d v))) one
+    (subst (λ x. Added (event_boxes names t s k (Put p x v))) two
+    (subst (λ (x : ℤ). Added (event_boxes names t s k (Put p c x))) three added)))

@@ -1,0 +1,105 @@
+-- A text that goes out while it is made.
+use Rattle.std.proofs.Common.{◌≡◌, ℕ, ◌+◌, ◌-◌, ◌≤◌, List, [], ◌++◌, length, take, drop, Option, refl, sym, ap, ◌∙◌, subst, append_assoc, drop_of_length-le, arith}
+use Rattle.std.specs.Io.KnownBytes.{Appends}
+use Rattle.std.proofs.KnownBytes.{Appends-nil, Appends-trans}
+use Rattle.std.proofs.lemmas.List.{append-nil, take_all, length-drop}
+use Rattle.kpn_command_views.specs.Sent.{AreSent}
+use Rattle.kpn_command_views.specs.TimelineText.{each_below, counter_line, read_lines, counter_lines}
+use Rattle.kpn_command_views.proofs.TimelineLines.{each_next}
+
+-- ---- what was sent
+
+pub none_sent : (a : Option (List ℕ)) (x : List ℕ) → AreSent a a x x
+none_sent a x = record { sent = []; grows = Appends-nil a; kept = refl }
+
+pub whole_sent : (a b : Option (List ℕ)) (x y : List ℕ) → Appends a b x → y ≡ [] → AreSent a b y (x ++ [])
+whole_sent a b x y grows none = record { sent = x; grows = grows; kept = ap (λ r. x ++ r) none }
+
+pub none_sent_more : (a : Option (List ℕ)) (x : List ℕ) → AreSent a a x (x ++ [])
+none_sent_more a x = subst (AreSent a a x) (sym (append-nil x)) (none_sent a x)
+
+pub nothing_to_come : (a b : Option (List ℕ)) (x r w : List ℕ) → AreSent a b (x ++ r) w → r ≡ [] → AreSent a b x w
+nothing_to_come a b x r w sent none =
+    subst (λ y. AreSent a b y w) (ap (λ s. x ++ s) none ∙ append-nil x) sent
+
+-- more of the text, of which a part may go out
+pub goes_on : (a b c : Option (List ℕ)) (x w y l : List ℕ) → AreSent a b x w → AreSent b c y (x ++ l)
+    → AreSent a c y (w ++ l)
+goes_on a b c x w y l was more =
+    record {
+      sent = was.sent ++ more.sent;
+      grows = Appends-trans a b c was.sent more.sent was.grows more.grows;
+      kept =
+          append_assoc was.sent more.sent y ∙ ap (λ s. was.sent ++ s) more.kept ∙ sym (append_assoc was.sent x l)
+          ∙ ap (λ s. s ++ l) was.kept;
+    }
+
+-- the same before what is to come
+pub step : (a b c : Option (List ℕ)) (x r w m s y : List ℕ) → AreSent a b (x ++ r) w → m ++ s ≡ x ++ r
+    → AreSent b c y m → AreSent a c (y ++ s) w
+step a b c x r w m s y was same more =
+    record {
+      sent = was.sent ++ more.sent;
+      grows = Appends-trans a b c was.sent more.sent was.grows more.grows;
+      kept =
+          append_assoc was.sent more.sent (y ++ s)
+          ∙ ap (λ t. was.sent ++ t) (sym (append_assoc more.sent y s) ∙ ap (λ t. t ++ s) more.kept ∙ same) ∙ was.kept;
+    }
+
+pub with_nothing : (a b : Option (List ℕ)) (x y : List ℕ) → AreSent a b y (x ++ []) → AreSent a b y x
+with_nothing a b x y sent = subst (AreSent a b y) (append-nil x) sent
+
+-- ---- the parts of a timeline
+
+pub one_number_more : (a b c : Option (List ℕ)) (line : ℕ → List ℕ) (n : ℕ) (x first y l : List ℕ)
+    → AreSent a b x (first ++ each_below n line) → AreSent b c y (x ++ l) → l ≡ line n
+    → AreSent a c y (first ++ each_below (n + 1) line)
+one_number_more a b c line n x first y l was more is =
+    subst (AreSent a c y)
+    (append_assoc first (each_below n line) l
+    ∙ ap (λ t. first ++ (each_below n line ++ t)) is ∙ ap (λ t. first ++ t) (sym (each_next n line)))
+    (goes_on a b c x (first ++ each_below n line) y l was more)
+
+pub write_sent : (a b c : Option (List ℕ)) (first x y z name : List ℕ) (unread now gone before tick : ℕ)
+    (reads : List ℕ) → AreSent a b x (first ++ read_lines name unread (take gone reads))
+    → y ≡ x ++ counter_line name tick now → AreSent b c z (y ++ []) → gone ≡ before → now ≡ unread - gone + 1
+    → AreSent a c z
+    (first ++ (read_lines name unread (take before reads) ++ counter_line name tick (unread - before + 1)))
+write_sent a b c first x y z name unread now gone before tick reads was added more is left =
+    let lines = read_lines name unread (take gone reads) in
+    let behind : AreSent b c z (x ++ counter_line name tick now) =
+    subst (AreSent b c z) added (with_nothing b c y z more) in
+    subst (AreSent a c z)
+    (append_assoc first lines (counter_line name tick now)
+    ∙ ap (λ n. first ++ (lines ++ counter_line name tick n)) left
+    ∙ ap (λ g. first ++ (read_lines name unread (take g reads) ++ counter_line name tick (unread - g + 1))) is)
+    (goes_on a b c x (first ++ lines) z (counter_line name tick now) was behind)
+
+pub counters_done : (a b c : Option (List ℕ)) (x w y name : List ℕ) (unread k place : ℕ) (written reads : List ℕ)
+    → AreSent a b (x ++ counter_lines name unread (drop k written) (drop place reads)) w → length written ≤ k
+    → place ≤ length reads
+    → AreSent b c y (x ++ read_lines name unread (take (length reads - place) (drop place reads))) → AreSent a c y w
+counters_done a b c x w y name unread k place written reads was past there more =
+    let rest = drop place reads in
+    let all : take (length reads - place) rest ≡ rest =
+    take_all (length reads - place) rest (omega (arith, length-drop place reads, there)) in
+    let last : AreSent a b (x ++ read_lines name unread rest) w =
+    subst (λ (ws : List ℕ). AreSent a b (x ++ counter_lines name unread ws rest) w) (drop_of_length-le written past)
+    was in
+    let sent : AreSent b c y (x ++ read_lines name unread rest) =
+    subst (λ (rs : List ℕ). AreSent b c y (x ++ read_lines name unread rs)) all more in
+    nothing_to_come a c y [] w
+    (step a b c x (read_lines name unread rest) w (x ++ read_lines name unread rest) [] y last
+    (append-nil (x ++ read_lines name unread rest)) sent)
+    refl
+
+-- the whole
+pub timeline_sent : (a b c d : Option (List ℕ)) (t x y z front E C told Z : List ℕ) → t ≡ front
+    → AreSent a b x (t ++ E) → AreSent b c y (x ++ told) → told ≡ C → z ≡ y ++ Z → Appends c d z
+    → Appends a d (front ++ E ++ C ++ Z)
+timeline_sent a b c d t x y z front E C told Z is events channels as_told added last =
+    let sent = goes_on a b c x (t ++ E) y told events channels in
+    subst (Appends a d)
+    (ap (λ s. sent.sent ++ s) added ∙ sym (append_assoc sent.sent y Z) ∙ ap (λ s. s ++ Z) sent.kept
+    ∙ ap (λ s. s ++ E ++ told ++ Z) is ∙ ap (λ s. front ++ E ++ s ++ Z) as_told)
+    (Appends-trans a c d sent.sent z sent.grows last)

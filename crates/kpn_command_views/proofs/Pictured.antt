@@ -1,0 +1,58 @@
+-- What the code has made is the picture, or the reason why there is none.
+use Rattle.std.proofs.Common.{◌≡◌, ◌≤◌, ◌<◌, ◌^◌, ℕ, true, List, length, ap, ap₂, subst, ◌∙◌, arith}
+use Rattle.std.proofs.Math.Nat.{max-le}
+use Rattle.kpn_net.specs.Tables.{Tables}
+use Rattle.kpn_net.specs.Faults.{IsNetwork}
+use Rattle.kpn_net.proofs.Networks.{sizes}
+use Rattle.kpn_run_history.specs.declared.event.Event.{Event}
+use Rattle.kpn_text.specs.Document.{Document}
+use Rattle.kpn_command_base.specs.declared.refusal.Refusal.{Refusal}
+use Rattle.kpn_command_base.specs.declared.refusal.Refusal.TheVariants as refusal
+use Rattle.kpn_shelf.specs.Shelf.{Loads}
+use Rattle.kpn_command_base.specs.declared.auditing.Audited.{Audited}
+use Rattle.kpn_command_base.specs.Audited.{IsAudited, IsRefusalOfAudit}
+use Rattle.kpn_ticks.specs.Ticks.{Clocks, start, clocks_after}
+use Rattle.kpn_command_views.specs.declared.scale.Scale.{Scale}
+use Rattle.kpn_command_views.specs.PictureText.{scale_for, scale_of, ticks_in, all_box_count, picture_with}
+use Rattle.kpn_command_views.specs.PictureAnswers.{IsPicture, IsRefusalOfPicture, IsNoPicture, size_for}
+
+module _ (d : Document) (t : Tables) (first last : ℕ) (events : List Event) (s : Scale) (processes ends : ℕ)
+    (k : Clocks) (scaled : s ≡ scale_for d.names.instances processes first last ends)
+    (counted : processes ≡ length t.instances) (lasts : ends ≡ k.last) (timed : k ≡ clocks_after t true events) where
+  all : ends ≡ (clocks_after t true events).last
+  all = lasts ∙ ap (λ (k : Clocks). k.last) timed
+
+  pub known_scale : s ≡ scale_of d t first last events
+  known_scale = scaled ∙ ap₂ (λ (p n : ℕ). scale_for d.names.instances p first last n) counted all
+
+  pub pictured : (text : List ℕ) (boxes : ℕ) → text ≡ picture_with d t s processes ends events → ticks_in s ≤ 2000
+      → boxes ≡ all_box_count t s (start t true) events → boxes ≤ 2000 → IsPicture d t first last events text
+  pictured text boxes made few are less = (
+    made
+        ∙ ap (λ (s : Scale). picture_with d t s processes ends events) known_scale
+        ∙ ap₂ (λ (p n : ℕ). picture_with d t (scale_of d t first last events) p n events) counted all,
+    max-le (subst (λ (s : Scale). ticks_in s ≤ 2000) known_scale few)
+        (subst (λ (s : Scale). all_box_count t s (start t true) events ≤ 2000) known_scale
+        (subst (λ n. n ≤ 2000) are less)),
+  )
+
+-- a network has few processes
+pub few_rows : (t : Tables) → IsNetwork t → (processes : ℕ) → processes ≡ length t.instances → processes < 2 ^ 16
+few_rows t network processes is =
+    let few : length t.instances ≤ 256 = (sizes t network).instances in
+    omega (arith, few, is)
+
+-- a refusal of an audit is one of the picture
+pub of_audit : (may_give : Loads) (file trace : List ℕ) (steps first last : ℕ) (it : Refusal)
+    → IsRefusalOfAudit may_give file trace it → IsRefusalOfPicture may_give file trace steps first last it
+of_audit may_give file trace steps first last refusal.PictureWords h = absurd h
+of_audit may_give file trace steps first last other h = h
+
+-- so is one of an audited trace
+pub of_audited : (may_give : Loads) (file trace : List ℕ) (steps first last : ℕ) (audited : Audited)
+    → IsAudited may_give file trace steps audited → (it : Refusal)
+    → IsNoPicture (size_for first last audited.document audited.trace) it
+    → IsRefusalOfPicture may_give file trace steps first last it
+of_audited may_give file trace steps first last audited is refusal.PictureWords h = (audited, is, h)
+of_audited may_give file trace steps first last audited is refusal.NoMemory h = tt
+of_audited may_give file trace steps first last audited is other h = absurd h

@@ -1,0 +1,6 @@
+use Rattle.std.proofs.Common.{◌≡◌}
+use Rattle.kpn_command_views.specs.PictureText.{longest_below}
+use Rattle.kpn_command_views.proofs.scale.longest_name.Given as goal
+
+abbrev pub invariant-loop-p : goal.invariant-loop-p
+invariant-loop-p l = l.longest ≡ longest_below l.document.names.instances l.p

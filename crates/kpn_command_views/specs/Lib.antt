@@ -1,0 +1,11 @@
+pub mod Found
+pub mod DrawAnswers
+pub mod Figures
+pub mod Times
+pub mod Measured
+pub mod TimelineText
+pub mod TimelineAnswers
+pub mod PictureText
+pub mod Drawable
+pub mod PictureAnswers
+pub mod Sent

@@ -1,0 +1,364 @@
+//! What a picture shows of an event.
+ghost use Rattle.std.specs.Prelude.{◌≡◌, ◌+◌, ◌*◌, ◌<◌, ◌≤◌, ◌^◌, ◌-◌, ◌++◌, ℕ, codes};
+ghost use Rattle.kpn_command_base.specs.Added.{Adds};
+ghost use Rattle.kpn_net.specs.Tables.{Tables};
+ghost use Rattle.kpn_text_names.specs.Names.{name_at};
+ghost use Rattle.kpn_ticks.specs.Ticks.{latest_of, get_tick, put_tick};
+ghost use Rattle.kpn_ticks.specs.Shown.{shown, AreClocks};
+ghost use Rattle.kpn_command_views.specs.PictureText.{row_of, box_front, item_title, wait_title, name_text, box_name, whole_box, item_box, wait_box, move_boxes, growth_text, growth_mark, event_boxes, shown_between, move_count, growth_count, box_count};
+ghost use Rattle.kpn_command_views.specs.Drawable.{IsDrawable};
+
+use crate::scale::Scale;
+use kpn_command_base::Pushed;
+use kpn_net::Network;
+use kpn_run_history::Event;
+use kpn_text::Document;
+use kpn_ticks::Clocks;
+
+/// What is drawn of the next event.
+pub(crate) fn push_event(
+    text: &mut String,
+    document: &Document,
+    network: &Network,
+    scale: Scale,
+    clocks: &Clocks,
+    event: Event,
+) -> Pushed
+    requires drawable { IsDrawable scale }
+    requires clocks { AreClocks network.now (shown clocks.now) }
+    requires fits { (shown clocks.now).last + 1 < 2 ^ 64 }
+    ensures { Adds result text.old text.new
+        (event_boxes document.now.names.channels network.now scale (shown clocks.now) event) }
+{
+    match event {
+        Event::Get(p, c, item) => {
+            push_get(text, document, scale, clocks, p.into(), c.into(), item)
+        }
+        Event::Put(p, c, item) => push_put(
+            text,
+            document,
+            network,
+            scale,
+            clocks,
+            p.into(),
+            c.into(),
+            item,
+        ),
+        Event::Grow(p, c, _) => {
+            let latest = clocks.latest_of(p.into());
+            let name = document.channel_name(c.into());
+            push_growth(text, scale, p.into(), latest, name)
+        }
+        _ => Ok(()),
+    }
+}
+
+fn push_get(
+    text: &mut String,
+    document: &Document,
+    scale: Scale,
+    clocks: &Clocks,
+    p: usize,
+    c: usize,
+    item: i64,
+) -> Pushed
+    requires drawable { IsDrawable scale }
+    requires clocks { (t : Tables) × AreClocks t (shown clocks.now) }
+    requires fits { (shown clocks.now).last + 1 < 2 ^ 64 }
+    requires row { p < 2 ^ 16 }
+    ensures { let s = shown clocks.now in
+        Adds result text.old text.new (move_boxes scale p (latest_of s p) (get_tick s p c)
+        (codes "get") (codes "empty") (codes "an item")
+        (name_at document.now.names.channels c) item) }
+{
+    let tick = clocks.get_tick(p, c);
+    let latest = clocks.latest_of(p);
+    let name = document.channel_name(c);
+    push_move(
+        text, scale, p, latest, tick, "get", "empty", "an item", name, item,
+    )
+}
+
+fn push_put(
+    text: &mut String,
+    document: &Document,
+    network: &Network,
+    scale: Scale,
+    clocks: &Clocks,
+    p: usize,
+    c: usize,
+    item: i64,
+) -> Pushed
+    requires drawable { IsDrawable scale }
+    requires clocks { AreClocks network.now (shown clocks.now) }
+    requires fits { (shown clocks.now).last + 1 < 2 ^ 64 }
+    requires row { p < 2 ^ 16 }
+    ensures { let s = shown clocks.now in
+        Adds result text.old text.new (move_boxes scale p (latest_of s p)
+        (put_tick network.now s p c) (codes "put") (codes "full") (codes "room")
+        (name_at document.now.names.channels c) item) }
+{
+    let tick = clocks.put_tick(network, p, c);
+    let latest = clocks.latest_of(p);
+    let name = document.channel_name(c);
+    push_move(
+        text, scale, p, latest, tick, "put", "full", "room", name, item,
+    )
+}
+
+/// How many boxes and marks are drawn of the next event.
+pub(crate) fn box_count(network: &Network, scale: Scale, clocks: &Clocks, event: Event) -> usize
+    requires drawable { IsDrawable scale }
+    requires clocks { AreClocks network.now (shown clocks.now) }
+    requires fits { (shown clocks.now).last + 1 < 2 ^ 64 }
+    ensures exact { result ≡ box_count network.now scale (shown clocks.now) event }
+    ensures few { result ≤ 2 }
+{
+    match event {
+        Event::Get(p, c, _) => {
+            let tick = clocks.get_tick(p.into(), c.into());
+            move_count(scale, clocks.latest_of(p.into()), tick)
+        }
+        Event::Put(p, c, _) => {
+            let tick = clocks.put_tick(network, p.into(), c.into());
+            move_count(scale, clocks.latest_of(p.into()), tick)
+        }
+        Event::Grow(p, _, _) => growth_count(scale, clocks.latest_of(p.into())),
+        _ => 0,
+    }
+}
+
+fn move_count(scale: Scale, latest: usize, tick: usize) -> usize
+    requires { IsDrawable scale }
+    ensures exact { result ≡ move_count scale latest tick }
+    ensures few { result ≤ 2 }
+{
+    let before = tick.saturating_sub(1);
+    shown_between(scale, latest, before) + shown_between(scale, before, tick)
+}
+
+// 1 if a growth at this tick is shown, else 0.
+fn growth_count(scale: Scale, latest: usize) -> usize
+    ensures exact { result ≡ growth_count scale latest }
+    ensures few { result ≤ 1 }
+{
+    if scale.front <= latest && latest <= scale.back {
+        1
+    } else {
+        0
+    }
+}
+
+// 1 if something is shown between the ends of these ticks, else 0.
+fn shown_between(scale: Scale, begin: usize, end: usize) -> usize
+    requires { IsDrawable scale }
+    ensures exact { result ≡ shown_between scale begin end }
+    ensures few { result ≤ 1 }
+{
+    let wide = scale.place_of(end).saturating_sub(scale.place_of(begin));
+    if wide == 0 { 0 } else { 1 }
+}
+
+// A get or put, and the wait before it.
+fn push_move(
+    text: &mut String,
+    scale: Scale,
+    p: usize,
+    latest: usize,
+    tick: usize,
+    word: &str,
+    kind: &str,
+    what: &str,
+    name: &str,
+    item: i64,
+) -> Pushed
+    requires drawable { IsDrawable scale }
+    requires row { p < 2 ^ 16 }
+    requires fits { latest + 1 < 2 ^ 64 }
+    ensures { Adds result text.old text.new
+        (move_boxes scale p latest tick word.now kind.now what.now name.now item) }
+{
+    push_wait(text, scale, p, latest, tick, kind, what, name)?;
+    push_item(text, scale, p, tick, word, name, item)?;
+    Ok(())
+}
+
+// A wait from behind the latest tick to before this one, if something of it is shown.
+fn push_wait(
+    text: &mut String,
+    scale: Scale,
+    p: usize,
+    latest: usize,
+    tick: usize,
+    kind: &str,
+    what: &str,
+    name: &str,
+) -> Pushed
+    requires drawable { IsDrawable scale }
+    requires row { p < 2 ^ 16 }
+    requires fits { latest + 1 < 2 ^ 64 }
+    ensures { Adds result text.old text.new
+        (wait_box scale p latest tick kind.now what.now name.now) }
+{
+    let end = tick.saturating_sub(1);
+    let x = scale.place_of(latest);
+    let wide = scale.place_of(end).saturating_sub(x);
+    if wide == 0 {
+        Ok(())
+    } else {
+        push_wait_box(text, x, row_of(p), wide, kind, what, name, latest + 1, end)
+    }
+}
+
+// A get or put, if it is shown.
+fn push_item(
+    text: &mut String,
+    scale: Scale,
+    p: usize,
+    tick: usize,
+    word: &str,
+    name: &str,
+    item: i64,
+) -> Pushed
+    requires drawable { IsDrawable scale }
+    requires row { p < 2 ^ 16 }
+    ensures { Adds result text.old text.new (item_box scale p tick word.now name.now item) }
+{
+    let x = scale.place_of(tick.saturating_sub(1));
+    let wide = scale.place_of(tick).saturating_sub(x);
+    if wide == 0 {
+        Ok(())
+    } else {
+        push_item_box(text, x, row_of(p), wide, word, name, item, tick)
+    }
+}
+
+// A wait in these ticks, in a row that begins here.
+fn push_wait_box(
+    text: &mut String,
+    x: usize,
+    row: usize,
+    wide: usize,
+    kind: &str,
+    what: &str,
+    name: &str,
+    first: usize,
+    last: usize,
+) -> Pushed
+    requires { x + row + wide < 2 ^ 32 }
+    ensures { Adds result text.old text.new (whole_box kind.now x row wide
+        (wait_title what.now name.now first last) name.now) }
+{
+    push_front(text, kind, x, row + 6, wide)?;
+    push_wait_title(text, what, name, first, last)?;
+    push_name(text, kind, x, row + 19, wide, name)?;
+    Ok(())
+}
+
+// A get or put in this tick, in a row that begins here.
+fn push_item_box(
+    text: &mut String,
+    x: usize,
+    row: usize,
+    wide: usize,
+    word: &str,
+    name: &str,
+    item: i64,
+    tick: usize,
+) -> Pushed
+    requires { x + row + wide < 2 ^ 32 }
+    ensures { Adds result text.old text.new (whole_box word.now x row wide
+        (item_title word.now name.now item tick) name.now) }
+{
+    push_front(text, word, x, row + 6, wide)?;
+    push_item_title(text, word, name, item, tick)?;
+    push_name(text, word, x, row + 19, wide, name)?;
+    Ok(())
+}
+
+// A box up to its title.
+fn push_front(text: &mut String, kind: &str, x: usize, y: usize, wide: usize) -> Pushed
+    ensures { Adds result text.old text.new (box_front kind.now x y wide) }
+{
+    write!(
+        text,
+        "<rect class=\"{kind}\" x=\"{x}\" y=\"{y}\" width=\"{wide}\" height=\"20\"><title>"
+    )
+}
+
+fn push_item_title(text: &mut String, word: &str, name: &str, item: i64, tick: usize) -> Pushed
+    ensures { Adds result text.old text.new (item_title word.now name.now item tick) }
+{
+    write!(
+        text,
+        "{word} {name}: item {item}, tick {tick}</title></rect>\n"
+    )
+}
+
+fn push_wait_title(text: &mut String, what: &str, name: &str, first: usize, last: usize) -> Pushed
+    ensures { Adds result text.old text.new (wait_title what.now name.now first last) }
+{
+    if first == last {
+        write!(
+            text,
+            "waits for {what} on {name}, tick {first}</title></rect>\n"
+        )
+    } else {
+        write!(
+            text,
+            "waits for {what} on {name}, ticks {first} to {last}</title></rect>\n"
+        )
+    }
+}
+
+// The name of the channel, if the box is wide enough.
+fn push_name(text: &mut String, kind: &str, x: usize, y: usize, wide: usize, name: &str) -> Pushed
+    requires { x + wide < 2 ^ 64 }
+    ensures { Adds result text.old text.new (box_name kind.now x y wide name.now) }
+{
+    if name.len() <= wide.saturating_sub(4) / 5 {
+        push_name_text(text, kind, x + wide / 2, y, name)
+    } else {
+        Ok(())
+    }
+}
+
+fn push_name_text(text: &mut String, kind: &str, middle: usize, y: usize, name: &str) -> Pushed
+    ensures { Adds result text.old text.new (name_text kind.now middle y name.now) }
+{
+    write!(
+        text,
+        "<text class=\"{kind}\" x=\"{middle}\" y=\"{y}\">{name}</text>\n"
+    )
+}
+
+// The growth of a channel, if its tick is shown.
+fn push_growth(text: &mut String, scale: Scale, p: usize, latest: usize, name: &str) -> Pushed
+    requires drawable { IsDrawable scale }
+    requires row { p < 2 ^ 16 }
+    ensures { Adds result text.old text.new (growth_mark scale p latest name.now) }
+{
+    if scale.front <= latest && latest <= scale.back {
+        push_growth_text(text, scale.place_of(latest), row_of(p) + 1, name)
+    } else {
+        Ok(())
+    }
+}
+
+fn push_growth_text(text: &mut String, x: usize, y: usize, name: &str) -> Pushed
+    ensures { Adds result text.old text.new (growth_text x y name.now) }
+{
+    write!(
+        text,
+        "<path class=\"grow\" d=\"M{x} {y}l5 8h-10z\"><title>{name} grows</title></path>\n"
+    )
+}
+
+/// Where the row of process `p` begins.
+pub(crate) fn row_of(p: usize) -> usize
+    requires { p < 2 ^ 16 }
+    ensures exact { result ≡ row_of p }
+    ensures below { result < 3000000 }
+{
+    40 + 32 * p
+}

@@ -1,0 +1,30 @@
+//! `kpn draw`, `kpn stats` and `kpn timeline` show a network or what a trace has done: a drawing, tables, and when its gets
+//! and puts take place.
+#![tactic(auto)]
+
+mod bound;
+mod boxes;
+mod counters;
+mod digits;
+mod draw;
+mod drawing;
+mod figures;
+mod found;
+mod frame;
+mod measured;
+mod picture;
+mod scale;
+mod sending;
+mod slices;
+mod stats;
+mod stats_text;
+mod svg_command;
+mod table;
+mod timeline;
+mod timelines;
+mod times;
+
+pub use draw::draw_command;
+pub use stats::stats_command;
+pub use svg_command::picture_command;
+pub use timelines::timeline_command;

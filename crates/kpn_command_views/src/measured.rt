@@ -1,0 +1,31 @@
+//! What is measured of a legal history: its figures and its times.
+ghost use Rattle.std.specs.Prelude.{IfOk};
+ghost use Rattle.kpn_audit.specs.Stored.{tables_for, history_in};
+ghost use Rattle.kpn_command_views.specs.Measured.{AreMeasured};
+
+use crate::figures::{Figures, count};
+use crate::times::{Times, times_of};
+use kpn_run_history::Trace;
+use kpn_text::Document;
+use std::alloc::{AllocError, Global};
+
+/// The figures and the times of a history.
+#[derive(Drop)]
+pub(crate) struct Measured {
+    pub(crate) figures: Figures,
+    pub(crate) times: Times,
+}
+
+/// Measures the history of a trace of the document's network.
+pub(crate) fn measure(
+    alloc: Global,
+    document: &Document,
+    trace: &Trace,
+) -> Result<Measured, AllocError>
+    ensures { IfOk result (AreMeasured document.now trace.now) }
+{
+    let network = document.network();
+    let figures = count(alloc, network, trace.events.as_slice())?;
+    let times = times_of(alloc, network, trace)?;
+    Ok(Measured { figures, times })
+}

@@ -1,0 +1,51 @@
+//! The command reads a network and a trace, audits the trace, and writes the figures of its history.
+ghost use Rattle.std.specs.Prelude.{IfOk, IfErr};
+ghost use Rattle.kpn_command_base.specs.Conclusion.{Tells};
+ghost use Rattle.kpn_command_base.specs.Audited.{IsAnyToldOf, IsAnyTextFor, IsRefusalOfAudit};
+
+use crate::measured::measure;
+use crate::stats_text::text_of;
+use kpn_command_base::{Audited, Conclusion, Finding, Refusal, StatsTables, load_audited};
+use kpn_shelf::Shelf;
+use std::alloc::{AllocError, Global};
+
+/// What `kpn stats FILE TRACE` comes to. Each process may make `steps` steps before each of its events. It reads the
+/// description first, then the trace. It tells these tables of a legal trace, and what an audit tells of any other.
+pub fn stats_command<S: Shelf>(
+    alloc: Global,
+    file: &str,
+    trace: &str,
+    steps: u64,
+    tables: StatsTables,
+    shelf: &S,
+) -> Result<Conclusion, Refusal>
+    ensures ok { IfOk result
+        (Tells (IsAnyToldOf (S.may_give shelf.now) file.now trace.now steps)) }
+    ensures refused { IfErr result (IsRefusalOfAudit (S.may_give shelf.now) file.now trace.now) }
+{
+    let audited = load_audited(alloc, shelf, file, trace, steps)?;
+    let conclusion = conclusion_of(alloc, tables, &audited)?;
+    Ok(conclusion)
+}
+
+// The text for a finding, and its status.
+fn conclusion_of(
+    alloc: Global,
+    tables: StatsTables,
+    audited: &Audited,
+) -> Result<Conclusion, AllocError>
+    ensures { IfOk result (Tells (IsAnyTextFor audited.now.finding)) }
+{
+    match &audited.finding {
+        Finding::Legal(audit) => {
+            let measured = measure(alloc, &audited.document, &audited.trace)?;
+            let text = text_of(alloc, tables, &audited.document, audit, &measured)?;
+            Ok(Conclusion {
+                text,
+                status: 0,
+                files: Vec::new(alloc),
+            })
+        }
+        Finding::NotLegal(flaw) => flaw.conclusion(alloc),
+    }
+}

@@ -1,0 +1,236 @@
+//! The text that `kpn stats` writes of a legal history. Rows show its words and columns; the figures and times in it are
+//! proved where they are counted.
+ghost use Rattle.std.specs.Prelude.{◌≡◌, ◌<◌, length};
+
+use crate::bound::{push_bound, ticks_word};
+use crate::figures::{ChannelFigures, ProcessFigures};
+use crate::measured::Measured;
+use crate::table::{Row, Table};
+use crate::times::Times;
+use kpn_audit::Audit;
+use kpn_command_base::{Pushed, StatsTables, parameters_of};
+use kpn_net::Wait;
+use kpn_text::Document;
+use kpn_trace::how_word;
+use std::alloc::{AllocError, Global};
+
+/// The headings of the two tables.
+const CHANNEL_HEADINGS: [&str; 12] = [
+    "channel",
+    "put",
+    "read",
+    "left",
+    "most",
+    "cap_first",
+    "cap_last",
+    "growths",
+    "waits_empty",
+    "waits_full",
+    "complete",
+    "cap_shortest",
+];
+
+const PROCESS_HEADINGS: [&str; 8] = [
+    "process",
+    "gets",
+    "puts",
+    "waits_empty",
+    "waits_full",
+    "end",
+    "bounds",
+    "parameters",
+];
+
+/// The tables of a history of the document's network. There are figures for each channel and each process.
+pub(crate) fn text_of(
+    alloc: Global,
+    tables: StatsTables,
+    document: &Document,
+    audit: &Audit,
+    measured: &Measured,
+) -> Result<Vec<u8>, AllocError>
+    requires channels { length measured.now.figures.channels ≡ length document.now.tables.channels }
+    requires processes { length measured.now.figures.processes ≡ length document.now.tables.instances }
+{
+    let mut text = String::new(alloc);
+    let channels = measured.figures.channels.as_slice();
+    let processes = measured.figures.processes.as_slice();
+    let times = &measured.times;
+    match tables {
+        StatsTables::People => {
+            push_lengths(&mut text, times)?;
+            let shares = times.shares.as_slice();
+            push_bound(alloc, &mut text, document, shares, times.bounded.last())?;
+            text.push_str("\n")?;
+            channel_table(alloc, document, audit, channels, times)?.push_aligned(alloc, &mut text)?;
+            text.push_str("\n")?;
+            process_table(alloc, document, audit, processes, times)?.push_aligned(
+                alloc, &mut text,
+            )?;
+            text.push_str("\n")?;
+            push_advice(&mut text, document, audit, times)?;
+        }
+        StatsTables::Channels => {
+            channel_table(alloc, document, audit, channels, times)?.push_tabbed(&mut text)?
+        }
+        StatsTables::Processes => {
+            process_table(alloc, document, audit, processes, times)?.push_tabbed(&mut text)?
+        }
+    }
+    Ok(text.into_bytes())
+}
+
+// The lengths of the run, and how much happens in it: gets and puts in a tick to hundredths.
+fn push_lengths(text: &mut String, times: &Times) -> Pushed {
+    let (length, shortest) = (times.bounded.last(), times.free.last());
+    let word = ticks_word(length);
+    write!(text, "length {length} {word}, ")?;
+    write!(text, "{shortest} without capacities\n")?;
+    let (events, moves) = (times.events, times.moves);
+    write!(text, "events {events}, gets and puts {moves}, in a tick ")?;
+    if length == 0 {
+        return text.push_str("-\n");
+    }
+    let n = moves as u128 * 100 / length as u128;
+    write!(text, "{}.{}{}\n", n / 100, n / 10 % 10, n % 10)
+}
+
+// A row for each channel.
+fn channel_table(
+    alloc: Global,
+    document: &Document,
+    audit: &Audit,
+    figures: &[ChannelFigures],
+    times: &Times,
+) -> Result<Table, AllocError>
+    requires { length figures.now ≡ length document.now.tables.channels }
+{
+    let mut table = Table::new(alloc, &CHANNEL_HEADINGS)?;
+    for c in 0..figures.len() {
+        let row = channel_row(alloc, document, audit, figures[c], times, c)?;
+        table.add(row)?;
+    }
+    Ok(table)
+}
+
+fn channel_row(
+    alloc: Global,
+    document: &Document,
+    audit: &Audit,
+    figures: ChannelFigures,
+    times: &Times,
+    c: usize,
+) -> Result<Row, AllocError>
+    requires { c < length document.now.tables.channels }
+{
+    let mut row = Row::new(alloc, document.channel_name(c))?;
+    let first = document.network().cap_of(c);
+    row.add_number(Some(figures.put))?;
+    row.add_number(Some(figures.read))?;
+    row.add_number(Some(figures.put.saturating_sub(figures.read)))?;
+    row.add_number(Some(figures.most))?;
+    row.add_number(first.map(|cap| cap as usize))?;
+    row.add_number(last_cap(audit, c))?;
+    row.add_number(Some(figures.growths))?;
+    row.add_number(Some(figures.waits_empty))?;
+    row.add_number(Some(figures.waits_full))?;
+    let is_complete = audit.complete.as_slice().get(c).copied().unwrap_or(false);
+    row.add(if is_complete { "yes" } else { "no" })?;
+    row.add_number(first.map(|_| times.free.capacity_needed(c)))?;
+    Ok(row)
+}
+
+// The capacity of a channel after the history; none for a source.
+fn last_cap(audit: &Audit, c: usize) -> Option<usize> {
+    match audit.caps.as_slice().get(c) {
+        Some(Some(cap)) => Some(*cap as usize),
+        _ => None,
+    }
+}
+
+// A row for each process.
+fn process_table(
+    alloc: Global,
+    document: &Document,
+    audit: &Audit,
+    figures: &[ProcessFigures],
+    times: &Times,
+) -> Result<Table, AllocError>
+    requires { length figures.now ≡ length document.now.tables.instances }
+{
+    let mut table = Table::new(alloc, &PROCESS_HEADINGS)?;
+    for p in 0..figures.len() {
+        let row = process_row(alloc, document, audit, figures[p], times, p)?;
+        table.add(row)?;
+    }
+    Ok(table)
+}
+
+fn process_row(
+    alloc: Global,
+    document: &Document,
+    audit: &Audit,
+    figures: ProcessFigures,
+    times: &Times,
+    p: usize,
+) -> Result<Row, AllocError>
+    requires { p < length document.now.tables.instances }
+{
+    let mut row = Row::new(alloc, document.instance_name(p))?;
+    row.add_number(Some(figures.gets))?;
+    row.add_number(Some(figures.puts))?;
+    row.add_number(Some(figures.waits_empty))?;
+    row.add_number(Some(figures.waits_full))?;
+    let end = end_of(alloc, document, audit, p)?;
+    row.add(end.as_str())?;
+    row.add_number(Some(times.shares.get(p).copied().unwrap_or(0)))?;
+    let parameters = parameters_of(alloc, document, p)?;
+    row.add(parameters.as_str().strip_prefix(' ').unwrap_or("-"))?;
+    Ok(row)
+}
+
+// How a process ended, or else what it waits for.
+fn end_of(
+    alloc: Global,
+    document: &Document,
+    audit: &Audit,
+    p: usize,
+) -> Result<String, AllocError> {
+    if let Some(Some(how)) = audit.ends.as_slice().get(p) {
+        return String::from_str(alloc, how_word(*how));
+    }
+    match audit.waits.as_slice().get(p) {
+        Some(Wait::Empty(c)) => format!(in alloc; "waits {}", document.channel_name(*c)),
+        Some(Wait::Full(c)) => format!(in alloc; "waits {} full", document.channel_name(*c)),
+        _ => String::from_str(alloc, "-"),
+    }
+}
+
+// The advice on each channel with a capacity.
+fn push_advice(text: &mut String, document: &Document, audit: &Audit, times: &Times) -> Pushed {
+    let is_shortest = times.bounded.last() == times.free.last();
+    for c in 0..document.network().channels() {
+        let Some(last) = last_cap(audit, c) else {
+            continue;
+        };
+        let name = document.channel_name(c);
+        let needed = if is_shortest {
+            times.bounded.capacity_needed(c).min(last)
+        } else {
+            times.free.capacity_needed(c)
+        };
+        if needed <= last {
+            write!(
+                text,
+                "{name}: {needed} keeps the run as short as it can be\n"
+            )?;
+        } else {
+            write!(
+                text,
+                "{name}: {needed} would keep the run as short as it can be, "
+            )?;
+            write!(text, "and it has {last}\n")?;
+        }
+    }
+    Ok(())
+}

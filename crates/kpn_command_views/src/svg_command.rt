@@ -1,0 +1,95 @@
+//! The command reads a network and a trace, audits the trace, and draws its history in time.
+ghost use Rattle.std.specs.Prelude.{◌≡◌, IfOk, IfErr};
+ghost use Rattle.kpn_command_base.specs.Conclusion.{Tells};
+ghost use Rattle.kpn_audit.specs.Stored.{audited_under};
+ghost use Rattle.kpn_command_base.specs.Audited.{IsTextFor};
+ghost use Rattle.kpn_command_views.specs.PictureText.{picture_size};
+ghost use Rattle.kpn_command_views.specs.PictureAnswers.{IsPictured, IsPicture, IsPictureOf, IsRefusalOfPicture, size_for, IsNoPicture};
+
+use crate::picture::picture_of;
+use kpn_command_base::{Audited, Conclusion, Finding, Refusal, load_audited};
+use kpn_net::{Growth, Policy};
+use kpn_run_history::{Event, Version};
+use kpn_shelf::Shelf;
+use kpn_text::Document;
+use std::alloc::Global;
+
+/// What `kpn timeline FILE TRACE --svg` comes to: a picture of the ticks from `first` to `last`. Each process may make
+/// `steps` steps before each of its events. It reads the description first, then the trace. It tells the picture of a
+/// legal trace, and what an audit tells of any other. It refuses a picture of more than 2,000 ticks, or boxes and
+/// marks.
+pub fn picture_command<S: Shelf>(
+    alloc: Global,
+    file: &str,
+    trace: &str,
+    steps: u64,
+    first: u64,
+    last: u64,
+    shelf: &S,
+) -> Result<Conclusion, Refusal>
+    ensures ok { IfOk result
+        (Tells (IsPictured (S.may_give shelf.now) file.now trace.now steps first last)) }
+    ensures refused { IfErr result
+        (IsRefusalOfPicture (S.may_give shelf.now) file.now trace.now steps first last) }
+{
+    match load_audited(alloc, shelf, file, trace, steps) {
+        Ok(audited) => conclusion_of(alloc, &audited, first as usize, last as usize),
+        Err(refusal) => Err(refusal),
+    }
+}
+
+// The text for a finding, and its status.
+fn conclusion_of(
+    alloc: Global,
+    audited: &Audited,
+    first: usize,
+    last: usize,
+) -> Result<Conclusion, Refusal>
+    ensures ok { IfOk result (Tells (IsTextFor
+        (IsPictureOf first last audited.now.document audited.now.trace) audited.now.finding)) }
+    ensures refused { IfErr result
+        (IsNoPicture (size_for first last audited.now.document audited.now.trace)) }
+{
+    match &audited.finding {
+        Finding::Legal(_) => {
+            let trace = &audited.trace;
+            let events = trace.events.as_slice();
+            match picture_under(alloc, &audited.document, trace.version, events, first, last) {
+                Ok(text) => Ok(Conclusion {
+                    text,
+                    status: 0,
+                    files: Vec::new(alloc),
+                }),
+                Err(refusal) => Err(refusal),
+            }
+        }
+        Finding::NotLegal(flaw) => {
+            let conclusion = flaw.conclusion(alloc)?;
+            Ok(conclusion)
+        }
+    }
+}
+
+// The picture of events of this version, under the rules of growth that it has.
+fn picture_under(
+    alloc: Global,
+    document: &Document,
+    version: Version,
+    events: &[Event],
+    first: usize,
+    last: usize,
+) -> Result<Vec<u8>, Refusal>
+    ensures ok { let t = audited_under version document.now.tables in
+        IfOk result (λ text. IsPicture document.now t first last events.now text.items) }
+    ensures refused { let t = audited_under version document.now.tables in
+        IfErr result (IsNoPicture (picture_size document.now t first last events.now)) }
+{
+    let network = document.network();
+    match version {
+        Version::One => {
+            let plain = network.under(Policy::Cycles, Growth::One)?;
+            picture_of(alloc, document, &plain, first, last, events)
+        }
+        Version::Two => picture_of(alloc, document, network, first, last, events),
+    }
+}

@@ -1,0 +1,4 @@
+pub mod Plain
+pub mod Pauses
+-- Lemmas: what a run is handed.
+pub mod Running

@@ -1,0 +1,63 @@
+//! A network is run: by the calling thread, or by workers on threads of their own.
+ghost use Rattle.std.specs.Prelude.{◌≡◌, length, Some, IfOk, IfErr};
+ghost use Rattle.kpn_net.specs.Iteration.{sources};
+ghost use Rattle.kpn_book.specs.Reports.{IsReport};
+ghost use Rattle.kpn_commands.specs.Limits.{limits_of};
+ghost use Rattle.kpn_commands.specs.Reported.{IsRefusalOfReport};
+
+use kpn_book::{Limits, Report};
+use kpn_command_base::{Inputs, NamedEnd, Refusal, RunRequest};
+use kpn_lang::Sequence;
+use kpn_limits::MAX_WORKERS;
+use kpn_net::Network;
+use kpn_pool::{RunFault, run};
+use kpn_pool_desk::CommitsAll;
+use std::alloc::Global;
+use std::sync::Wait;
+use std::thread::Threads;
+use std::time::Clock;
+
+// How many steps a process makes at most before it is the turn of the next.
+const QUOTA: u32 = 1_000;
+
+/// What was run, the sinks that options name, and the report.
+#[derive(Drop)]
+pub(crate) struct Reported<'a> {
+    pub(crate) inputs: Inputs,
+    pub(crate) sinks: Vec<NamedEnd<'a>>,
+    pub(crate) report: Report,
+}
+
+/// The limits of a run that is asked for.
+pub(crate) fn limits_of(request: &RunRequest<'_>) -> Limits
+    ensures { result ≡ limits_of request.now }
+{
+    Limits {
+        commits: request.commits,
+        take: request.take,
+        quota: QUOTA,
+    }
+}
+
+/// Runs a network by workers: at least one, and at most `MAX_WORKERS`.
+pub(crate) fn run_by_workers<R: Threads + Wait + Clock + Sync>(
+    rt: &R,
+    alloc: Global,
+    network: &Network,
+    lists: &[Sequence<i64>],
+    workers: u32,
+    limits: &Limits,
+) -> Result<Report, Refusal>
+    requires { length lists.now ≡ sources network.now }
+    ensures report { IfOk result (λ report. IsReport network.now lists.now limits.now report) }
+    ensures refused { IfErr result (IsRefusalOfReport (Some workers)) }
+{
+    let workers = (workers as usize).clamp(1, MAX_WORKERS);
+    match run(rt, alloc, network, lists, workers, &CommitsAll, limits) {
+        Ok(report) => Ok(report),
+        Err(RunFault::Threads) => Err(Refusal::Threads),
+        Err(RunFault::NoMemory) => Err(Refusal::NoMemory),
+        Err(RunFault::Abandoned) => Err(Refusal::Abandoned),
+        Err(RunFault::Foreign) => Err(Refusal::Foreign),
+    }
+}

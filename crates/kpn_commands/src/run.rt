@@ -1,0 +1,100 @@
+//! The command: it reads a network and the lists of its sources, runs the network, and concludes with the files to store
+//! and a report.
+ghost use Rattle.std.specs.Prelude.{◌≡◌, IfOk, IfErr};
+ghost use Rattle.kpn_commands.specs.Run.{IsConcluded, IsRun, IsNoRun};
+
+use crate::files::files_of;
+use crate::reporting::{Reported, limits_of, run_by_workers};
+use kpn_book::run_here;
+use kpn_command_base::{
+    Conclusion, Refusal, RunInputs, RunRequest, prepare, status_of, text_of_report,
+};
+use kpn_shelf::Shelf;
+use std::alloc::Global;
+use std::sync::Wait;
+use std::thread::Threads;
+use std::time::Clock;
+
+/// What `kpn run FILE` comes to on the calling thread, which waits for nobody. Before the run it makes ready for the
+/// files that the run is to store: the trace first, then what the sinks received. The status is 0 for ended and enough,
+/// 3 for clogged, 4 for jammed, 5 for stopped.
+pub fn run_command<S: Shelf>(
+    alloc: Global,
+    request: &RunRequest<'_>,
+    shelf: &S,
+) -> Result<Conclusion, Refusal>
+    ensures ok { IfOk result (IsRun (S.may_give shelf.now) request.now) }
+    ensures refused { IfErr result
+        (IsNoRun (S.may_give shelf.now) (S.may_alias shelf.now) request.now) }
+{
+    let RunInputs { inputs, sinks } = match prepare(alloc, request, shelf) {
+        Ok(loaded) => loaded,
+        Err(refusal) => return Err(refusal),
+    };
+    let limits = limits_of(request);
+    let network = inputs.document.network();
+    let report = match run_here(alloc, network, &inputs.given, &limits) {
+        Ok(report) => report,
+        Err(_) => return Err(Refusal::NoMemory),
+    };
+    let reported = Reported {
+        inputs,
+        sinks,
+        report,
+    };
+    conclusion_of(alloc, request, &reported)
+}
+
+/// The same by as many workers as are asked for, on threads of their own: by one for 0, and by `MAX_WORKERS` for more.
+/// Without a number it is `run_command`.
+pub fn run_command_by_workers<R: Threads + Wait + Clock + Sync, S: Shelf>(
+    rt: &R,
+    alloc: Global,
+    request: &RunRequest<'_>,
+    shelf: &S,
+) -> Result<Conclusion, Refusal>
+    ensures ok { IfOk result (IsRun (S.may_give shelf.now) request.now) }
+    ensures refused { IfErr result
+        (IsNoRun (S.may_give shelf.now) (S.may_alias shelf.now) request.now) }
+{
+    let Some(workers) = request.workers else {
+        return run_command(alloc, request, shelf);
+    };
+    let RunInputs { inputs, sinks } = match prepare(alloc, request, shelf) {
+        Ok(loaded) => loaded,
+        Err(refusal) => return Err(refusal),
+    };
+    let limits = limits_of(request);
+    let network = inputs.document.network();
+    let report = match run_by_workers(rt, alloc, network, &inputs.given, workers, &limits) {
+        Ok(report) => report,
+        Err(refusal) => return Err(refusal),
+    };
+    let reported = Reported {
+        inputs,
+        sinks,
+        report,
+    };
+    conclusion_of(alloc, request, &reported)
+}
+
+// The files of a run, the text of its report, and its status.
+fn conclusion_of(
+    alloc: Global,
+    request: &RunRequest<'_>,
+    reported: &Reported<'_>,
+) -> Result<Conclusion, Refusal>
+    ensures ok { IfOk result (IsConcluded request.now reported.now) }
+    ensures refused { IfErr result (λ refusal. refusal ≡ Refusal.NoMemory) }
+{
+    let files = files_of(alloc, request.trace, request.take, reported)?;
+    let document = &reported.inputs.document;
+    let report = &reported.report;
+    let text = text_of_report(alloc, document, request.take, report)?;
+    let status = status_of(report.outcome);
+    Ok(Conclusion {
+        text,
+        status,
+        files,
+    })
+}

@@ -1,3 +1,0 @@
-pub mod TextOf
-pub mod RoundsText
-pub mod Rounds

@@ -1,6 +1,0 @@
-use Rattle.std.proofs.Common.{take}
-use Rattle.kpn_desk.specs.Batch.{PutsBack, InTurn}
-use Rattle.kpn_desk.proofs.batch.put_back_each.Given as goal
-
-abbrev pub invariant-turns : goal.invariant-turns
-invariant-turns g l = InTurn PutsBack (take l.i l.turns) l.fn.desk.book l.desk.book

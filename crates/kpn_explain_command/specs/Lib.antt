@@ -1,9 +1,0 @@
-pub mod Sentences
-pub mod Excess
-pub mod Cases
-pub mod Choices
-pub mod Habits
-pub mod Remedies
-pub mod ExplainText
-pub mod ItemsText
-pub mod Answers

@@ -1,2 +1,0 @@
-pub mod Conclusions
-pub mod Texts

@@ -1,4 +1,0 @@
-pub mod Words
-pub mod NotExact
-pub mod ExplainText
-pub mod Answers

@@ -1,7 +1,0 @@
-use Rattle.kpn_flat.specs.Calls.{Turns}
-use Rattle.kpn_flat.proofs.stepping.step_each.Given as goal
-
-abbrev pub invariant-turns : goal.invariant-turns
-invariant-turns l = record {
-  turns : Turns l.quota l.initial.book l.commits l.book;
-}

@@ -1,6 +1,0 @@
--- Both are what is read.
-use Rattle.kpn_grammar.proofs.DescriptionLaws.{one_description}
-use Rattle.kpn_grammar.proofs.laws.spelled_once.Goals as goal
-
-pub returns : goal.returns
-returns c = one_description

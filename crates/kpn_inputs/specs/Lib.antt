@@ -1,4 +1,0 @@
-pub mod Description
-pub mod Sources
-pub mod SourceRefusals
-pub mod Inputs

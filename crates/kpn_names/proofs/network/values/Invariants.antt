@@ -1,8 +1,0 @@
--- The values of the literals that were passed.
-use Rattle.std.proofs.Common.{◌≡◌, take, map}
-use Rattle.kpn_grammar.specs.Syntax.{literal_value}
-use Rattle.kpn_grammar.specs.View.{literal_seen}
-use Rattle.kpn_names.proofs.network.values.Given as goal
-
-abbrev pub invariant-loop-literal : goal.invariant-loop-literal
-invariant-loop-literal l = l.values ≡ map literal_value (map literal_seen (take l.literal-index l.literals))

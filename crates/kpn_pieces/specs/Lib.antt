@@ -1,3 +1,0 @@
-pub mod ListText
-pub mod Faulted
-pub mod Added

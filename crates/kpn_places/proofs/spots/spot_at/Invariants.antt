@@ -1,8 +1,0 @@
--- The remaining tokens give what all give.
-use Rattle.std.proofs.Common.{◌≡◌, drop}
-use Rattle.kpn_places.specs.Spots as spec
-use Rattle.kpn_places.proofs.spots.spot_at.Given as goal
-
-abbrev pub invariant-loop-lexeme : goal.invariant-loop-lexeme
-invariant-loop-lexeme l =
-    spec.spot_from l.at l.now (drop l.lexeme-index l.tokens) ≡ spec.spot_at l.at l.tokens

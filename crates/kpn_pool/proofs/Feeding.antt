@@ -1,0 +1,46 @@
+-- The sources are looked at, one after the other.
+use Rattle.std.proofs.Common.{◌≡◌, ℕ, ◌+◌, true, false, ℤ, List, inl, inr, subst, sym, arith}
+use Rattle.std.proofs.lemmas.Bool.{cases_eq, both_ways}
+use Rattle.kpn_net.specs.Tables.{Tables, channel_at, is_source}
+use Rattle.kpn_net.specs.Iteration.{given_by}
+use Rattle.kpn_run_history.specs.declared.state.View.{View}
+use Rattle.kpn_run_state.specs.Snapshot.{shown_on}
+use Rattle.kpn_run_history.specs.declared.event.Event.{Event}
+use Rattle.kpn_run_history.specs.Channels.{is_closed}
+use Rattle.kpn_pool.specs.Fed.{AreFedBelow, AreClosedBelow}
+
+module _ {A : Type 0} (t : Tables) (lists : List (List ℤ)) (view : View A) where
+  pub none_fed : AreFedBelow t lists view 0
+  none_fed c below source = absurd (omega arith)
+
+  pub fed_skip : (k : ℕ) → is_source (channel_at t k) ≡ false → AreFedBelow t lists view k
+      → AreFedBelow t lists view (k + 1)
+  fed_skip k none so_far c below source =
+      elim (cases_eq c k) [
+        | inl same ↦ absurd (both_ways (is_source (channel_at t k)) none
+            (subst (λ x. is_source (channel_at t x) ≡ true) same source))
+        | inr other ↦ so_far c (omega arith) source
+      ]
+
+  pub fed_more : (k : ℕ) → shown_on view k ≡ given_by t lists k → AreFedBelow t lists view k
+      → AreFedBelow t lists view (k + 1)
+  fed_more k is so_far c below source =
+      elim (cases_eq c k) [
+        | inl same ↦ subst (λ x. shown_on view x ≡ given_by t lists x) (sym same) is
+        | inr other ↦ so_far c (omega arith) source
+      ]
+
+module _ (t : Tables) (H : List Event) where
+  pub none_closed : AreClosedBelow t H 0
+  none_closed c below source = absurd (omega arith)
+
+  -- the next channel is no source, or is closed
+  pub closed_more : (k : ℕ) → (is_source (channel_at t k) ≡ true → is_closed H k ≡ true) → AreClosedBelow t H k
+      → AreClosedBelow t H (k + 1)
+  closed_more k is so_far c below source =
+      elim (cases_eq c k) [
+        | inl same ↦
+            let at_k = subst (λ x. is_source (channel_at t x) ≡ true) same source in
+            subst (λ x. is_closed H x ≡ true) (sym same) (is at_k)
+        | inr other ↦ so_far c (omega arith) source
+      ]

@@ -1,0 +1,33 @@
+use Rattle.std.proofs.Common.{◌≡◌, length, sym, ◌∙◌, subst}
+use Rattle.kpn_net.specs.Tables.{Tables}
+use Rattle.kpn_pool.specs.Fed.{AreFedBelow, AreClosedBelow}
+use Rattle.kpn_pool.proofs.Concluding.{journals_shown, are_supplied, IsReport-concluded}
+use Rattle.kpn_pool.proofs.ending.conclude.Goals as goal
+
+pub were_fed-are_fed-requires-clause-journals : goal.were_fed-are_fed-requires-clause-journals
+were_fed-are_fed-requires-clause-journals c =
+    journals_shown c.network-network.result.now c.empty_sinks-emptied.new.book (sym c.network-network.ensures)
+    c.known.ensures c.in-Some.outcome c.in_ok-report.report c.in_ok-report.ensures
+
+pub returns : goal.returns
+returns c =
+    let t = c.args.book.tables in
+    let same : c.empty_sinks-emptied.new.book.tables ≡ t =
+    c.empty_sinks-emptied.ensures.tables ∙ c.put_back_held.ensures.tables in
+    let network : c.network-network.result.now ≡ t = c.network-network.ensures ∙ same in
+    let report = c.in_ok-report.report in
+    let fed =
+    subst (λ (u : Tables). AreFedBelow u c.args.lists.now report.view (length u.channels)) network
+    (c.were_fed-are_fed.ensures c.if-not-are_fed.false) in
+    let closed =
+    subst (λ (u : Tables). AreClosedBelow u c.empty_sinks-emptied.new.book.history (length u.channels)) same
+    (c.are_closed-are_closed.ensures c.if-not-are_closed.false) in
+    record {
+      report =
+          IsReport-concluded t c.empty_sinks-emptied.new.book same c.known.ensures c.in-Some.outcome report
+          c.in_ok-report.ensures c.args.lists.now fed c.args.limits.now
+          (c.empty_sinks-emptied.ensures.held ∙ c.put_back_held.ensures.none) c.in-Some.ensures;
+      supplied =
+          are_supplied t c.empty_sinks-emptied.new.book same c.known.ensures c.in-Some.outcome report
+          c.in_ok-report.ensures c.args.lists.now fed closed;
+    }

@@ -1,0 +1,16 @@
+-- What a run by workers looks for at its end: that its sources were fed their whole lists, and closed.
+use Rattle.std.specs.Prelude.{◌≡◌, ℕ, ◌<◌, true, ℤ, List}
+use Rattle.kpn_net.specs.Tables.{Tables, channel_at, is_source}
+use Rattle.kpn_net.specs.Iteration.{given_by}
+use Rattle.kpn_run_history.specs.declared.event.Event.{Event}
+use Rattle.kpn_run_history.specs.declared.state.View.{View}
+use Rattle.kpn_run_history.specs.Channels.{is_closed}
+use Rattle.kpn_run_state.specs.Snapshot.{shown_on}
+
+-- the journal of each source with a number below k, as a view shows it, is its list
+abbrev pub AreFedBelow : {A : Type 0} → Tables → (lists : List (List ℤ)) → View A → (k : ℕ) → Type 0
+AreFedBelow t lists view k = (c : ℕ) → c < k → is_source (channel_at t c) ≡ true → shown_on view c ≡ given_by t lists c
+
+-- each source with a number below k was closed
+abbrev pub AreClosedBelow : Tables → List Event → (k : ℕ) → Type 0
+AreClosedBelow t H k = (c : ℕ) → c < k → is_source (channel_at t c) ≡ true → is_closed H c ≡ true

@@ -1,0 +1,42 @@
+//! Whether the sources of a run were fed their lists and closed, as the end of the run shows them.
+ghost use Rattle.std.specs.Prelude.{◌≡◌, length, IsTrue};
+ghost use Rattle.kpn_net.specs.Iteration.{sources};
+ghost use Rattle.kpn_pool.specs.Fed.{AreFedBelow, AreClosedBelow};
+
+use kpn_lang::Sequence;
+use kpn_net::Network;
+use kpn_run_history::View;
+use kpn_run_state::Book;
+
+/// Whether the journal of each source is its list.
+pub(crate) fn were_fed(network: &Network, lists: &[Sequence<i64>], view: &View) -> bool
+    requires lists { length lists.now ≡ sources network.now }
+    requires journals { length view.now.journals ≡ length network.now.channels }
+    ensures { let t = network.now in
+        IsTrue result → AreFedBelow t lists.now view.now (length t.channels) }
+{
+    let journals = view.journals.as_slice();
+    let mut source = 0;
+    'channels: for c in 0..network.channels() {
+        if network.is_source(c) {
+            if !journals[c].is(lists[source].as_slice()) {
+                return false;
+            }
+            source += 1;
+        }
+    }
+    true
+}
+
+/// Whether each source is closed.
+pub(crate) fn are_closed(book: &Book<'_>) -> bool
+    ensures { let t = book.now.tables in
+        IsTrue result → AreClosedBelow t book.now.history (length t.channels) }
+{
+    'channels: for c in 0..book.network().channels() {
+        if book.network().is_source(c) && !book.is_closed(c) {
+            return false;
+        }
+    }
+    true
+}

@@ -1,0 +1,188 @@
+//! The threads of a run: one for each worker and each feeder, beside the calling thread, which serves the outside.
+ghost use Rattle.std.specs.Prelude.{◌≡◌, ◌+◌, ◌<◌, ◌≤◌, IfOk, vec_len, vec_capacity};
+
+use crate::beside::{Client, Feeder, Outside};
+use crate::shared::Shared;
+use crate::working::work;
+use kpn_pool_desk::{EndSeats, Gate, Job, SourceSeat, WorkerSeat};
+use std::alloc::{AllocError, Global};
+use std::sync::Wait;
+use std::thread;
+use std::thread::{JoinHandle, Scope, Threads};
+use std::time::Clock;
+
+/// What a run has come to once its workers and its feeders have ended.
+#[derive(Drop)]
+pub(crate) struct Ended<J: Job, C: Drop> {
+    /// The seats of all workers.
+    pub seats: Vec<WorkerSeat<J>>,
+    /// The client, which has served the outside.
+    pub client: C,
+    /// Whether each worker and each feeder had a thread of its own.
+    pub had_threads: bool,
+}
+
+/// Steps the processes by a worker for each seat, and feeds sources by the feeders, each on a thread of its own. The
+/// client serves the outside meanwhile. The error is that memory ran out before a thread was started.
+pub(crate) fn work_side_by_side<
+    J: Job + Send + Sync,
+    R: Threads + Wait + Clock + Sync,
+    G: Gate,
+    C: Client,
+    F: Feeder,
+>(
+    rt: &R,
+    alloc: Global,
+    shared: &Shared<'_, J>,
+    seats: Vec<WorkerSeat<J>>,
+    gate: &G,
+    quota: u32,
+    ends: EndSeats,
+    client: C,
+    feeders: &[F],
+) -> Result<Ended<J, C>, AllocError>
+    requires quota { 0 < quota }
+    requires seats { vec_len seats ≡ J.parts }
+    ensures { IfOk result (λ ended. vec_len ended.seats ≡ J.parts) }
+{
+    thread::scope(
+        thread::scope_env(),
+        rt,
+        |scope| -> Result<Ended<J, C>, AllocError>
+            requires quota { 0 < quota }
+            requires seats { vec_len seats ≡ J.parts }
+            ensures { IfOk result (λ ended. vec_len ended.seats ≡ J.parts) }
+        {
+            work_in(
+                rt, alloc, scope, shared, seats, gate, quota, ends, client, feeders,
+            )
+        },
+    )
+}
+
+/// The same in a scope of threads. A worker that gets no thread has ended, and a feeder that gets none does nothing.
+fn work_in<
+    's,
+    E,
+    J: Job + Send + Sync,
+    R: Threads + Wait + Clock + Sync,
+    G: Gate,
+    C: Client,
+    F: Feeder,
+>(
+    rt: &'s R,
+    alloc: Global,
+    scope: &Scope<'s, E>,
+    shared: &'s Shared<'_, J>,
+    seats: Vec<WorkerSeat<J>>,
+    gate: &'s G,
+    quota: u32,
+    ends: EndSeats,
+    client: C,
+    feeders: &'s [F],
+) -> Result<Ended<J, C>, AllocError>
+    requires { 0 < quota }
+    ensures { IfOk result (λ ended. vec_len ended.seats ≡ vec_len seats) }
+{
+    let mut threads = Vec::with_capacity(alloc, seats.len())?;
+    let mut ended = Vec::with_capacity(alloc, seats.len())?;
+    'seats: for seat in seats {
+        match start(rt, scope, shared, gate, seat, quota) {
+            Ok(thread) => threads.push_reserved(thread),
+            Err(seat) => ended.push_reserved(seat),
+        }
+    }
+    let mut ends = ends;
+    let have_feeders = start_feeders(rt, scope, shared, feeders, &mut ends);
+    let had_threads = ended.is_empty() && have_feeders;
+    let mut client = client;
+    client.serve(rt, Outside { shared, ends });
+    shared.halt(rt);
+    'threads: for thread in threads {
+        ended.push_reserved(thread.join(rt));
+    }
+    Ok(Ended {
+        seats: ended,
+        client,
+        had_threads,
+    })
+}
+
+/// Starts each feeder for which there is a source on a thread of its own. Returns whether each got one. The end of the
+/// scope waits for them.
+fn start_feeders<'s, E, J: Job + Send + Sync, R: Wait + Clock + Sync, F: Feeder>(
+    rt: &'s R,
+    scope: &Scope<'s, E>,
+    shared: &'s Shared<'_, J>,
+    feeders: &'s [F],
+    ends: &mut EndSeats,
+) -> bool {
+    let mut had_threads = true;
+    for feeder in feeders {
+        if let Some(source) = first_source(ends) {
+            had_threads = start_feeder(rt, scope, shared, feeder, source) && had_threads;
+        }
+    }
+    had_threads
+}
+
+/// The seat of the first source, which is taken from these, if there is one.
+fn first_source(ends: &mut EndSeats) -> Option<SourceSeat> {
+    if ends.sources.is_empty() {
+        return None;
+    }
+    Some(ends.sources.remove(0))
+}
+
+/// Starts a worker on a thread of its own. If it cannot be started, all workers have to end, this one too.
+fn start<'s, E, J: Job + Send + Sync, R: Wait + Clock + Sync, G: Gate>(
+    rt: &'s R,
+    scope: &Scope<'s, E>,
+    shared: &'s Shared<'_, J>,
+    gate: &'s G,
+    seat: WorkerSeat<J>,
+    quota: u32,
+) -> Result<JoinHandle<WorkerSeat<J>>, WorkerSeat<J>>
+    requires { 0 < quota }
+{
+    let job = move || -> WorkerSeat<J>
+        requires { 0 < quota }
+    { work(rt, shared, gate, seat, quota) };
+    match scope.spawn(job) {
+        Ok(thread) => Ok(thread),
+        Err(refused) => {
+            shared.halt(rt);
+            Err((refused.value)())
+        }
+    }
+}
+
+/// Starts a feeder on a thread of its own. Returns whether it got one. If not, all workers have to end, and the feeder
+/// finds that they have.
+fn start_feeder<'s, E, J: Job + Send + Sync, R: Wait + Clock + Sync, F: Feeder>(
+    rt: &'s R,
+    scope: &Scope<'s, E>,
+    shared: &'s Shared<'_, J>,
+    feeder: &'s F,
+    source: SourceSeat,
+) -> bool {
+    let job = move || feed_by(rt, shared, source, feeder);
+    match scope.spawn(job) {
+        Ok(_thread) => true,
+        Err(refused) => {
+            shared.halt(rt);
+            (refused.value)();
+            false
+        }
+    }
+}
+
+/// The feeder feeds the source.
+fn feed_by<J: Job, R: Wait + Clock, F: Feeder>(
+    rt: &R,
+    shared: &Shared<'_, J>,
+    source: SourceSeat,
+    feeder: &F,
+) {
+    feeder.feed(rt, shared, source);
+}

@@ -1,0 +1,143 @@
+-- What a worker does with several processes, one turn after the other.
+use Rattle.std.proofs.Common.{◌≡◌, ℕ, zero, suc, ◌+◌, ◌-◌, ◌<◌, ◌≤◌, Option, Some, List, [], ◌∷◌, ◌++◌, length, take, drop, get_or, inl, inr, refl, sym, ap, ◌∙◌, subst, arith, IfSome}
+use Rattle.std.specs.Prelude.{slice_set, slice_get}
+use Rattle.std.proofs.lemmas.Bool.{cases_order}
+use Rattle.std.proofs.lemmas.List.{take_more, take_more_set}
+use Rattle.kpn_lang.specs.Parts.{Parts}
+use Rattle.kpn_step.specs.declared.stop.Stop.{Stop}
+use Rattle.kpn_step.specs.Stops.{advanced_of}
+use Rattle.kpn_run_state.specs.Book.{Book}
+use Rattle.kpn_pool_desk.specs.declared.seat.Why.{Why}
+use Rattle.kpn_pool_desk.specs.declared.turn.Stepped.{Stepped}
+use Rattle.kpn_pool_desk.specs.Desk.{Desk}
+use Rattle.kpn_pool_desk.specs.declared.gate.Go.{Go}
+use Rattle.kpn_pool_desk.specs.declared.gate.Go.TheVariants.{On, Abandon}
+use Rattle.kpn_pool_desk.specs.Batch.{Turn, Batch, IsTurnOf, made_of, steps_of, CommitsOrDrops, PutsBack, InTurn, IsEnd, Settles, claimed_by, LetsThrough, LetsAll, TurnsAtOnce, GoesAtOnce}
+use Rattle.kpn_run_state.specs.AtOnce.{CommitsAtOnce}
+
+-- ---- one turn more
+
+then_one : (Does : Turn → Book → Book → Type 0) (turns : List Turn) (turn : Turn) (before between after : Book)
+    → InTurn Does turns before between → Does turn between after → InTurn Does (turns ++ turn ∷ []) before after
+then_one Does [] turn before between after so_far does = (after, subst (λ b. Does turn b after) so_far does, refl)
+then_one Does (t ∷ turns) turn before between after so_far does =
+    (so_far.0, so_far.1, then_one Does turns turn so_far.0 between after so_far.2 does)
+
+pub one_more : (Does : Turn → Book → Book → Type 0) (turns : List Turn) (i : ℕ) (turn : Turn)
+    (before between after : Book)
+    → i < length turns → turn ≡ get_or turns i turn → InTurn Does (take i turns) before between
+    → Does turn between after → InTurn Does (take (i + 1) turns) before after
+one_more Does turns i turn before between after there is so_far does =
+    subst (λ xs. InTurn Does xs before after) (sym (take_more turns i turn there))
+    (then_one Does (take i turns) (get_or turns i turn) before between after so_far
+    (subst (λ t. Does t between after) is does))
+
+-- where the turn itself changes
+pub one_more_set : (Does : Turn → Book → Book → Type 0) (turns : List Turn) (i : ℕ) (turn : Turn)
+    (before between after : Book) → i < length turns → InTurn Does (take i turns) before between
+    → Does turn between after → InTurn Does (take (i + 1) (slice_set turns i turn)) before after
+one_more_set Does turns i turn before between after there so_far does =
+    subst (λ xs. InTurn Does xs before after) (sym (take_more_set turns i turn there))
+    (then_one Does (take i turns) turn before between after so_far does)
+
+-- ---- the gate
+
+-- a turn of the same process in the place of another
+pub claimed_by-set : (turns : List Turn) (i : ℕ) (turn d : Turn) → i < length turns
+    → turn.process ≡ (get_or turns i d).process → claimed_by (slice_set turns i turn) ≡ claimed_by turns
+claimed_by-set [] i turn d below same = absurd (omega (arith, below))
+claimed_by-set (t ∷ turns) zero turn d below same = ap (λ p. p ∷ claimed_by turns) same
+claimed_by-set (t ∷ turns) (suc i) turn d below same =
+    ap (λ ps. t.process ∷ ps) (claimed_by-set turns i turn d (omega (arith, below)) same)
+
+-- the process of a turn
+pub claimed_at : (turns : List Turn) (i : ℕ) (d : Turn) → i < length turns
+    → slice_get (claimed_by turns) i ≡ Some (get_or turns i d).process
+claimed_at [] i d below = absurd (omega (arith, below))
+claimed_at (t ∷ turns) zero d below = refl
+claimed_at (t ∷ turns) (suc i) d below = claimed_at turns i d (omega (arith, below))
+
+same_process : (o : Option ℕ) (p q : ℕ) → o ≡ Some p → o ≡ Some q → p ≡ q
+same_process o p q a b = let e : ◌≡◌ {A = Option ℕ} (Some p) (Some q) = sym a ∙ b in cc
+
+-- one process more was let through
+pub through_more : (may : ℕ → Go → Type 0) (processes : List ℕ) (i p : ℕ) → slice_get processes i ≡ Some p → may p On
+    → ((j q : ℕ) → j < i → slice_get processes j ≡ Some q → may q On)
+    → (j q : ℕ) → j < i + 1 → slice_get processes j ≡ Some q → may q On
+through_more may processes i p there answer so_far j q less at =
+    elim (cases_order j i) [
+      | inl same ↦
+          let is : slice_get processes i ≡ Some q = subst (λ n. slice_get processes n ≡ Some q) same at in
+          subst (λ x. may x On) (same_process (slice_get processes i) p q there is) answer
+      | inr (inl earlier) ↦ so_far j q earlier at
+      | inr (inr later) ↦ absurd (omega (arith, less, later))
+    ]
+
+-- the gate has made the worker end at this one
+pub stopped_at : (may : ℕ → Go → Type 0) (processes : List ℕ) (i p held : ℕ) → slice_get processes i ≡ Some p
+    → may p Abandon → ((j q : ℕ) → j < i → slice_get processes j ≡ Some q → may q On)
+    → LetsThrough may i held processes
+stopped_at may processes i p held there answer so_far = record {
+  through = so_far;
+  next = λ q less at. subst (λ x. may x Abandon) (same_process (slice_get processes i) p q there at) answer;
+}
+
+-- it has let all of them through
+pub let_all : (may : ℕ → Go → Type 0) (processes : List ℕ) (held : ℕ)
+    → ((j q : ℕ) → j < held → slice_get processes j ≡ Some q → may q On) → LetsThrough may held held processes
+let_all may processes held all = record { through = all; next = λ q less at. absurd (omega (arith, less)) }
+
+-- ---- a batch
+
+pub settled : (b : Batch) (why : Option Why) (before between after end : Desk) (turns : List Turn) (committed : ℕ)
+    → turns ≡ b.turns
+    → InTurn CommitsOrDrops (take committed (take b.passed turns)) before.book between.book
+    → InTurn PutsBack (take (b.held - committed) (drop committed turns)) between.book after.book
+    → end.book ≡ after.book → IsEnd committed b end why → Settles b why before end
+settled b why before between after end turns committed same commits back book ends = record {
+  committed = committed;
+  between = between.book;
+  commits =
+      subst (λ xs. InTurn CommitsOrDrops (take committed (take b.passed xs)) before.book between.book) same commits;
+  back =
+      subst (λ x. InTurn PutsBack (take (b.held - committed) (drop committed b.turns)) between.book x) (sym book)
+      (subst (λ xs. InTurn PutsBack (take (b.held - committed) (drop committed xs)) between.book after.book) same back);
+  end = ends;
+}
+
+-- ---- turns at once
+
+pub one_more_at_once : (n : ℕ) (before between after : Book) → TurnsAtOnce n before between
+    → CommitsAtOnce between after → TurnsAtOnce (n + 1) before after
+one_more_at_once n before between after so_far made =
+    let next : suc n ≡ n + 1 = omega arith in
+    subst (λ k. TurnsAtOnce k before after) next (between, so_far, made)
+
+pub none_at_once : (may : (worker process : ℕ) → Go → Type 0) (most : ℕ) (b : Book) → GoesAtOnce may most b b
+none_at_once may most b = record {
+  turns = 0;
+  few = omega arith;
+  made = refl;
+  within = λ below. below;
+  asked = inr refl;
+}
+
+pub some_at_once : (may : (worker process : ℕ) → Go → Type 0) (most n : ℕ) (before after : Book) → LetsAll may → n ≤ 8
+    → TurnsAtOnce n before after → (before.commits ≤ most → after.commits ≤ most) → GoesAtOnce may most before after
+some_at_once may most n before after all few made within = record {
+  turns = n;
+  few = few;
+  made = made;
+  within = within;
+  asked = inl all;
+}
+
+-- ---- the steps of a turn
+
+pub steps_made : (program : Parts) (o : Option Stepped) (last : Stepped) (made : ℕ × Stop) → o ≡ Some last
+    → last.made ≡ Some made → IfSome o (IsTurnOf program)
+    → steps_of o ≡ Some (advanced_of program last.claim.frame last.to made.0 made.1)
+steps_made program o last made there is all =
+    let turn = subst (λ x. IfSome x (IsTurnOf program)) there all in
+    ap steps_of there ∙ ap (made_of last.claim.program.now last.claim.frame last.to) is
+    ∙ ap (λ p. Some (advanced_of p last.claim.frame last.to made.0 made.1)) turn.program_is

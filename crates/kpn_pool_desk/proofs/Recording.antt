@@ -1,0 +1,202 @@
+-- The items that a seat feeds or takes in one call, and the events that record them in the book.
+use Rattle.std.proofs.Common.{◌≡◌, ℕ, ◌+◌, ◌<◌, true, false, ℤ, pos, List, [], ◌∷◌, ◌++◌, length, map, take, drop, get_or, Option, Some, None, is_some, refl, sym, ap, ◌∙◌, subst, arith, append-nil}
+use Rattle.std.specs.Prelude.{slice_get}
+use Rattle.std.proofs.lemmas.Bool.{false≢true}
+use Rattle.std.proofs.lemmas.List.{append_assoc, map-append}
+use Rattle.std.proofs.lemmas.Option.{slice_get-get_or}
+use Rattle.kpn_net.specs.Tables.{Tables}
+use Rattle.kpn_net.proofs.Networks.{sink_there}
+use Rattle.kpn_chan.specs.Channel.{ChannelState, next_item, unread}
+use Rattle.kpn_chan.proofs.Reading.{given, drop-given}
+use Rattle.kpn_run_history.specs.declared.event.Event.{Event}
+use Rattle.kpn_run_history.specs.declared.event.Event.TheVariants as event
+use Rattle.kpn_run_history.proofs.OneMore.{item_here}
+use Rattle.kpn_run_configuration.specs.Configuration.{channel_in}
+use Rattle.kpn_run_state.specs.Book.{Book}
+use Rattle.kpn_run_state.specs.Appending.{Appends, AppendsAll, IsGrowthOwed, AllHappen}
+use Rattle.kpn_run_state.specs.Refusals.{Takes}
+use Rattle.kpn_pool_desk.specs.Desk.{Desk}
+use Rattle.kpn_pool_desk.specs.OutsideSeats.{EndSeat, with_item, with_taken, AreRecorded, FeedsUntil, TakesFirst}
+
+-- ---- some items, and then more
+
+appends_more : (es fs : List Event) (a b c : Book) → AppendsAll es a b → AppendsAll fs b c → AppendsAll (es ++ fs) a c
+appends_more [] fs a b c first rest = subst (λ x. AppendsAll fs x c) first rest
+appends_more (e ∷ es) fs a b c first rest = (first.0, first.1, appends_more es fs first.0 b c first.2 rest)
+
+happen_more : (es fs : List Event) (a b c : Book) → AllHappen es a b → AllHappen fs b c → AllHappen (es ++ fs) a c
+happen_more [] fs a b c first rest = subst (λ x. AllHappen fs x c) first rest
+happen_more (e ∷ es) fs a b c first rest = (first.0, first.1, happen_more es fs first.0 b c first.2 rest)
+
+-- the same of events that follow, if some and then more are all
+module _ (follow : List Event → Book → Book → Type 0)
+    (more : (es fs : List Event) (a b c : Book) → follow es a b → follow fs b c → follow (es ++ fs) a c) where
+  events_more : (event_of : ℕ → ℤ → Event) (m n : ℕ) (xs ys : List ℤ) (a b c : Book) → n ≡ m
+      → follow (map (event_of m) xs) a b → follow (map (event_of n) ys) b c → follow (map (event_of m) (xs ++ ys)) a c
+  events_more event_of m n xs ys a b c same first rest =
+      subst (λ es. follow es a c) (sym (map-append (event_of m) xs ys))
+      (more (map (event_of m) xs) (map (event_of m) ys) a b c first
+      (subst (λ k. follow (map (event_of k) ys) b c) same rest))
+
+items_more : (r s t : EndSeat) (xs ys : List ℤ) → s.items ≡ r.items ++ xs → t.items ≡ s.items ++ ys
+    → t.items ≡ r.items ++ (xs ++ ys)
+items_more r s t xs ys first rest = rest ∙ ap (λ zs. zs ++ ys) first ∙ append_assoc r.items xs ys
+
+-- if a call is refused, the seat and the desk are as before
+pub as_before : (P : EndSeat → Book → Type 0) (s t : EndSeat) (d e : Desk) → t ≡ s → e ≡ d → P s d.book → P t e.book
+as_before P s t d e seat desk holds =
+    subst (λ x. P x e.book) (sym seat) (subst (λ (x : Desk). P s x.book) (sym desk) holds)
+
+-- ---- what is fed
+
+-- one item more
+pub fed_then : (r s t : EndSeat) (a b c : Book) (v : ℤ) → s.channel ≡ r.channel → t ≡ with_item v s
+    → AreRecorded AppendsAll event.Feed r s a b → Appends (event.Feed s.channel v) b c
+    → AreRecorded AppendsAll event.Feed r t a c
+fed_then r s t a b c v same is so_far feeds = record {
+  more = so_far.more ++ v ∷ [];
+  items = items_more r s t so_far.more (v ∷ []) so_far.items (ap (λ (e : EndSeat). e.items) is);
+  events =
+      events_more AppendsAll appends_more event.Feed r.channel s.channel so_far.more (v ∷ []) a b c same so_far.events
+      (c, feeds, refl);
+}
+
+-- the next item is refused, for a cause that depends on the channel, the item and the book
+pub fed_until : (items : List ℤ) (r s t : EndSeat) (k : ℕ) (v : ℤ) (refuses : ℕ → ℤ → Book → Type 0) (d e : Desk)
+    → k < length items → v ≡ get_or items k (pos 0) → s.channel ≡ r.channel → s.items ≡ r.items ++ take k items → t ≡ s
+    → e ≡ d → refuses s.channel v d.book → FeedsUntil items r t (λ item. refuses r.channel item e.book)
+fed_until items r s t k v refuses d e there is channel so_far seat desk refused = record {
+  count = k;
+  fed = ap (λ (x : EndSeat). x.items) seat ∙ so_far;
+  item = v;
+  next = slice_get-get_or items k (pos 0) there ∙ ap Some (sym is);
+  refused =
+      subst (λ n. refuses n v e.book) channel (subst (λ (x : Desk). refuses s.channel v x.book) (sym desk) refused);
+}
+
+-- ---- what is taken
+
+-- an item that is taken was the first unread one
+taken_first : (c : ℕ) (v : ℤ) (a b : Book) → c < length a.tables.channels
+    → next_item (channel_in a.configuration c) ≡ Some v → Appends (event.Take c v) a b
+    → unread (channel_in a.configuration c) ≡ v ∷ unread (channel_in b.configuration c)
+taken_first c v a b there next appends =
+    let was : ChannelState = channel_in a.configuration c in
+    let is : ChannelState = channel_in b.configuration c in
+    let after = appends.configuration.channels c there in
+    let one = ap length (item_here c v) in
+    let read = after.read in
+    let more : is.read ≡ was.read + 1 = omega arith in
+    let journal : is.journal ≡ was.journal = after.journal ∙ append-nil was.journal in
+    drop-given was.journal was.read v (given was.is_retired (slice_get (unread was) 0) v next)
+    ∙ ap (λ xs. v ∷ xs)
+    (ap (λ n. drop n was.journal) (sym more) ∙ ap (λ xs. drop is.read xs) (sym journal))
+
+-- a growth leaves what is unread as it is
+still_unread : (t : Tables) (H : List Event) (c : ℕ) (growth : List Event) (a b : Book) → IsGrowthOwed t H growth
+    → c < length a.tables.channels → AppendsAll growth a b
+    → unread (channel_in b.configuration c) ≡ unread (channel_in a.configuration c)
+still_unread t H c [] a b owed there none = ap (λ (x : Book). unread (channel_in x.configuration c)) none
+still_unread t H c (event.Grow p d n ∷ []) a b owed there grows =
+    let was : ChannelState = channel_in a.configuration c in
+    let is : ChannelState = channel_in grows.0.configuration c in
+    let after = grows.1.configuration.channels c there in
+    let read = after.read in
+    let same : is.read ≡ was.read = omega arith in
+    let journal : is.journal ≡ was.journal = after.journal ∙ append-nil was.journal in
+    ap (λ (x : Book). unread (channel_in x.configuration c)) grows.2
+    ∙ ap (λ n. drop n is.journal) same ∙ ap (λ xs. drop was.read xs) journal
+still_unread t H c growth a b owed there grows = absurd owed
+
+-- what is taken was the first unread item
+first_unread : (c : ℕ) (v : ℤ) (a b : Book) → Takes c (Some v) a b
+    → unread (channel_in a.configuration c) ≡ v ∷ unread (channel_in b.configuration c)
+first_unread c v a b takes =
+    let there = sink_there a.tables c takes.sink.sink in
+    let happens = takes.takes.1 in
+    let between : Book = happens.appends.0 in
+    let first = happens.appends.1 in
+    let still_there : c < length between.tables.channels =
+    subst (λ (t : Tables). c < length t.channels) (sym first.tables) there in
+    let rest =
+    still_unread a.tables (a.history ++ event.Take c v ∷ []) c happens.growth between b happens.owed still_there
+    happens.appends.2 in
+    taken_first c v a between there takes.takes.0 first ∙ ap (λ xs. v ∷ xs) (sym rest)
+
+pub none_taken : (s : EndSeat) (b : Book) → TakesFirst s s b b
+none_taken s b = record {
+  channel = refl;
+  recorded = record { more = []; items = sym (append-nil s.items); events = refl };
+  first = refl;
+}
+
+pub taken_once : (item : Option ℤ) (s t : EndSeat) (a b : Book) → t ≡ with_taken item s → Takes s.channel item a b
+    → TakesFirst s t a b
+taken_once None s t a b is takes =
+    subst (λ x. TakesFirst s x a b) (sym is) (subst (λ x. TakesFirst s s a x) (sym takes.takes.1) (none_taken s a))
+taken_once (Some v) s t a b is takes = record {
+  channel = ap (λ (e : EndSeat). e.channel) is;
+  recorded = record {
+    more = v ∷ [];
+    items = ap (λ (e : EndSeat). e.items) is;
+    events = (b, takes.takes.1, refl);
+  };
+  first = first_unread s.channel v a b takes;
+}
+
+pub taken_then : (r s t : EndSeat) (a b c : Book) → TakesFirst r s a b → TakesFirst s t b c → TakesFirst r t a c
+taken_then r s t a b c first rest =
+    let xs : List ℤ = first.recorded.more in
+    let ys : List ℤ = rest.recorded.more in
+    record {
+      channel = rest.channel ∙ first.channel;
+      recorded = record {
+        more = first.recorded.more ++ rest.recorded.more;
+        items = items_more r s t xs ys first.recorded.items rest.recorded.items;
+        events =
+            events_more AllHappen happen_more event.Take r.channel s.channel xs ys a b c first.channel
+            first.recorded.events
+            rest.recorded.events;
+      };
+      first =
+          first.first
+          ∙ ap (λ zs. xs ++ zs)
+          (subst (λ n. unread (channel_in b.configuration n) ≡ ys ++ unread (channel_in c.configuration n))
+          first.channel rest.first)
+          ∙ sym (append_assoc xs ys (unread (channel_in c.configuration r.channel)));
+    }
+
+-- one call more, which takes an item or finds none
+pub takes_on : (item : Option ℤ) (r s t : EndSeat) (a b c : Book) → TakesFirst r s a b → t ≡ with_taken item s
+    → Takes s.channel item b c → TakesFirst r t a c
+takes_on item r s t a b c so_far is takes = taken_then r s t a b c so_far (taken_once item s t b c is takes)
+
+-- if an item was taken, less is left of the channel
+pub less_left : (item : Option ℤ) (c : ℕ) (a b : Book) → Takes c item a b → is_some item ≡ true
+    → length (unread (channel_in b.configuration c)) < length (unread (channel_in a.configuration c))
+less_left (Some v) c a b takes some = let long = ap length (first_unread c v a b takes) in omega arith
+less_left None c a b takes some = absurd (false≢true some)
+
+-- the same, whatever seat names the channel
+pub taken_less : (item : Option ℤ) (s t : EndSeat) (a b : Book) → t ≡ with_taken item s → Takes s.channel item a b
+    → is_some item ≡ true
+    → length (unread (channel_in b.configuration t.channel)) < length (unread (channel_in a.configuration s.channel))
+taken_less item s t a b is takes some =
+    subst (λ n. length (unread (channel_in b.configuration n)) < length (unread (channel_in a.configuration s.channel)))
+    (sym (taken_once item s t a b is takes).channel) (less_left item s.channel a b takes some)
+
+-- if none was taken, none is left
+pub taken_last : (item : Option ℤ) (r s : EndSeat) (a b : Book) → s.channel ≡ r.channel → Takes s.channel item a b
+    → is_some item ≡ false → unread (channel_in b.configuration r.channel) ≡ []
+taken_last None r s a b channel takes none =
+    subst (λ n. unread (channel_in b.configuration n) ≡ []) channel
+    (ap (λ (x : Book). unread (channel_in x.configuration s.channel)) takes.takes.1 ∙ takes.takes.0)
+taken_last (Some v) r s a b channel takes none = absurd (false≢true (sym none))
+
+-- nothing is left: all that was unread was taken
+pub took_all : (r t : EndSeat) (a b : Book) → TakesFirst r t a b → unread (channel_in b.configuration r.channel) ≡ []
+    → t.items ≡ r.items ++ unread (channel_in a.configuration r.channel)
+took_all r t a b takes none =
+    takes.recorded.items
+    ∙ ap (λ xs. r.items ++ xs)
+    (sym (takes.first ∙ ap (λ xs. takes.recorded.more ++ xs) none ∙ append-nil takes.recorded.more))

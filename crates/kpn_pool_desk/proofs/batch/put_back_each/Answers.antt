@@ -1,0 +1,11 @@
+use Rattle.std.proofs.Common.{rules, ◌≡◌, get_or}
+use Rattle.kpn_pool_desk.specs.Batch.{PutsBack}
+use Rattle.kpn_pool_desk.proofs.Batches.{one_more}
+use Rattle.kpn_pool_desk.proofs.batch.put_back_each.Goals as goal
+
+pub turns-preserved : goal.turns-preserved
+turns-preserved g c =
+    let turn = c.index-turns-i.result in
+    let is : turn ≡ get_or c.args.turns.now c.turns.i turn = search rules in
+    one_more PutsBack c.args.turns.now c.turns.i turn c.args.desk.now.book c.turns.desk.book c.put_back.new.desk.book
+    c.turns-test.true is c.turns.invariant c.put_back.ensures.back

@@ -1,0 +1,13 @@
+-- The turns are those of the same processes, and the gate has let the first ones through.
+use Rattle.std.proofs.Common.{◌≡◌, ℕ, ◌<◌, Some}
+use Rattle.std.specs.Prelude.{slice_get}
+use Rattle.kpn_pool_desk.specs.declared.gate.Go.TheVariants.{On}
+use Rattle.kpn_pool_desk.specs.Batch.{claimed_by}
+use Rattle.kpn_pool_desk.proofs.batch.step_each.Given as goal
+
+abbrev pub invariant-turns : goal.invariant-turns
+invariant-turns g l = record {
+  claimed : claimed_by l.turns ≡ claimed_by l.fn.turns;
+  through : (i p : ℕ) → i < l.i → slice_get (claimed_by l.turns) i ≡ Some p
+      → g.G.Gate.may_answer l.gate l.worker p On;
+}

@@ -1,0 +1,11 @@
+use Rattle.std.proofs.Common.{sym, ◌∙◌}
+use Rattle.kpn_pool_desk.proofs.desk.Desk.new.Goals as goal
+
+pub invariant_of-result : goal.invariant_of-result
+invariant_of-result g c =
+    record {
+      network = c.in_ok-book.ensures.tables ∙ c.requires.network;
+      book = c.in_ok-book.ensures.book;
+      counted = c.requires.total ∙ sym c.in_ok-book.ensures.commits;
+      workers = c.requires.workers;
+    }

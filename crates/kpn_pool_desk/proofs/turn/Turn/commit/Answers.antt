@@ -1,0 +1,51 @@
+use Rattle.std.proofs.Common.{◌≡◌, Some, sym, ap, ◌∙◌, subst, inl}
+use Rattle.kpn_net.specs.Tables.{program_of}
+use Rattle.kpn_step.specs.Stops.{advanced_of}
+use Rattle.kpn_run_state.specs.Book.{IsHeld}
+use Rattle.kpn_run_state.specs.Commits.{IsOwnAdvance, Commits}
+use Rattle.kpn_run_state.specs.declared.answers.Refused.TheVariants.{NoMemory}
+use Rattle.kpn_run_state.specs.Refusals.{RefusesCommit}
+use Rattle.kpn_pool_desk.specs.Desk.{Desk}
+use Rattle.kpn_pool_desk.proofs.Batches.{steps_made}
+use Rattle.kpn_pool_desk.proofs.turn.Turn.commit.Goals as goal
+
+pub returns-in-Ok-clause-commits : goal.returns-in-Ok-clause-commits
+returns-in-Ok-clause-commits g c yes_made =
+    let program = program_of g.J.Job.network c.self.inside.process in
+    let last = c.in-Some.last in
+    let made = c.in-Some-made.made in
+    let x = advanced_of program last.claim.frame last.to made.0 made.1 in
+    let steps =
+    ap (λ t. t.steps) (sym c.self.view_is)
+    ∙ steps_made program c.self.inside.last last made c.in-Some.is c.in-Some-made.is c.self.invariant in
+    inl (
+      x,
+      c.in-Ok.done,
+      steps,
+      subst (λ (d : Desk). Commits c.args.self.now.process x c.in-Ok.done c.args.desk.now.book d.book)
+          (sym c.note.ensures)
+          (subst (λ p. Commits p x c.in-Ok.done c.args.desk.now.book c.commit.new.desk.book)
+          (ap (λ t. t.process) c.self.view_is) c.in-Ok.ensures.done),
+    )
+
+pub returns-in-Err-NoMemory-clause-refused : goal.returns-in-Err-NoMemory-clause-refused
+returns-in-Err-NoMemory-clause-refused g c none_made =
+    let program = program_of g.J.Job.network c.self.inside.process in
+    let last = c.in-Some.last in
+    let made = c.in-Some-made.made in
+    let x = advanced_of program last.claim.frame last.to made.0 made.1 in
+    let steps =
+    ap (λ t. t.steps) (sym c.self.view_is)
+    ∙ steps_made program c.self.inside.last last made c.in-Some.is c.in-Some-made.is c.self.invariant in
+    let refused : RefusesCommit c.self.inside.process x c.args.desk.now.book NoMemory =
+    subst (RefusesCommit c.self.inside.process x c.args.desk.now.book) c.in-Err-NoMemory.field-0-is
+    c.in-Err-NoMemory.ensures.refused in
+    let process = ap (λ t. t.process) c.self.view_is in (
+      (
+        x,
+        steps,
+        subst (λ p. IsHeld c.args.desk.now.book p) process refused.0,
+        subst (λ p. IsOwnAdvance c.args.desk.now.book p x) process refused.1,
+      ),
+      c.in-Err-NoMemory.ensures.as_before.1,
+    )

@@ -1,0 +1,130 @@
+-- What a worker does with several processes in one hold of the lock, one after the other.
+use Rattle.std.specs.Prelude.{◌≡◌, ℕ, zero, suc, ◌<◌, ◌≤◌, ◌-◌, ◌⊎◌, true, List, [], ◌∷◌, map, take, drop, slice_get, Option, Some, None, IfSome, IsTrue}
+use Rattle.kpn_lang.specs.Parts.{Parts}
+use Rattle.kpn_step.specs.declared.stop.Stop.{Stop}
+use Rattle.kpn_step.specs.Frame.{Frame, fits}
+use Rattle.kpn_step.specs.Stops.{Advanced, advanced_of, IsAdvance, IsAtPort}
+use Rattle.kpn_run_configuration.specs.Configuration.{frame_in}
+use Rattle.kpn_run_state.specs.declared.answers.Done.{Done}
+use Rattle.kpn_run_state.specs.Book.{Book, IsHeld, IsClaimed, put_back}
+use Rattle.kpn_run_state.specs.Commits.{IsOwnAdvance, Commits}
+use Rattle.kpn_run_state.specs.AtOnce.{CommitsAtOnce}
+use Rattle.kpn_pool_desk.specs.declared.turn.Stepped.{Stepped}
+use Rattle.kpn_pool_desk.specs.declared.seat.Why.{Why}
+use Rattle.kpn_pool_desk.specs.declared.seat.Why.TheVariants.{Abandoned, NoMemory}
+use Rattle.kpn_pool_desk.specs.declared.gate.Go.{Go}
+use Rattle.kpn_pool_desk.specs.declared.gate.Go.TheVariants.{On, Abandon}
+use Rattle.kpn_pool_desk.specs.Desk.{Desk}
+
+-- the process that was claimed last, if one was, with its frame, and the steps from there, if they are made
+pub record Turn : Type 0 where
+  pub process : ℕ
+  pub frame : Option Frame
+  pub steps : Option Advanced
+
+-- the frame of a claim
+abbrev pub frame_of : Option Stepped → Option Frame
+frame_of None = None
+frame_of (Some last) = Some last.claim.frame
+
+-- the steps between these frames, if they are made
+abbrev pub made_of : Parts → (from to : Frame) → Option (ℕ × Stop) → Option Advanced
+made_of program from to None = None
+made_of program from to (Some made) = Some (advanced_of program from to made.0 made.1)
+
+-- the steps from the frame of a claim
+abbrev pub steps_of : Option Stepped → Option Advanced
+steps_of None = None
+steps_of (Some last) = made_of last.claim.program.now last.claim.frame last.to last.made
+
+-- the claim of a process of this program, with steps of it
+pub record IsTurnOf (program : Parts) (last : Stepped) : Type 0 where
+  pub program_is : last.claim.program.now ≡ program
+  pub fits : IsTrue (fits last.claim.program.now last.claim.frame)
+  pub made : IfSome last.made (λ made.
+      IsAdvance (advanced_of last.claim.program.now last.claim.frame last.to made.0 made.1)
+      × IsAtPort last.claim.program.now last.to made.1)
+
+-- turns: the first ones, so many, are held, and of these the first ones, so many, the gate has let through
+pub record Batch : Type 0 where
+  pub turns : List Turn
+  pub held : ℕ
+  pub passed : ℕ
+
+-- the processes that were claimed last, in the order of the turns
+abbrev pub claimed_by : List Turn → List ℕ
+claimed_by turns = map (λ (turn : Turn). turn.process) turns
+
+-- ---- one turn
+
+-- its process is the first of the queue, and is held from then on; its frame is where the process stands
+pub record Claims (turn : Turn) (before after : Book) : Type 0 where
+  pub held : IsClaimed turn.process before after
+  pub frame : turn.frame ≡ Some (frame_in before.configuration turn.process)
+
+-- its process is held, and its steps are those of this process from where it stands
+abbrev pub MayCommit : Turn → Book → Type 0
+MayCommit turn b =
+    (steps : Advanced) × (turn.steps ≡ Some steps) × IsHeld b turn.process × IsOwnAdvance b turn.process steps
+
+-- its steps are committed; any others are dropped
+abbrev pub CommitsOrDrops : Turn → Book → Book → Type 0
+CommitsOrDrops turn before after =
+    ((steps : Advanced) × (done : Done) × (turn.steps ≡ Some steps) × Commits turn.process steps done before after)
+    ⊎ ((¬ MayCommit turn before) × (after ≡ before))
+
+-- its process is put back, if it is held
+abbrev pub PutsBack : Turn → Book → Book → Type 0
+PutsBack turn before after =
+    (IsHeld before turn.process × (after ≡ put_back turn.process before))
+    ⊎ ((¬ IsHeld before turn.process) × (after ≡ before))
+
+-- ---- the gate
+
+-- the gate, which may answer so, has let the first ones of the processes through; if more are held, it made the worker
+-- end at the next one
+pub record LetsThrough (may_answer : (process : ℕ) → Go → Type 0) (passed held : ℕ) (processes : List ℕ) : Type 0
+  where
+    pub through : (i p : ℕ) → i < passed → slice_get processes i ≡ Some p → may_answer p On
+    pub next : (p : ℕ) → passed < held → slice_get processes passed ≡ Some p → may_answer p Abandon
+
+-- the gate, which may answer so, lets everything through
+abbrev pub LetsAll : (may_answer : (worker process : ℕ) → Go → Type 0) → Type 0
+LetsAll may_answer = (worker process : ℕ) (go : Go) → may_answer worker process go → go ≡ On
+
+-- ---- one turn after the other
+
+abbrev pub InTurn : (Turn → Book → Book → Type 0) → List Turn → Book → Book → Type 0
+InTurn Does [] before after = after ≡ before
+InTurn Does (turn ∷ turns) before after = (between : Book) × Does turn before between × InTurn Does turns between after
+
+-- why a worker ends that has committed so many of the turns that it holds: memory is wanted for the next one, and all
+-- workers shall end; or the gate did not let the next one through
+abbrev pub IsEnd : (committed : ℕ) → Batch → Desk → Option Why → Type 0
+IsEnd committed b after None = committed ≡ b.held
+IsEnd committed b after (Some Abandoned) = (committed ≡ b.passed) × (b.passed < b.held)
+IsEnd committed b after (Some NoMemory) = (committed < b.passed) × (after.halts ≡ true)
+IsEnd committed b after (Some why) = ⊥
+
+-- the first turns of a batch are committed in order, and then the others that are held are put back in order
+pub record Settles (b : Batch) (why : Option Why) (before after : Desk) : Type 0 where
+  pub committed : ℕ
+  pub between : Book
+  pub commits : InTurn CommitsOrDrops (take committed (take b.passed b.turns)) before.book between
+  pub back : InTurn PutsBack (take (b.held - committed) (drop committed b.turns)) between after.book
+  pub end : IsEnd committed b after why
+
+-- ---- turns at once
+
+-- so many turns at once, one after the other
+abbrev pub TurnsAtOnce : ℕ → (before after : Book) → Type 0
+TurnsAtOnce zero before after = after ≡ before
+TurnsAtOnce (suc n) before after = (between : Book) × TurnsAtOnce n before between × CommitsAtOnce between after
+
+-- at most eight turns at once, which lead past no limit of commits, and none if the gate does not let everything through
+pub record GoesAtOnce (may_answer : (worker process : ℕ) → Go → Type 0) (most : ℕ) (before after : Book) : Type 0 where
+  pub turns : ℕ
+  pub few : turns ≤ 8
+  pub made : TurnsAtOnce turns before after
+  pub within : before.commits ≤ most → after.commits ≤ most
+  pub asked : LetsAll may_answer ⊎ (turns ≡ 0)

@@ -1,0 +1,130 @@
+-- What a seat that feeds a source, or takes from a sink, knows of its own calls.
+use Rattle.std.specs.Prelude.{◌≡◌, ◌≢◌, ℕ, ℤ, Bool, true, false, List, [], ◌∷◌, ◌++◌, map, take, slice_get, Option, Some, None}
+use Rattle.std.specs.List.{filter, remove, All}
+use Rattle.kpn_lang.specs.Prefix.{IsPrefix}
+use Rattle.kpn_net.specs.declared.tables.ChannelSpec.{ChannelSpec}
+use Rattle.kpn_net.specs.Tables.{Tables, channel_at, is_sink}
+use Rattle.kpn_net.specs.Faults.{channel_numbers}
+use Rattle.kpn_chan.specs.Channel.{unread}
+use Rattle.kpn_run_history.specs.declared.event.Event.{Event}
+use Rattle.kpn_run_history.specs.declared.event.Event.TheVariants as event
+use Rattle.kpn_run_configuration.specs.Configuration.{channel_in}
+use Rattle.kpn_run_state.specs.Book.{Book}
+use Rattle.kpn_run_state.specs.Appending.{AllHappen}
+use Rattle.kpn_pool_desk.specs.declared.outside_seats.SnapFault.{SnapFault}
+use Rattle.kpn_pool_desk.specs.declared.outside_seats.SnapFault.TheVariants as snap_fault
+use Rattle.kpn_pool_desk.specs.declared.outside_seats.SnapFault.TheVariants.{Foreign}
+use Rattle.kpn_run_state.specs.declared.answers.Refused.{Refused}
+use Rattle.kpn_run_state.specs.declared.answers.Refused.TheVariants.{NoMemory, NoSuchEnd, SourceClosed, Full, SinkLeft}
+
+-- ---- a seat
+
+-- the number of the channel, and the items that were fed or taken, in order
+pub record EndSeat : Type 0 where
+  pub channel : ℕ
+  pub items : List ℤ
+
+-- nothing was fed or taken yet
+abbrev pub new_end : ℕ → EndSeat
+new_end channel = record { channel = channel; items = [] }
+
+-- one for each channel of a network that is a source, or a sink, in order of number
+abbrev pub new_ends : (ChannelSpec → Bool) → Tables → List EndSeat
+new_ends is_end t = filter (λ s. is_end (channel_at t s.channel)) (map new_end (channel_numbers t))
+
+-- one item more
+abbrev pub with_item : ℤ → EndSeat → EndSeat
+with_item item s = record s { items = s.items ++ item ∷ [] }
+
+-- the item that was taken, if one was
+abbrev pub with_taken : Option ℤ → EndSeat → EndSeat
+with_taken None s = s
+with_taken (Some item) s = with_item item s
+
+-- the seat of this channel is one of these, and the others stay in their order
+pub record GivesSeat (channel : ℕ) (seat : EndSeat) (before after : List EndSeat) : Type 0 where
+  pub is : seat.channel ≡ channel
+  pub place : ℕ
+  pub there : slice_get before place ≡ Some seat
+  pub others : after ≡ remove before place
+
+-- none of these seats is that of this channel
+abbrev pub HasNoSeat : (channel : ℕ) → List EndSeat → Type 0
+HasNoSeat channel seats = All (λ seat. seat.channel ≢ channel) seats
+
+-- ---- many items in one call
+
+-- The items that the seat has more than before are recorded in the book, each by its event, in order. `follow` says
+-- that these events follow in the book: nothing else happens there, or nothing but the growths that are owed.
+pub record AreRecorded (follow : List Event → Book → Book → Type 0) (event_of : ℕ → ℤ → Event) (before after : EndSeat)
+    (b b_after : Book) : Type 0 where
+  pub more : List ℤ
+  pub items : after.items ≡ before.items ++ more
+  pub events : follow (map (event_of before.channel) more) b b_after
+
+-- the seat has the first ones of these items more than before, and the next one is refused
+pub record FeedsUntil (items : List ℤ) (before after : EndSeat) (refuses : ℤ → Type 0) : Type 0 where
+  pub count : ℕ
+  pub fed : after.items ≡ before.items ++ take count items
+  pub item : ℤ
+  pub next : slice_get items count ≡ Some item
+  pub refused : refuses item
+
+-- the same channel, and the items that the seat had, perhaps followed by more
+pub record TakesMore (before after : EndSeat) : Type 0 where
+  pub channel : after.channel ≡ before.channel
+  pub items : IsPrefix before.items after.items
+
+-- the items that the seat has more than before were the first unread ones of its sink
+pub record TakesFirst (before after : EndSeat) (b b_after : Book) : Type 0 where
+  pub channel : after.channel ≡ before.channel
+  pub recorded : AreRecorded AllHappen event.Take before after b b_after
+  pub first : unread (channel_in b.configuration before.channel)
+      ≡ recorded.more ++ unread (channel_in b_after.configuration before.channel)
+
+-- the same seats, each with the items that it had and perhaps more
+abbrev pub HaveTaken : (before after : List EndSeat) → Type 0
+HaveTaken [] [] = Unit {0}
+HaveTaken (x ∷ xs) (y ∷ ys) = TakesMore x y × HaveTaken xs ys
+HaveTaken xs ys = ⊥
+
+-- each of these seats is that of a sink of the network
+abbrev pub AreSinks : Tables → List EndSeat → Type 0
+AreSinks t seats = All (λ (seat : EndSeat). is_sink (channel_at t seat.channel) ≡ true) seats
+
+-- ---- why a call of the outside may be refused, whatever has happened: `is_there` says whether the network has a
+-- source, or a sink, with its number
+
+-- feeding this item to a source
+abbrev pub MayRefuseFeed : (is_there : Bool) → ℤ → Refused → Type 0
+MayRefuseFeed is_there item NoSuchEnd = is_there ≡ false
+MayRefuseFeed is_there item SourceClosed = is_there ≡ true
+MayRefuseFeed is_there item (Full v) = (is_there ≡ true) × (v ≡ item)
+MayRefuseFeed is_there item NoMemory = is_there ≡ true
+MayRefuseFeed is_there item other = ⊥
+
+-- closing a source, or leaving a sink
+abbrev pub MayRefuseEnd : (is_there : Bool) → Refused → Type 0
+MayRefuseEnd is_there NoSuchEnd = is_there ≡ false
+MayRefuseEnd is_there NoMemory = is_there ≡ true
+MayRefuseEnd is_there other = ⊥
+
+-- taking from a sink
+abbrev pub MayRefuseTake : (is_there : Bool) → Refused → Type 0
+MayRefuseTake is_there NoSuchEnd = is_there ≡ false
+MayRefuseTake is_there SinkLeft = is_there ≡ true
+MayRefuseTake is_there NoMemory = is_there ≡ true
+MayRefuseTake is_there other = ⊥
+
+-- taking from the sinks of these seats, one after the other: the take from one of them is refused
+pub record MayRefuseTakes (t : Tables) (seats : List EndSeat) (cause : Refused) : Type 0 where
+  pub place : ℕ
+  pub seat : EndSeat
+  pub there : slice_get seats place ≡ Some seat
+  pub refused : MayRefuseTake (is_sink (channel_at t seat.channel)) cause
+
+-- a snapshot for a seat that has fed these items to a source: if the seat is of another run, it has fed something, or
+-- has no such source
+abbrev pub MayRefuseSnapshot : (is_there : Bool) → (fed : List ℤ) → SnapFault → Type 0
+MayRefuseSnapshot is_there fed Foreign = is_there ≡ true → fed ≢ []
+MayRefuseSnapshot is_there fed snap_fault.NoMemory = is_there ≡ true

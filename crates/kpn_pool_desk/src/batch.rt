@@ -1,0 +1,256 @@
+//! The turns that a worker makes between two holds of the lock, in the order of their claims.
+ghost use Rattle.std.specs.Prelude.{◌≡◌, ◌↔◌, ◌+◌, ◌<◌, ◌≤◌, IsTrue, take, length};
+ghost use Rattle.kpn_run_state.specs.Stepping.{ClaimsNobody};
+ghost use Rattle.kpn_pool_desk.specs.Batch.{InTurn, Claims, CommitsOrDrops, PutsBack, Settles, claimed_by, LetsThrough, LetsAll, GoesAtOnce};
+ghost use Rattle.kpn_pool_desk.specs.Desk.{share_in};
+
+use crate::crew::BATCH;
+use crate::desk::Desk;
+use crate::gate::{Gate, Go};
+use crate::job::Job;
+use crate::phases::Next;
+use crate::seat::{Why, WorkerSeat};
+use crate::turn::Turn;
+use arrayvec::ArrayVec;
+use std::alloc::Allocator;
+use std::marker::Model;
+use std::time::Duration;
+
+/// Turns of which the first ones are held, and of these the gate has let the first ones through.
+#[derive(Drop)]
+pub struct Batch<'n, J: Job> {
+    turns: ArrayVec<Turn<'n, J>, BATCH>,
+    held: usize,
+    passed: usize,
+}
+
+impl<'n, J: Job> Model for Batch<'n, J> {
+    ghost use Rattle.std.specs.Prelude.{◌≡◌, ◌≤◌, length};
+    ghost use Rattle.std.specs.Coded.{codes};
+    ghost use Rattle.kpn_lang.specs.Codes.{parts_code};
+    ghost use Rattle.kpn_pool_desk.specs.Batch.{Batch as Seen};
+
+    ghost Value = { Seen };
+
+    ghost coded = { Prim.hlevel (codes, parts_code) };
+
+    ghost view = { λ b. record { turns = b.turns.items; held = b.held; passed = b.passed } };
+
+    ghost invariant = { λ b. (length b.turns.items ≡ 8) × (b.held ≤ 8) × (b.passed ≤ b.held) };
+}
+
+impl<'n, J: Job> Batch<'n, J> {
+    /// No process is claimed.
+    pub fn new() -> Self
+        ensures { result.held ≡ 0 }
+    {
+        Batch {
+            turns: ArrayVec::from_array_in(
+                (),
+                [
+                    Turn::new(),
+                    Turn::new(),
+                    Turn::new(),
+                    Turn::new(),
+                    Turn::new(),
+                    Turn::new(),
+                    Turn::new(),
+                    Turn::new(),
+                ],
+            ),
+            held: 0,
+            passed: 0,
+        }
+    }
+
+    /// How many processes are claimed.
+    pub fn len(&self) -> usize
+        ensures { result ≡ self.now.held }
+    {
+        self.held
+    }
+
+    /// Claims a worker's share of those that are ready, at most 8. Returns whether there is one.
+    pub fn claim<A: Allocator>(&mut self, desk: &mut Desk<'n, J, A>) -> bool
+        ensures claims { InTurn Claims (take self.new.held self.new.turns) desk.old.book desk.new.book }
+        ensures share { self.new.held ≤ share_in J.parts desk.old.book }
+        ensures all { self.new.held < share_in J.parts desk.old.book
+            → ClaimsNobody desk.new.book }
+        ensures some { IsTrue result ↔ (0 < self.new.held) }
+    {
+        desk.known();
+        let most = desk.share();
+        self.held = claim_each(desk, self.turns.as_mut_slice(), most);
+        self.passed = 0;
+        self.held > 0
+    }
+
+    /// Steps each process and asks the gate for it, in order, until the gate ends the worker.
+    pub fn step<G: Gate>(&mut self, gate: &G, worker: usize, quota: u32)
+        ensures held { self.new.held ≡ self.old.held }
+        ensures claimed { claimed_by self.new.turns ≡ claimed_by self.old.turns }
+        ensures gate { LetsThrough (G.may_answer gate.now worker) self.new.passed self.new.held
+            (claimed_by self.new.turns) }
+    {
+        let held = self.held;
+        self.passed = step_each(gate, worker, quota, self.turns.as_mut_slice(), held);
+    }
+
+    /// A worker is back from these turns, which began after so many commits and left the lock free for so long, if that
+    /// was measured. It commits their steps, and then makes turns at once. Returns what it does next, if `most` commits
+    /// are allowed.
+    pub fn come_back<A: Allocator + Copy, G: Gate>(
+        &self,
+        desk: &mut Desk<'n, J, A>,
+        gate: &G,
+        seat: &mut WorkerSeat<J>,
+        commits: u64,
+        away: Option<Duration>,
+        most: u64,
+    ) -> Next
+        ensures number { seat.new.number ≡ seat.old.number }
+        ensures commits { seat.old.commits ≤ seat.new.commits }
+        // turns that the gate was not asked for are committed only if it lets everything through
+        ensures asked { seat.old.commits + self.now.passed < seat.new.commits
+            → LetsAll (G.may_answer gate.now) }
+    {
+        let is_alone = desk.book.commits() == commits;
+        desk.crew.come_back(self.held, away);
+        if let Some(why) = self.settle(desk, seat) {
+            return Next::End(why);
+        }
+        go_at_once(gate, desk, seat, most);
+        desk.next(most, is_alone, true)
+    }
+
+    /// Commits the steps that the gate has let through, in order, until memory is refused, and puts the others back, in
+    /// order. Returns why the worker ends, if there are such. If memory was refused, all workers have to end.
+    fn settle<A: Allocator + Copy>(
+        &self,
+        desk: &mut Desk<'n, J, A>,
+        seat: &mut WorkerSeat<J>,
+    ) -> Option<Why>
+        ensures settles { Settles self.now result desk.old desk.new }
+        ensures number { seat.new.number ≡ seat.old.number }
+        ensures counted { seat.old.commits ≤ seat.new.commits }
+        ensures most { seat.new.commits ≤ seat.old.commits + self.now.passed }
+    {
+        let turns = self.turns.as_slice();
+        let committed = commit_each(desk, seat, &turns[..self.passed]);
+        put_back_each(desk, &turns[committed..self.held]);
+        if committed < self.passed {
+            desk.halt();
+            return Some(Why::NoMemory);
+        }
+        if committed < self.held {
+            return Some(Why::Abandoned);
+        }
+        None
+    }
+}
+
+/// Commits the first processes of the queue where they stand, one after the other, as long as each stands at a read or
+/// at a write of a number or a variable, and the commits are below this number: at most 8, and none if the gate is to be
+/// asked for each.
+fn go_at_once<J: Job, A: Allocator + Copy, G: Gate>(
+    gate: &G,
+    desk: &mut Desk<'_, J, A>,
+    seat: &mut WorkerSeat<J>,
+    most: u64,
+)
+    ensures goes { GoesAtOnce (G.may_answer gate.now) most desk.old.book desk.new.book }
+    ensures number { seat.new.number ≡ seat.old.number }
+    ensures counted { seat.old.commits ≤ seat.new.commits }
+    ensures asked { seat.old.commits < seat.new.commits → LetsAll (G.may_answer gate.now) }
+{
+    if !gate.lets_all() {
+        return;
+    }
+    if desk.has_to_end() {
+        return;
+    }
+    'turns: for _turn in 0..BATCH {
+        if desk.book.commits() >= most {
+            return;
+        }
+        if !seat.commit_at_once(desk) {
+            return;
+        }
+        desk.note_at_once();
+    }
+}
+
+/// Claims a process for each of the first turns, so many at most. Returns how many there were.
+fn claim_each<'n, J: Job, A: Allocator>(
+    desk: &mut Desk<'n, J, A>,
+    turns: &mut [Turn<'n, J>],
+    most: usize,
+) -> usize
+    requires { most ≤ length turns.old }
+    ensures claims { InTurn Claims (take result turns.new) desk.old.book desk.new.book }
+    ensures count { result ≤ most }
+    ensures all { result < most → ClaimsNobody desk.new.book }
+{
+    'turns: for i in 0..most {
+        let turn = &mut turns[i];
+        if !turn.claim(desk) {
+            return i;
+        }
+    }
+    most
+}
+
+/// Steps each of the first turns and asks the gate for it. Returns how many it lets through before it ends the
+/// worker.
+fn step_each<J: Job, G: Gate>(
+    gate: &G,
+    worker: usize,
+    quota: u32,
+    turns: &mut [Turn<'_, J>],
+    held: usize,
+) -> usize
+    requires { held ≤ length turns.old }
+    ensures count { result ≤ held }
+    ensures claimed { claimed_by turns.new ≡ claimed_by turns.old }
+    ensures gate { LetsThrough (G.may_answer gate.now worker) result held
+        (claimed_by turns.new) }
+{
+    'turns: for i in 0..held {
+        let turn = &mut turns[i];
+        let process = turn.step(quota);
+        match gate.between(worker, process) {
+            Go::On => {}
+            Go::Abandon => return i,
+        }
+    }
+    held
+}
+
+/// Commits each turn. Returns for how many there was memory.
+fn commit_each<'n, J: Job, A: Allocator + Copy>(
+    desk: &mut Desk<'n, J, A>,
+    seat: &mut WorkerSeat<J>,
+    turns: &[Turn<'n, J>],
+) -> usize
+    ensures commits { InTurn CommitsOrDrops (take result turns.now) desk.old.book desk.new.book }
+    ensures count { result ≤ length turns.now }
+    ensures number { seat.new.number ≡ seat.old.number }
+    ensures counted { seat.old.commits ≤ seat.new.commits }
+    ensures most { seat.new.commits ≤ seat.old.commits + length turns.now }
+{
+    'turns: for i in 0..turns.len() {
+        if !turns[i].commit(desk, seat) {
+            return i;
+        }
+    }
+    turns.len()
+}
+
+/// Puts the process of each turn back.
+fn put_back_each<'n, J: Job, A: Allocator>(desk: &mut Desk<'n, J, A>, turns: &[Turn<'n, J>])
+    ensures { InTurn PutsBack turns.now desk.old.book desk.new.book }
+{
+    'turns: for i in 0..turns.len() {
+        turns[i].put_back(desk);
+    }
+}

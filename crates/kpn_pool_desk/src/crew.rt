@@ -1,0 +1,301 @@
+//! Which workers step processes, which look on and which rest: the whole policy of a run.
+//!
+//! | A worker | since | until |
+//! |---|---|---|
+//! | is busy: it has the lock, steps or stands at the gate | it joined | it comes back and may not join again |
+//! | looks on | it came back or was notified, and might not join | it may join, or the time to look on is over |
+//! | rests | it has looked on | it is notified, or its time is over |
+//! | has ended | it found a reason to end | |
+//!
+//! A worker that joins claims its part of the processes that are ready, by the number of workers and rounded up, but no
+//! more than eight: so others find some too. A process of such a batch waits for the turns of those before it.
+//!
+//! A worker joins if a process is ready and fewer workers are busy than pays. It joins in any case if it has waited in
+//! vain: nobody has committed since it left the lock, so the gate or long turns hold those that are busy.
+//!
+//! **No notification is lost.** A worker is counted as one that rests, or as one that was notified, under the lock. A
+//! `Condvar` that is notified once the lock is free wakes a worker that began to rest before that. So each one that is
+//! counted as notified comes.
+//!
+//! **No process that is ready waits for longer than a short rest**, unless all workers are busy. It becomes ready in
+//! one of these ways:
+//! - By a commit, or by a worker that puts it back and ends. If this worker leaves it ready, by a claim of another one
+//!   or by its end, it notifies somebody, unless somebody looks on, was notified or keeps watch. If this worker may not
+//!   join, it looks on itself, and rests after that as the one that keeps watch if nobody else does.
+//! - By a call of the outside. That notifies somebody, unless somebody looks on or was notified.
+//! - At the start, when each worker comes by itself.
+//!
+//! The worker that keeps watch rests for a short time. Then the others have committed, and so are there to take the
+//! process up, or this one has waited in vain and joins, and by its claim sees to the next process.
+ghost use Rattle.std.specs.Prelude.{◌≡◌, ◌<◌, ◌-◌, true, max};
+ghost use Rattle.kpn_pool_desk.specs.Desk.{share_of};
+
+use std::mem;
+use std::time::Duration;
+
+// For how many nanoseconds a turn keeps the lock from others, by its commit and its claim, until that is measured.
+const HOLD: u32 = 450;
+
+// No hold counts for more nanoseconds: one that was interrupted weighs little.
+const LONGEST_HOLD: u32 = 2_000;
+
+// No turn counts for more nanoseconds. At so many there pay more workers than a run may have, and a turn that was
+// interrupted weighs little.
+const LONGEST: u32 = 16_000;
+
+// A turn is one part of so many in the mean: so the mean follows within some hundred turns.
+const WEIGHT: u32 = 8;
+
+// A worker claims no more processes in one hold, and makes no more turns at once: so many pay for the lock, and others
+// find enough that are ready.
+pub(crate) const BATCH: usize = 8;
+
+// For how many milliseconds the one that keeps watch rests: so seldom does it cost nothing, and two such rests, after
+// which it takes the place of a worker that is held, are still less than a tenth of a second.
+const WATCH: u64 = 40;
+
+// For how many milliseconds the others rest. They are notified when they are needed.
+const REST: u64 = 1_000;
+
+/// What somebody outside waits for.
+#[derive(Clone, Copy)]
+pub enum Need {
+    /// A sink has an item.
+    Item { sink: usize },
+    /// A source has fewer unread items than the bound, or its reader has ended.
+    Room { source: usize, bound: usize },
+}
+
+/// What a wait of the outside came to.
+#[derive(Clone, Copy, Debug, PartialEq, Eq)]
+pub enum Awaited {
+    /// There was something to take. More may come.
+    There,
+    /// All workers have ended. What they left was taken, and no more comes.
+    Ended,
+}
+
+/// How many workers there are of each kind, what their turns take, and whether somebody outside waits.
+#[derive(Clone, Copy, Default)]
+pub(crate) struct Crew {
+    // those that have not ended
+    working: usize,
+    busy: usize,
+    looking: usize,
+    resting: usize,
+    // of those that rest, so many were notified and have not come yet
+    notified: usize,
+    // one of those that rest keeps watch
+    is_watched: bool,
+    // so many processes were ready when somebody last claimed or the outside last called
+    left: usize,
+    // the mean of the nanoseconds for which a turn leaves the lock free
+    away: u32,
+    // and of those for which it keeps the lock
+    hold: u32,
+    // somebody outside sleeps until the outside is called
+    is_awaited: bool,
+    // somebody of those sleeps until a sink has an item
+    awaits_item: bool,
+    // somebody of those sleeps until a source has room
+    awaits_room: bool,
+    // the next one that lets the lock go is to call the outside
+    owes_call: bool,
+}
+
+/// How many processes one of so many workers claims if so many are ready: its part of them, but no more than a batch.
+pub(crate) fn share(workers: usize, ready: usize) -> usize
+    ensures { result ≡ share_of (max workers 1) ready }
+{
+    ready.div_ceil(workers.max(1)).min(BATCH)
+}
+
+/// The mean of nanoseconds, with so many turns more, which took this time together.
+fn mean_with(mean: u32, taken: Duration, turns: usize, longest: u32) -> u32
+    requires { 0 < turns }
+{
+    let nanos = u32::try_from(taken.as_nanos() / turns as u128).unwrap_or(longest);
+    (mean - mean / WEIGHT).saturating_add(nanos.min(longest) / WEIGHT)
+}
+
+impl Crew {
+    /// So many workers, none of which has come yet.
+    pub(crate) fn new(workers: usize) -> Crew
+        ensures { result.working ≡ workers }
+    {
+        Crew {
+            working: workers,
+            hold: HOLD,
+            ..Crew::default()
+        }
+    }
+
+    /// Whether nobody is busy.
+    pub(crate) fn is_idle(&self) -> bool {
+        self.busy == 0
+    }
+
+    /// Whether all workers have ended.
+    pub(crate) fn has_ended(&self) -> bool
+        ensures { (result ≡ true) → self.now.working ≡ 0 }
+    {
+        self.working == 0
+    }
+
+    /// Whether a worker may join if so many processes are ready. One that has waited in vain may.
+    pub(crate) fn has_place(&self, ready: usize, in_vain: bool) -> bool {
+        ready > 0 && (in_vain || self.busy < self.paying())
+    }
+
+    /// How many busy workers pay.
+    fn paying(&self) -> usize {
+        (self.away / self.hold.max(1)) as usize + 1
+    }
+
+    /// A worker is busy from now on.
+    pub(crate) fn join(&mut self)
+        ensures { self.new.working ≡ self.old.working }
+    {
+        self.busy = self.busy.saturating_add(1);
+    }
+
+    /// A worker is back from so many turns, which left the lock free for so long if they were measured; from none if it
+    /// comes for the first time.
+    pub(crate) fn come_back(&mut self, turns: usize, away: Option<Duration>) {
+        if turns == 0 {
+            return;
+        }
+        self.busy = self.busy.saturating_sub(1);
+        if let Some(away) = away {
+            self.away = mean_with(self.away, away, turns, LONGEST);
+        }
+    }
+
+    /// A worker has had the lock for so long to commit so many turns and to claim the next ones.
+    pub(crate) fn held(&mut self, turns: usize, held: Duration)
+        ensures { self.new.working ≡ self.old.working }
+    {
+        if turns > 0 {
+            self.hold = mean_with(self.hold, held, turns, LONGEST_HOLD);
+        }
+    }
+
+    /// A worker looks on from now on. If nobody is busy, the outside is called, since the worker hopes for its call.
+    pub(crate) fn look_on(&mut self)
+        ensures { self.new.working ≡ self.old.working }
+    {
+        self.looking = self.looking.saturating_add(1);
+        if self.is_idle() {
+            self.owes_call = true;
+        }
+    }
+
+    /// A worker has looked on.
+    pub(crate) fn look_away(&mut self)
+        ensures { self.new.working ≡ self.old.working }
+    {
+        self.looking = self.looking.saturating_sub(1);
+    }
+
+    /// A worker rests from now on, and the outside is called: this may be the last one that is not held. Returns
+    /// whether it keeps watch, which one of them does while somebody is busy.
+    pub(crate) fn rest(&mut self) -> bool
+        ensures { self.new.working ≡ self.old.working }
+    {
+        self.resting = self.resting.saturating_add(1);
+        self.owes_call = true;
+        self.busy > 0 && !mem::replace(&mut self.is_watched, true)
+    }
+
+    /// For how long a worker rests that keeps watch, or does not.
+    pub(crate) fn rest_of(keeps_watch: bool) -> Duration {
+        Duration::from_millis(if keeps_watch { WATCH } else { REST })
+    }
+
+    /// A worker has rested.
+    pub(crate) fn rise(&mut self, keeps_watch: bool)
+        ensures { self.new.working ≡ self.old.working }
+    {
+        self.resting = self.resting.saturating_sub(1);
+        self.notified = self.notified.saturating_sub(1);
+        if keeps_watch {
+            self.is_watched = false;
+        }
+    }
+
+    /// A worker has ended, and the outside is called.
+    pub(crate) fn end(&mut self)
+        ensures { self.new.working ≡ self.old.working - 1 }
+    {
+        self.working = self.working.saturating_sub(1);
+        self.owes_call = true;
+    }
+
+    /// A worker claims or ends, or a call of the outside was made, and so many processes are left ready. Returns
+    /// whether one of those that rest is to be notified, and counts it.
+    pub(crate) fn notify(&mut self, ready: usize, is_call: bool) -> bool
+        ensures { self.new.working ≡ self.old.working }
+    {
+        let are_more = ready > mem::replace(&mut self.left, ready);
+        let coming = self.looking.saturating_add(self.notified);
+        let awake = self.busy.saturating_add(coming);
+        let pays = awake < self.paying().min(self.busy.saturating_add(ready));
+        let is_alone = ready > 0 && coming == 0 && (is_call && are_more || !self.is_watched);
+        let is_wanted = self.resting > self.notified && (pays || is_alone);
+        if is_wanted {
+            self.notified = self.notified.saturating_add(1);
+        }
+        is_wanted
+    }
+
+    /// Somebody outside sleeps from now on, until the outside is called or this time is over.
+    pub(crate) fn await_call(&mut self) -> Duration
+        ensures { self.new.working ≡ self.old.working }
+    {
+        self.is_awaited = true;
+        Crew::rest_of(!self.is_idle())
+    }
+
+    /// Somebody outside sleeps from now on, until the outside is called or this time is over, and needs this.
+    pub(crate) fn await_need(&mut self, need: Need) -> Duration
+        ensures { self.new.working ≡ self.old.working }
+    {
+        self.is_awaited = true;
+        match need {
+            Need::Item { .. } => self.awaits_item = true,
+            Need::Room { .. } => self.awaits_room = true,
+        }
+        Duration::from_millis(REST)
+    }
+
+    /// Whether somebody outside sleeps until a sink has an item.
+    pub(crate) fn awaits_item(&self) -> bool {
+        self.awaits_item
+    }
+
+    /// Whether somebody outside sleeps until a source has room.
+    pub(crate) fn awaits_room(&self) -> bool {
+        self.awaits_room
+    }
+
+    /// There is something for the outside: the next one that lets the lock go is to call it.
+    pub(crate) fn owe_call(&mut self)
+        ensures { self.new.working ≡ self.old.working }
+    {
+        self.owes_call = true;
+    }
+
+    /// The lock is let go. Returns whether the outside is to be called: there is something for it, and somebody sleeps
+    /// there. All that sleep there then wake, so nobody is awaited any more.
+    pub(crate) fn call(&mut self) -> bool
+        ensures { self.new.working ≡ self.old.working }
+    {
+        let calls = mem::replace(&mut self.owes_call, false) && self.is_awaited;
+        if calls {
+            self.is_awaited = false;
+            self.awaits_item = false;
+            self.awaits_room = false;
+        }
+        calls
+    }
+}

@@ -1,0 +1,142 @@
+//! What a worker does with one process between two holds of the lock: its claim, its steps, and their commit.
+ghost use Rattle.std.specs.Prelude.{◌≡◌, ◌+◌, ◌≤◌, true, false, None};
+ghost use Rattle.kpn_run_state.specs.Stepping.{ClaimsNobody};
+ghost use Rattle.kpn_pool_desk.specs.Desk.{with_book};
+ghost use Rattle.kpn_pool_desk.specs.Batch.{Claims, MayCommit, CommitsOrDrops, PutsBack};
+
+use crate::desk::Desk;
+use crate::job::Job;
+use crate::seat::WorkerSeat;
+use kpn_run_state::{Claim, Refused};
+use kpn_step::{Frame, Stop};
+use std::alloc::Allocator;
+use std::marker::{Model, PhantomData};
+
+/// A process that was claimed, and where it came to from the frame of its claim.
+#[derive(Drop)]
+pub(crate) struct Stepped<'n> {
+    claim: Claim<'n>,
+    to: Frame,
+    // how many steps lead there, and their stop, once they are made
+    made: Option<(u32, Stop)>,
+}
+
+/// The turn of a process: the one that was claimed last, with the steps that were made from there. The memory is kept
+/// for the turns that follow.
+#[derive(Drop)]
+pub(crate) struct Turn<'n, J: Job> {
+    process: usize,
+    last: Option<Stepped<'n>>,
+    run: PhantomData<J>,
+}
+
+impl<'n, J: Job> Model for Turn<'n, J> {
+    ghost use Rattle.std.specs.Prelude.{◌≡◌, IfSome, IsTrue};
+    ghost use Rattle.kpn_net.specs.Tables.{program_of};
+    ghost use Rattle.kpn_step.specs.Frame.{fits};
+    ghost use Rattle.std.specs.Coded.{codes};
+    ghost use Rattle.kpn_lang.specs.Codes.{parts_code};
+    ghost use Rattle.kpn_pool_desk.specs.Batch.{Turn as Seen, frame_of, steps_of, IsTurnOf};
+
+    ghost Value = { Seen };
+
+    ghost coded = { Prim.hlevel (codes, parts_code) };
+
+    ghost view = { λ t. record { process = t.process; frame = frame_of t.last; steps = steps_of t.last } };
+
+    ghost invariant = { λ t. IfSome t.last (IsTurnOf (program_of J.network t.process)) };
+}
+
+impl<'n, J: Job> Turn<'n, J> {
+    /// A turn of nobody.
+    pub(crate) fn new() -> Self {
+        Turn {
+            process: 0,
+            last: None,
+            run: PhantomData,
+        }
+    }
+
+    /// Claims the first process of the queue, which is held from now on. Returns whether there was one.
+    pub(crate) fn claim<A: Allocator>(&mut self, desk: &mut Desk<'n, J, A>) -> bool
+        ensures claims { (result ≡ true) → Claims self.new desk.old.book desk.new.book }
+        ensures nobody { (result ≡ false) → ClaimsNobody desk.old.book × (desk.new ≡ desk.old) }
+        ensures same { desk.new ≡ with_book desk.new.book desk.old }
+    {
+        desk.known();
+        if let Some(last) = &mut self.last {
+            if !desk.book.claim_into(&mut last.claim) {
+                return false;
+            }
+            desk.book.known();
+            last.made = None;
+            self.process = last.claim.process;
+            return true;
+        }
+        let Some(claim) = desk.book.claim() else {
+            return false;
+        };
+        desk.book.known();
+        self.process = claim.process;
+        let to = claim.frame.copy();
+        self.last = Some(Stepped {
+            claim,
+            to,
+            made: None,
+        });
+        true
+    }
+
+    /// Makes at most `quota` steps of the process that is claimed. Returns which it is.
+    pub(crate) fn step(&mut self, quota: u32) -> usize
+        ensures same { self.new.process ≡ self.old.process }
+        ensures process { result ≡ self.new.process }
+    {
+        if let Some(last) = &mut self.last {
+            last.to.copy_from(&last.claim.frame);
+            last.made = Some(last.to.run(last.claim.program, quota));
+        }
+        self.process
+    }
+
+    /// Commits the steps. Returns whether there was memory for that.
+    ///
+    /// Steps of a process that is not held, or of another one, which nothing known behind a lock rules out, are
+    /// dropped, and nothing is counted.
+    pub(crate) fn commit<A: Allocator + Copy>(
+        &self,
+        desk: &mut Desk<'n, J, A>,
+        seat: &mut WorkerSeat<J>,
+    ) -> bool
+        ensures commits { (result ≡ true) → CommitsOrDrops self.now desk.old.book desk.new.book }
+        ensures refused { (result ≡ false) → MayCommit self.now desk.old.book × (desk.new ≡ desk.old) }
+        ensures number { seat.new.number ≡ seat.old.number }
+        ensures counted { seat.old.commits ≤ seat.new.commits }
+        ensures most { seat.new.commits ≤ seat.old.commits + 1 }
+    {
+        let Some(last) = &self.last else {
+            return true;
+        };
+        let Some(made) = last.made else {
+            return true;
+        };
+        match seat.commit(desk, self.process, &last.claim.frame, &last.to, made) {
+            Ok(done) => {
+                desk.note(done);
+                true
+            }
+            Err(Refused::NoMemory) => false,
+            Err(_) => true,
+        }
+    }
+
+    /// Puts the process that is claimed back, if it is held.
+    pub(crate) fn put_back<A: Allocator>(&self, desk: &mut Desk<'n, J, A>)
+        ensures back { PutsBack self.now desk.old.book desk.new.book }
+        ensures same { desk.new ≡ with_book desk.new.book desk.old }
+    {
+        // this is refused only if nobody holds it, and then it is in its place
+        let _ = desk.book.put_back(self.process);
+        desk.book.known();
+    }
+}

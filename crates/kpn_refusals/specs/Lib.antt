@@ -1,2 +1,0 @@
-pub mod FaultLine
-pub mod Refusal

@@ -1,2 +1,0 @@
-pub mod RunRequest
-pub mod StreamRequest

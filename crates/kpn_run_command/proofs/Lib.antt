@@ -1,2 +1,0 @@
--- Lemmas: what a run is handed.
-pub mod Running

@@ -1,6 +1,0 @@
--- What the contracts of this crate speak of: the limits of a run, what was run, the files that it stores, and what the
--- command comes to.
-pub mod Limits
-pub mod Reported
-pub mod Files
-pub mod Run

@@ -1,0 +1,29 @@
+use Rattle.std.proofs.Common.{refl, sym, ap, ◌∙◌, subst, arith}
+use Rattle.kpn_step.specs.Stops.{StandsAt}
+use Rattle.kpn_net.specs.Tables.{program_of}
+use Rattle.kpn_run_configuration.specs.Configuration.{frame_in, with_frame, IsConfiguration}
+use Rattle.kpn_run_configuration.specs.Run.{IsRun}
+use Rattle.kpn_run_configuration.proofs.Calls.{frame_in-same}
+use Rattle.kpn_run_configuration.proofs.Moving.{IsConfiguration-moved, IsRun-moved}
+use Rattle.kpn_run_configuration.proofs.configuration.Configuration.step_to.Goals as goal
+
+pub returns : goal.returns
+returns g c =
+    let t = c.args.network.now in
+    let s = c.args.self.now in
+    let p = c.args.p in
+    let to = c.args.to.now in
+    let after =
+    ap (λ x. with_frame p c.copy_from.new.self x) c.self.view_is ∙ ap (λ f. with_frame p f s) c.copy_from.ensures in
+    let moved =
+    ap (λ x. frame_in x p) after ∙ frame_in-same s p to (omega (arith, c.requires.process, c.requires.shape.frames)) in
+    record {
+      after = after;
+      stands =
+          subst (λ f. StandsAt (program_of t p).blocks f c.args.made.1) (sym moved) c.requires.advance.stands;
+      shape =
+          subst (λ x. IsConfiguration t x) (sym after)
+          (IsConfiguration-moved t s p to c.requires.process c.requires.shape c.requires.advance.to_fits);
+      run = λ H run. subst (λ x. IsRun t H x) (sym after)
+          (IsRun-moved t s p to c.requires.process c.requires.shape H _ c.requires.advance refl refl refl run);
+    }

@@ -1,0 +1,152 @@
+//! A configuration as it is stored: the channels, and for each process its wait, its end and its frame.
+ghost use Rattle.std.specs.Prelude.{◌≡◌, ◌<◌, List, length, map, IsTrue, IsOk, IfOk, is_ok, is_some, if◌then◌else◌};
+ghost use Rattle.kpn_chan.specs.Channel.{ChannelState, with_room, next_item};
+ghost use Rattle.kpn_run_configuration.specs.Configuration.{channel_in, closed_in, wait_in, end_in, frame_in, with_channel, IsConfiguration};
+ghost use Rattle.kpn_run_configuration.specs.Run.{IsRun};
+ghost use Rattle.kpn_net.specs.Tables.{Tables};
+ghost use Rattle.kpn_run_history.specs.declared.event.Event.{Event};
+
+use kpn_chan::{Channel, Journal};
+use kpn_lang::Sequence;
+use kpn_net::Wait;
+use kpn_run_history::How;
+use kpn_step::Frame;
+use std::alloc::{AllocError, Allocator, Global};
+use std::marker::Model;
+
+mod complete;
+mod growth;
+mod marked_waits;
+mod outside;
+mod processes;
+mod start;
+mod steps;
+mod verdicts;
+
+pub use growth::{Grown, OwedGrowth};
+use marked_waits::MarkedWaits;
+pub use processes::Got;
+
+/// The states of the processes of a network and the contents of its channels at one moment of a run.
+///
+/// Each call takes the network whose configuration it is. Contracts see what each channel holds, which
+/// sources are closed, what each process waits for, how it ended if it did, and its frame.
+#[derive(Debug, Drop)]
+pub struct Configuration<A: Allocator = Global> {
+    channels: Vec<Channel<A>, A>,
+    closed: Vec<bool, A>,
+    // the capacities once more, in the form that the walk along the waits reads; the invariant keeps them equal
+    capacities: Vec<u32, A>,
+    waits: MarkedWaits<A>,
+    ends: Vec<Option<How>, A>,
+    frames: Vec<Frame, A>,
+}
+
+impl<A: Allocator> Model for Configuration<A> {
+    ghost use Rattle.std.specs.Prelude.{◌≡◌, map};
+    ghost use Rattle.std.specs.Option.{unwrap_or};
+    ghost use Rattle.kpn_run_configuration.specs.Configuration.{Configuration as Seen};
+
+    ghost Value = { Seen };
+
+    ghost view = { λ c. record {
+      channels = c.channels.items;
+      closed = c.closed.items;
+      waits = c.waits;
+      ends = c.ends.items;
+      frames = c.frames.items;
+    } };
+
+    ghost invariant = { λ c.
+        c.capacities.items ≡ map (λ x. unwrap_or x.capacity 0) c.channels.items };
+}
+
+impl<A: Allocator + Copy> Configuration<A> {
+    /// Makes room for one more item on a channel, so that the next put or feed there takes no memory. No history
+    /// records it. The error is that memory ran out; the configuration is then as before.
+    #[inline(always)]
+    pub fn reserve_one(&mut self, c: usize) -> Result<(), AllocError>
+        requires { c < length self.old.channels }
+        ensures after { self.new ≡ (if is_ok result then
+            with_channel c (with_room (channel_in self.old c)) self.old else self.old) }
+        ensures already { IsTrue (channel_in self.old c).is_reserved → IsOk result }
+        ensures shape { (t : Tables) → IsConfiguration t self.old → IsConfiguration t self.new }
+        ensures run { (t : Tables) (H : List Event) → IsRun t H self.old → IsRun t H self.new }
+    {
+        let channel = &mut self.channels[c];
+        channel.reserve_one()
+    }
+}
+
+impl<A: Allocator> Configuration<A> {
+    /// A channel.
+    pub fn channel(&self, c: usize) -> &Channel<A>
+        requires { c < length self.now.channels }
+        ensures { result.now ≡ channel_in self.now c }
+    {
+        &self.channels[c]
+    }
+
+    /// Moves the journals out of the configuration, in order of the channels' numbers. The error is that memory ran
+    /// out.
+    pub fn into_journals(self, alloc: A) -> Result<Sequence<Journal<A>, A>, AllocError>
+        ensures { let s = self in IfOk result (λ journals.
+            journals ≡ map (λ (channel : ChannelState). channel.journal) s.channels) }
+    {
+        let Configuration { channels, .. } = self;
+        let journals = channels
+            .into_iter()
+            .map(|channel| channel.into_journal())
+            .collect(alloc)?;
+        Ok(Sequence::from_vec(journals))
+    }
+
+    /// A copy of all items that were ever put on a channel, oldest first. The error is that memory ran out.
+    pub fn copy_journal<B: Allocator>(&self, alloc: B, c: usize) -> Result<Vec<i64, B>, AllocError>
+        requires { c < length self.now.channels }
+        ensures { IfOk result (λ items. items.items ≡ (channel_in self.now c).journal) }
+    {
+        self.channels[c].copy_journal(alloc)
+    }
+
+    /// Whether a get from the channel, or a take, would give an item: its reader is there, and an item is
+    /// unread.
+    pub fn has_item(&self, c: usize) -> bool
+        requires { c < length self.now.channels }
+        ensures { result ≡ is_some (next_item (channel_in self.now c)) }
+    {
+        self.channels[c].peek().is_some()
+    }
+
+    /// Whether a source is closed.
+    pub fn is_closed(&self, c: usize) -> bool
+        requires { c < length self.now.closed }
+        ensures { result ≡ closed_in self.now c }
+    {
+        self.closed[c]
+    }
+
+    /// What a process waits for.
+    pub fn wait(&self, p: usize) -> Wait
+        requires { p < length self.now.waits }
+        ensures { result ≡ wait_in self.now p }
+    {
+        self.waits.table().get(p)
+    }
+
+    /// How a process has ended, or `None` if it has not.
+    pub fn end_of(&self, p: usize) -> Option<How>
+        requires { p < length self.now.ends }
+        ensures { result ≡ end_in self.now p }
+    {
+        self.ends[p]
+    }
+
+    /// The frame of a process.
+    pub fn frame(&self, p: usize) -> &Frame
+        requires { p < length self.now.frames }
+        ensures { result.now ≡ frame_in self.now p }
+    {
+        &self.frames[p]
+    }
+}

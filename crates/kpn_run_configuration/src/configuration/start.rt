@@ -1,0 +1,99 @@
+//! The configuration at the start, when nothing has happened yet.
+ghost use Rattle.std.specs.Prelude.{◌≡◌, ◌<◌, ℕ, [], false, length, replicate, IfOk, Some, None, slice_index_or};
+ghost use Rattle.std.specs.Option.{unwrap_or};
+ghost use Rattle.kpn_net.specs.Tables.{channel_at, instance_at, program_of, capacity};
+ghost use Rattle.kpn_step.specs.Frame.{start_frame};
+ghost use Rattle.kpn_chan.specs.Channel.{opened};
+ghost use Rattle.kpn_run_configuration.specs.Configuration.{no_frame, frame_in};
+ghost use Rattle.kpn_run_configuration.specs.Run.{IsRun};
+
+use super::Configuration;
+use super::marked_waits::MarkedWaits;
+use kpn_chan::Channel;
+use kpn_net::Network;
+use kpn_run_history::How;
+use kpn_step::Frame;
+use std::alloc::{AllocError, Allocator};
+
+impl<A: Allocator + Copy> Configuration<A> {
+    /// The configuration of a network at the start: its channels are empty, and each process is at its beginning. The
+    /// error is that memory ran out.
+    pub fn new(alloc: A, network: &Network) -> Result<Self, AllocError>
+        ensures run { IfOk result (λ made. IsRun network.now [] made) }
+        ensures frames { let t = network.now in
+            IfOk result (λ made. (p : ℕ) → p < length t.instances
+            → frame_in made p ≡ start_frame (program_of t p) (instance_at t p).pars) }
+    {
+        network.known();
+        let channels = channels_at_start(alloc, network)?;
+        let capacities = capacities_at_start(alloc, network)?;
+        let closed = none_closed(alloc, network.channels())?;
+        let waits = MarkedWaits::new(alloc, network.instances(), network.channels())?;
+        let ends = none_ended(alloc, network.instances())?;
+        let frames = frames_at_start(alloc, network)?;
+        Ok(Configuration {
+            channels,
+            closed,
+            capacities,
+            waits,
+            ends,
+            frames,
+        })
+    }
+}
+
+fn channels_at_start<A: Allocator + Copy>(
+    alloc: A,
+    network: &Network,
+) -> Result<Vec<Channel<A>, A>, AllocError>
+    ensures len { IfOk result (λ channels. length channels.items ≡ length network.now.channels) }
+    ensures each { IfOk result (λ channels. (c : ℕ) → c < length network.now.channels
+        → (let channel = slice_index_or channels.items c (opened None false) in
+        channel ≡ opened (capacity (channel_at network.now c)) channel.is_reserved)) }
+{
+    let mut channels = Vec::with_capacity(alloc, network.channels())?;
+    for c in 0..network.channels() {
+        let channel = Channel::new(alloc, network.cap_of(c))?;
+        channels.push(channel)?;
+    }
+    Ok(channels)
+}
+
+fn capacities_at_start<A: Allocator>(alloc: A, network: &Network) -> Result<Vec<u32, A>, AllocError>
+    ensures len { IfOk result
+        (λ capacities. length capacities.items ≡ length network.now.channels) }
+    ensures each { IfOk result (λ capacities. (c : ℕ) → c < length network.now.channels
+        → slice_index_or capacities.items c 0 ≡ unwrap_or (capacity (channel_at network.now c)) 0) }
+{
+    let mut capacities = Vec::with_capacity(alloc, network.channels())?;
+    for c in 0..network.channels() {
+        capacities.push(network.cap_of(c).unwrap_or(0))?;
+    }
+    Ok(capacities)
+}
+
+fn frames_at_start<A: Allocator>(alloc: A, network: &Network) -> Result<Vec<Frame, A>, AllocError>
+    ensures len { IfOk result (λ frames. length frames.items ≡ length network.now.instances) }
+    ensures each { IfOk result (λ frames. (p : ℕ) → p < length network.now.instances
+        → slice_index_or frames.items p no_frame
+        ≡ start_frame (program_of network.now p) (instance_at network.now p).pars) }
+{
+    network.known();
+    let mut frames = Vec::with_capacity(alloc, network.instances())?;
+    for p in 0..network.instances() {
+        frames.push(Frame::start(network.program(p), network.pars(p)))?;
+    }
+    Ok(frames)
+}
+
+fn none_closed<A: Allocator>(alloc: A, channels: usize) -> Result<Vec<bool, A>, AllocError>
+    ensures { IfOk result (λ closed. closed.items ≡ replicate channels false) }
+{
+    vec![in alloc; false; channels]
+}
+
+fn none_ended<A: Allocator>(alloc: A, processes: usize) -> Result<Vec<Option<How>, A>, AllocError>
+    ensures { IfOk result (λ ends. ends.items ≡ replicate processes None) }
+{
+    vec![in alloc; None; processes]
+}

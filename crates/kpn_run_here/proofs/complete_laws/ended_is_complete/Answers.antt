@@ -1,5 +1,0 @@
-use Rattle.kpn_run_here.proofs.Completing.{complete_if_ended_well}
-use Rattle.kpn_run_here.proofs.complete_laws.ended_is_complete.Goals as goal
-
-pub returns : goal.returns
-returns c = complete_if_ended_well

@@ -1,9 +1,0 @@
-use Rattle.std.proofs.Common.{◌≡◌, map}
-use Rattle.std.specs.List.{filter, range_with_len}
-use Rattle.kpn_net.specs.Tables.{channel_at, is_sink}
-use Rattle.kpn_run_here.specs.Running.{first_read}
-use Rattle.kpn_run_here.proofs.telling.read_of_sinks.Given as goal
-
-abbrev pub invariant-channels : goal.invariant-channels
-invariant-channels l =
-    l.taken.items ≡ map (first_read l.view) (filter (λ c. is_sink (channel_at l.network c)) (range_with_len 0 l.c))

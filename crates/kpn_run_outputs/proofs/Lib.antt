@@ -1,2 +1,0 @@
--- Lemmas: outputs that are apart.
-pub mod Apart

@@ -1,7 +1,0 @@
-use Rattle.std.proofs.Common.{◌≡◌, map}
-use Rattle.kpn_stats_command.specs.Layout.{longest, column}
-use Rattle.std.specs.List.{range_with_len}
-use Rattle.kpn_stats_command.proofs.table.widths_of.Given as goal
-
-abbrev pub invariant-loop-k : goal.invariant-loop-k
-invariant-loop-k l = l.widths.items ≡ map (λ k. longest (column l.rows k)) (range_with_len 0 l.k)

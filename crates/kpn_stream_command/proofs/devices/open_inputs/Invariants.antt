@@ -1,9 +1,0 @@
--- The inputs so far.
-use Rattle.std.proofs.Common.{take}
-use Rattle.std.specs.List.{AllZip}
-use Rattle.kpn_stream_command.specs.Command.{IsInputFor}
-use Rattle.kpn_stream_command.proofs.devices.open_inputs.Given as goal
-
-abbrev pub invariant-loop-i : goal.invariant-loop-i
-invariant-loop-i g l =
-    AllZip (IsInputFor (g.S.Shelf.may_give l.shelf) g.S.Input.Read.remaining) (take l.i l.places.sources.items) l.inputs.items

@@ -1,0 +1,13 @@
+-- What is put so far, and the processes still to come, are all processes.
+use Rattle.std.proofs.Common.{◌≡◌, ◌++◌, List, ℕ, drop}
+use Rattle.kpn_text_names.specs.NetworkNames.{paired}
+use Rattle.kpn_text.specs.Named.{process_named}
+use Rattle.kpn_text.specs.Text.{all_text, process_text}
+use Rattle.kpn_text.proofs.networks.processes.Given as goal
+
+abbrev pub invariant-loop-i : goal.invariant-loop-i
+invariant-loop-i l =
+    (more : List ℕ)
+    → l.out.items
+    ++ all_text process_text (paired process_named (drop l.i l.names) (drop l.i l.network.programs)) more
+    ≡ l.initial.out.items ++ all_text process_text (paired process_named l.names l.network.programs) more

@@ -1,0 +1,109 @@
+-- The description that the tables of a network stand for, with a name in place of each number.
+use Rattle.std.specs.Prelude.{ℕ, suc, ℤ, pos, negsuc, nat_lt, if◌then◌else◌, List, ◌++◌, map, take, Option, Some, None}
+use Rattle.kpn_lang.specs.Parts.{Parts}
+use Rattle.kpn_limits.specs.declared.TheConstants.{MAX_CAPACITY}
+use Rattle.kpn_lang.specs.Syntax as lang
+use Rattle.kpn_lang.specs.Tree.{Tree, End, Assign, Read, Write, If, While, tree_of}
+use Rattle.kpn_net.specs.declared.tables.ChannelSpec.{ChannelSpec}
+use Rattle.kpn_net.specs.declared.tables.ChannelSpec.TheVariants.{Inner, Source, Sink}
+use Rattle.kpn_net.specs.declared.tables.Growth.{Growth}
+use Rattle.kpn_net.specs.declared.tables.Growth.TheVariants as growth
+use Rattle.kpn_net.specs.declared.tables.Policy.{Policy}
+use Rattle.kpn_net.specs.declared.tables.Policy.TheVariants as policy
+use Rattle.kpn_net.specs.declared.tables.Instance as net
+use Rattle.kpn_net.specs.Tables.{Tables}
+use Rattle.kpn_text_grammar.specs.Syntax.{Name, Term, numeral, variable, minus, negation, binary, assign, receive, send, choice, loop, Statements, no_statements, statement, Process, Literal, plain, negated, Instance, Item, channel, source, sink, instance, Network, Description}
+use Rattle.kpn_text_names.specs.declared.network_names.NetworkNames.{NetworkNames}
+use Rattle.kpn_text_names.specs.declared.network_names.ProcessNames.{ProcessNames}
+use Rattle.kpn_text_names.specs.Names.{name_at}
+use Rattle.kpn_text_names.specs.NetworkNames.{paired, process_names}
+
+-- a whole number; one below 0 is written behind a minus
+abbrev pub number_named : ℤ → Term
+number_named (pos n) = numeral n
+number_named (negsuc n) = minus (numeral (suc n))
+
+-- an expression over these variables
+abbrev pub term_named : (vars : List Name) → lang.Term → Term
+term_named vars (lang.Num z) = number_named z
+term_named vars (lang.Var k) = variable (name_at vars k)
+term_named vars (lang.Neg e) = minus (term_named vars e)
+term_named vars (lang.Not e) = negation (term_named vars e)
+term_named vars (lang.Bin o a b) = binary o (term_named vars a) (term_named vars b)
+
+-- statements over these ports and variables
+abbrev pub statements_named : ProcessNames → Tree → Statements
+statements_named names End = no_statements
+statements_named names (Assign x e rest) =
+    statement (assign (name_at names.vars x) (term_named names.vars e)) (statements_named names rest)
+statements_named names (Read i x rest) =
+    statement (receive (name_at names.ins i) (name_at names.vars x)) (statements_named names rest)
+statements_named names (Write o e rest) =
+    statement (send (name_at names.outs o) (term_named names.vars e)) (statements_named names rest)
+statements_named names (If e a b rest) =
+    statement (choice (term_named names.vars e) (statements_named names a) (statements_named names b))
+    (statements_named names rest)
+statements_named names (While e a rest) =
+    statement (loop (term_named names.vars e) (statements_named names a)) (statements_named names rest)
+
+-- a process: the first of its variables are its parameters
+abbrev pub process_named : ProcessNames → Parts → Process
+process_named names parts = record {
+  name = names.name;
+  ins = names.ins;
+  outs = names.outs;
+  pars = take parts.pars names.vars;
+  body = statements_named names (tree_of parts.blocks 0);
+}
+
+abbrev pub literal_named : ℤ → Literal
+literal_named (pos n) = plain n
+literal_named (negsuc n) = negated (suc n)
+
+abbrev pub channel_named : Name → ChannelSpec → Item
+channel_named x (Inner cap) = channel x cap
+channel_named x Source = source x
+channel_named x (Sink cap) = sink x cap
+
+-- an instance of one of these processes, at these channels
+abbrev pub call_named : NetworkNames → Name → net.Instance → Instance
+call_named names x i = record {
+  name = x;
+  program = name_at (process_names names) i.program;
+  ins = map (name_at names.channels) i.ins;
+  outs = map (name_at names.channels) i.outs;
+  values = map literal_named i.pars;
+}
+
+abbrev pub instance_named : NetworkNames → Name → net.Instance → Item
+instance_named names x i = instance (call_named names x i)
+
+-- the limit is written if it is below the one that holds without a line
+abbrev pub limit_named : ℕ → Option ℕ
+limit_named n = if nat_lt n MAX_CAPACITY then Some n else None
+
+-- the policy is written if it is another than the one that holds without a line
+abbrev pub policy_named : Policy → Option Policy
+policy_named policy.Cycles = None
+policy_named policy.All = Some policy.All
+
+-- the growth is written if it is another than the one that holds without a line
+abbrev pub growth_named : Growth → Option Growth
+growth_named growth.One = None
+growth_named growth.Double = Some growth.Double
+
+-- the settings, the channels in order, and the instances in order
+abbrev pub network_named : NetworkNames → Tables → Network
+network_named names t = record {
+  limit = limit_named t.limit;
+  policy = policy_named t.policy;
+  growth = growth_named t.growth;
+  items = paired channel_named names.channels t.channels ++ paired (instance_named names) names.instances t.instances;
+}
+
+-- the processes in order, and the network
+abbrev pub description_named : NetworkNames → Tables → Description
+description_named names t = record {
+  processes = paired process_named names.processes t.programs;
+  network = network_named names t;
+}

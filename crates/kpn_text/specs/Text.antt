@@ -1,0 +1,162 @@
+-- The canonical text of a description, as bytes: two spaces for each level, one statement or item on each line, a line
+-- feed after each line, numbers without leading zeros. Each text comes in front of the text that follows it.
+use Rattle.std.specs.Prelude.{ℕ, zero, suc, List, [], ◌∷◌, ◌++◌, codes, Option, Some, None}
+use Rattle.std.specs.Fmt.{decimal}
+use Rattle.kpn_net.specs.declared.tables.Growth.{Growth}
+use Rattle.kpn_net.specs.declared.tables.Policy.{Policy}
+use Rattle.kpn_text_tokens.specs.declared.tokens.Keyword.{Keyword}
+use Rattle.kpn_text_tokens.specs.declared.tokens.Keyword.TheVariants as keyword
+use Rattle.kpn_text_tokens.specs.Spelling.{keyword_bytes, mark_bytes}
+use Rattle.kpn_text_grammar.specs.Syntax.{Name, Term, numeral, variable, minus, negation, binary, Statement, assign, receive, send, choice, loop, Statements, no_statements, statement, Process, Literal, plain, negated, Instance, Item, channel, source, sink, instance, Network, Description}
+use Rattle.kpn_text_grammar.specs.Operators.{operator_mark}
+use Rattle.kpn_text_grammar.specs.Words.{growth_word, policy_word}
+
+-- ---- expressions and statements
+
+-- two spaces for each level
+abbrev pub indented : (level : ℕ) → List ℕ → List ℕ
+indented zero more = more
+indented (suc level) more = codes "  " ++ indented level more
+
+-- a number, a name, -e, !e, (a op b)
+abbrev pub term_text : Term → List ℕ → List ℕ
+term_text (numeral n) more = decimal n ++ more
+term_text (variable x) more = x ++ more
+term_text (minus e) more = codes "-" ++ term_text e more
+term_text (negation e) more = codes "!" ++ term_text e more
+term_text (binary op a b) more =
+    codes "("
+    ++ term_text a
+    (codes " " ++ (mark_bytes (operator_mark op) ++ (codes " " ++ term_text b (codes ")" ++ more))))
+
+abbrev mutual
+  -- a statement on lines of its own
+  pub statement_text : (level : ℕ) → Statement → List ℕ → List ℕ
+  statement_text level (assign x e) more = indented level (x ++ (codes " = " ++ term_text e (codes ";\n" ++ more)))
+  statement_text level (receive i x) more =
+      indented level (codes "read " ++ (i ++ (codes " " ++ (x ++ (codes ";\n" ++ more)))))
+  statement_text level (send o e) more =
+      indented level (codes "write " ++ (o ++ (codes " " ++ term_text e (codes ";\n" ++ more))))
+  statement_text level (choice e a b) more =
+      indented level
+      (codes "if "
+      ++ term_text e
+      (codes " {\n"
+      ++ statements_text (suc level) a
+      (indented level
+      (codes "} else {\n"
+      ++ statements_text (suc level) b (indented level (codes "}\n" ++ more))))))
+  statement_text level (loop e b) more =
+      indented level
+      (codes "while "
+      ++ term_text e (codes " {\n" ++ statements_text (suc level) b (indented level (codes "}\n" ++ more))))
+
+  -- one after the other
+  pub statements_text : (level : ℕ) → Statements → List ℕ → List ℕ
+  statements_text level no_statements more = more
+  statements_text level (statement s ss) more = statement_text level s (statements_text level ss more)
+
+-- ---- lists
+
+-- one after the other
+abbrev pub all_text : {A : Type 0} → (A → List ℕ → List ℕ) → List A → List ℕ → List ℕ
+all_text text [] more = more
+all_text text (x ∷ xs) more = text x (all_text text xs more)
+
+-- behind a comma
+abbrev pub further_text : {A : Type 0} → (A → List ℕ → List ℕ) → A → List ℕ → List ℕ
+further_text text x more = codes ", " ++ text x more
+
+-- joined by commas
+abbrev pub list_text : {A : Type 0} → (A → List ℕ → List ℕ) → List A → List ℕ → List ℕ
+list_text text [] more = more
+list_text text (x ∷ xs) more = text x (all_text (further_text text) xs more)
+
+abbrev pub name_text : Name → List ℕ → List ℕ
+name_text x more = x ++ more
+
+-- names joined by commas
+abbrev pub names_text : List Name → List ℕ → List ℕ
+names_text = list_text name_text
+
+-- ---- processes
+
+-- a part of a head behind some bytes; nothing if it has no names
+abbrev pub part_text : (before : List ℕ) → Keyword → List Name → List ℕ → List ℕ
+part_text before word [] more = more
+part_text before word (x ∷ xs) more = before ++ (keyword_bytes word ++ (codes " " ++ names_text (x ∷ xs) more))
+
+-- in a, b; out c; par k, l; a part without names is left out
+abbrev pub parts_text : (ins outs pars : List Name) → List ℕ → List ℕ
+parts_text (x ∷ xs) outs pars more =
+    part_text [] keyword.In (x ∷ xs)
+    (part_text (codes "; ") keyword.Out outs (part_text (codes "; ") keyword.Par pars more))
+parts_text [] (x ∷ xs) pars more = part_text [] keyword.Out (x ∷ xs) (part_text (codes "; ") keyword.Par pars more)
+parts_text [] [] pars more = part_text [] keyword.Par pars more
+
+-- process p(..) {  its body, one level in, and  }
+abbrev pub process_text : Process → List ℕ → List ℕ
+process_text p more =
+    codes "process "
+    ++ (p.name
+    ++ (codes "("
+    ++ parts_text p.ins p.outs p.pars (codes ") {\n" ++ statements_text 1 p.body (codes "}\n" ++ more))))
+
+-- ---- networks
+
+-- 3, -3
+abbrev pub literal_text : Literal → List ℕ → List ℕ
+literal_text (plain n) more = decimal n ++ more
+literal_text (negated n) more = codes "-" ++ (decimal n ++ more)
+
+-- the out channels of an instance, behind a space; nothing if there are none
+abbrev pub outs_text : List Name → List ℕ → List ℕ
+outs_text [] more = more
+outs_text (x ∷ xs) more = codes " " ++ names_text (x ∷ xs) more
+
+-- the values of an instance, behind its second semicolon; nothing if there are none
+abbrev pub values_text : List Literal → List ℕ → List ℕ
+values_text [] more = more
+values_text (v ∷ vs) more = codes "; " ++ list_text literal_text (v ∷ vs) more
+
+-- f(a, b; c; 1, -2)
+abbrev pub call_text : Instance → List ℕ → List ℕ
+call_text i more =
+    i.program
+    ++ (codes "(" ++ names_text i.ins (codes ";" ++ outs_text i.outs (values_text i.values (codes ")" ++ more))))
+
+-- an item on a line of its own, one level in
+abbrev pub item_text : Item → List ℕ → List ℕ
+item_text (channel c cap) more =
+    codes "  channel " ++ (c ++ (codes " cap " ++ (decimal cap ++ (codes ";\n" ++ more))))
+item_text (source c) more = codes "  source " ++ (c ++ (codes ";\n" ++ more))
+item_text (sink c cap) more = codes "  sink " ++ (c ++ (codes " cap " ++ (decimal cap ++ (codes ";\n" ++ more))))
+item_text (instance i) more = codes "  " ++ (i.name ++ (codes " = " ++ call_text i (codes ";\n" ++ more)))
+
+-- the limit on a line of its own, if there is one
+abbrev pub limit_text : Option ℕ → List ℕ → List ℕ
+limit_text None more = more
+limit_text (Some n) more = codes "  limit " ++ (decimal n ++ (codes ";\n" ++ more))
+
+-- the policy on a line of its own, if there is one
+abbrev pub policy_text : Option Policy → List ℕ → List ℕ
+policy_text None more = more
+policy_text (Some q) more = codes "  policy " ++ (policy_word q ++ (codes ";\n" ++ more))
+
+-- the growth on a line of its own, if there is one
+abbrev pub growth_text : Option Growth → List ℕ → List ℕ
+growth_text None more = more
+growth_text (Some g) more = codes "  grow " ++ (growth_word g ++ (codes ";\n" ++ more))
+
+-- network {  its settings and its items, and  }
+abbrev pub network_text : Network → List ℕ → List ℕ
+network_text n more =
+    codes "network {\n"
+    ++ limit_text n.limit
+    (policy_text n.policy (growth_text n.growth (all_text item_text n.items (codes "}\n" ++ more))))
+
+-- ---- the whole
+
+-- the processes and then the network
+abbrev pub description_text : Description → List ℕ
+description_text d = all_text process_text d.processes (network_text d.network [])

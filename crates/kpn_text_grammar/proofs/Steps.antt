@@ -1,0 +1,363 @@
+-- Steps of reading: what a chain of steps returns, and the laws of the parsers of one token.
+use Rattle.std.proofs.Common.{◌≡◌, ℕ, Bool, true, false, cond, List, [], ◌∷◌, Option, Some, None, Result, Ok, Err, IfOk, refl, sym, ap, subst, ◌∙◌}
+use Rattle.std.specs.Str.{bytes_eq}
+use Rattle.std.proofs.lemmas.Slice.Eq.{bytes_eq-Decides}
+use denote.Enum.Bare.{same_true, true_same}
+use Rattle.kpn_text_tokens.specs.declared.tokens.Lexeme.{Lexeme}
+use Rattle.kpn_text_tokens.specs.declared.tokens.Token.{Token}
+use Rattle.kpn_text_tokens.specs.declared.tokens.Token.TheVariants as token
+use Rattle.kpn_text_tokens.specs.declared.tokens.Mark.{Mark}
+use Rattle.kpn_text_tokens.specs.contracts.tokens.Mark.{the_type as mark_type}
+use Rattle.kpn_text_tokens.specs.declared.tokens.Keyword.{Keyword}
+use Rattle.kpn_text_tokens.specs.contracts.tokens.Keyword.{the_type as keyword_type}
+use Rattle.kpn_text_grammar.specs.declared.fault.GrammarFault.{GrammarFault}
+use Rattle.kpn_text_grammar.specs.declared.fault.GrammarFault.TheVariants as fault
+use Rattle.kpn_text_grammar.specs.declared.parser.Scope.{Scope}
+use Rattle.kpn_lang.specs.declared.syntax.Op.{Op}
+use Rattle.kpn_lang.specs.declared.syntax.Op.TheVariants as op
+use Rattle.kpn_net.specs.declared.tables.Growth.{Growth}
+use Rattle.kpn_net.specs.declared.tables.Growth.TheVariants as growth
+use Rattle.kpn_net.specs.declared.tables.Policy.{Policy}
+use Rattle.kpn_net.specs.declared.tables.Policy.TheVariants as policy
+use Rattle.kpn_text_grammar.specs.Syntax.{Name}
+use Rattle.kpn_text_grammar.specs.Operators.{operators, operator_mark, operator_of}
+use Rattle.kpn_text_grammar.specs.Words.{growth_word, growths, growth_spelled, policy_word, policies, policy_spelled}
+use Rattle.kpn_text_grammar.specs.Spelling.{kinds}
+use Rattle.kpn_text_tokens.specs.Results.{and_then, OkOr}
+use Rattle.kpn_text_grammar.specs.TokenTests.{same_mark, same_keyword, is_mark, is_keyword}
+use Rattle.kpn_text_grammar.specs.Reading.{Fails, Gives, next, mark, keyword, named, name, numbered, number, token_operator, or_fault_at, operator, token_word, word_of}
+use Rattle.kpn_text_tokens.proofs.Pieces.{find_passes}
+
+-- the value of a step that had no fault
+pub bind_ok : {A B : Type 0} (r : Result A GrammarFault) (f : A → Result B GrammarFault) (y : B) → and_then r f ≡ Ok y
+    → (x : A) × (r ≡ Ok x) × (f x ≡ Ok y)
+unfolding and_then
+bind_ok (Ok x) f y e = (x, refl, e)
+bind_ok (Err d) f y e = absurd cc
+
+pub ok_is : {A : Type 0} (x y : A) → ◌≡◌ {A = Result A GrammarFault} (Ok x) (Ok y) → x ≡ y
+ok_is x y e = cc
+
+-- a fault that a call returns
+pub fails_with : {A : Type 0} (e : GrammarFault) (read : Result A GrammarFault) → read ≡ Err e → Fails e read
+fails_with fault.NoMemory read h = tt
+fails_with (fault.Grammar at) read h = h
+fails_with (fault.TooDeep p) read h = h
+
+-- a test that was passed
+pub test_ok : {A : Type 0} (b : Bool) (x y : A) (d : GrammarFault) → cond b (Ok x) (Err d) ≡ Ok y → (b ≡ true) × (x ≡ y)
+test_ok true x y d e = (refl, cc)
+test_ok false x y d e = absurd cc
+
+-- a choice by a test
+pub by_test : {A : Type 0} {P : Type 0} (b : Bool) (x y z : A) → cond b x y ≡ z → (b ≡ true → x ≡ z → P)
+    → (b ≡ false → y ≡ z → P) → P
+by_test true x y z h f g = f refl h
+by_test false x y z h f g = g refl h
+
+-- what holds of a value that was read
+pub moved : {A : Type 0} (P : A → Type 0) (x y : A) → ◌≡◌ {A = Result A GrammarFault} (Ok x) (Ok y) → P x → P y
+moved P x y h holds = subst P (ok_is x y h) holds
+
+-- a fault is no value
+pub no_value : {A : Type 0} (d : GrammarFault) (y : A) → ◌≡◌ {A = Result A GrammarFault} (Err d) (Ok y) → ⊥
+no_value d y e = cc
+
+-- ---- marks and reserved words are distinct
+
+same_mark_true : (n m : Mark) → same_mark n m ≡ true → n ≡ m
+same_mark_true n m h = same_true mark_type tt n m h
+
+same_keyword_true : (n k : Keyword) → same_keyword n k ≡ true → n ≡ k
+same_keyword_true n k h = same_true keyword_type tt n k h
+
+pub is_mark_true : (m : Mark) (t : Token) → is_mark m t ≡ true → t ≡ token.Mark m
+is_mark_true m (token.Mark n) h = ap token.Mark (same_mark_true n m h)
+is_mark_true m (token.Name x) h = absurd cc
+is_mark_true m (token.Number n) h = absurd cc
+is_mark_true m (token.Keyword k) h = absurd cc
+
+pub is_mark_same : (m : Mark) → is_mark m (token.Mark m) ≡ true
+is_mark_same m = true_same mark_type m m refl
+
+pub is_keyword_true : (k : Keyword) (t : Token) → is_keyword k t ≡ true → t ≡ token.Keyword k
+is_keyword_true k (token.Keyword n) h = ap token.Keyword (same_keyword_true n k h)
+is_keyword_true k (token.Name x) h = absurd cc
+is_keyword_true k (token.Number n) h = absurd cc
+is_keyword_true k (token.Mark m) h = absurd cc
+
+pub is_keyword_same : (k : Keyword) → is_keyword k (token.Keyword k) ≡ true
+is_keyword_same k = true_same keyword_type k k refl
+
+-- ---- tokens at the front
+
+-- there is a token at the front, of this kind, and these are those after it
+pub record Front (ls : List Lexeme) (t : Token) (more : List Token) : Type 0 where
+  pub lexeme : Lexeme
+  pub rest : List Lexeme
+  pub whole : ls ≡ lexeme ∷ rest
+  pub kind : lexeme.token ≡ t
+  pub after : kinds rest ≡ more
+
+head_of : Token → List Token → Token
+head_of t [] = t
+head_of t (u ∷ us) = u
+
+tail_of : List Token → List Token
+tail_of [] = []
+tail_of (u ∷ us) = us
+
+pub kind_of : (l : Lexeme) (ls : List Lexeme) (t : Token) (more : List Token) → kinds (l ∷ ls) ≡ t ∷ more → l.token ≡ t
+unfolding head_of
+kind_of l ls t more h = ap (head_of t) h
+
+pub kinds_of : (l : Lexeme) (ls : List Lexeme) (t : Token) (more : List Token) → kinds (l ∷ ls) ≡ t ∷ more
+    → kinds ls ≡ more
+unfolding tail_of
+kinds_of l ls t more h = ap tail_of h
+
+pub front : (ls : List Lexeme) (t : Token) (more : List Token) → kinds ls ≡ t ∷ more → Front ls t more
+unfolding head_of tail_of
+front [] t more h = absurd cc
+front (l ∷ ls) t more h = record { lexeme = l; rest = ls; whole = refl; kind = ap (head_of t) h; after = ap tail_of h }
+
+pub next_takes : (s : Scope) (ls : List Lexeme) (l : Lexeme) (rest : List Lexeme) → next s ls ≡ Ok (l, rest) → ls ≡ l
+    ∷ rest
+unfolding next
+next_takes s [] l rest h = absurd cc
+next_takes s (m ∷ ls) l rest h = ap (λ (p : Lexeme × List Lexeme). p.0 ∷ p.1) (ok_is (m, ls) (l, rest) h)
+
+pub next_again : (s : Scope) (l : Lexeme) (rest : List Lexeme) → next s (l ∷ rest) ≡ Ok (l, rest)
+unfolding next
+next_again s l rest = refl
+
+-- ---- a mark, a reserved word, a name, an operator
+
+pub mark_takes : (s : Scope) (m : Mark) (ls rest : List Lexeme) → mark s m ls ≡ Ok rest → kinds ls ≡ token.Mark m
+    ∷ kinds rest
+unfolding mark
+mark_takes s m ls rest h =
+    let b = bind_ok (next s ls) (λ x. cond (is_mark m x.0.token) (Ok x.1) (Err (fault.Grammar x.0.start))) rest h in
+    let t = test_ok (is_mark m b.0.0.token) b.0.1 rest (fault.Grammar b.0.0.start) b.2 in
+    ap kinds (next_takes s ls b.0.0 b.0.1 b.1) ∙ ap (λ (k : Token). k ∷ kinds b.0.1) (is_mark_true m b.0.0.token t.0)
+    ∙ ap (λ (r : List Lexeme). token.Mark m ∷ kinds r) t.1
+
+mark_at : (s : Scope) (m : Mark) (ls : List Lexeme) (l : Lexeme) (rest : List Lexeme) → ls ≡ l ∷ rest
+    → is_mark m l.token ≡ true → mark s m ls ≡ Ok rest
+unfolding mark and_then
+mark_at s m ls l rest e t = rw (e, next_again s l rest, t) refl
+
+pub mark_again : (s : Scope) (m : Mark) (ls : List Lexeme) (more : List Token) → kinds ls ≡ token.Mark m ∷ more
+    → (rest : List Lexeme) × (mark s m ls ≡ Ok rest) × (kinds rest ≡ more)
+mark_again s m ls more h =
+    let f = front ls (token.Mark m) more h in
+    (f.rest, mark_at s m ls f.lexeme f.rest f.whole (ap (is_mark m) f.kind ∙ is_mark_same m), f.after)
+
+pub keyword_takes : (s : Scope) (k : Keyword) (ls rest : List Lexeme) → keyword s k ls ≡ Ok rest
+    → kinds ls ≡ token.Keyword k ∷ kinds rest
+unfolding keyword
+keyword_takes s k ls rest h =
+    let b = bind_ok (next s ls) (λ x. cond (is_keyword k x.0.token) (Ok x.1) (Err (fault.Grammar x.0.start))) rest h in
+    let t = test_ok (is_keyword k b.0.0.token) b.0.1 rest (fault.Grammar b.0.0.start) b.2 in
+    ap kinds (next_takes s ls b.0.0 b.0.1 b.1) ∙ ap (λ (u : Token). u ∷ kinds b.0.1) (is_keyword_true k b.0.0.token t.0)
+    ∙ ap (λ (r : List Lexeme). token.Keyword k ∷ kinds r) t.1
+
+keyword_at : (s : Scope) (k : Keyword) (ls : List Lexeme) (l : Lexeme) (rest : List Lexeme) → ls ≡ l ∷ rest
+    → is_keyword k l.token ≡ true → keyword s k ls ≡ Ok rest
+unfolding keyword and_then
+keyword_at s k ls l rest e t = rw (e, next_again s l rest, t) refl
+
+pub keyword_again : (s : Scope) (k : Keyword) (ls : List Lexeme) (more : List Token) → kinds ls ≡ token.Keyword k ∷ more
+    → (rest : List Lexeme) × (keyword s k ls ≡ Ok rest) × (kinds rest ≡ more)
+keyword_again s k ls more h =
+    let f = front ls (token.Keyword k) more h in
+    (f.rest, keyword_at s k ls f.lexeme f.rest f.whole (ap (is_keyword k) f.kind ∙ is_keyword_same k), f.after)
+
+named_takes : (t : Token) (start : ℕ) (ls : List Lexeme) (x : List ℕ) (rest : List Lexeme)
+    → named t start ls ≡ Ok (x, rest) → t ∷ kinds ls ≡ token.Name x ∷ kinds rest
+named_takes (token.Name y) start ls x rest h = ap (λ (p : List ℕ × List Lexeme). token.Name p.0 ∷ kinds p.1)
+    (ok_is (y, ls) (x, rest) h)
+named_takes (token.Number n) start ls x rest h = absurd cc
+named_takes (token.Mark m) start ls x rest h = absurd cc
+named_takes (token.Keyword k) start ls x rest h = absurd cc
+
+pub name_takes : (s : Scope) (ls : List Lexeme) (x : List ℕ) (rest : List Lexeme) → name s ls ≡ Ok (x, rest)
+    → kinds ls ≡ token.Name x ∷ kinds rest
+unfolding name
+name_takes s ls x rest h =
+    let b = bind_ok (next s ls) (λ f. named f.0.token f.0.start f.1) (x, rest) h in
+    ap kinds (next_takes s ls b.0.0 b.0.1 b.1) ∙ named_takes b.0.0.token b.0.0.start b.0.1 x rest b.2
+
+name_at : (s : Scope) (x : List ℕ) (ls : List Lexeme) (l : Lexeme) (rest : List Lexeme) → ls ≡ l ∷ rest
+    → l.token ≡ token.Name x → name s ls ≡ Ok (x, rest)
+unfolding name and_then
+name_at s x ls l rest e t = rw (e, next_again s l rest, t) refl
+
+pub name_again : (s : Scope) (ls : List Lexeme) (x : List ℕ) (more : List Token) → kinds ls ≡ token.Name x ∷ more
+    → (rest : List Lexeme) × (name s ls ≡ Ok (x, rest)) × (kinds rest ≡ more)
+name_again s ls x more h =
+    let f = front ls (token.Name x) more h in
+    (f.rest, name_at s x ls f.lexeme f.rest f.whole f.kind, f.after)
+
+operator_is : (m : Mark) (o : Op) → operator_of m ≡ Some o → m ≡ operator_mark o
+unfolding operator_of
+operator_is m o h =
+    sym (same_mark_true (operator_mark o) m (find_passes (λ p. same_mark (operator_mark p) m) operators o h))
+
+operator_back : (o : Op) → operator_of (operator_mark o) ≡ Some o
+unfolding operator_of
+operator_back op.Add = refl
+operator_back op.Sub = refl
+operator_back op.Mul = refl
+operator_back op.Div = refl
+operator_back op.Rem = refl
+operator_back op.Lt = refl
+operator_back op.Le = refl
+operator_back op.Gt = refl
+operator_back op.Ge = refl
+operator_back op.Eq = refl
+operator_back op.Ne = refl
+operator_back op.And = refl
+operator_back op.Or = refl
+
+found_is : {A : Type 0} (found : Option A) (start : ℕ) (ls : List Lexeme) (x : A) (rest : List Lexeme)
+    → or_fault_at start ls found ≡ Ok (x, rest) → (found ≡ Some x) × (ls ≡ rest)
+found_is {A} (Some y) start ls x rest h = (
+  ap (λ (q : A × List Lexeme). Some q.0) (ok_is (y, ls) (x, rest) h),
+  ap (λ (q : A × List Lexeme). q.1)
+      (ok_is (y, ls) (x, rest) h),
+)
+found_is None start ls x rest h = absurd cc
+
+token_operator_is : (t : Token) (o : Op) → token_operator t ≡ Some o → t ≡ token.Mark (operator_mark o)
+token_operator_is (token.Mark m) o h = ap token.Mark (operator_is m o h)
+token_operator_is (token.Name x) o h = absurd cc
+token_operator_is (token.Number n) o h = absurd cc
+token_operator_is (token.Keyword k) o h = absurd cc
+
+pub operator_takes : (s : Scope) (ls : List Lexeme) (o : Op) (rest : List Lexeme) → operator s ls ≡ Ok (o, rest)
+    → kinds ls ≡ token.Mark (operator_mark o) ∷ kinds rest
+unfolding operator
+operator_takes s ls o rest h =
+    let b = bind_ok (next s ls) (λ x. or_fault_at x.0.start x.1 (token_operator x.0.token)) (o, rest) h in
+    let f = found_is (token_operator b.0.0.token) b.0.0.start b.0.1 o rest b.2 in
+    ap kinds (next_takes s ls b.0.0 b.0.1 b.1) ∙ ap (λ (t : Token). t ∷ kinds b.0.1)
+    (token_operator_is b.0.0.token o f.0) ∙ ap (λ (r : List Lexeme). token.Mark (operator_mark o) ∷ kinds r) f.1
+
+operator_at : (s : Scope) (o : Op) (ls : List Lexeme) (l : Lexeme) (rest : List Lexeme) → ls ≡ l ∷ rest
+    → l.token ≡ token.Mark (operator_mark o) → operator s ls ≡ Ok (o, rest)
+unfolding operator and_then
+operator_at s o ls l rest e t = rw (e, next_again s l rest, t, operator_back o) refl
+
+pub operator_again : (s : Scope) (ls : List Lexeme) (o : Op) (more : List Token)
+    → kinds ls ≡ token.Mark (operator_mark o) ∷ more → (rest : List Lexeme) × (operator s ls ≡ Ok (o, rest))
+    × (kinds rest ≡ more)
+operator_again s ls o more h =
+    let f = front ls (token.Mark (operator_mark o)) more h in
+    (f.rest, operator_at s o ls f.lexeme f.rest f.whole f.kind, f.after)
+
+-- ---- a name that stands for something
+
+-- only the name that stands for something spells it
+pub record Spells {A : Type 0} (meant : Name → Option A) (spelled : A → Name) : Type 0 where
+  pub back : (n : Name) (x : A) → meant n ≡ Some x → n ≡ spelled x
+  pub found : (x : A) → meant (spelled x) ≡ Some x
+
+module _ {A : Type 0} (meant : Name → Option A) (spelled : A → Name) (table : Spells meant spelled) where
+  meant_takes : (t : Token) (x : A) → token_word meant t ≡ Some x → t ≡ token.Name (spelled x)
+  meant_takes (token.Name n) x h = ap token.Name (table.back n x h)
+  meant_takes (token.Number n) x h = absurd cc
+  meant_takes (token.Mark m) x h = absurd cc
+  meant_takes (token.Keyword k) x h = absurd cc
+
+  pub word_takes : (s : Scope) (ls : List Lexeme) (x : A) (rest : List Lexeme) → word_of meant s ls ≡ Ok (x, rest)
+      → kinds ls ≡ token.Name (spelled x) ∷ kinds rest
+  unfolding word_of
+  word_takes s ls x rest h =
+      let b = bind_ok (next s ls) (λ y. or_fault_at y.0.start y.1 (token_word meant y.0.token)) (x, rest) h in
+      let f = found_is (token_word meant b.0.0.token) b.0.0.start b.0.1 x rest b.2 in
+      ap kinds (next_takes s ls b.0.0 b.0.1 b.1) ∙ ap (λ (t : Token). t ∷ kinds b.0.1) (meant_takes b.0.0.token x f.0)
+      ∙ ap (λ (r : List Lexeme). token.Name (spelled x) ∷ kinds r) f.1
+
+  word_at : (s : Scope) (x : A) (ls : List Lexeme) (l : Lexeme) (rest : List Lexeme) → ls ≡ l ∷ rest
+      → l.token ≡ token.Name (spelled x) → word_of meant s ls ≡ Ok (x, rest)
+  unfolding word_of and_then
+  word_at s x ls l rest e t = rw (e, next_again s l rest, t, table.found x) refl
+
+  pub word_again : (s : Scope) (ls : List Lexeme) (x : A) (more : List Token)
+      → kinds ls ≡ token.Name (spelled x) ∷ more
+      → (rest : List Lexeme) × (word_of meant s ls ≡ Ok (x, rest)) × (kinds rest ≡ more)
+  word_again s ls x more h =
+      let f = front ls (token.Name (spelled x)) more h in
+      (f.rest, word_at s x ls f.lexeme f.rest f.whole f.kind, f.after)
+
+policy_found : (q : Policy) → policy_spelled (policy_word q) ≡ Some q
+unfolding policy_spelled
+policy_found policy.Cycles = refl
+policy_found policy.All = refl
+
+policy_back : (n : Name) (q : Policy) → policy_spelled n ≡ Some q → n ≡ policy_word q
+unfolding policy_spelled
+policy_back n q h =
+    sym ((bytes_eq-Decides (policy_word q) n).0 (find_passes (λ k. bytes_eq (policy_word k) n) policies q h))
+
+pub policies_spelled : Spells policy_spelled policy_word
+policies_spelled = record { back = policy_back; found = policy_found }
+
+growth_found : (g : Growth) → growth_spelled (growth_word g) ≡ Some g
+unfolding growth_spelled
+growth_found growth.One = refl
+growth_found growth.Double = refl
+
+growth_back : (n : Name) (g : Growth) → growth_spelled n ≡ Some g → n ≡ growth_word g
+unfolding growth_spelled
+growth_back n g h =
+    sym ((bytes_eq-Decides (growth_word g) n).0 (find_passes (λ k. bytes_eq (growth_word k) n) growths g h))
+
+pub growths_spelled : Spells growth_spelled growth_word
+growths_spelled = record { back = growth_back; found = growth_found }
+
+-- ---- a number
+
+numbered_takes : (t : Token) (start : ℕ) (ls : List Lexeme) (n : ℕ) (rest : List Lexeme)
+    → numbered t start ls ≡ Ok (n, rest) → t ∷ kinds ls ≡ token.Number n ∷ kinds rest
+numbered_takes (token.Number m) start ls n rest h = ap (λ (p : ℕ × List Lexeme). token.Number p.0 ∷ kinds p.1)
+    (ok_is (m, ls) (n, rest) h)
+numbered_takes (token.Name x) start ls n rest h = absurd cc
+numbered_takes (token.Mark m) start ls n rest h = absurd cc
+numbered_takes (token.Keyword k) start ls n rest h = absurd cc
+
+pub number_takes : (s : Scope) (ls : List Lexeme) (n : ℕ) (rest : List Lexeme) → number s ls ≡ Ok (n, rest)
+    → kinds ls ≡ token.Number n ∷ kinds rest
+unfolding number
+number_takes s ls n rest h =
+    let b = bind_ok (next s ls) (λ f. numbered f.0.token f.0.start f.1) (n, rest) h in
+    ap kinds (next_takes s ls b.0.0 b.0.1 b.1) ∙ numbered_takes b.0.0.token b.0.0.start b.0.1 n rest b.2
+
+number_at : (s : Scope) (n : ℕ) (ls : List Lexeme) (l : Lexeme) (rest : List Lexeme) → ls ≡ l ∷ rest
+    → l.token ≡ token.Number n → number s ls ≡ Ok (n, rest)
+unfolding number and_then
+number_at s n ls l rest e t = rw (e, next_again s l rest, t) refl
+
+pub number_again : (s : Scope) (ls : List Lexeme) (n : ℕ) (more : List Token) → kinds ls ≡ token.Number n ∷ more
+    → (rest : List Lexeme) × (number s ls ≡ Ok (n, rest)) × (kinds rest ≡ more)
+number_again s ls n more h =
+    let f = front ls (token.Number n) more h in
+    (f.rest, number_at s n ls f.lexeme f.rest f.whole f.kind, f.after)
+
+-- ---- calls beside what reading returns
+
+-- what a call returned was read
+pub was_read : {A B : Type 0} (view : A → B) (P : A → Type 0) (r : Result A GrammarFault) (read : Result B GrammarFault)
+    → Gives view r read → ((x : A) → read ≡ Ok (view x) → P x) → IfOk r P
+was_read view P (Ok x) read g k = k x g
+was_read view P (Err e) read g k = tt
+
+-- what can be read was returned, unless memory ran out
+pub is_returned : {A B : Type 0} (view : A → B) (P : A → Type 0) (r : Result A GrammarFault)
+    (read : Result B GrammarFault) (y : B) → Gives view r read → read ≡ Ok y → ((x : A) → view x ≡ y → P x)
+    → OkOr fault.NoMemory r P
+is_returned view P (Ok x) read y g h k = k x (ok_is (view x) y (sym g ∙ h))
+is_returned view P (Err fault.NoMemory) read y g h k = refl
+is_returned {A} {B} view P (Err (fault.Grammar at)) read y g h k = absurd (no_value (fault.Grammar at) y (sym g ∙ h))
+is_returned {A} {B} view P (Err (fault.TooDeep p)) read y g h k = absurd (no_value (fault.TooDeep p) y (sym g ∙ h))

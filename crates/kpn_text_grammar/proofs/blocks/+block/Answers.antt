@@ -1,0 +1,78 @@
+-- A block is its statements, one level below, and its braces; one more round of the loop reads one statement more.
+use Rattle.std.proofs.Common.{◌≡◌, ◌<◌, length, sym, ◌∙◌, arith}
+use Rattle.std.proofs.lemmas.Result.{err_from_is_err_and}
+use Rattle.kpn_text_grammar.specs.Reading.{goes_on, one_statement, block, statements_at}
+use Rattle.kpn_text_grammar.specs.View.{tokens_from, statement_seen, statements_seen}
+use Rattle.kpn_text_grammar.proofs.BlockSteps.{block_below, block_deep, block_unopened, any_number, all_statements, fails_at_any}
+use Rattle.kpn_text_grammar.proofs.Rounds.{at_first, one_more, stops_here, fails_here, place_moves}
+use Rattle.kpn_text_grammar.proofs.StatementLaws.{statement_shortens}
+use Rattle.kpn_text_grammar.proofs.blocks.+block.Goals as goal
+
+pub block-returns-in_err-inside : goal.block-returns-in_err-inside
+block-returns-in_err-inside t c =
+    let p = err_from_is_err_and c.from_residual.result c.from_residual.ensures.1 in
+    rw (p.1, p.2) (block_unopened c.args.source.scope c.args.depth (tokens_from c.args.source c.args.at)
+    c.in_err-inside.field-0.0 c.in_err-inside.ensures)
+
+pub block-returns-then-depth-eq0 : goal.block-returns-then-depth-eq0
+block-returns-then-depth-eq0 t c =
+    let none : c.args.depth ≡ 0 = omega arith in
+    block_deep c.args.source.scope c.args.depth (tokens_from c.args.source c.args.at)
+    (tokens_from c.args.source c.in_ok-inside.inside) none c.in_ok-inside.ensures
+
+pub block-returns : goal.block-returns
+block-returns t c =
+    let some : 0 < c.args.depth = omega arith in
+    rw (block_below c.args.source.scope c.args.depth (tokens_from c.args.source c.args.at)
+    (tokens_from c.args.source c.in_ok-inside.inside) some c.in_ok-inside.ensures) c.block_behind.ensures
+
+pub statements-statements-init : goal.statements-statements-init
+statements-statements-init t c =
+    let s = c.args.source.scope in
+    let inner = block s c.args.depth in
+    rw (all_statements s inner (tokens_from c.args.source c.args.at))
+    (at_first statement_seen goes_on (one_statement s inner) c.new-found.result.items
+    (tokens_from c.args.source c.args.at) c.new-found.ensures.items)
+
+pub statements-returns-in_err-statement : goal.statements-returns-in_err-statement
+statements-returns-in_err-statement t c =
+    let s = c.args.source.scope in
+    let inner = block s c.args.depth in
+    let p = err_from_is_err_and c.from_residual.result c.from_residual.ensures.1 in
+    let ls = tokens_from c.args.source c.statements.place in
+    rw (p.1, p.2) (fails_here goes_on (one_statement s inner) c.in_err-statement.field-0.0
+    (statements_seen c.statements.found.items) (length c.statements.found.items) ls
+    (statements_at s inner (tokens_from c.args.source c.args.at)) c.statements.invariant
+    (sym c.goes_on.ensures ∙ c.statements-test.true)
+    (fails_at_any s inner (length c.statements.found.items) ls c.in_err-statement.field-0.0 c.in_err-statement.ensures))
+
+pub statements-statements-smaller : goal.statements-statements-smaller
+statements-statements-smaller t c =
+    let s = c.args.source.scope in
+    place_moves c.args.source.tokens.now c.statements.place c.in_ok-statement.after
+    (statement_shortens s c.args.depth 0 (tokens_from c.args.source c.statements.place)
+    (statement_seen c.in_ok-statement.statement) (tokens_from c.args.source c.in_ok-statement.after)
+    c.in_ok-statement.ensures)
+
+pub statements-statements-preserved : goal.statements-statements-preserved
+statements-statements-preserved t c =
+    let s = c.args.source.scope in
+    let inner = block s c.args.depth in
+    one_more statement_seen goes_on (one_statement s inner) c.statements.found.items c.push.new.self.items
+    c.in_ok-statement.statement (tokens_from c.args.source c.statements.place)
+    (tokens_from c.args.source c.in_ok-statement.after)
+    (statements_at s inner (tokens_from c.args.source c.args.at)) c.statements.invariant
+    (sym c.goes_on.ensures ∙ c.statements-test.true) (any_number s inner _ _ ∙ c.in_ok-statement.ensures)
+    (statement_shortens s c.args.depth 0 (tokens_from c.args.source c.statements.place)
+    (statement_seen c.in_ok-statement.statement) (tokens_from c.args.source c.in_ok-statement.after)
+    c.in_ok-statement.ensures)
+    c.in_ok-push.ensures.items
+
+pub statements-returns : goal.statements-returns
+statements-returns t c =
+    let s = c.args.source.scope in
+    let inner = block s c.args.depth in
+    stops_here goes_on (one_statement s inner) (statements_seen c.statements.found.items)
+    (length c.statements.found.items) (tokens_from c.args.source c.statements.place)
+    (statements_at s inner (tokens_from c.args.source c.args.at)) c.statements.invariant
+    (sym c.goes_on.ensures ∙ c.statements-test.false)

@@ -1,0 +1,12 @@
+-- An expression is read by its operands, one level deeper each.
+use Rattle.std.proofs.Common.{◌+◌, ◌*◌}
+use Rattle.kpn_text_grammar.proofs.expressions.+expression.Given as goal
+
+abbrev pub decreases-binary : goal.decreases-binary
+decreases-binary l = 3 * l.depth + 1
+
+abbrev pub decreases-expression : goal.decreases-expression
+decreases-expression l = 3 * l.depth
+
+abbrev pub decreases-operand : goal.decreases-operand
+decreases-operand l = 3 * l.depth + 2

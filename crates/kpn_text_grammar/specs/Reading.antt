@@ -1,0 +1,457 @@
+-- What reading returns: the tree at the front of the tokens and the tokens after it, or the first fault. A token that
+-- may not be there is a fault at its first byte. If the text ends too early, the fault is at its length. A token that
+-- may be there and opens a level too many is a fault of its process.
+use Rattle.std.specs.Prelude.{◌≡◌, ℕ, zero, suc, ◌+◌, Bool, true, false, not, if◌then◌else◌, List, [], ◌∷◌, length, Option, Some, None, Result, Ok, Err}
+use Rattle.kpn_limits.specs.declared.TheConstants.{MAX_LEVELS}
+use Rattle.kpn_lang.specs.declared.syntax.Op.{Op}
+use Rattle.kpn_text_tokens.specs.declared.tokens.Lexeme.{Lexeme}
+use Rattle.kpn_text_tokens.specs.declared.tokens.Token.{Token}
+use Rattle.kpn_text_tokens.specs.declared.tokens.Token.TheVariants as token
+use Rattle.kpn_text_tokens.specs.declared.tokens.Mark.{Mark}
+use Rattle.kpn_text_tokens.specs.declared.tokens.Mark.TheVariants as mark_
+use Rattle.kpn_text_tokens.specs.declared.tokens.Keyword.{Keyword}
+use Rattle.kpn_text_tokens.specs.declared.tokens.Keyword.TheVariants as keyword_
+use Rattle.kpn_text_tokens.specs.Results.{◌>>=◌}
+use Rattle.kpn_text_grammar.specs.declared.fault.GrammarFault.{GrammarFault}
+use Rattle.kpn_text_grammar.specs.declared.fault.GrammarFault.TheVariants as fault
+use Rattle.kpn_text_grammar.specs.declared.parser.Scope.{Scope}
+use Rattle.kpn_text_grammar.specs.TokenTests.{is_mark, is_keyword, is_name}
+use Rattle.kpn_net.specs.declared.tables.Growth.{Growth}
+use Rattle.kpn_net.specs.declared.tables.Policy.{Policy}
+use Rattle.kpn_text_grammar.specs.Operators.{operator_of}
+use Rattle.kpn_text_grammar.specs.Words.{growth_spelled, policy_spelled}
+use Rattle.kpn_text_grammar.specs.Syntax.{Name, Term, numeral, variable, minus, negation, binary, Statement, assign, receive, send, choice, loop, Statements, statements_of, Process, Literal, plain, negated, Instance, Item, channel, source, sink, instance, Network, Description}
+
+-- what was read and the tokens after it, or the first fault
+abbrev pub Read : Type 0 → Type 0
+Read A = Result (A × List Lexeme) GrammarFault
+
+-- a call failed as reading does, or memory ran out
+abbrev pub Fails : {B : Type 0} → GrammarFault → Result B GrammarFault → Type 0
+Fails fault.NoMemory read = Unit {0}
+Fails (fault.Grammar at) read = read ≡ Err (fault.Grammar at)
+Fails (fault.TooDeep process) read = read ≡ Err (fault.TooDeep process)
+
+-- What a call returned, seen by a view, is what reading returns, unless memory ran out.
+abbrev pub Gives : {A B : Type 0} → (A → B) → Result A GrammarFault → Result B GrammarFault → Type 0
+Gives view (Ok x) read = read ≡ Ok (view x)
+Gives view (Err e) read = Fails e read
+
+-- ---- one token
+
+-- the token at the front
+unfoldable pub next : Scope → List Lexeme → Read Lexeme
+next s [] = Err (fault.Grammar s.end)
+next s (l ∷ ls) = Ok (l, ls)
+
+-- there is a token at the front, and it passes this test
+abbrev pub first_is : (Token → Bool) → List Lexeme → Bool
+first_is goes [] = false
+first_is goes (l ∷ ls) = goes l.token
+
+-- this mark
+unfoldable pub mark : Scope → Mark → List Lexeme → Result (List Lexeme) GrammarFault
+mark s m ls = do
+  x ← next s ls
+  if is_mark m x.0.token then Ok x.1 else Err (fault.Grammar x.0.start)
+
+-- this reserved word
+unfoldable pub keyword : Scope → Keyword → List Lexeme → Result (List Lexeme) GrammarFault
+keyword s k ls = do
+  x ← next s ls
+  if is_keyword k x.0.token then Ok x.1 else Err (fault.Grammar x.0.start)
+
+-- a name
+abbrev pub named : Token → ℕ → List Lexeme → Read Name
+named (token.Name bytes) start rest = Ok (bytes, rest)
+named _ start rest = Err (fault.Grammar start)
+
+unfoldable pub name : Scope → List Lexeme → Read Name
+name s ls = do
+  x ← next s ls
+  named x.0.token x.0.start x.1
+
+-- a number
+abbrev pub numbered : Token → ℕ → List Lexeme → Read ℕ
+numbered (token.Number n) start rest = Ok (n, rest)
+numbered _ start rest = Err (fault.Grammar start)
+
+unfoldable pub number : Scope → List Lexeme → Read ℕ
+number s ls = do
+  x ← next s ls
+  numbered x.0.token x.0.start x.1
+
+-- the operator of a token, if it has one
+abbrev pub token_operator : Token → Option Op
+token_operator (token.Mark m) = operator_of m
+token_operator _ = None
+
+abbrev pub or_fault_at : {A : Type 0} → ℕ → List Lexeme → Option A → Read A
+or_fault_at start rest (Some x) = Ok (x, rest)
+or_fault_at start rest None = Err (fault.Grammar start)
+
+unfoldable pub operator : Scope → List Lexeme → Read Op
+operator s ls = do
+  x ← next s ls
+  or_fault_at x.0.start x.1 (token_operator x.0.token)
+
+-- what a token stands for, if it is a name that stands for something
+abbrev pub token_word : {A : Type 0} → (Name → Option A) → Token → Option A
+token_word meant (token.Name x) = meant x
+token_word meant _ = None
+
+-- one of the names that stand for something, by what each stands for
+unfoldable pub word_of : {A : Type 0} → (Name → Option A) → Scope → List Lexeme → Read A
+word_of meant s ls = do
+  x ← next s ls
+  or_fault_at x.0.start x.1 (token_word meant x.0.token)
+
+-- ---- repetition
+
+-- One after another, each with its number, from i on, as long as the token at the front passes the test. n is at least
+-- how many there are.
+unfoldable pub many : {A : Type 0} → (Token → Bool) → (ℕ → List Lexeme → Read A) → ℕ → ℕ → List Lexeme → Read (List A)
+many goes one i zero ls = Ok ([], ls)
+many goes one i (suc n) ls =
+    if first_is goes ls
+    then (one i ls >>= λ x. many goes one (i + 1) n x.1 >>= λ xs. Ok (x.0 ∷ xs.0, xs.1))
+    else Ok ([], ls)
+
+-- one more behind a comma
+unfoldable pub further : {A : Type 0} → Scope → (List Lexeme → Read A) → ℕ → List Lexeme → Read A
+further s one i ls = mark s mark_.Comma ls >>= one
+
+-- one or more, with commas between them, numbered from 0
+unfoldable pub separated : {A : Type 0} → Scope → (List Lexeme → Read A) → List Lexeme → Read (List A)
+separated s one ls = do
+  x ← one ls
+  xs ← many (is_mark mark_.Comma) (further s one) 1 (length x.1) x.1
+  Ok (x.0 ∷ xs.0, xs.1)
+
+-- names, with commas between them
+unfoldable pub names : Scope → List Lexeme → Read (List Name)
+names s ls = separated s (name s) ls
+
+-- the same, or none if no name is at the front
+unfoldable pub optional_names : Scope → List Lexeme → Read (List Name)
+optional_names s ls = if first_is is_name ls then names s ls else Ok ([], ls)
+
+-- ---- expressions, by a parser of those one level deeper
+
+abbrev pub begins_expression : Token → Bool
+begins_expression (token.Number n) = true
+begins_expression (token.Name x) = true
+begins_expression (token.Mark mark_.Minus) = true
+begins_expression (token.Mark mark_.Not) = true
+begins_expression (token.Mark mark_.LeftParen) = true
+begins_expression _ = false
+
+-- the fault of a token if no level is left: it opens one too many, if an expression can begin with it
+abbrev pub level_fault : Scope → Lexeme → GrammarFault
+level_fault s l = if begins_expression l.token then fault.TooDeep s.process else fault.Grammar l.start
+
+-- behind the opening parenthesis
+unfoldable pub binary_behind : Scope → (List Lexeme → Read Term) → List Lexeme → Read Term
+binary_behind s inner ls = do
+  left ← inner ls
+  op ← operator s left.1
+  right ← inner op.1
+  rest ← mark s mark_.RightParen right.1
+  Ok (binary op.0 left.0 right.0, rest)
+
+-- behind its first token, which begins at this byte
+unfoldable pub operand : Scope → (List Lexeme → Read Term) → Token → ℕ → List Lexeme → Read Term
+operand s inner (token.Number n) start rest = Ok (numeral n, rest)
+operand s inner (token.Name x) start rest = Ok (variable x, rest)
+operand s inner (token.Mark mark_.Minus) start rest = inner rest >>= λ e. Ok (minus e.0, e.1)
+operand s inner (token.Mark mark_.Not) start rest = inner rest >>= λ e. Ok (negation e.0, e.1)
+operand s inner (token.Mark mark_.LeftParen) start rest = binary_behind s inner rest
+operand s inner _ start rest = Err (fault.Grammar start)
+
+-- an expression of at most so many levels
+unfoldable pub expression : Scope → ℕ → List Lexeme → Read Term
+expression s zero ls = next s ls >>= λ x. Err (level_fault s x.0)
+expression s (suc d) ls = next s ls >>= λ x. operand s (expression s d) x.0.token x.0.start x.1
+
+-- ---- statements, by a parser of the blocks one level deeper
+
+-- behind the name of the target
+unfoldable pub assignment_behind : Scope → Name → List Lexeme → Read Statement
+assignment_behind s x ls = do
+  after ← mark s mark_.Assign ls
+  e ← expression s MAX_LEVELS after
+  rest ← mark s mark_.Semicolon e.1
+  Ok (assign x e.0, rest)
+
+-- behind `read`
+unfoldable pub receive_behind : Scope → List Lexeme → Read Statement
+receive_behind s ls = do
+  i ← name s ls
+  x ← name s i.1
+  rest ← mark s mark_.Semicolon x.1
+  Ok (receive i.0 x.0, rest)
+
+-- behind `write`
+unfoldable pub send_behind : Scope → List Lexeme → Read Statement
+send_behind s ls = do
+  o ← name s ls
+  e ← expression s MAX_LEVELS o.1
+  rest ← mark s mark_.Semicolon e.1
+  Ok (send o.0 e.0, rest)
+
+-- behind `if`
+unfoldable pub choice_behind : Scope → (List Lexeme → Read Statements) → List Lexeme → Read Statement
+choice_behind s inner ls = do
+  e ← expression s MAX_LEVELS ls
+  a ← inner e.1
+  rest ← keyword s keyword_.Else a.1
+  b ← inner rest
+  Ok (choice e.0 a.0 b.0, b.1)
+
+-- behind `while`
+unfoldable pub loop_behind : Scope → (List Lexeme → Read Statements) → List Lexeme → Read Statement
+loop_behind s inner ls = do
+  e ← expression s MAX_LEVELS ls
+  b ← inner e.1
+  Ok (loop e.0 b.0, b.1)
+
+-- behind its first token, which begins at this byte
+unfoldable pub statement_behind : Scope → (List Lexeme → Read Statements) → Token → ℕ → List Lexeme → Read Statement
+statement_behind s inner (token.Name x) start rest = assignment_behind s x rest
+statement_behind s inner (token.Keyword keyword_.Read) start rest = receive_behind s rest
+statement_behind s inner (token.Keyword keyword_.Write) start rest = send_behind s rest
+statement_behind s inner (token.Keyword keyword_.If) start rest = choice_behind s inner rest
+statement_behind s inner (token.Keyword keyword_.While) start rest = loop_behind s inner rest
+statement_behind s inner _ start rest = Err (fault.Grammar start)
+
+unfoldable pub one_statement : Scope → (List Lexeme → Read Statements) → ℕ → List Lexeme → Read Statement
+one_statement s inner i ls = next s ls >>= λ x. statement_behind s inner x.0.token x.0.start x.1
+
+-- anything but the brace that ends a block or the network
+abbrev pub goes_on : Token → Bool
+goes_on t = not (is_mark mark_.RightBrace t)
+
+-- the statements up to the closing brace
+unfoldable pub statements_at : Scope → (List Lexeme → Read Statements) → List Lexeme → Read (List Statement)
+statements_at s inner ls = many goes_on (one_statement s inner) 0 (length ls) ls
+
+-- the statements of a block and its closing brace
+unfoldable pub block_behind : Scope → (List Lexeme → Read Statements) → List Lexeme → Read Statements
+block_behind s inner ls = do
+  found ← statements_at s inner ls
+  rest ← mark s mark_.RightBrace found.1
+  Ok (statements_of found.0, rest)
+
+-- a block of at most so many levels
+unfoldable pub block : Scope → ℕ → List Lexeme → Read Statements
+block s zero ls = mark s mark_.LeftBrace ls >>= λ rest. Err (fault.TooDeep s.process)
+block s (suc d) ls = mark s mark_.LeftBrace ls >>= block_behind s (block s d)
+
+-- ---- processes
+
+-- the ports and parameters of a process
+pub record HeadParts : Type 0 where
+  pub ins : List Name
+  pub outs : List Name
+  pub pars : List Name
+
+-- [ ";" "par" names ] behind the ports
+unfoldable pub after_outs : Scope → List Name → List Name → List Lexeme → Read HeadParts
+after_outs s ins outs ls =
+    if first_is (is_mark mark_.Semicolon) ls
+    then (do
+      after ← mark s mark_.Semicolon ls
+      word ← keyword s keyword_.Par after
+      pars ← names s word
+      Ok (record { ins = ins; outs = outs; pars = pars.0 }, pars.1))
+    else Ok (record { ins = ins; outs = outs; pars = [] }, ls)
+
+-- "out" names [ ";" "par" names ] or "par" names behind the in ports, from its first token on, which begins at this
+-- byte
+unfoldable pub outs_or_pars : Scope → List Name → Token → ℕ → List Lexeme → Read HeadParts
+outs_or_pars s ins (token.Keyword keyword_.Out) start rest = names s rest >>= λ outs. after_outs s ins outs.0 outs.1
+outs_or_pars s ins (token.Keyword keyword_.Par) start rest =
+    names s rest >>= λ pars. Ok (record { ins = ins; outs = []; pars = pars.0 }, pars.1)
+outs_or_pars s ins _ start rest = Err (fault.Grammar start)
+
+-- the same behind a semicolon, if one is at the front
+unfoldable pub after_ins : Scope → List Name → List Lexeme → Read HeadParts
+after_ins s ins ls =
+    if first_is (is_mark mark_.Semicolon) ls
+    then (do
+      after ← mark s mark_.Semicolon ls
+      x ← next s after
+      outs_or_pars s ins x.0.token x.0.start x.1)
+    else Ok (record { ins = ins; outs = []; pars = [] }, ls)
+
+-- from its first token on, which begins at this byte
+unfoldable pub parts_behind : Scope → Token → ℕ → List Lexeme → Read HeadParts
+parts_behind s (token.Keyword keyword_.In) start rest = names s rest >>= λ ins. after_ins s ins.0 ins.1
+parts_behind s t start rest = outs_or_pars s [] t start rest
+
+-- ports and parameters up to the closing parenthesis
+unfoldable pub parts : Scope → List Lexeme → Read HeadParts
+parts s ls =
+    if first_is (is_mark mark_.RightParen) ls
+    then Ok (record { ins = []; outs = []; pars = [] }, ls)
+    else (next s ls >>= λ x. parts_behind s x.0.token x.0.start x.1)
+
+-- a process
+unfoldable pub process : Scope → List Lexeme → Read Process
+process s ls = do
+  word ← keyword s keyword_.Process ls
+  x ← name s word
+  inside ← mark s mark_.LeftParen x.1
+  p ← parts s inside
+  after ← mark s mark_.RightParen p.1
+  body ← block s MAX_LEVELS after
+  Ok (record { name = x.0; ins = p.0.ins; outs = p.0.outs; pars = p.0.pars; body = body.0 }, body.1)
+
+-- the process of a number
+unfoldable pub numbered_process : Scope → ℕ → List Lexeme → Read Process
+numbered_process s i ls = process (record { end = s.end; process = i }) ls
+
+-- the processes, numbered from 0
+unfoldable pub processes : Scope → List Lexeme → Read (List Process)
+processes s ls = many (is_keyword keyword_.Process) (numbered_process s) 0 (length ls) ls
+
+-- ---- networks
+
+-- "cap", a number and the semicolon
+unfoldable pub capacity : Scope → List Lexeme → Read ℕ
+capacity s ls = do
+  word ← keyword s keyword_.Cap ls
+  n ← number s word
+  rest ← mark s mark_.Semicolon n.1
+  Ok (n.0, rest)
+
+-- behind `channel`
+unfoldable pub channel_behind : Scope → List Lexeme → Read Item
+channel_behind s ls = do
+  x ← name s ls
+  n ← capacity s x.1
+  Ok (channel x.0 n.0, n.1)
+
+-- behind `sink`
+unfoldable pub sink_behind : Scope → List Lexeme → Read Item
+sink_behind s ls = do
+  x ← name s ls
+  n ← capacity s x.1
+  Ok (sink x.0 n.0, n.1)
+
+-- behind `source`
+unfoldable pub source_behind : Scope → List Lexeme → Read Item
+source_behind s ls = do
+  x ← name s ls
+  rest ← mark s mark_.Semicolon x.1
+  Ok (source x.0, rest)
+
+-- a number or a number behind a minus, from its first token on, which begins at this byte
+unfoldable pub literal_behind : Scope → Token → ℕ → List Lexeme → Read Literal
+literal_behind s (token.Number n) start rest = Ok (plain n, rest)
+literal_behind s (token.Mark mark_.Minus) start rest = number s rest >>= λ n. Ok (negated n.0, n.1)
+literal_behind s _ start rest = Err (fault.Grammar start)
+
+unfoldable pub literal : Scope → List Lexeme → Read Literal
+literal s ls = next s ls >>= λ x. literal_behind s x.0.token x.0.start x.1
+
+-- values, with commas between them
+unfoldable pub values : Scope → List Lexeme → Read (List Literal)
+values s ls = separated s (literal s) ls
+
+-- the same behind a semicolon, or none if no semicolon is at the front
+unfoldable pub optional_values : Scope → List Lexeme → Read (List Literal)
+optional_values s ls =
+    if first_is (is_mark mark_.Semicolon) ls
+    then (mark s mark_.Semicolon ls >>= values s)
+    else Ok ([], ls)
+
+-- the program of the instance of this name, its channels and values
+unfoldable pub call : Scope → Name → List Lexeme → Read Instance
+call s x ls = do
+  f ← name s ls
+  inside ← mark s mark_.LeftParen f.1
+  ins ← optional_names s inside
+  after ← mark s mark_.Semicolon ins.1
+  outs ← optional_names s after
+  vs ← optional_values s outs.1
+  rest ← mark s mark_.RightParen vs.1
+  Ok (record { name = x; program = f.0; ins = ins.0; outs = outs.0; values = vs.0 }, rest)
+
+-- behind the name of the instance
+unfoldable pub instance_behind : Scope → Name → List Lexeme → Read Item
+instance_behind s x ls = do
+  after ← mark s mark_.Assign ls
+  i ← call s x after
+  rest ← mark s mark_.Semicolon i.1
+  Ok (instance i.0, rest)
+
+-- behind its first token, which begins at this byte
+unfoldable pub item_behind : Scope → Token → ℕ → List Lexeme → Read Item
+item_behind s (token.Keyword keyword_.Channel) start rest = channel_behind s rest
+item_behind s (token.Keyword keyword_.Source) start rest = source_behind s rest
+item_behind s (token.Keyword keyword_.Sink) start rest = sink_behind s rest
+item_behind s (token.Name x) start rest = instance_behind s x rest
+item_behind s _ start rest = Err (fault.Grammar start)
+
+unfoldable pub item : Scope → ℕ → List Lexeme → Read Item
+item s i ls = next s ls >>= λ x. item_behind s x.0.token x.0.start x.1
+
+-- the items up to the closing brace
+unfoldable pub items : Scope → List Lexeme → Read (List Item)
+items s ls = many goes_on (item s) 0 (length ls) ls
+
+-- a setting and the semicolon behind its reserved word, if that is at the front
+unfoldable pub setting : {A : Type 0} → Keyword → (Scope → List Lexeme → Read A) → Scope → List Lexeme
+    → Read (Option A)
+setting k one s ls =
+    if first_is (is_keyword k) ls
+    then (do
+      word ← keyword s k ls
+      x ← one s word
+      rest ← mark s mark_.Semicolon x.1
+      Ok (Some x.0, rest))
+    else Ok (None, ls)
+
+-- the limit, if it is written
+unfoldable pub limit : Scope → List Lexeme → Read (Option ℕ)
+limit = setting keyword_.Limit number
+
+-- the policy, if it is written
+unfoldable pub policy : Scope → List Lexeme → Read (Option Policy)
+policy = setting keyword_.Policy (word_of policy_spelled)
+
+-- the growth, if it is written
+unfoldable pub growth : Scope → List Lexeme → Read (Option Growth)
+growth = setting keyword_.Grow (word_of growth_spelled)
+
+-- the network
+unfoldable pub network : Scope → List Lexeme → Read Network
+network s ls = do
+  word ← keyword s keyword_.Network ls
+  inside ← mark s mark_.LeftBrace word
+  n ← limit s inside
+  q ← policy s n.1
+  g ← growth s q.1
+  found ← items s g.1
+  rest ← mark s mark_.RightBrace found.1
+  Ok (record { limit = n.0; policy = q.0; growth = g.0; items = found.0 }, rest)
+
+-- ---- the whole
+
+-- nothing is left
+unfoldable pub at_end : List Lexeme → Result (Unit {0}) GrammarFault
+at_end [] = Ok tt
+at_end (l ∷ ls) = Err (fault.Grammar l.start)
+
+-- the processes, the network and nothing after it
+unfoldable pub description : Scope → List Lexeme → Result Description GrammarFault
+description s ls = do
+  ps ← processes s ls
+  n ← network s ps.1
+  nothing ← at_end n.1
+  Ok (record { processes = ps.0; network = n.0 })
+
+-- what the tokens of a text of this length are read as, with the processes numbered from 0
+abbrev pub description_of : ℕ → List Lexeme → Result Description GrammarFault
+description_of end ls = description (record { end = end; process = 0 }) ls

@@ -1,0 +1,157 @@
+//! Statements and blocks. The body of a process is a block of level 1, and each block has one level more than the block
+//! around it.
+
+ghost use Rattle.std.specs.Prelude.{◌≡◌};
+ghost use Rattle.kpn_text_grammar.specs.Reading as spec;
+ghost use Rattle.kpn_text_grammar.specs.View.{Parses, statement_seen, statements_seen, block_seen};
+
+use crate::expressions::expression;
+use crate::fault::GrammarFault;
+use crate::parser::{Read, Source, goes_on, keyword, mark, name, next};
+use crate::tree::{Block, Identifier, Statement};
+use kpn_limits::MAX_LEVELS;
+use kpn_text_tokens::{Keyword, Mark, Token};
+use std::alloc::Global;
+
+/// A block of at most `depth` levels.
+#[cycle(block)]
+pub(crate) fn block<'a>(
+    alloc: Global,
+    source: Source<'a>,
+    depth: usize,
+    at: usize,
+) -> Read<Block<'a>>
+    ensures { Parses (λ found. block_seen found.items)
+        (λ s. spec.block s depth) source.entry at result }
+{
+    let inside = mark(source, Mark::LeftBrace, at)?;
+    if depth == 0 {
+        return Err(GrammarFault::TooDeep(source.scope.process));
+    }
+    block_behind(alloc, source, depth - 1, inside)
+}
+
+/// The statements of a block and its closing brace, with blocks of at most `depth` levels in it.
+#[cycle(block)]
+#[tactic(auto, unfolding(crate::specs::Reading::block_behind, kpn_text_tokens::specs::Results::and_then))]
+fn block_behind<'a>(alloc: Global, source: Source<'a>, depth: usize, at: usize) -> Read<Block<'a>>
+    ensures { Parses (λ found. block_seen found.items)
+        (λ s. spec.block_behind s (spec.block s depth)) source.entry at result }
+{
+    let (found, at) = statements(alloc, source, depth, at)?;
+    let at = mark(source, Mark::RightBrace, at)?;
+    Ok((found, at))
+}
+
+/// The statements up to the closing brace.
+#[cycle(block)]
+fn statements<'a>(alloc: Global, source: Source<'a>, depth: usize, at: usize) -> Read<Block<'a>>
+    ensures { Parses (λ found. statements_seen found.items)
+        (λ s. spec.statements_at s (spec.block s depth)) source.entry at result }
+{
+    let mut found = Vec::new(alloc);
+    let mut place = at;
+    'statements: while goes_on(source, place) {
+        let (statement, after) = one_statement(alloc, source, depth, place)?;
+        found.push(statement)?;
+        place = after;
+    }
+    Ok((found, place))
+}
+
+/// A statement, with blocks of at most `depth` levels in it.
+#[cycle(block)]
+#[tactic(auto, unfolding(crate::specs::Reading::one_statement, crate::specs::Reading::statement_behind, kpn_text_tokens::specs::Results::and_then))]
+fn one_statement<'a>(
+    alloc: Global,
+    source: Source<'a>,
+    depth: usize,
+    at: usize,
+) -> Read<Statement<'a>>
+    ensures { Parses statement_seen
+        (λ s. spec.one_statement s (spec.block s depth) 0) source.entry at result }
+{
+    let (first, at) = next(source, at)?;
+    match &first.token {
+        Token::Name(name) => {
+            let target = Identifier::new(name, first.start);
+            assignment(alloc, source, target, at)
+        }
+        Token::Keyword(Keyword::Read) => read_statement(source, at),
+        Token::Keyword(Keyword::Write) => write_statement(alloc, source, at),
+        Token::Keyword(Keyword::If) => if_statement(alloc, source, depth, at),
+        Token::Keyword(Keyword::While) => while_statement(alloc, source, depth, at),
+        _ => Err(GrammarFault::Grammar(first.start)),
+    }
+}
+
+/// An assignment behind its target.
+#[tactic(auto, unfolding(crate::specs::Reading::assignment_behind, kpn_text_tokens::specs::Results::and_then))]
+fn assignment<'a>(
+    alloc: Global,
+    source: Source<'a>,
+    target: Identifier<'a>,
+    at: usize,
+) -> Read<Statement<'a>>
+    ensures { Parses statement_seen
+        (λ s. spec.assignment_behind s target.entry.bytes.now) source.entry at result }
+{
+    let at = mark(source, Mark::Assign, at)?;
+    let (value, at) = expression(alloc, source, MAX_LEVELS, at)?;
+    let at = mark(source, Mark::Semicolon, at)?;
+    Ok((Statement::Assign(target, value), at))
+}
+
+#[tactic(auto, unfolding(crate::specs::Reading::receive_behind, kpn_text_tokens::specs::Results::and_then))]
+fn read_statement<'a>(source: Source<'a>, at: usize) -> Read<Statement<'a>>
+    ensures { Parses statement_seen spec.receive_behind source.entry at result }
+{
+    let (port, at) = name(source, at)?;
+    let (variable, at) = name(source, at)?;
+    let at = mark(source, Mark::Semicolon, at)?;
+    Ok((Statement::Read(port, variable), at))
+}
+
+#[tactic(auto, unfolding(crate::specs::Reading::send_behind, kpn_text_tokens::specs::Results::and_then))]
+fn write_statement<'a>(alloc: Global, source: Source<'a>, at: usize) -> Read<Statement<'a>>
+    ensures { Parses statement_seen spec.send_behind source.entry at result }
+{
+    let (port, at) = name(source, at)?;
+    let (item, at) = expression(alloc, source, MAX_LEVELS, at)?;
+    let at = mark(source, Mark::Semicolon, at)?;
+    Ok((Statement::Write(port, item), at))
+}
+
+#[cycle(block)]
+#[tactic(auto, unfolding(crate::specs::Reading::choice_behind, kpn_text_tokens::specs::Results::and_then))]
+fn if_statement<'a>(
+    alloc: Global,
+    source: Source<'a>,
+    depth: usize,
+    at: usize,
+) -> Read<Statement<'a>>
+    ensures { Parses statement_seen
+        (λ s. spec.choice_behind s (spec.block s depth)) source.entry at result }
+{
+    let (test, at) = expression(alloc, source, MAX_LEVELS, at)?;
+    let (then_block, at) = block(alloc, source, depth, at)?;
+    let at = keyword(source, Keyword::Else, at)?;
+    let (else_block, at) = block(alloc, source, depth, at)?;
+    Ok((Statement::If(test, then_block, else_block), at))
+}
+
+#[cycle(block)]
+#[tactic(auto, unfolding(crate::specs::Reading::loop_behind, kpn_text_tokens::specs::Results::and_then))]
+fn while_statement<'a>(
+    alloc: Global,
+    source: Source<'a>,
+    depth: usize,
+    at: usize,
+) -> Read<Statement<'a>>
+    ensures { Parses statement_seen
+        (λ s. spec.loop_behind s (spec.block s depth)) source.entry at result }
+{
+    let (test, at) = expression(alloc, source, MAX_LEVELS, at)?;
+    let (body, at) = block(alloc, source, depth, at)?;
+    Ok((Statement::While(test, body), at))
+}

@@ -1,0 +1,95 @@
+//! Expressions. A number or a name is an expression of level 1, and each sign and each pair of
+//! parentheses adds a level.
+
+ghost use Rattle.std.specs.Prelude.{◌≡◌};
+ghost use Rattle.kpn_text_grammar.specs.Reading as spec;
+ghost use Rattle.kpn_text_grammar.specs.View.{Parses, term};
+
+use crate::fault::GrammarFault;
+use crate::parser::{Read, Scope, Source, mark, next, operator};
+use crate::tree::{Expression, Identifier};
+use kpn_text_tokens::{Lexeme, Mark, Token};
+use std::alloc::Global;
+
+fn begins_expression(token: &Token<'_>) -> bool
+    ensures { result ≡ spec.begins_expression token.now }
+{
+    match token {
+        Token::Number(_) | Token::Name(_) => true,
+        Token::Mark(Mark::Minus | Mark::Not | Mark::LeftParen) => true,
+        _ => false,
+    }
+}
+
+/// The fault of a token if no level is left: it opens one too many, if an expression can begin with it.
+fn level_fault(scope: Scope, first: &Lexeme<'_>) -> GrammarFault
+    ensures { result ≡ spec.level_fault scope first.now }
+{
+    if begins_expression(&first.token) {
+        GrammarFault::TooDeep(scope.process)
+    } else {
+        GrammarFault::Grammar(first.start)
+    }
+}
+
+/// An expression of at most `depth` levels.
+#[cycle(expression)]
+pub(crate) fn expression<'a>(
+    alloc: Global,
+    source: Source<'a>,
+    depth: usize,
+    at: usize,
+) -> Read<Expression<'a>>
+    ensures { Parses term (λ s. spec.expression s depth) source.entry at result }
+{
+    let (first, after) = next(source, at)?;
+    if depth == 0 {
+        return Err(level_fault(source.scope, first));
+    }
+    operand(alloc, source, depth - 1, first, after)
+}
+
+/// An expression behind its first token, with at most `depth` levels inside it.
+#[cycle(expression)]
+#[tactic(auto, unfolding(crate::specs::Reading::operand, kpn_text_tokens::specs::Results::and_then))]
+fn operand<'a>(
+    alloc: Global,
+    source: Source<'a>,
+    depth: usize,
+    first: &'a Lexeme<'a>,
+    at: usize,
+) -> Read<Expression<'a>>
+    ensures { Parses term
+        (λ s. spec.operand s (spec.expression s depth) first.now.token first.now.start)
+        source.entry at result }
+{
+    match &first.token {
+        Token::Number(number) => Ok((Expression::Number(*number), at)),
+        Token::Name(name) => Ok((Expression::Name(Identifier::new(name, first.start)), at)),
+        Token::Mark(Mark::Minus) => {
+            let (inner, after) = expression(alloc, source, depth, at)?;
+            Ok((Expression::Negative(Box::new(alloc, inner)?), after))
+        }
+        Token::Mark(Mark::Not) => {
+            let (inner, after) = expression(alloc, source, depth, at)?;
+            Ok((Expression::Not(Box::new(alloc, inner)?), after))
+        }
+        Token::Mark(Mark::LeftParen) => binary(alloc, source, depth, at),
+        _ => Err(GrammarFault::Grammar(first.start)),
+    }
+}
+
+/// Two expressions with an operator between them, behind the opening parenthesis.
+#[cycle(expression)]
+#[tactic(auto, unfolding(crate::specs::Reading::binary_behind, kpn_text_tokens::specs::Results::and_then))]
+fn binary<'a>(alloc: Global, source: Source<'a>, depth: usize, at: usize) -> Read<Expression<'a>>
+    ensures { Parses term
+        (λ s. spec.binary_behind s (spec.expression s depth)) source.entry at result }
+{
+    let (left, at) = expression(alloc, source, depth, at)?;
+    let (sign, at) = operator(source, at)?;
+    let (right, at) = expression(alloc, source, depth, at)?;
+    let at = mark(source, Mark::RightParen, at)?;
+    let expression = Expression::Binary(sign, Box::new(alloc, left)?, Box::new(alloc, right)?);
+    Ok((expression, at))
+}

@@ -1,0 +1,171 @@
+//! The parsers of one token at a place, on which all others depend. Each returns what it read and the place after it.
+//! Places count tokens; the tokens themselves stay where they are.
+
+ghost use Rattle.std.specs.Prelude.{◌≡◌};
+ghost use Rattle.kpn_text_grammar.specs.TokenTests as tests;
+ghost use Rattle.kpn_text_grammar.specs.Reading as spec;
+ghost use Rattle.kpn_text_grammar.specs.View.{Parses, Passes, tokens_from};
+
+use crate::fault::GrammarFault;
+use crate::operators::operator_of;
+use crate::tree::Identifier;
+use kpn_lang::Op;
+use kpn_text_tokens::{Keyword, Lexeme, Mark, Number, Token};
+
+/// What a fault needs besides the tokens.
+#[derive(Clone, Copy)]
+pub(crate) struct Scope {
+    /// The length of the text in bytes: the place of a fault if the text ends too early.
+    pub end: usize,
+    /// The number of the process that the parser reads.
+    pub process: usize,
+}
+
+/// The tokens of a text.
+#[derive(Clone, Copy)]
+pub(crate) struct Source<'a> {
+    pub tokens: &'a [Lexeme<'a>],
+    pub scope: Scope,
+}
+
+/// What was read and the place after it, or the first fault.
+pub(crate) type Read<T> = Result<(T, usize), GrammarFault>;
+
+/// The token at a place.
+#[tactic(auto, unfolding(crate::specs::Reading::next))]
+pub(crate) fn next<'a>(source: Source<'a>, at: usize) -> Read<&'a Lexeme<'a>>
+    ensures { Parses (λ token. token.now) spec.next source.entry at result }
+{
+    match source.tokens.get(at) {
+        Some(first) => Ok((first, at + 1)),
+        None => Err(GrammarFault::Grammar(source.scope.end)),
+    }
+}
+
+fn is_mark(token: &Token<'_>, mark: Mark) -> bool
+    ensures { result ≡ tests.is_mark mark token.now }
+{
+    match token {
+        Token::Mark(found) => *found == mark,
+        _ => false,
+    }
+}
+
+fn is_keyword(token: &Token<'_>, keyword: Keyword) -> bool
+    ensures { result ≡ tests.is_keyword keyword token.now }
+{
+    match token {
+        Token::Keyword(found) => *found == keyword,
+        _ => false,
+    }
+}
+
+/// Whether this mark is at a place.
+pub(crate) fn at_mark(source: Source<'_>, mark: Mark, at: usize) -> bool
+    ensures { result ≡ spec.first_is (tests.is_mark mark) (tokens_from source.entry at) }
+{
+    match source.tokens.get(at) {
+        Some(first) => is_mark(&first.token, mark),
+        None => false,
+    }
+}
+
+/// Whether this reserved word is at a place.
+pub(crate) fn at_keyword(source: Source<'_>, keyword: Keyword, at: usize) -> bool
+    ensures { result ≡ spec.first_is (tests.is_keyword keyword) (tokens_from source.entry at) }
+{
+    match source.tokens.get(at) {
+        Some(first) => is_keyword(&first.token, keyword),
+        None => false,
+    }
+}
+
+/// Whether a name is at a place.
+pub(crate) fn at_name(source: Source<'_>, at: usize) -> bool
+    ensures { result ≡ spec.first_is tests.is_name (tokens_from source.entry at) }
+{
+    match source.tokens.get(at) {
+        Some(first) => matches!(&first.token, Token::Name(_)),
+        None => false,
+    }
+}
+
+/// Whether a token other than a closing brace is at a place.
+pub(crate) fn goes_on(source: Source<'_>, at: usize) -> bool
+    ensures { result ≡ spec.first_is spec.goes_on (tokens_from source.entry at) }
+{
+    match source.tokens.get(at) {
+        Some(first) => !is_mark(&first.token, Mark::RightBrace),
+        None => false,
+    }
+}
+
+/// This mark.
+#[tactic(auto, unfolding(crate::specs::Reading::mark, kpn_text_tokens::specs::Results::and_then))]
+pub(crate) fn mark(source: Source<'_>, expected: Mark, at: usize) -> Result<usize, GrammarFault>
+    ensures { Passes (λ s. spec.mark s expected) source.entry at result }
+{
+    let (first, after) = next(source, at)?;
+    if is_mark(&first.token, expected) {
+        Ok(after)
+    } else {
+        Err(GrammarFault::Grammar(first.start))
+    }
+}
+
+/// This reserved word.
+#[tactic(auto, unfolding(crate::specs::Reading::keyword, kpn_text_tokens::specs::Results::and_then))]
+pub(crate) fn keyword(
+    source: Source<'_>,
+    expected: Keyword,
+    at: usize,
+) -> Result<usize, GrammarFault>
+    ensures { Passes (λ s. spec.keyword s expected) source.entry at result }
+{
+    let (first, after) = next(source, at)?;
+    if is_keyword(&first.token, expected) {
+        Ok(after)
+    } else {
+        Err(GrammarFault::Grammar(first.start))
+    }
+}
+
+/// A name.
+#[tactic(auto, unfolding(crate::specs::Reading::name, kpn_text_tokens::specs::Results::and_then))]
+pub(crate) fn name<'a>(source: Source<'a>, at: usize) -> Read<Identifier<'a>>
+    ensures { Parses (λ name. name.bytes.now) spec.name source.entry at result }
+{
+    let (first, after) = next(source, at)?;
+    match &first.token {
+        Token::Name(name) => Ok((Identifier::new(name, first.start), after)),
+        _ => Err(GrammarFault::Grammar(first.start)),
+    }
+}
+
+/// A number.
+#[tactic(auto, unfolding(crate::specs::Reading::number, kpn_text_tokens::specs::Results::and_then))]
+pub(crate) fn number(source: Source<'_>, at: usize) -> Read<Number>
+    ensures { Parses (λ n. n) spec.number source.entry at result }
+{
+    let (first, after) = next(source, at)?;
+    match &first.token {
+        Token::Number(number) => Ok((*number, after)),
+        _ => Err(GrammarFault::Grammar(first.start)),
+    }
+}
+
+/// An operator between two expressions.
+#[tactic(auto, unfolding(crate::specs::Reading::operator, kpn_text_tokens::specs::Results::and_then))]
+pub(crate) fn operator(source: Source<'_>, at: usize) -> Read<Op>
+    ensures { Parses (λ op. op) spec.operator source.entry at result }
+{
+    let (first, after) = next(source, at)?;
+    let spelled = match &first.token {
+        Token::Mark(mark) => operator_of(*mark),
+        _ => None,
+    };
+    match spelled {
+        Some(operator) => Ok((operator, after)),
+        None => Err(GrammarFault::Grammar(first.start)),
+    }
+}

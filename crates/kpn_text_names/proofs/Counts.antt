@@ -1,0 +1,145 @@
+-- There are as many names as processes, instances and channels.
+use Rattle.std.proofs.Common.{◌≡◌, suc, ◌+◌, List, [], ◌∷◌, ◌++◌, length, map, Ok, refl, sym, ap, subst, ◌∙◌, length-append, arith}
+use Rattle.std.proofs.lemmas.List.{length-map}
+use Rattle.kpn_net.specs.declared.tables.ChannelSpec.{ChannelSpec}
+use Rattle.kpn_net.specs.declared.tables.ChannelSpec.TheVariants.{Inner, Source, Sink}
+use Rattle.kpn_text_grammar.specs.Syntax as grammar
+use Rattle.kpn_text_grammar.specs.Syntax.{Name, Process, Item, channel, source, sink, instance, Description}
+use Rattle.kpn_text_names.specs.Fault.{each}
+use Rattle.kpn_text_tokens.specs.Results.{and_then}
+use Rattle.kpn_text_names.specs.Names.{declared}
+use Rattle.kpn_text_names.specs.Network.{settings_of, Wiring, within_32_bits, with_channel, with_instance, with_item, instance_of, all_channels, wiring}
+use Rattle.kpn_text_names.specs.Named.{NamedProgram, Programs, program_of, with_process, programs_of, Named, named_with, EachIsNamed, resolve}
+use Rattle.kpn_text_names.specs.NetworkNames.{AreNamed, names_in, paired, process_names_in}
+use Rattle.kpn_text_names.proofs.Chains.{ok_is, went}
+use Rattle.kpn_text_names.proofs.KnownNames.{declared_is}
+use Rattle.kpn_text_names.proofs.Steps.{keeps}
+
+-- ---- a name more
+
+-- a table to which a name was added
+one_longer : (table names : List Name) (x : Name) → declared table x ≡ Ok names → length names ≡ suc (length table)
+one_longer table names x e =
+    ap length (sym ((declared_is table x names e).1)) ∙ simp length-append (omega arith)
+
+both_longer : {A : Type 0} (table names : List Name) (things : List A) (thing : A) (x : Name)
+    → declared table x ≡ Ok names → length table ≡ length things
+    → length names ≡ length (things ++ thing ∷ [])
+both_longer table names things thing x e p = let q = one_longer table names x e in simp length-append (omega arith)
+
+-- ---- processes
+
+abbrev pub ProgramsMatch : Programs → Type 0
+ProgramsMatch s = length s.names ≡ length s.programs
+
+one_process : (s t : Programs) (p : Process) → with_process s p ≡ Ok t → ProgramsMatch s → ProgramsMatch t
+one_process s t p e match =
+    let b =
+    went (declared s.names p.name)
+    (λ names. and_then (program_of p) (λ made. Ok (record { names = names; programs = s.programs ++ made ∷ [] })))
+    t e in
+    let d =
+    went (program_of p) (λ made. Ok (record { names = b.value; programs = s.programs ++ made ∷ [] })) t b.rest in
+    let is : ◌≡◌ {A = Programs} (record { names = b.value; programs = s.programs ++ d.value ∷ [] }) t =
+    ok_is (record { names = b.value; programs = s.programs ++ d.value ∷ [] }) t d.rest in
+    subst ProgramsMatch is (both_longer s.names b.value s.programs d.value p.name b.first match)
+
+-- ---- items
+
+pub record WiringMatches (w : Wiring) : Type 0 where
+  pub channels : length w.channel_names ≡ length w.channels
+  pub instances : length w.instance_names ≡ length w.instances
+
+one_channel : (w v : Wiring) (x : Name) (c : ChannelSpec) → with_channel w x c ≡ Ok v → WiringMatches w
+    → WiringMatches v
+one_channel w v x c e match =
+    let b =
+    went (declared w.channel_names x)
+    (λ names. Ok (record w { channel_names = names; channels = w.channels ++ c ∷ [] })) v e in
+    let is : ◌≡◌ {A = Wiring} (record w { channel_names = b.value; channels = w.channels ++ c ∷ [] }) v =
+    ok_is (record w { channel_names = b.value; channels = w.channels ++ c ∷ [] }) v b.rest in
+    subst WiringMatches is
+    (record {
+      channels = both_longer w.channel_names b.value w.channels c x b.first match.channels;
+      instances = match.instances;
+    })
+
+one_instance : (programs channels : List Name) (w v : Wiring) (i : grammar.Instance)
+    → with_instance programs channels w i ≡ Ok v → WiringMatches w → WiringMatches v
+one_instance programs channels w v i e match =
+    let b =
+    went (declared w.instance_names i.name)
+    (λ names.
+    and_then (instance_of programs channels i)
+    (λ made. Ok (record w { instance_names = names; instances = w.instances ++ made ∷ [] }))) v e in
+    let d =
+    went (instance_of programs channels i)
+    (λ made. Ok (record w { instance_names = b.value; instances = w.instances ++ made ∷ [] })) v b.rest in
+    let is : ◌≡◌ {A = Wiring} (record w { instance_names = b.value; instances = w.instances ++ d.value ∷ [] }) v =
+    ok_is (record w { instance_names = b.value; instances = w.instances ++ d.value ∷ [] }) v d.rest in
+    subst WiringMatches is
+    (record {
+      channels = match.channels;
+      instances = both_longer w.instance_names b.value w.instances d.value i.name b.first match.instances;
+    })
+
+one_item : (programs channels : List Name) (w v : Wiring) (i : Item) → with_item programs channels w i ≡ Ok v
+    → WiringMatches w → WiringMatches v
+one_item programs channels w v (channel x n) e match = one_channel w v x (Inner (within_32_bits n)) e match
+one_item programs channels w v (source x) e match = one_channel w v x Source e match
+one_item programs channels w v (sink x n) e match = one_channel w v x (Sink (within_32_bits n)) e match
+one_item programs channels w v (instance i) e match = one_instance programs channels w v i e match
+
+-- ---- the whole
+
+pub programs_match : (processes : List Process) (p : Programs) → programs_of processes ≡ Ok p → ProgramsMatch p
+programs_match processes p e =
+    keeps with_process ProgramsMatch one_process processes (record { names = []; programs = [] }) p e refl
+
+pub wiring_matches : (programs : List Name) (items : List Item) (w : Wiring) → wiring programs items ≡ Ok w
+    → WiringMatches w
+wiring_matches programs items w e =
+    keeps (with_item programs (all_channels items)) WiringMatches (one_item programs (all_channels items)) items
+    (record { channel_names = []; channels = []; instance_names = []; instances = [] }) w e
+    (record { channels = refl; instances = refl })
+
+pub each_named : (p : List NamedProgram) (n : Named) → n.tables.programs ≡ map (λ q. q.parts) p
+    → n.scopes ≡ map (λ q. q.names) p
+    → length n.processes ≡ length p → length n.instances ≡ length n.tables.instances
+    → length n.channels ≡ length n.tables.channels → EachIsNamed n
+each_named p n is scopes processes i c = record {
+  processes = processes ∙ sym (ap length is ∙ length-map p (λ q. q.parts));
+  scopes = ap length scopes ∙ length-map p (λ q. q.names) ∙ sym (ap length is ∙ length-map p (λ q. q.parts));
+  instances = i;
+  channels = c;
+}
+
+pub resolved_each : (d : Description) (n : Named) → resolve d ≡ Ok n → EachIsNamed n
+resolved_each d n e =
+    let named : Programs → Wiring → Named = named_with (settings_of d.network) in
+    let p = went (programs_of d.processes)
+    (λ p. and_then (wiring p.names d.network.items) (λ w. Ok (named p w))) n e in
+    let w = went (wiring p.value.names d.network.items) (λ w. Ok (named p.value w)) n p.rest in
+    let match = wiring_matches p.value.names d.network.items w.value w.first in
+    subst EachIsNamed (ok_is (named p.value w.value) n w.rest)
+    (each_named p.value.programs (named p.value w.value) refl refl
+    (programs_match d.processes p.value p.first) match.instances match.channels)
+
+-- ---- the names by number
+
+length-paired : {A B C : Type 0} (f : A → B → C) (xs : List A) (ys : List B) → length xs ≡ length ys
+    → length (paired f xs ys) ≡ length ys
+length-paired f [] [] e = refl
+length-paired f [] (y ∷ ys) e = absurd (omega arith)
+length-paired f (x ∷ xs) [] e = absurd (omega arith)
+length-paired f (x ∷ xs) (y ∷ ys) e =
+    let inner : length xs ≡ length ys = omega arith in
+    let same : length (paired f xs ys) ≡ length ys = length-paired f xs ys inner in
+    omega arith
+
+pub are_named : (n : Named) → EachIsNamed n → AreNamed (names_in n) n.tables
+are_named n each = record {
+  processes = length-paired process_names_in n.processes n.scopes (each.processes ∙ sym each.scopes) ∙ each.scopes;
+  instances = each.instances;
+  channels = each.channels;
+}

@@ -1,0 +1,271 @@
+-- No name is twice in a table of names: each step adds a name that is new, or none.
+use Rattle.std.proofs.Common.{◌≡◌, ℕ, zero, suc, ◌<◌, Bool, true, false, cond, not, List, [], ◌∷◌, ◌++◌, length, map, Ok, refl, sym, ap, subst, ◌∙◌, append_assoc, append-nil, length-append, inl, inr, arith}
+use Rattle.std.specs.List.{All, position_or_len}
+use Rattle.std.specs.Str.{bytes_eq}
+use Rattle.std.specs.Cmp.Lexicographic.{bytes_decides}
+use Rattle.std.proofs.Math.Seq.{get_or-append_seam}
+use Rattle.std.proofs.lemmas.Bool.{cases_eq, false≢true, and_parts, lt-ltb}
+use Rattle.std.proofs.lemmas.List.{get_or_append_left, length-map}
+use Rattle.std.proofs.lemmas.List.Elements.{All-push}
+use Rattle.std.proofs.lemmas.List.Folds.{list_any_at, list_any-append}
+use Rattle.std.proofs.lemmas.List.Sums.{position_or_len_is}
+use Rattle.kpn_lang.specs.Tree.{Tree}
+use Rattle.kpn_net.specs.declared.tables.ChannelSpec.{ChannelSpec}
+use Rattle.kpn_net.specs.declared.tables.ChannelSpec.TheVariants.{Inner, Source, Sink}
+use Rattle.kpn_text_grammar.specs.Syntax as grammar
+use Rattle.kpn_text_grammar.specs.Syntax.{Name, Statement, assign, receive, send, choice, loop, Statements, no_statements, statement, Process, Item, channel, source, sink, instance, Description}
+use Rattle.kpn_text_names.specs.declared.scope.Scope.{Scope}
+use Rattle.kpn_text_tokens.specs.Results.{and_then}
+use Rattle.kpn_text_names.specs.Names.{name_at, has, declared, with_name}
+use Rattle.kpn_text_names.specs.Scope.{are_new, are_distinct, head, is_port, target}
+use Rattle.kpn_text_names.specs.Body.{statement_in, tree_in}
+use Rattle.kpn_text_names.specs.Blocks.{Written, blocks_of, body_of}
+use Rattle.kpn_text_names.specs.Network.{Settings, settings_of, Wiring, within_32_bits, with_channel, with_instance, with_item, instance_of, all_channels, wiring}
+use Rattle.kpn_text_names.specs.Named.{NamedProgram, program_with, program_of, Programs, with_process, programs_of, Named, named_with, resolve}
+use Rattle.kpn_text_names.specs.NetworkNames.{paired, process_names_in, names_in}
+use Rattle.kpn_text_names.specs.Once.{StandOnce, names_inside, EachStandsOnce}
+use Rattle.kpn_text_names.proofs.Chains.{ok_is, went}
+use Rattle.kpn_text_names.proofs.Steps.{keeps}
+use Rattle.kpn_text_names.proofs.KnownNames.{if_not, if_so, declared_is}
+use Rattle.kpn_text_names.proofs.Counts.{programs_match}
+
+-- ---- one table
+
+-- no name is one that comes before it
+abbrev Apart : List Name → Type 0
+Apart table = (i j : ℕ) → i < j → j < length table → bytes_eq (name_at table j) (name_at table i) ≡ false
+
+false_unless : (b : Bool) → (b ≡ true → ⊥) → b ≡ false
+false_unless true h = absurd (h refl)
+false_unless false h = refl
+
+not_there : (table : List Name) (x : Name) (i : ℕ) → has table x ≡ false → i < length table
+    → bytes_eq x (name_at table i) ≡ false
+not_there table x i new here =
+    false_unless (bytes_eq x (name_at table i))
+    (λ same. false≢true (sym new ∙ list_any_at (bytes_eq x) table i [] here same))
+
+-- a name more, which is new
+one_more : (table : List Name) (x : Name) → has table x ≡ false → Apart table → Apart (table ++ x ∷ [])
+one_more table x new apart i j before here =
+    let longer : length (table ++ x ∷ []) ≡ suc (length table) = simp length-append (omega arith) in
+    elim (cases_eq j (length table)) [
+      | inl last ↦
+          rw (last, get_or-append_seam table x [] [], get_or_append_left table (x ∷ []) [] i (omega arith))
+          (not_there table x i new (omega arith))
+      | inr other ↦
+          rw (
+            get_or_append_left table (x ∷ []) [] j (omega arith),
+            get_or_append_left table (x ∷ []) [] i (omega arith),
+          )
+          (apart i j before (omega arith))
+    ]
+
+stand_once : (table : List Name) → Apart table → StandOnce table
+stand_once table apart k here =
+    let at : position_or_len (bytes_eq (name_at table k)) table ≡ k =
+    position_or_len_is (bytes_eq (name_at table k)) table k [] (omega arith) (λ i before. apart i k before here)
+    (λ below. (bytes_decides (name_at table k) (name_at table k)).1 refl) in
+    rw (at, lt-ltb k (length table) here) refl
+
+declared_apart : (table names : List Name) (x : Name) → declared table x ≡ Ok names → Apart table → Apart names
+declared_apart table names x e apart =
+    let d = declared_is table x names e in
+    subst Apart d.1 (one_more table x d.0 apart)
+
+none_apart : Apart []
+none_apart i j before here = absurd (omega arith)
+
+-- ---- the names in a process
+
+abbrev known_in : Scope → List Name
+known_in s = s.ins ++ s.outs ++ s.vars
+
+abbrev ScopeApart : Scope → Type 0
+ScopeApart s = Apart (known_in s)
+
+is_false : (b : Bool) → not b ≡ true → b ≡ false
+is_false true h = absurd (cc)
+is_false false h = refl
+
+new_apart : (before xs : List Name) → are_new before xs ≡ true → Apart before → Apart (before ++ xs)
+new_apart before [] e apart = subst Apart (sym (append-nil before)) apart
+new_apart before (x ∷ xs) e apart =
+    let parts = and_parts (not (has before x)) (are_new (before ++ x ∷ []) xs) e in
+    subst Apart (append_assoc before (x ∷ []) xs)
+    (new_apart (before ++ x ∷ []) xs parts.1 (one_more before x (is_false (has before x) parts.0) apart))
+
+head_apart : (p : Process) (s : Scope) → head p ≡ Ok s → ScopeApart s
+head_apart p s e =
+    let made : Scope = record { ins = p.ins; outs = p.outs; vars = p.pars } in
+    let given = if_so (are_distinct (p.ins ++ p.outs ++ p.pars)) made s e in
+    subst ScopeApart given.1 (new_apart [] (p.ins ++ p.outs ++ p.pars) given.0 none_apart)
+
+-- a variable, which is none of the ports
+with_name_apart : (ports vars : List Name) (x : Name) (b : Bool) → has vars x ≡ b → has ports x ≡ false
+    → Apart (ports ++ vars) → Apart (ports ++ cond b vars (vars ++ x ∷ []))
+with_name_apart ports vars x true stands free apart = apart
+with_name_apart ports vars x false stands free apart =
+    let new : has (ports ++ vars) x ≡ false = rw (list_any-append (bytes_eq x) ports vars, free) stands in
+    subst Apart (append_assoc ports vars (x ∷ [])) (one_more (ports ++ vars) x new apart)
+
+target_apart : (s : Scope) (x : Name) (r : Scope × ℕ) → target s x ≡ Ok r → ScopeApart s → ScopeApart r.0
+target_apart s x r e apart =
+    let made : Scope × ℕ = (record s { vars = with_name s.vars x }, position_or_len (bytes_eq x) s.vars) in
+    let given = if_not (is_port s x) made r e in
+    let free : has (s.ins ++ s.outs) x ≡ false = list_any-append (bytes_eq x) s.ins s.outs ∙ given.0 in
+    subst (λ q. ScopeApart q.0) given.1
+    (with_name_apart (s.ins ++ s.outs) s.vars x (has s.vars x) refl free apart)
+
+mutual
+  unfolding statement_in tree_in
+
+  statement_apart : (s : Scope) (x : Statement) (r : Scope × (Tree → Tree)) → statement_in s x ≡ Ok r
+      → ScopeApart s → ScopeApart r.0
+  statement_apart s (assign x e) r h apart =
+      let t = went _ _ r h in
+      let a = went _ _ r t.rest in
+      subst (λ q. ScopeApart q.0) (ok_is _ r a.rest) (target_apart s x t.value t.first apart)
+  statement_apart s (receive p x) r h apart =
+      let port = went _ _ r h in
+      let t = went _ _ r port.rest in
+      subst (λ q. ScopeApart q.0) (ok_is _ r t.rest) (target_apart s x t.value t.first apart)
+  statement_apart s (send o e) r h apart =
+      let port = went _ _ r h in
+      let a = went _ _ r port.rest in
+      subst (λ q. ScopeApart q.0) (ok_is _ r a.rest) apart
+  statement_apart s (choice e b c) r h apart =
+      let a = went _ _ r h in
+      let first = went _ _ r a.rest in
+      let second = went _ _ r first.rest in
+      subst (λ q. ScopeApart q.0) (ok_is _ r second.rest)
+      (tree_apart first.value.0 c second.value second.first (tree_apart s b first.value first.first apart))
+  statement_apart s (loop e b) r h apart =
+      let a = went _ _ r h in
+      let body = went _ _ r a.rest in
+      subst (λ q. ScopeApart q.0) (ok_is _ r body.rest) (tree_apart s b body.value body.first apart)
+
+  tree_apart : (s : Scope) (b : Statements) (r : Scope × Tree) → tree_in s b ≡ Ok r → ScopeApart s → ScopeApart r.0
+  tree_apart s no_statements r h apart = subst (λ q. ScopeApart q.0) (ok_is _ r h) apart
+  tree_apart s (statement x xs) r h apart =
+      let first = went _ _ r h in
+      let rest = went _ _ r first.rest in
+      subst (λ q. ScopeApart q.0) (ok_is _ r rest.rest)
+      (tree_apart first.value.0 xs rest.value rest.first (statement_apart s x first.value first.first apart))
+
+body_apart : (s : Scope) (b : Statements) (w : Written) → body_of s b ≡ Ok w → ScopeApart s → ScopeApart w.scope
+body_apart s b w e apart =
+    let made : Scope × Tree → Written = λ r. record { scope = r.0; blocks = blocks_of r.1 } in
+    let r = went (tree_in s b) (λ r. Ok (made r)) w e in
+    subst (λ v. ScopeApart v.scope) (ok_is (made r.value) w r.rest) (tree_apart s b r.value r.first apart)
+
+program_apart : (p : Process) (q : NamedProgram) → program_of p ≡ Ok q → ScopeApart q.names
+program_apart p q e =
+    let s = went (head p) (λ s. and_then (body_of s p.body) (λ body. Ok (program_with s body))) q e in
+    let body = went (body_of s.value p.body) (λ body. Ok (program_with s.value body)) q s.rest in
+    subst (λ made. ScopeApart made.names) (ok_is (program_with s.value body.value) q body.rest)
+    (body_apart s.value p.body body.value body.first (head_apart p s.value s.first))
+
+-- ---- processes
+
+record ProgramsApart (s : Programs) : Type 0 where
+  names : Apart s.names
+  inside : All (λ q. ScopeApart q.names) s.programs
+
+process_apart : (s t : Programs) (p : Process) → with_process s p ≡ Ok t → ProgramsApart s → ProgramsApart t
+process_apart s t p e apart =
+    let made : List Name → NamedProgram → Programs =
+    λ names made. record { names = names; programs = s.programs ++ made ∷ [] } in
+    let names = went (declared s.names p.name) (λ names. and_then (program_of p) (λ q. Ok (made names q))) t e in
+    let q = went (program_of p) (λ q. Ok (made names.value q)) t names.rest in
+    subst ProgramsApart (ok_is (made names.value q.value) t q.rest)
+    (record {
+      names = declared_apart s.names names.value p.name names.first apart.names;
+      inside = All-push (λ q. ScopeApart q.names) s.programs q.value apart.inside (program_apart p q.value q.first);
+    })
+
+programs_apart : (processes : List Process) (p : Programs) → programs_of processes ≡ Ok p → ProgramsApart p
+programs_apart processes p e =
+    keeps with_process ProgramsApart process_apart processes (record { names = []; programs = [] }) p e
+    (record { names = none_apart; inside = λ k d here. absurd (omega arith) })
+
+-- ---- items
+
+record WiringApart (w : Wiring) : Type 0 where
+  channels : Apart w.channel_names
+  instances : Apart w.instance_names
+
+channel_apart : (w v : Wiring) (x : Name) (c : ChannelSpec) → with_channel w x c ≡ Ok v → WiringApart w
+    → WiringApart v
+channel_apart w v x c e apart =
+    let made : List Name → Wiring =
+    λ names. record w { channel_names = names; channels = w.channels ++ c ∷ [] } in
+    let names = went (declared w.channel_names x) (λ names. Ok (made names)) v e in
+    subst WiringApart (ok_is (made names.value) v names.rest)
+    (record {
+      channels = declared_apart w.channel_names names.value x names.first apart.channels;
+      instances = apart.instances;
+    })
+
+instance_apart : (programs channels : List Name) (w v : Wiring) (i : grammar.Instance)
+    → with_instance programs channels w i ≡ Ok v → WiringApart w → WiringApart v
+instance_apart programs channels w v i e apart =
+    let names = went (declared w.instance_names i.name) _ v e in
+    let made = went (instance_of programs channels i) _ v names.rest in
+    subst WiringApart (ok_is _ v made.rest)
+    (record {
+      channels = apart.channels;
+      instances = declared_apart w.instance_names names.value i.name names.first apart.instances;
+    })
+
+item_apart : (programs channels : List Name) (w v : Wiring) (i : Item) → with_item programs channels w i ≡ Ok v
+    → WiringApart w → WiringApart v
+item_apart programs channels w v (channel x n) e apart = channel_apart w v x (Inner (within_32_bits n)) e apart
+item_apart programs channels w v (source x) e apart = channel_apart w v x Source e apart
+item_apart programs channels w v (sink x n) e apart = channel_apart w v x (Sink (within_32_bits n)) e apart
+item_apart programs channels w v (instance i) e apart = instance_apart programs channels w v i e apart
+
+wiring_apart : (programs : List Name) (items : List Item) (w : Wiring) → wiring programs items ≡ Ok w → WiringApart w
+wiring_apart programs items w e =
+    keeps (with_item programs (all_channels items)) WiringApart (item_apart programs (all_channels items)) items
+    (record { channel_names = []; channels = []; instance_names = []; instances = [] }) w e
+    (record { channels = none_apart; instances = none_apart })
+
+-- ---- the whole
+
+paired_names : (xs : List Name) (ss : List Scope) → length xs ≡ length ss
+    → map (λ p. p.name) (paired process_names_in xs ss) ≡ xs
+paired_names [] ss e = refl
+paired_names (x ∷ xs) [] e = absurd (omega arith)
+paired_names (x ∷ xs) (s ∷ ss) e = ap (λ l. x ∷ l) (paired_names xs ss (omega arith))
+
+paired_inside : (xs : List Name) (ps : List NamedProgram) → All (λ q. ScopeApart q.names) ps
+    → All (λ p. StandOnce (names_inside p)) (paired process_names_in xs (map (λ q. q.names) ps))
+paired_inside [] ps apart k d here = absurd (omega arith)
+paired_inside (x ∷ xs) [] apart k d here = absurd (omega arith)
+paired_inside (x ∷ xs) (p ∷ ps) apart zero d here = stand_once (known_in p.names) (apart zero p (omega arith))
+paired_inside (x ∷ xs) (p ∷ ps) apart (suc k) d here =
+    paired_inside xs ps (λ i e below. apart (suc i) e (omega arith)) k d (omega arith)
+
+named_once : (s : Settings) (p : Programs) (w : Wiring) → ProgramsApart p → WiringApart w
+    → length p.names ≡ length p.programs
+    → EachStandsOnce (names_in (named_with s p w))
+named_once s p w programs wires match =
+    let same : length p.names ≡ length (map (λ q. q.names) p.programs) =
+    match ∙ sym (length-map p.programs (λ q. q.names)) in
+    record {
+      processes = rw (paired_names p.names (map (λ q. q.names) p.programs) same) (stand_once p.names programs.names);
+      instances = stand_once w.instance_names wires.instances;
+      channels = stand_once w.channel_names wires.channels;
+      inside = paired_inside p.names p.programs programs.inside;
+    }
+
+pub names_stand_once : (d : Description) (n : Named) → resolve d ≡ Ok n → EachStandsOnce (names_in n)
+names_stand_once d n e =
+    let named : Programs → Wiring → Named = named_with (settings_of d.network) in
+    let p = went (programs_of d.processes)
+    (λ p. and_then (wiring p.names d.network.items) (λ w. Ok (named p w))) n e in
+    let w = went (wiring p.value.names d.network.items) (λ w. Ok (named p.value w)) n p.rest in
+    subst (λ m. EachStandsOnce (names_in m)) (ok_is (named p.value w.value) n w.rest)
+    (named_once (settings_of d.network) p.value w.value (programs_apart d.processes p.value p.first)
+    (wiring_apart p.value.names d.network.items w.value w.first) (programs_match d.processes p.value p.first))

@@ -1,0 +1,15 @@
+-- Names and things were added together.
+use Rattle.std.proofs.Common.{map, refl}
+use Rattle.kpn_text_grammar.specs.View.{process_seen, item_seen}
+use Rattle.kpn_text_names.specs.View.{program_seen, programs_seen, wiring_seen}
+use Rattle.kpn_text_names.proofs.Counts.{programs_match, wiring_matches, WiringMatches, each_named}
+use Rattle.kpn_text_names.proofs.document.resolve.Goals as goal
+
+pub returns-clause-each : goal.returns-clause-each
+returns-clause-each c =
+    let w : WiringMatches (wiring_seen c.in_ok-wiring.wiring) =
+    wiring_matches _ (map item_seen c.as_slice-2.result.now) (wiring_seen c.in_ok-wiring.wiring)
+    c.in_ok-wiring.ensures in
+    each_named (map program_seen c.in_ok-names.field-0.programs.items) _ refl refl
+    (programs_match (map process_seen c.as_slice.result.now) (programs_seen c.in_ok-names.field-0)
+    c.in_ok-names.ensures) w.instances w.channels

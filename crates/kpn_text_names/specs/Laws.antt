@@ -1,0 +1,16 @@
+-- The laws of the blocks and of the names.
+use Rattle.std.specs.Prelude.{◌≡◌, Ok}
+use Rattle.kpn_lang.specs.Tree.{Tree, tree_of}
+use Rattle.kpn_text_grammar.specs.Syntax.{Description}
+use Rattle.kpn_text_names.specs.Blocks.{blocks_of}
+use Rattle.kpn_text_names.specs.Named.{Named, resolve}
+use Rattle.kpn_text_names.specs.NetworkNames.{names_in}
+use Rattle.kpn_text_names.specs.Once.{EachStandsOnce}
+
+-- The blocks of a tree, put together by their numbers, are that tree.
+abbrev pub BlocksAreTheTree : Type 0
+BlocksAreTheTree = (t : Tree) → tree_of (blocks_of t) 0 ≡ t
+
+-- No name is twice in a table of the names of a description.
+abbrev pub NamesStandOnce : Type 0
+NamesStandOnce = (d : Description) (n : Named) → resolve d ≡ Ok n → EachStandsOnce (names_in n)

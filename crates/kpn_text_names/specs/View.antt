@@ -1,0 +1,49 @@
+-- What the code returns for a description: its programs with their names, and the tables of its network.
+use Rattle.std.specs.Prelude.{◌+◌, length, map}
+use Rattle.kpn_lang.specs.View.{blocks_of, parts_with}
+use Rattle.kpn_net.specs.View.{tables_with}
+use Rattle.kpn_text_names.specs.declared.writer.Writer.{Writer}
+use Rattle.kpn_text_names.specs.declared.process.ProgramParts.{ProgramParts}
+use Rattle.kpn_text_names.specs.declared.process.Processes.{Processes}
+use Rattle.kpn_text_names.specs.declared.network.Wiring.{Wiring as WiringCode}
+use Rattle.kpn_text_names.specs.declared.document.Named.{Named as NamedCode}
+use Rattle.kpn_text_names.specs.Blocks.{Written}
+use Rattle.kpn_text_names.specs.Network.{Wiring}
+use Rattle.kpn_text_names.specs.Named.{NamedProgram, Programs, Named}
+
+-- the parts are those that `Program::new` gets
+abbrev pub program_seen : ProgramParts → NamedProgram
+program_seen p =
+    record {
+      names = p.scope;
+      parts = parts_with (length p.scope.ins) (length p.scope.outs) p.pars (p.pars + p.locals) p.blocks.items;
+    }
+
+-- the tables are those that `Network::new` gets
+abbrev pub named_seen : NamedCode → Named
+named_seen n = record {
+  tables =
+      tables_with (map (λ q. q.parts) (map program_seen n.programs.items)) n.instances.items n.channels.items n.limit
+      n.policy n.growth;
+  processes = n.processes;
+  scopes = map (λ q. q.names) (map program_seen n.programs.items);
+  instances = n.instance_names;
+  channels = n.channel_names;
+}
+
+-- ---- scaffolding: what the code's values stand for while it reads a description
+
+abbrev pub written : Writer → Written
+written w = record { scope = w.scope; blocks = blocks_of w.blocks.items }
+
+abbrev pub programs_seen : Processes → Programs
+programs_seen p = record { names = p.names; programs = map program_seen p.programs.items }
+
+abbrev pub wiring_seen : WiringCode → Wiring
+wiring_seen w =
+    record {
+      channel_names = w.channel_names;
+      channels = w.channels.items;
+      instance_names = w.instance_names;
+      instances = w.instances.items;
+    }

@@ -1,0 +1,84 @@
+-- The body of a process as the code writes it block by block: the names known so far, and the blocks so far. A block
+-- takes its number at its opening brace, and gets its statements at its closing brace. Scaffolding: only contracts of
+-- private calls cite it, and what resolve returns is in Named.
+use Rattle.std.specs.Prelude.{ℕ, Bool, ◌||◌, if◌then◌else◌, List, [], ◌∷◌, ◌++◌, length, slice_set, Result, Ok, Err}
+use Rattle.kpn_lang.specs.Syntax as lang
+use Rattle.kpn_text_grammar.specs.Syntax.{Name, Statement, assign, receive, send, choice, loop, Statements, no_statements, statement}
+use Rattle.kpn_text_names.specs.declared.scope.Scope.{Scope}
+use Rattle.kpn_text_names.specs.declared.scope.Part.{Part}
+use Rattle.kpn_text_names.specs.declared.scope.Part.TheVariants.{In, Out, Parameter}
+use Rattle.kpn_text_names.specs.Fault.{NameError, double}
+use Rattle.kpn_text_tokens.specs.Results.{◌>>=◌, and_then}
+use Rattle.kpn_text_names.specs.Names.{has, known}
+use Rattle.kpn_text_names.specs.Scope.{is_port, target}
+use Rattle.kpn_text_names.specs.Body.{term_in}
+use Rattle.kpn_text_names.specs.Blocks.{Written}
+
+-- ---- the head of a process, name by name
+
+-- a port or a variable has this name
+abbrev pub is_taken : Scope → Name → Bool
+is_taken s x = is_port s x || has s.vars x
+
+-- with one name more
+abbrev pub with_part : Part → Scope → Name → Scope
+with_part In s x = record s { ins = s.ins ++ x ∷ [] }
+with_part Out s x = record s { outs = s.outs ++ x ∷ [] }
+with_part Parameter s x = record s { vars = s.vars ++ x ∷ [] }
+
+-- a name of this part of the head, which must be new
+abbrev pub declared_in : Part → Scope → Name → Result Scope NameError
+declared_in part s x = if is_taken s x then Err double else Ok (with_part part s x)
+
+-- ---- the body
+
+abbrev pub with_scope : Written → Scope → Written
+with_scope w s = record w { scope = s }
+
+-- with a block more, still without statements
+abbrev pub opened : Written → Written
+opened w = record w { blocks = w.blocks ++ [] ∷ [] }
+
+-- with the statements of this block
+abbrev pub closed : Written → ℕ → List lang.Statement → Written
+closed w n statements = record w { blocks = slice_set w.blocks n statements }
+
+-- a block that opens after w and then has this inside, with its number
+abbrev pub as_block : Written → Result (Written × List lang.Statement) NameError → Result (Written × ℕ) NameError
+as_block w inside = inside >>= λ r. Ok (closed r.0 (length w.blocks) r.1, length w.blocks)
+
+unfoldable mutual
+  -- a statement, with what is written behind it
+  pub statement_at : Written → Statement → Result (Written × lang.Statement) NameError
+  statement_at w (assign x e) = do
+    t ← target w.scope x
+    a ← term_in t.0.vars e
+    Ok (with_scope w t.0, lang.Assign t.1 a)
+  statement_at w (receive i x) = do
+    port ← known w.scope.ins i
+    t ← target w.scope x
+    Ok (with_scope w t.0, lang.Read port t.1)
+  statement_at w (send o e) = do
+    port ← known w.scope.outs o
+    a ← term_in w.scope.vars e
+    Ok (w, lang.Write port a)
+  statement_at w (choice e b c) = do
+    a ← term_in w.scope.vars e
+    first ← as_block w (statements_at (opened w) [] b)
+    second ← as_block first.0 (statements_at (opened first.0) [] c)
+    Ok (second.0, lang.If a first.1 second.1)
+  statement_at w (loop e b) = do
+    a ← term_in w.scope.vars e
+    body ← as_block w (statements_at (opened w) [] b)
+    Ok (body.0, lang.While a body.1)
+
+  -- several statements, after these
+  pub statements_at : Written → List lang.Statement → Statements → Result (Written × List lang.Statement) NameError
+  statements_at w done no_statements = Ok (w, done)
+  statements_at w done (statement s ss) = do
+    first ← statement_at w s
+    statements_at first.0 (done ++ first.1 ∷ []) ss
+
+-- a block with the blocks inside it, and its number
+abbrev pub block_at : Written → Statements → Result (Written × ℕ) NameError
+block_at w b = as_block w (statements_at (opened w) [] b)

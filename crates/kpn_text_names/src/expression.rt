@@ -1,0 +1,42 @@
+//! Expressions over the variables of a process, by number.
+
+ghost use Rattle.kpn_lang.specs.Syntax.{term_of};
+ghost use Rattle.kpn_text_grammar.specs.View.{term};
+ghost use Rattle.kpn_text_names.specs.Fault.{Gives};
+ghost use Rattle.kpn_text_names.specs.Body.{term_in};
+
+use crate::fault::NameFault;
+use crate::names::NameTable;
+use kpn_lang::Expr;
+use kpn_text_grammar::Expression;
+use std::alloc::Global;
+
+/// The expression over these variables. It nests as deep as its tree.
+#[tactic(auto, unfolding(crate::specs::Body::term_in, kpn_text_tokens::specs::Results::and_then))]
+pub(crate) fn expr<'a>(
+    alloc: Global,
+    vars: &NameTable<'a>,
+    expression: &Expression<'a>,
+) -> Result<Expr, NameFault>
+    ensures { Gives term_of result (term_in vars.now (term expression.now)) }
+{
+    match expression {
+        Expression::Number(number) => Ok(Expr::Num(number.value())),
+        Expression::Name(name) => Ok(Expr::Var(vars.known(name)?)),
+        Expression::Negative(inner) => {
+            let operand = expr(alloc, vars, inner)?;
+            Ok(Expr::Neg(Box::new(alloc, operand)?))
+        }
+        Expression::Not(inner) => {
+            let operand = expr(alloc, vars, inner)?;
+            Ok(Expr::Not(Box::new(alloc, operand)?))
+        }
+        Expression::Binary(operator, left, right) => {
+            let left = expr(alloc, vars, left)?;
+            let right = expr(alloc, vars, right)?;
+            let left = Box::new(alloc, left)?;
+            let right = Box::new(alloc, right)?;
+            Ok(Expr::Bin(*operator, left, right))
+        }
+    }
+}

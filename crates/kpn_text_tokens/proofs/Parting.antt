@@ -1,0 +1,148 @@
+-- White space parts a text: what comes before it is read by itself.
+use Rattle.std.proofs.Common.{◌≡◌, ℕ, ◌+◌, ⊎_elim, inl, inr, Bool, true, false, not, List, [], ◌∷◌, ◌++◌, length, take, Result, Ok, Err, eqb, refl, sym, ◌∙◌, subst, append_assoc, arith, length-append}
+use Rattle.std.specs.Cmp.Lexicographic.{pointwise}
+use Rattle.std.specs.List.{list_all, starts_with}
+use Rattle.std.specs.Prelude.{◌==◌, nat_eq, codes}
+use Rattle.std.proofs.lemmas.Bool.{and_from, and_parts, eqb-true, false_from_ne_true, not-true, true≢false}
+use Rattle.std.proofs.lemmas.List.Folds.{list_all-append}
+use Rattle.std.proofs.lemmas.Bool.Decides.{nat_tests}
+use Rattle.kpn_text_tokens.specs.declared.lexer.Class.{Class}
+use Rattle.kpn_text_tokens.specs.declared.lexer.Class.TheVariants as class
+use Rattle.kpn_text_tokens.specs.declared.lexer.LexFault.{LexFault}
+use Rattle.kpn_text_tokens.specs.declared.tokens.Lexeme.{Lexeme}
+use Rattle.kpn_text_tokens.specs.declared.tokens.Mark.{Mark}
+use Rattle.kpn_text_tokens.specs.declared.tokens.Mark.TheVariants as mark
+use Rattle.kpn_text_tokens.specs.declared.tokens.Token.{Token}
+use Rattle.kpn_text_tokens.specs.declared.tokens.Token.TheVariants as token
+use Rattle.kpn_text_tokens.specs.Lexing.{is_white_space, is_in, cons_lexeme, scan}
+use Rattle.kpn_text_tokens.specs.Laws.{Separates, WhiteSpaceSeparates, followed_by}
+use Rattle.kpn_text_tokens.specs.Rules.{Stops, EndsBefore, MarkEnds, BeginsNothing, Reads, done, white, comment, spelled, nothing, bad_number, long_name}
+use Rattle.kpn_text_tokens.specs.Spelling.{mark_bytes}
+use Rattle.kpn_text_tokens.proofs.Follows.{scan_rules}
+use Rattle.kpn_text_tokens.proofs.Tables.{mark_is_solid}
+use Rattle.kpn_text_tokens.proofs.TokenLaws.{rules_scan}
+
+-- white space goes on with no word and no number
+no_word_byte : (w : ℕ) → is_white_space w ≡ true → is_in class.Word w ≡ false
+no_word_byte w e = grind (arith, nat_tests)
+
+no_digit_byte : (w : ℕ) → is_white_space w ≡ true → is_in class.Digit w ≡ false
+no_digit_byte w e = grind (arith, nat_tests)
+
+stops_before : (c : Class) (w : ℕ) (rest more : List ℕ) → is_in c w ≡ false → Stops c rest → Stops c (rest ++ w ∷ more)
+stops_before c w [] more e stops = e
+stops_before c w (b ∷ bs) more e stops = stops
+
+-- a text that begins with solid bytes before white space, begins with them without it
+solid_front : (p text : List ℕ) (w : ℕ) (more : List ℕ) → is_white_space w ≡ true
+    → list_all (λ b. not (is_white_space b)) p ≡ true → starts_with nat_eq (text ++ w ∷ more) p ≡ true
+    → starts_with nat_eq text p ≡ true
+solid_front [] text w more e solid starts = refl
+solid_front (c ∷ cs) [] w more e solid starts =
+    let same = eqb-true c w (and_parts (eqb c w) (pointwise nat_eq cs (take (length cs) more)) starts).0 in
+    let parts = and_parts (not (is_white_space c)) (list_all (λ b. not (is_white_space b)) cs) solid in
+    let P : ℕ → Type 0 = λ b. is_white_space b ≡ false in
+    absurd (true≢false (sym e ∙ subst P same (not-true (is_white_space c) parts.0)))
+solid_front (c ∷ cs) (x ∷ xs) w more e solid starts =
+    let parts = and_parts (eqb c x) (starts_with nat_eq (xs ++ w ∷ more) cs) starts in
+    let rest = and_parts (not (is_white_space c)) (list_all (λ b. not (is_white_space b)) cs) solid in
+    and_from (eqb c x) (starts_with nat_eq xs cs) parts.0 (solid_front cs xs w more e rest.1 parts.1)
+
+-- so what a text does not begin with, it does not begin with before white space
+not_begun : (p text : List ℕ) (w : ℕ) (more : List ℕ) → is_white_space w ≡ true
+    → list_all (λ b. not (is_white_space b)) p ≡ true → starts_with nat_eq text p ≡ false
+    → starts_with nat_eq (text ++ w ∷ more) p ≡ false
+not_begun p text w more e solid fails =
+    false_from_ne_true (starts_with nat_eq (text ++ w ∷ more) p)
+    (λ starts. true≢false (sym (solid_front p text w more e solid starts) ∙ fails))
+
+mark_ends_before : (m : Mark) (w : ℕ) (rest more : List ℕ) → is_white_space w ≡ true → MarkEnds m rest
+    → MarkEnds m (rest ++ w ∷ more)
+mark_ends_before mark.Assign w rest more e ends = not_begun (codes "=") rest w more e refl ends
+mark_ends_before mark.Less w rest more e ends = not_begun (codes "=") rest w more e refl ends
+mark_ends_before mark.Greater w rest more e ends = not_begun (codes "=") rest w more e refl ends
+mark_ends_before mark.Not w rest more e ends = not_begun (codes "=") rest w more e refl ends
+mark_ends_before _ w rest more e ends = tt
+
+ends_before : (t : Token) (w : ℕ) (rest more : List ℕ) → is_white_space w ≡ true → EndsBefore t rest
+    → EndsBefore t (rest ++ w ∷ more)
+ends_before (token.Name name) w rest more e ends = stops_before class.Word w rest more (no_word_byte w e) ends
+ends_before (token.Number value) w rest more e ends = stops_before class.Digit w rest more (no_digit_byte w e) ends
+ends_before (token.Mark m) w rest more e ends = mark_ends_before m w rest more e ends
+ends_before (token.Keyword k) w rest more e ends = stops_before class.Word w rest more (no_word_byte w e) ends
+
+nothing_before : (b : ℕ) (bs : List ℕ) (w : ℕ) (more : List ℕ) → is_white_space w ≡ true → BeginsNothing b bs
+    → BeginsNothing b (bs ++ w ∷ more)
+nothing_before b bs w more e none = record {
+  no_space = none.no_space;
+  no_comment = none.no_comment;
+  no_word = none.no_word;
+  no_number = none.no_number;
+  no_mark = λ m. not_begun (mark_bytes m) (b ∷ bs) w more e (mark_is_solid m) (none.no_mark m);
+}
+
+-- what comes further on is parted too
+separates_back : (w : ℕ) (front back : List ℕ) → Separates w (front ++ back) → Separates w back
+separates_back w front back parts =
+    let test : ℕ → Bool = λ b. not (b == 35) in (
+      parts.0,
+      ⊎_elim (λ feed. inl feed) (λ plain. inr (and_parts (list_all test front) (list_all test back)
+          (sym (list_all-append test front back) ∙ plain)).1) parts.1,
+    )
+
+-- only a line feed ends a comment, and a text without `#` has none
+comment_stops_before : (w : ℕ) (said rest more : List ℕ) → Separates w ((35 ∷ said) ++ rest) → Stops class.Comment rest
+    → Stops class.Comment (rest ++ w ∷ more)
+comment_stops_before w said rest more parts stops =
+    let Q : ℕ → Type 0 = λ b. is_in class.Comment b ≡ false in
+    ⊎_elim (λ feed. stops_before class.Comment w rest more (subst Q (sym feed) refl) stops)
+    (λ plain. absurd (let no_hash : false ≡ true = plain in cc)) parts.1
+
+followed_by-nil : (x : Result (List Lexeme) LexFault) → x ≡ followed_by (Ok []) x
+followed_by-nil (Ok ls) = refl
+followed_by-nil (Err fault) = refl
+
+followed_by-cons : (l : Lexeme) (r x : Result (List Lexeme) LexFault)
+    → cons_lexeme l (followed_by r x) ≡ followed_by (cons_lexeme l r) x
+followed_by-cons l (Ok front) (Ok ls) = refl
+followed_by-cons l (Ok front) (Err fault) = refl
+followed_by-cons l (Err fault) x = refl
+
+-- regrouped, a text reads as before
+regrouped : {place : ℕ} {r : Result (List Lexeme) LexFault} (front rest more : List ℕ)
+    → Reads place (front ++ (rest ++ more)) r → Reads place (front ++ rest ++ more) r
+regrouped {place} {r} front rest more reads = subst (λ (l : List ℕ). Reads place l r)
+    (sym (append_assoc front rest more)) reads
+
+-- what the rules say of a text that white space parts
+parted : {place : ℕ} {before : List ℕ} {r : Result (List Lexeme) LexFault} → Reads place before r
+    → (w q : ℕ) (rest : List ℕ) (x : Result (List Lexeme) LexFault) → Separates w before → q ≡ place + length before + 1
+    → Reads q rest x → Reads place (before ++ w ∷ rest) (followed_by r x)
+parted {place} done w q rest x parts at more =
+    let P : ℕ → Type 0 = λ p. Reads p rest x in
+    let here : Reads place (w ∷ rest) x = white parts.0 (subst P (omega arith) more) in
+    subst (λ (r : Result (List Lexeme) LexFault). Reads place (w ∷ rest) r) (followed_by-nil x) here
+parted (white {b} {rest = back} e tail) w q rest x parts at more =
+    white e (parted tail w q rest x (separates_back w (b ∷ []) back parts) (omega arith) more)
+parted (comment said back all stops tail) w q rest x parts at more =
+    regrouped (35 ∷ said) back (w ∷ rest) (comment said (back ++ w ∷ rest) all
+    (comment_stops_before w said back rest parts stops)
+    (parted tail w q rest x (separates_back w (35 ∷ said) back parts) (omega (arith, length-append said back))
+    more))
+parted {place} (spelled t bytes back {r} is ends tail) w q rest x parts at more =
+    let l : Lexeme = record { token = t; start = place } in
+    subst (λ (r : Result (List Lexeme) LexFault). Reads place (bytes ++ back ++ w ∷ rest) r) (followed_by-cons l r x)
+    (regrouped bytes back (w ∷ rest) (spelled t bytes (back ++ w ∷ rest) is (ends_before t w back rest parts.0 ends)
+    (parted tail w q rest x (separates_back w bytes back parts) (omega (arith, length-append bytes back)) more)))
+parted (nothing {b} {bs} none) w q rest x parts at more = nothing (nothing_before b bs w rest parts.0 none)
+parted (bad_number digits back all some stops bad) w q rest x parts at more =
+    regrouped digits back (w ∷ rest) (bad_number digits (back ++ w ∷ rest) all some
+    (stops_before class.Digit w back rest (no_digit_byte w parts.0) stops) bad)
+parted (long_name word back is stops long) w q rest x parts at more =
+    regrouped word back (w ∷ rest) (long_name word (back ++ w ∷ rest) is
+    (stops_before class.Word w back rest (no_word_byte w parts.0) stops) long)
+
+pub white_space_separates : WhiteSpaceSeparates
+white_space_separates place w before rest parts =
+    let q = place + length before + 1 in
+    rules_scan (parted (scan_rules place before) w q rest (scan 0 q rest) parts refl (scan_rules q rest))

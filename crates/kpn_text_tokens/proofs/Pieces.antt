@@ -1,0 +1,142 @@
+-- The piece at the front of a text takes a byte or more, and no more than the text has.
+use Rattle.std.proofs.Common.{◌≡◌, ℕ, suc, ◌<◌, ◌≤◌, Bool, true, ◌&&◌, List, [], ◌∷◌, length, take, Option, Some, None, refl, sym, ap, ◌∙◌, subst, eqb, nat_lt, nat_le, arith, lit≤, length-take}
+use Rattle.std.specs.Char.{digit_value, is_ascii_digit}
+use Rattle.std.specs.Cmp.Lexicographic.{pointwise}
+use Rattle.std.specs.Int.{IsInRange}
+use Rattle.std.specs.List.{find, prefix_len, starts_with}
+use Rattle.std.specs.Prelude.{nat_eq, ◌==◌}
+use Rattle.std.specs.Str.Parse.{AllDigits, digits_value}
+use Rattle.std.proofs.lemmas.Bool.{and_parts, cond_both, cond-true, leb-true, or_left}
+use Rattle.std.proofs.lemmas.Bool.Decides.{nat_tests}
+use Rattle.std.proofs.lemmas.List.Sums.{take_while-cons}
+use Rattle.std.proofs.lemmas.Str.{digit_value_digit}
+use Rattle.kpn_limits.specs.declared.TheConstants.{MAX_DIGITS, MAX_NAME_BYTES}
+use Rattle.kpn_text_tokens.specs.declared.tokens.TheConstants.{MAX_NUMBER}
+use Rattle.kpn_text_tokens.specs.declared.lexer.Class.{Class}
+use Rattle.kpn_text_tokens.specs.declared.lexer.Class.TheVariants as class
+use Rattle.kpn_text_tokens.specs.declared.lexer.Piece.{Piece}
+use Rattle.kpn_text_tokens.specs.declared.lexer.Piece.TheVariants as piece
+use Rattle.kpn_text_tokens.specs.declared.tokens.Mark.{Mark}
+use Rattle.kpn_text_tokens.specs.declared.tokens.Mark.TheVariants as mark
+use Rattle.kpn_text_tokens.specs.declared.tokens.Token.TheVariants as token
+use Rattle.kpn_text_tokens.specs.Lexing.{is_white_space, begins_name, is_in, TakesWithin, run, word_token, word_piece, number_piece, marked, mark_piece, piece_of}
+use Rattle.kpn_text_tokens.specs.Spelling.{keyword_of, mark_at, mark_bytes, marks}
+
+-- what find returns passes the test
+pub find_passes : {X : Type 0} (p : X → Bool) (xs : List X) (x : X) → find p xs ≡ Some x → p x ≡ true
+find_passes p [] x found = cc
+find_passes {X} p (y ∷ ys) x found =
+    let Q : Option X → Type 0 = λ o. o ≡ Some x → p x ≡ true in
+    cond_both (p y) (Some y) (find p ys) Q (λ passes same. let e : y ≡ x = cc in ap p (sym e) ∙ passes)
+    (λ _ same. find_passes p ys x same) found
+
+-- lists that agree element by element are as long as each other
+pointwise_length : (xs ys : List ℕ) → pointwise nat_eq xs ys ≡ true → length xs ≡ length ys
+pointwise_length [] [] e = refl
+pointwise_length [] (y ∷ ys) e = cc
+pointwise_length (x ∷ xs) [] e = cc
+pointwise_length (x ∷ xs) (y ∷ ys) e = ap suc (pointwise_length xs ys
+    (and_parts (eqb x y) (pointwise nat_eq xs ys) e).1)
+
+-- a text is no shorter than what it begins with
+starts_within : (text p : List ℕ) → starts_with nat_eq text p ≡ true → length p ≤ length text
+starts_within text p e = omega (arith, pointwise_length p (take (length p) text) e, length-take (length p) text)
+
+-- a run goes on if the next byte is of its class
+pub run-cons : (c : Class) (b : ℕ) (bs : List ℕ) → is_in c b ≡ true → run c (b ∷ bs) ≡ b ∷ run c bs
+run-cons c b bs e = take_while-cons (is_in c) b bs ∙ cond-true (is_in c b) (b ∷ run c bs) [] e
+
+-- the first n bytes are a piece's
+abbrev pub Takes : ℕ → ℕ → Type 0
+Takes n available = (1 ≤ n) × (n ≤ available)
+
+pub run_takes : (c : Class) (b : ℕ) (bs : List ℕ) → is_in c b ≡ true → Takes (length (run c (b ∷ bs))) (suc (length bs))
+run_takes c b bs e =
+    let first = ap length (run-cons c b bs e) in
+    (omega arith, omega (arith, first, length-take (prefix_len (is_in c) bs) bs))
+
+pub mark_nonempty : (m : Mark) → 1 ≤ length (mark_bytes m)
+mark_nonempty mark.LeftParen = lit≤ tt
+mark_nonempty mark.RightParen = lit≤ tt
+mark_nonempty mark.LeftBrace = lit≤ tt
+mark_nonempty mark.RightBrace = lit≤ tt
+mark_nonempty mark.Semicolon = lit≤ tt
+mark_nonempty mark.Comma = lit≤ tt
+mark_nonempty mark.Assign = lit≤ tt
+mark_nonempty mark.Plus = lit≤ tt
+mark_nonempty mark.Minus = lit≤ tt
+mark_nonempty mark.Star = lit≤ tt
+mark_nonempty mark.Slash = lit≤ tt
+mark_nonempty mark.Percent = lit≤ tt
+mark_nonempty mark.Less = lit≤ tt
+mark_nonempty mark.LessOrEqual = lit≤ tt
+mark_nonempty mark.Greater = lit≤ tt
+mark_nonempty mark.GreaterOrEqual = lit≤ tt
+mark_nonempty mark.Equal = lit≤ tt
+mark_nonempty mark.NotEqual = lit≤ tt
+mark_nonempty mark.And = lit≤ tt
+mark_nonempty mark.Or = lit≤ tt
+mark_nonempty mark.Not = lit≤ tt
+
+marked_fits : (text : List ℕ) (found : Option Mark) → mark_at text ≡ found → TakesWithin (marked found) (length text)
+unfolding mark_at
+marked_fits text None e = tt
+marked_fits text (Some m) e = (
+  mark_nonempty m,
+  starts_within text (mark_bytes m)
+      (find_passes (λ m. starts_with nat_eq text (mark_bytes m)) marks m e),
+)
+
+-- the same of the mark at the front
+pub mark_takes : (text : List ℕ) → TakesWithin (mark_piece text) (length text)
+mark_takes text = marked_fits text (mark_at text) refl
+
+word_fits : (b : ℕ) (bs : List ℕ) → is_in class.Word b ≡ true
+    → TakesWithin (word_piece (run class.Word (b ∷ bs))) (suc (length bs))
+word_fits b bs e =
+    let word = run class.Word (b ∷ bs) in
+    let size = suc (length bs) in
+    cond_both (nat_lt MAX_NAME_BYTES (length word)) piece.LongName
+    (piece.Token (word_token (keyword_of word) word) (length word)) (λ p. TakesWithin p size) (λ _. tt)
+    (λ _. run_takes class.Word b bs e)
+
+number_fits : (b : ℕ) (bs : List ℕ) → is_in class.Digit b ≡ true
+    → TakesWithin (number_piece (run class.Digit (b ∷ bs))) (suc (length bs))
+number_fits b bs e =
+    let digits = run class.Digit (b ∷ bs) in
+    let size = suc (length bs) in
+    cond_both (nat_le (length digits) MAX_DIGITS && nat_le (digits_value 10 digits) MAX_NUMBER)
+    (piece.Token (token.Number (digits_value 10 digits)) (length digits)) piece.NoToken (λ p. TakesWithin p size)
+    (λ _. run_takes class.Digit b bs e) (λ _. tt)
+
+-- a piece takes at least a byte, and no more than there are
+pub piece_fits : (b : ℕ) (bs : List ℕ) → TakesWithin (piece_of b (b ∷ bs)) (suc (length bs))
+unfolding piece_of
+piece_fits b bs =
+    let text = b ∷ bs in
+    let P : Piece → Type 0 = λ p. TakesWithin p (suc (length bs)) in
+    cond_both (is_white_space b) _ _ P
+    (λ _. (omega arith, omega arith))
+    (λ _. cond_both (b == 35) _ _ P
+    (λ e. let hash : is_in class.Comment b ≡ true = grind (arith, nat_tests) in run_takes class.Comment b bs hash)
+    (λ _. cond_both (begins_name b) _ _ P
+    (λ e. word_fits b bs (or_left (begins_name b) (is_ascii_digit b) e))
+    (λ _. cond_both (is_ascii_digit b) _ _ P
+    (λ e. number_fits b bs e)
+    (λ _. marked_fits text (mark_at text) refl))))
+
+digit_below_ten : (b : ℕ) → is_ascii_digit b ≡ true → digit_value b < 10
+digit_below_ten b e =
+    let both = and_parts (nat_le 48 b) (nat_le b 57) e in
+    let low = leb-true 48 b both.0 in
+    let high = leb-true b 57 both.1 in
+    let range : IsInRange 48 57 b = (low, high) in
+    omega (arith, digit_value_digit b range)
+
+-- a run of digits is made of digits
+pub run_of_digits : (text : List ℕ) → AllDigits 10 (run class.Digit text)
+run_of_digits [] = tt
+run_of_digits (b ∷ bs) =
+    let P : List ℕ → Type 0 = AllDigits 10 in
+    subst P (sym (take_while-cons is_ascii_digit b bs)) (cond_both (is_ascii_digit b) (b ∷ run class.Digit bs) [] P
+    (λ e. (digit_below_ten b e, run_of_digits bs)) (λ _. tt))

@@ -1,0 +1,220 @@
+-- The laws of the tokens.
+use Rattle.std.proofs.Common.{◌≡◌, ◌⊎◌, ⊎_elim, ℕ, ◌+◌, ◌<◌, ◌≤◌, true, false, ◌&&◌, List, [], ◌∷◌, ◌++◌, length, get_or, Result, nat_le, nat_lt, refl, sym, ap, ◌∙◌, subst, arith, length-append}
+use Rattle.std.specs.Char.{is_ascii_digit}
+use Rattle.std.specs.List.{list_all}
+use Rattle.std.specs.Prelude.{◌==◌}
+use Rattle.std.specs.Str.Parse.{digits_value}
+use Rattle.std.proofs.lemmas.Bool.{and_from, and_left, and_parts, and_right, cond-true, cond-false, le-leb, le-ltb, lt-leb, lt-ltb}
+use Rattle.std.proofs.lemmas.Bool.Decides.{nat_tests}
+use Rattle.std.proofs.lemmas.List.{drop_at}
+use Rattle.kpn_limits.specs.declared.TheConstants.{MAX_DIGITS, MAX_NAME_BYTES, MAX_TEXT_BYTES}
+use Rattle.kpn_text_tokens.specs.declared.tokens.TheConstants.{MAX_NUMBER}
+use Rattle.kpn_text_tokens.specs.declared.lexer.Class.TheVariants as class
+use Rattle.kpn_text_tokens.specs.declared.lexer.LexFault.{LexFault}
+use Rattle.kpn_text_tokens.specs.declared.lexer.Piece.TheVariants as piece
+use Rattle.kpn_text_tokens.specs.declared.tokens.Keyword.{Keyword}
+use Rattle.kpn_text_tokens.specs.declared.tokens.Lexeme.{Lexeme}
+use Rattle.kpn_text_tokens.specs.declared.tokens.Mark.{Mark}
+use Rattle.kpn_text_tokens.specs.declared.tokens.Token.{Token}
+use Rattle.kpn_text_tokens.specs.declared.tokens.Token.TheVariants as token
+use Rattle.kpn_text_tokens.specs.Laws.{ShortTextIsScanned}
+use Rattle.kpn_text_tokens.specs.Lexing.{is_white_space, begins_name, run, word_token, word_piece, number_piece, marked, piece_of, cons_lexeme, scan}
+use Rattle.kpn_text_tokens.specs.Rules.{AllIn, Stops, IsWord, IsName, IsNumberOf, IsSpelled, EndsBefore, MarkEnds, BeginsNothing, Reads, done, white, comment, spelled, nothing, bad_number, long_name}
+use Rattle.kpn_text_tokens.specs.Spelling.{keyword_of, keyword_bytes, mark_bytes}
+use Rattle.kpn_text_tokens.proofs.Pieces.{mark_nonempty}
+use Rattle.kpn_text_tokens.proofs.Runs.{run_front}
+use Rattle.kpn_text_tokens.proofs.Scanning.{BeginsWith, scan_gap, scan_token, scan_none, scan_long}
+use Rattle.kpn_text_tokens.proofs.Tables.{keyword_is_word, keyword_is_short, keyword_is_found, mark_is_reached, mark_is_found, no_mark_stands}
+
+-- what begins a word begins neither white space nor a comment
+word_byte : (b : ℕ) → begins_name b ≡ true → (is_white_space b ≡ false) × ((b == 35) ≡ false)
+word_byte b e = (grind (arith, nat_tests), grind (arith, nat_tests))
+
+-- a digit begins none of them, and no word
+digit_byte : (b : ℕ) → is_ascii_digit b ≡ true → (is_white_space b ≡ false) × ((b == 35) ≡ false)
+    × (begins_name b ≡ false)
+digit_byte b e = (grind (arith, nat_tests), grind (arith, nat_tests), grind (arith, nat_tests))
+
+-- where a word begins
+pub word_reached : (b : ℕ) (text : List ℕ) → begins_name b ≡ true → piece_of b text ≡ word_piece (run class.Word text)
+unfolding piece_of
+word_reached b text e =
+    let no = word_byte b e in
+    cond-false (is_white_space b) _ _ no.0 ∙ cond-false (b == 35) _ _ no.1 ∙ cond-true (begins_name b) _ _ e
+
+-- where a number begins
+number_reached : (b : ℕ) (text : List ℕ) → is_ascii_digit b ≡ true
+    → piece_of b text ≡ number_piece (run class.Digit text)
+unfolding piece_of
+number_reached b text e =
+    let no = digit_byte b e in
+    cond-false (is_white_space b) _ _ no.0 ∙ cond-false (b == 35) _ _ no.1 ∙ cond-false (begins_name b) _ _ no.2
+    ∙ cond-true (is_ascii_digit b) _ _ e
+
+-- a word is the run at the front
+word_run : (word rest : List ℕ) → IsWord word → Stops class.Word rest
+    → piece_of (get_or (word ++ rest) 0 0) (word ++ rest) ≡ word_piece word
+word_run [] rest is stops = absurd (let no = is.begins in cc)
+word_run (b ∷ bs) rest is stops =
+    word_reached b ((b ∷ bs) ++ rest) is.begins ∙ ap word_piece (run_front class.Word (b ∷ bs) rest is.goes_on stops)
+
+short_word : (word : List ℕ) → length word ≤ MAX_NAME_BYTES
+    → word_piece word ≡ piece.Token (word_token (keyword_of word) word) (length word)
+short_word word short = cond-false (nat_lt MAX_NAME_BYTES (length word)) _ _ (le-ltb MAX_NAME_BYTES (length word) short)
+
+-- the piece that a name is
+name_piece : (name rest : List ℕ) → IsName name → Stops class.Word rest
+    → piece_of (get_or (name ++ rest) 0 0) (name ++ rest) ≡ piece.Token (token.Name name) (length name)
+name_piece name rest is stops =
+    word_run name rest is.word stops ∙ short_word name is.short
+    ∙ ap (λ k. piece.Token (word_token k name) (length name)) is.free
+
+-- the piece that a reserved word is
+keyword_piece : (k : Keyword) (rest : List ℕ) → Stops class.Word rest
+    → piece_of (get_or (keyword_bytes k ++ rest) 0 0) (keyword_bytes k ++ rest) ≡ piece.Token (token.Keyword k)
+    (length (keyword_bytes k))
+keyword_piece k rest stops =
+    word_run (keyword_bytes k) rest (keyword_is_word k) stops ∙ short_word (keyword_bytes k) (keyword_is_short k)
+    ∙ ap (λ found. piece.Token (word_token found (keyword_bytes k)) (length (keyword_bytes k))) (keyword_is_found k)
+
+-- digits are the run at the front
+number_run : (digits rest : List ℕ) → AllIn class.Digit digits → 0 < length digits → Stops class.Digit rest
+    → piece_of (get_or (digits ++ rest) 0 0) (digits ++ rest) ≡ number_piece digits
+number_run [] rest all some stops = absurd (omega arith)
+number_run (b ∷ bs) rest all some stops =
+    number_reached b ((b ∷ bs) ++ rest) (and_parts (is_ascii_digit b) (list_all is_ascii_digit bs) all).0
+    ∙ ap number_piece (run_front class.Digit (b ∷ bs) rest all stops)
+
+-- the piece that a number is
+digits_piece : (value : ℕ) (digits rest : List ℕ) → IsNumberOf value digits → Stops class.Digit rest
+    → piece_of (get_or (digits ++ rest) 0 0) (digits ++ rest) ≡ piece.Token (token.Number value) (length digits)
+digits_piece value digits rest is stops =
+    let test = nat_le (length digits) MAX_DIGITS && nat_le (digits_value 10 digits) MAX_NUMBER in
+    let small : digits_value 10 digits ≤ MAX_NUMBER = rw is.has_value is.small in
+    let fits : test ≡ true = and_from (nat_le (length digits) MAX_DIGITS) (nat_le (digits_value 10 digits) MAX_NUMBER)
+    (le-leb (length digits) MAX_DIGITS is.few) (le-leb (digits_value 10 digits) MAX_NUMBER small) in
+    number_run digits rest is.digits is.some stops ∙ cond-true test _ _ fits
+    ∙ ap (λ v. piece.Token (token.Number v) (length digits)) is.has_value
+
+-- the piece that a mark is
+mark_piece_is : (m : Mark) (rest : List ℕ) → MarkEnds m rest
+    → piece_of (get_or (mark_bytes m ++ rest) 0 0) (mark_bytes m ++ rest) ≡ piece.Token (token.Mark m)
+    (length (mark_bytes m))
+mark_piece_is m rest ends = mark_is_reached m rest ∙ ap marked (mark_is_found m rest ends)
+
+-- a name has a byte
+name_nonempty : (name : List ℕ) → IsWord name → 0 < length name
+name_nonempty [] is = absurd (let no = is.begins in cc)
+name_nonempty (b ∷ bs) is = omega arith
+
+front_nonempty : (front rest : List ℕ) → 0 < length front → 0 < length (front ++ rest)
+front_nonempty front rest some = omega (arith, length-append front rest)
+
+-- a spelled token is the piece at the front
+pub spelled_begins : (t : Token) (bytes rest : List ℕ) → IsSpelled t bytes → EndsBefore t rest
+    → BeginsWith (bytes ++ rest) (piece.Token t (length bytes))
+spelled_begins (token.Name name) bytes rest is ends =
+    let P : List ℕ → Type 0 = λ l. BeginsWith (l ++ rest) (piece.Token (token.Name name) (length l)) in
+    subst P (sym is.1) (record {
+      some = front_nonempty name rest (name_nonempty name is.0.word);
+      is =
+          sym (name_piece name rest is.0 ends);
+    })
+spelled_begins (token.Number value) bytes rest is ends =
+    record { some = front_nonempty bytes rest is.some; is = sym (digits_piece value bytes rest is ends) }
+spelled_begins (token.Mark m) bytes rest is ends =
+    let P : List ℕ → Type 0 = λ l. BeginsWith (l ++ rest) (piece.Token (token.Mark m) (length l)) in
+    subst P (sym is) (record {
+      some = front_nonempty (mark_bytes m) rest (omega (arith, mark_nonempty m));
+      is =
+          sym (mark_piece_is m rest ends);
+    })
+spelled_begins (token.Keyword k) bytes rest is ends =
+    let P : List ℕ → Type 0 = λ l. BeginsWith (l ++ rest) (piece.Token (token.Keyword k) (length l)) in
+    subst P (sym is) (record {
+      some = front_nonempty (keyword_bytes k) rest
+          (name_nonempty (keyword_bytes k) (keyword_is_word k));
+      is = sym (keyword_piece k rest ends);
+    })
+
+-- a spelled token is read
+pub scan_spelled : (place : ℕ) (t : Token) (bytes rest : List ℕ) → IsSpelled t bytes → EndsBefore t rest
+    → scan 0 place (bytes ++ rest) ≡ cons_lexeme (record { token = t; start = place })
+    (scan 0 (place + length bytes) rest)
+scan_spelled place t bytes rest is ends =
+    scan_token (bytes ++ rest) place (length bytes) t (spelled_begins t bytes rest is ends)
+    ∙ ap (λ l. cons_lexeme (record { token = t; start = place }) (scan 0 (place + length bytes) l))
+    (drop_at bytes rest (length bytes) refl)
+
+-- a text within the limit is scanned
+pub short_text : ShortTextIsScanned
+short_text text short = cond-false (nat_lt MAX_TEXT_BYTES (length text)) _ _ (le-ltb MAX_TEXT_BYTES (length text) short)
+
+-- a byte of white space is passed over
+white_begins : (b : ℕ) (rest : List ℕ) → is_white_space b ≡ true → BeginsWith (b ∷ rest) (piece.Gap 1)
+unfolding piece_of
+white_begins b rest e = record { some = omega arith; is = sym (cond-true (is_white_space b) _ _ e) }
+
+pub scan_white : (place b : ℕ) (rest : List ℕ) → is_white_space b ≡ true
+    → scan 0 place (b ∷ rest) ≡ scan 0 (place + 1) rest
+scan_white place b rest e = scan_gap (b ∷ rest) place 1 (white_begins b rest e)
+
+-- a comment is passed over
+comment_begins : (said rest : List ℕ) → AllIn class.Comment said → Stops class.Comment rest
+    → BeginsWith (35 ∷ said ++ rest) (piece.Gap (length (35 ∷ said)))
+unfolding piece_of
+comment_begins said rest all stops =
+    let whole : run class.Comment (35 ∷ said ++ rest) ≡ 35
+    ∷ said = run_front class.Comment (35 ∷ said) rest all stops in
+    record { some = omega arith; is = ap (λ l. piece.Gap (length l)) (sym whole) }
+
+-- where nothing can begin
+nothing_begins : (b : ℕ) (bs : List ℕ) → BeginsNothing b bs → BeginsWith (b ∷ bs) piece.NoToken
+unfolding piece_of
+nothing_begins b bs none = record {
+  some = omega arith;
+  is = sym (cond-false (is_white_space b) _ _ none.no_space ∙ cond-false (b == 35) _ _ none.no_comment
+      ∙ cond-false (begins_name b) _ _ none.no_word ∙ cond-false (is_ascii_digit b) _ _ none.no_number
+      ∙ ap marked (no_mark_stands (b ∷ bs) none.no_mark));
+}
+
+-- digits that are too many, or too great a number
+bad_number_begins : (digits rest : List ℕ) → AllIn class.Digit digits → 0 < length digits → Stops class.Digit rest
+    → (MAX_DIGITS < length digits) ⊎ (MAX_NUMBER < digits_value 10 digits) → BeginsWith (digits ++ rest) piece.NoToken
+bad_number_begins digits rest all some stops bad =
+    let few = nat_le (length digits) MAX_DIGITS in
+    let small = nat_le (digits_value 10 digits) MAX_NUMBER in
+    let fails : (few && small) ≡ false = ⊎_elim (λ many. and_left few small (lt-leb (length digits) MAX_DIGITS many))
+    (λ great. and_right few small (lt-leb (digits_value 10 digits) MAX_NUMBER great)) bad in
+    record {
+      some = front_nonempty digits rest some;
+      is =
+          sym (number_run digits rest all some stops ∙ cond-false (few && small) _ _ fails);
+    }
+
+-- a name that is too long
+long_name_begins : (word rest : List ℕ) → IsWord word → Stops class.Word rest → MAX_NAME_BYTES < length word
+    → BeginsWith (word ++ rest) piece.LongName
+long_name_begins word rest is stops long = record {
+  some = front_nonempty word rest (omega arith);
+  is = sym (word_run word rest is stops ∙ cond-true (nat_lt MAX_NAME_BYTES (length word)) _ _
+      (lt-ltb MAX_NAME_BYTES (length word) long));
+}
+
+-- what the rules say is what a scan returns
+pub rules_scan : {place : ℕ} {text : List ℕ} {r : Result (List Lexeme) LexFault} → Reads place text r
+    → scan 0 place text ≡ r
+rules_scan done = refl
+rules_scan {place} (white {b} {rest} e more) = scan_white place b rest e ∙ rules_scan more
+rules_scan {place} (comment said rest all stops more) =
+    scan_gap (35 ∷ said ++ rest) place (length (35 ∷ said)) (comment_begins said rest all stops)
+    ∙ ap (λ l. scan 0 (place + length (35 ∷ said)) l) (drop_at (35 ∷ said) rest (length (35 ∷ said)) refl)
+    ∙ rules_scan more
+rules_scan {place} (spelled t bytes rest is ends more) =
+    scan_spelled place t bytes rest is ends ∙ ap (λ r. cons_lexeme (record { token = t; start = place }) r)
+    (rules_scan more)
+rules_scan {place} (nothing {b} {bs} none) = scan_none (b ∷ bs) place (nothing_begins b bs none)
+rules_scan {place} (bad_number digits rest all some stops bad) =
+    scan_none (digits ++ rest) place (bad_number_begins digits rest all some stops bad)
+rules_scan {place} (long_name word rest is stops long) =
+    scan_long (word ++ rest) place (long_name_begins word rest is stops long)

@@ -1,0 +1,123 @@
+-- The tokens of a text without their places.
+use Rattle.std.proofs.Common.{◌≡◌, ℕ, zero, suc, ◌+◌, ◌-◌, ◌<◌, ◌^◌, List, [], ◌∷◌, length, Option, Some, None, Result, Ok, Err, nat_le, refl, sym, ap, ◌∙◌, arith}
+use Rattle.std.specs.Char.{is_ascii_digit}
+use Rattle.std.specs.Fmt.{decimal}
+use Rattle.std.specs.Int.{IsInRange}
+use Rattle.std.specs.List.{AllByRecursion, list_all}
+use Rattle.std.specs.Str.Parse.{AllDigits}
+use Rattle.std.proofs.lemmas.Bool.{and_from, le-leb}
+use Rattle.std.proofs.lemmas.List.{map-append}
+use Rattle.std.proofs.lemmas.Fmt.{decimal_is_IsNumeral, length-decimal-le}
+use Rattle.std.proofs.lemmas.Str.Parse.{digit_from_value}
+use Rattle.kpn_text_tokens.specs.declared.lexer.Class.TheVariants as class
+use Rattle.kpn_text_tokens.specs.declared.lexer.LexFault.{LexFault}
+use Rattle.kpn_text_tokens.specs.declared.lexer.Piece.{Piece}
+use Rattle.kpn_text_tokens.specs.declared.lexer.Piece.TheVariants as piece
+use Rattle.kpn_text_tokens.specs.declared.tokens.Lexeme.{Lexeme}
+use Rattle.kpn_text_tokens.specs.declared.tokens.Token.{Token}
+use Rattle.kpn_text_tokens.specs.Laws.{DecimalIsSpelled, EmptyTextHasNoTokens, HasSpelling, ReadTokensAreSpelled, SpelledTokenIsRead, TokensKeepTheirKind, WhiteSpaceIsDropped, WhiteSpaceSeparatesTokens, append_tokens, cons_token, followed_by, tokens_in, tokens_of}
+use Rattle.kpn_text_tokens.specs.Lexing.{after, cons_lexeme, piece_of, scan}
+use Rattle.kpn_text_tokens.specs.Rules.{AllIn, Reads, done, white, comment, spelled, nothing, bad_number, long_name}
+use Rattle.kpn_text_tokens.proofs.Follows.{scan_rules}
+use Rattle.kpn_text_tokens.proofs.Parting.{white_space_separates}
+use Rattle.kpn_text_tokens.proofs.TokenLaws.{scan_spelled, scan_white}
+
+tokens_in-cons : (l : Lexeme) (r : Result (List Lexeme) LexFault)
+    → tokens_in (cons_lexeme l r) ≡ cons_token l.token (tokens_in r)
+tokens_in-cons l (Ok ls) = refl
+tokens_in-cons l (Err fault) = refl
+
+tokens_in-followed_by : (r x : Result (List Lexeme) LexFault)
+    → tokens_in (followed_by r x) ≡ append_tokens (tokens_in r) (tokens_in x)
+tokens_in-followed_by (Ok front) (Ok ls) = ap (λ ts. Some ts) (map-append (λ l. l.token) front ls)
+tokens_in-followed_by (Ok front) (Err fault) = refl
+tokens_in-followed_by (Err fault) x = refl
+
+-- a piece has the same tokens at each place
+after_kind : (p : Piece) (i j : ℕ) (f g : ℕ → Result (List Lexeme) LexFault)
+    → ((k : ℕ) → tokens_in (f k) ≡ tokens_in (g k)) → tokens_in (after p i f) ≡ tokens_in (after p j g)
+after_kind (piece.Gap n) i j f g same = same (n - 1)
+after_kind (piece.Token t n) i j f g same =
+    tokens_in-cons (record { token = t; start = i }) (f (n - 1)) ∙ ap (λ ts. cons_token t ts) (same (n - 1))
+    ∙ sym (tokens_in-cons (record { token = t; start = j }) (g (n - 1)))
+after_kind piece.NoToken i j f g same = refl
+after_kind piece.LongName i j f g same = refl
+
+-- and so does a scan
+scan_kind : (k i j : ℕ) (bs : List ℕ) → tokens_in (scan k i bs) ≡ tokens_in (scan k j bs)
+scan_kind k i j [] = refl
+scan_kind (suc k) i j (b ∷ bs) = scan_kind k (suc i) (suc j) bs
+scan_kind zero i j (b ∷ bs) =
+    after_kind (piece_of b (b ∷ bs)) i j (λ k. scan k (suc i) bs) (λ k. scan k (suc j) bs)
+    (λ k. scan_kind k (suc i) (suc j) bs)
+
+pub tokens_keep : TokensKeepTheirKind
+unfolding tokens_of
+tokens_keep place text = scan_kind 0 place 0 text
+
+pub spelled_token : SpelledTokenIsRead
+unfolding tokens_of
+spelled_token t bytes rest is ends =
+    let l : Lexeme = record { token = t; start = 0 } in
+    ap tokens_in (scan_spelled 0 t bytes rest is ends) ∙ tokens_in-cons l (scan 0 (0 + length bytes) rest)
+    ∙ ap (λ ts. cons_token t ts) (scan_kind 0 (0 + length bytes) 0 rest)
+
+pub empty_text : EmptyTextHasNoTokens
+unfolding tokens_of
+empty_text = refl
+
+pub white_dropped : WhiteSpaceIsDropped
+unfolding tokens_of
+white_dropped w rest e = ap tokens_in (scan_white 0 w rest e) ∙ scan_kind 0 (0 + 1) 0 rest
+
+pub white_separates : WhiteSpaceSeparatesTokens
+unfolding tokens_of
+white_separates w before rest parts =
+    ap tokens_in (white_space_separates 0 w before rest parts)
+    ∙ tokens_in-followed_by (scan 0 0 before) (scan 0 (0 + length before + 1) rest)
+    ∙ ap (λ ts. append_tokens (tokens_in (scan 0 0 before)) ts) (scan_kind 0 (0 + length before + 1) 0 rest)
+
+-- digits by their value are digits by their range
+all_digits : (ds : List ℕ) → AllDigits 10 ds → AllIn class.Digit ds
+all_digits [] digits = refl
+all_digits (d ∷ ds) digits =
+    let range : IsInRange 48 57 d = digit_from_value d digits.0 in
+    and_from (is_ascii_digit d) (list_all is_ascii_digit ds)
+    (and_from (nat_le 48 d) (nat_le d 57) (le-leb 48 d range.0) (le-leb d 57 range.1)) (all_digits ds digits.1)
+
+pub decimal_spelled : DecimalIsSpelled
+decimal_spelled n small =
+    let fits : n < 2 ^ 64 = omega arith in
+    let numeral = decimal_is_IsNumeral n fits in
+    record {
+      digits = all_digits (decimal n) numeral.0.1;
+      some = numeral.0.0;
+      few = length-decimal-le 19 n (omega arith) (omega arith) fits;
+      has_value = numeral.1;
+      small = omega arith;
+    }
+
+-- what was read has a spelling
+abbrev Spelled : Option (List Token) → Type 0
+Spelled (Some ts) = AllByRecursion HasSpelling ts
+Spelled None = Unit {0}
+
+cons_spelled : (t : Token) (ts : Option (List Token)) → HasSpelling t → Spelled ts → Spelled (cons_token t ts)
+cons_spelled t (Some ts) is all = (is, all)
+cons_spelled t None is all = tt
+
+reads_spelled : {place : ℕ} {text : List ℕ} {r : Result (List Lexeme) LexFault} → Reads place text r
+    → Spelled (tokens_in r)
+reads_spelled done = tt
+reads_spelled (white e tail) = reads_spelled tail
+reads_spelled (comment said rest all stops tail) = reads_spelled tail
+reads_spelled {place} (spelled t bytes rest {r} is ends tail) =
+    rw (tokens_in-cons (record { token = t; start = place }) r)
+    (cons_spelled t (tokens_in r) (bytes, is) (reads_spelled tail))
+reads_spelled (nothing none) = tt
+reads_spelled (bad_number digits rest all some stops bad) = tt
+reads_spelled (long_name word rest is stops long) = tt
+
+pub read_spelled : ReadTokensAreSpelled
+unfolding tokens_of
+read_spelled text ts e = rw e at (reads_spelled (scan_rules 0 text))

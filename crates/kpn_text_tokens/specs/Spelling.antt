@@ -1,0 +1,73 @@
+-- How marks and reserved words are spelled.
+use Rattle.std.specs.Prelude.{ℕ, List, [], ◌∷◌, codes, Option, nat_eq}
+use Rattle.std.specs.List.{find, starts_with}
+use Rattle.std.specs.Str.{bytes_eq}
+use Rattle.kpn_text_tokens.specs.declared.tokens.Keyword.{Keyword}
+use Rattle.kpn_text_tokens.specs.declared.tokens.Keyword.TheVariants as keyword
+use Rattle.kpn_text_tokens.specs.declared.tokens.Mark.{Mark}
+use Rattle.kpn_text_tokens.specs.declared.tokens.Mark.TheVariants as mark
+
+-- the bytes that spell a mark
+abbrev pub mark_bytes : Mark → List ℕ
+mark_bytes mark.LeftParen = codes "("
+mark_bytes mark.RightParen = codes ")"
+mark_bytes mark.LeftBrace = codes "{"
+mark_bytes mark.RightBrace = codes "}"
+mark_bytes mark.Semicolon = codes ";"
+mark_bytes mark.Comma = codes ","
+mark_bytes mark.Assign = codes "="
+mark_bytes mark.Plus = codes "+"
+mark_bytes mark.Minus = codes "-"
+mark_bytes mark.Star = codes "*"
+mark_bytes mark.Slash = codes "/"
+mark_bytes mark.Percent = codes "%"
+mark_bytes mark.Less = codes "<"
+mark_bytes mark.LessOrEqual = codes "<="
+mark_bytes mark.Greater = codes ">"
+mark_bytes mark.GreaterOrEqual = codes ">="
+mark_bytes mark.Equal = codes "=="
+mark_bytes mark.NotEqual = codes "!="
+mark_bytes mark.And = codes "&&"
+mark_bytes mark.Or = codes "||"
+mark_bytes mark.Not = codes "!"
+
+-- the bytes that spell a reserved word
+abbrev pub keyword_bytes : Keyword → List ℕ
+keyword_bytes keyword.Process = codes "process"
+keyword_bytes keyword.In = codes "in"
+keyword_bytes keyword.Out = codes "out"
+keyword_bytes keyword.Par = codes "par"
+keyword_bytes keyword.Read = codes "read"
+keyword_bytes keyword.Write = codes "write"
+keyword_bytes keyword.If = codes "if"
+keyword_bytes keyword.Else = codes "else"
+keyword_bytes keyword.While = codes "while"
+keyword_bytes keyword.Network = codes "network"
+keyword_bytes keyword.Limit = codes "limit"
+keyword_bytes keyword.Channel = codes "channel"
+keyword_bytes keyword.Cap = codes "cap"
+keyword_bytes keyword.Source = codes "source"
+keyword_bytes keyword.Sink = codes "sink"
+keyword_bytes keyword.Policy = codes "policy"
+keyword_bytes keyword.Grow = codes "grow"
+
+-- every mark, the longer ones first
+abbrev pub marks : List Mark
+marks =
+    mark.LessOrEqual ∷ mark.GreaterOrEqual ∷ mark.Equal ∷ mark.NotEqual ∷ mark.And ∷ mark.Or ∷ mark.LeftParen
+    ∷ mark.RightParen ∷ mark.LeftBrace ∷ mark.RightBrace ∷ mark.Semicolon ∷ mark.Comma ∷ mark.Assign ∷ mark.Plus
+    ∷ mark.Minus ∷ mark.Star ∷ mark.Slash ∷ mark.Percent ∷ mark.Less ∷ mark.Greater ∷ mark.Not ∷ []
+
+-- the longest mark at the front of a text
+unfoldable pub mark_at : List ℕ → Option Mark
+mark_at text = find (λ m. starts_with nat_eq text (mark_bytes m)) marks
+
+-- every reserved word
+abbrev pub keywords : List Keyword
+keywords = keyword.Process ∷ keyword.In ∷ keyword.Out ∷ keyword.Par ∷ keyword.Read ∷ keyword.Write ∷ keyword.If
+    ∷ keyword.Else ∷ keyword.While ∷ keyword.Network ∷ keyword.Limit ∷ keyword.Channel ∷ keyword.Cap ∷ keyword.Source
+    ∷ keyword.Sink ∷ keyword.Policy ∷ keyword.Grow ∷ []
+
+-- the reserved word that the bytes spell
+unfoldable pub keyword_of : List ℕ → Option Keyword
+keyword_of word = find (λ k. bytes_eq (keyword_bytes k) word) keywords

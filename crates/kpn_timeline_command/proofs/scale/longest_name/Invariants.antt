@@ -1,6 +1,0 @@
-use Rattle.std.proofs.Common.{◌≡◌}
-use Rattle.kpn_timeline_command.specs.PictureText.{longest_below}
-use Rattle.kpn_timeline_command.proofs.scale.longest_name.Given as goal
-
-abbrev pub invariant-loop-p : goal.invariant-loop-p
-invariant-loop-p l = l.longest ≡ longest_below l.document.names.instances l.p

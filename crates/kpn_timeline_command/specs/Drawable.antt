@@ -1,9 +1,0 @@
--- A picture that is small enough: no place in it is beyond the numbers of the code.
-use Rattle.std.specs.Prelude.{◌≤◌}
-use Rattle.kpn_timeline_command.specs.declared.scale.Scale.{Scale}
-use Rattle.kpn_timeline_command.specs.PictureText.{ticks_in}
-
-pub record IsDrawable (s : Scale) : Type 0 where
-  pub ticks : ticks_in s ≤ 2000
-  pub left : s.left ≤ 248
-  pub wide : s.wide ≤ 44

@@ -1,0 +1,20 @@
+-- A number is an item in its canonical form.
+use Rattle.std.proofs.Common.{◌≡◌, to_z, of_z, subst, arith}
+use Rattle.std.specs.Prelude.{ℤ, pos, unsigned_abs}
+use Rattle.std.specs.Int.{w64, FitsUnsignedBits}
+use Rattle.std.specs.Result.{OkIff}
+use Rattle.std.proofs.lemmas.Int.{ints, to_z-of_z}
+use Rattle.kpn_trace.proofs.Parting.{number_read}
+use Rattle.kpn_trace.proofs.words.number.Goals as goal
+
+pub returns-in_err-item : goal.returns-in_err-item
+returns-in_err-item c =
+    rw c.from_residual.ensures (λ n small. c.in_err-item.ensures (pos n) (omega (arith, ints)))
+
+pub returns : goal.returns
+returns c =
+    let item = c.in_ok-item.item in
+    let same : to_z w64 (of_z w64 item) ≡ item = to_z-of_z w64 item c.in_ok-item.ensures.1 in
+    rw c.ok.ensures.value
+    (number_read c.args.word.now item c.try_from.result c.in_ok-item.ensures.0 c.in_ok-item.ensures.1
+    (subst (λ (z : ℤ). OkIff c.try_from.result (FitsUnsignedBits 16 z) (unsigned_abs z)) same c.try_from.ensures))

@@ -1,9 +1,0 @@
--- The laws are proved in Traces.
-use Rattle.kpn_trace_text.proofs.Traces.{trace_spells_one, spelled_is_read}
-use Rattle.kpn_trace_text.proofs.laws.written_traces_read_back.Goals as goal
-
-pub returns-clause-unique : goal.returns-clause-unique
-returns-clause-unique g c = trace_spells_one
-
-pub returns-clause-read : goal.returns-clause-read
-returns-clause-read g c = spelled_is_read

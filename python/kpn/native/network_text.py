@@ -1,0 +1,112 @@
+"""A network as C: the functions of its processes and its regions, and its tables."""
+from __future__ import annotations
+
+from typing import Dict, Iterator, List
+
+from ..language import LARGEST_CAPACITY, Description, Entry
+from .c_text import Function, Kind
+from .paths import rows_of
+from .region_text import RegionText
+from .regions import Finder
+
+
+class NetworkText:
+    """A whole network as C."""
+
+    def __init__(self, text: str, given: bytes, description: Description, schedule: str):
+        self.text, self.given, self.description, self.is_one_talk = text, given, description, schedule == 'kpn'
+        self.rows = {it.name: rows_of(it) for it in description.processes}
+        self.kinds: Dict[Kind, int] = {}
+        self.numbers = {name: number for number, (_, name, _) in enumerate(description.channels)}
+        self.of_instance = [self.kind_of(entry) for _, entry in description.instances]
+        self.starts = [0]
+        for _, entry in description.instances:
+            self.starts.append(self.starts[-1] + len(self.rows[entry.process].variables))
+        finder = Finder(description, self.rows)
+        found = list(finder.regions()) if schedule == 'fuse' else []
+        self.heads = {self.of_instance[p]: finder.loops[p].head for region in found for p in region.laps}
+        self.regions = [RegionText(number, region, finder, self.starts, self.numbers)
+                        for number, region in enumerate(found)]
+
+    def kind_of(self, entry: Entry) -> Kind:
+        """The kind of an instance."""
+        process = self.rows[entry.process].process
+        joined = tuple((i, o) for i, c in zip(process.ins, entry.ins) for o, d in zip(process.outs, entry.outs)
+                       if c == d)
+        kind = Kind(entry.process, joined)
+        self.kinds.setdefault(kind, len(self.kinds))
+        return kind
+
+    def lines(self) -> Iterator[str]:
+        """The lines of the C."""
+        yield '/* Made by `kpn compile`. Nothing is proved of it. */'
+        yield '#include "network.h"'
+        yield '#pragma GCC diagnostic ignored "-Wtautological-compare"'
+        yield ''
+        for kind, number in self.kinds.items():
+            yield from Function(number, kind, self.rows[kind.name], self.heads.get(kind), self.is_one_talk).text()
+        for region in self.regions:
+            yield from region.lines()
+        yield from self.tables()
+        yield from self.plan()
+
+    def tables(self) -> Iterator[str]:
+        """The tables of channels and processes."""
+        entries = [entry for _, entry in self.description.instances]
+        writers = {c: p for p, entry in enumerate(entries) for c in entry.outs}
+        readers = {c: p for p, entry in enumerate(entries) for c in entry.ins}
+        if self.numbers:
+            yield 'static const struct kpn_channel_plan channels[] = {'
+            for kind, name, capacity in self.description.channels:
+                ends = f'{writers.get(name, "KPN_OUTSIDE")}, {readers.get(name, "KPN_OUTSIDE")}'
+                yield f'  {{"{name}", KPN_{kind.upper()}, {capacity or 0}, {ends}}},'
+            yield '};'
+        for p, entry in enumerate(entries):
+            if entry.ins or entry.outs:
+                ports = ', '.join(str(self.numbers[c]) for c in (*entry.ins, *entry.outs))
+                yield f'static const uint16_t ports_{p}[] = {{{ports}}};'
+        yield from self.process_tables()
+
+    def process_tables(self) -> Iterator[str]:
+        """The tables of processes and of the first values of their variables."""
+        values: List[int] = []
+        rows = []
+        for p, (name, entry) in enumerate(self.description.instances):
+            number, of_process = self.kinds[self.of_instance[p]], self.rows[entry.process]
+            ports = f'ports_{p}' if entry.ins or entry.outs else 'NULL'
+            rows.append(f'  {{"{name}", plain_turn_{number}, traced_turn_{number}, {ports}, {len(entry.ins)}, '
+                        f'{len(entry.outs)}, {self.starts[p]}}},')
+            values += [*entry.values, *[0] * (len(of_process.variables) - len(entry.values))]
+        if rows:
+            yield '\n'.join(['static const struct kpn_process_plan processes[] = {', *rows, '};'])
+        if values:
+            yield f'static const int64_t variables[] = {{{", ".join(map(str, values))}}};'
+        if self.regions:
+            plans = [it.plan() for it in self.regions]
+            yield '\n'.join(['static const struct kpn_region_plan regions[] = {', *plans, '};'])
+
+    def plan(self) -> Iterator[str]:
+        """The plan of the network."""
+        settings, description = self.description.settings, self.description
+        yield 'static const char text[] ='
+        for line in self.text.splitlines():
+            yield f'    "{line}\\n"'
+        yield '    "";'
+        yield 'static const char given[] ='
+        for line in self.given.splitlines(keepends=True):
+            yield f'    "{quoted(line)}"'
+        yield '    "";'
+        yield 'const struct kpn_plan kpn_plan = {'
+        tables = (('channels', len(self.numbers)), ('processes', len(description.instances)),
+                  ('variables', self.starts[-1]), ('regions', len(self.regions)))
+        names = ', '.join(name if count else 'NULL' for name, count in tables)
+        counts = ', '.join(str(count) for _, count in tables)
+        yield f'  text, given, {len(self.given)}, {names}, {counts}, {settings.get("limit", LARGEST_CAPACITY)},'
+        flags = (settings.get('policy') == 'all', settings.get('grow') == 'double', self.is_one_talk)
+        yield '  ' + ', '.join('true' if it else 'false' for it in flags)
+        yield '};'
+
+
+def quoted(text: bytes) -> str:
+    """Bytes in a string of C."""
+    return ''.join(chr(it) if 32 <= it < 127 and chr(it) not in '"\\?' else f'\\{it:03o}' for it in text)

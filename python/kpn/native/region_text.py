@@ -1,0 +1,224 @@
+"""Regions as C: a function that makes whole periods.
+
+What a period sets is a copy. It is kept once the whole period is made; a period with a fault, or whose inner loops run
+out of fuel, leaves no trace. The members make it again as processes, up to the exact place of the fault.
+"""
+from __future__ import annotations
+
+from typing import Dict, Iterator, List, Tuple
+
+from .c_text import Values
+from .paths import Assign, Leave, Read, Rows, Test, Write
+from .regions import Finder, Region, variables_of
+
+
+class RegionText:
+    """The function and the tables of a region."""
+
+    def __init__(self, number: int, region: Region, finder: Finder, starts: List[int], channels: Dict[str, int]):
+        self.number, self.region, self.finder, self.starts, self.channels = number, region, finder, starts, channels
+        self.live: Dict[int, List[str]] = {}
+        self.assigned: Dict[int, List[str]] = {}
+        self.constants: Dict[int, Dict[str, str]] = {}
+        for p in region.laps:
+            self.live[p], self.assigned[p] = variables_of(self.rows(p), finder.loops[p])
+            self.constants[p] = self.constants_of(p)
+            self.live[p] = [name for name in self.live[p] if name not in self.constants[p]]
+        self.put_count = dict.fromkeys(region.inside, 0)
+        self.got_count = {c: 0 for c in (*region.inside, *region.gets, *region.puts)}
+        self.body: List[str] = []
+        for p, lap, place in region.order:
+            self.body += self.row(p, lap, place)
+
+    def rows(self, p: int) -> Rows:
+        """The rows of a member."""
+        return self.finder.rows[self.finder.entries[p].process]
+
+    def constants_of(self, p: int) -> Dict[str, str]:
+        """The parameters that a member never sets."""
+        rows, entry = self.rows(p), self.finder.entries[p]
+        changed = {row.target for row in rows.rows if isinstance(row, (Assign, Read))}
+        values = zip(rows.process.pars, entry.values)
+        return {name: f'INT64_C({value})' for name, value in values if name not in changed}
+
+    def carried(self) -> Iterator[Tuple[int, str]]:
+        """The variables that one period leaves to the next."""
+        for p in self.region.laps:
+            yield from ((p, name) for name in self.live[p] if name in self.assigned[p])
+
+    def row(self, p: int, lap: int, place: int) -> Iterator[str]:
+        """A row of a period, and the mark of the one behind it: the rows of other members may come in between."""
+        row, label = self.rows(p).rows[place], f'm{p}_{lap}_'
+        values = Values('      ', f'm{p}_', self.constants[p])
+        if place == self.finder.loops[p].head + 1 and place in self.targets(p):
+            yield f'    {label}{place}:;'
+        yield '    {'
+        if isinstance(row, Assign):
+            value = values.value(row.value)
+            if value != f'm{p}_{row.target}':
+                values.add(f'm{p}_{row.target} = {value};')
+        elif isinstance(row, Test):
+            if row.is_loop:
+                values.add('if (fuel == 0) goto starved;')
+                values.add('fuel--;')
+            value = values.value(row.condition)
+            values.add(f'if ({value} == 0) goto {label}{row.otherwise};')
+        elif isinstance(row, Leave):
+            values.add(f'goto {label}{row.to};')
+        elif isinstance(row, Read):
+            self.read(values, p, row)
+        elif isinstance(row, Write):
+            self.write(values, p, row)
+        yield from values.lines
+        yield '    }'
+        if place + 1 in self.targets(p):
+            yield f'    {label}{place + 1}:;'
+
+    def targets(self, p: int) -> List[int]:
+        """The rows of a lap to which another row goes."""
+        loop, rows = self.finder.loops[p], self.rows(p).rows
+        inner = rows[loop.head + 1:loop.end]
+        return [*(row.to for row in inner if isinstance(row, Leave)),
+                *(row.otherwise for row in inner if isinstance(row, Test))]
+
+    def read(self, values: Values, p: int, row: Read) -> None:
+        """A read of a channel inside, or of a ring."""
+        c = self.finder.channel_at(p, row.port)
+        number, count = self.channels[c], self.got_count[c]
+        self.got_count[c] += 1
+        if c not in self.region.inside:
+            values.add(f'm{p}_{row.target} = ring_{number}[(at_{number} + {count}) & mask_{number}];')
+        else:
+            first = self.region.inside[c]
+            item = f'first_{number}_{count}' if count < first else f'item_{number}_{count - first}'
+            values.add(f'm{p}_{row.target} = {item};')
+        values.add(f'if (is_traced) kpn_record(network, KPN_GET, {p}, {number}, m{p}_{row.target});')
+
+    def write(self, values: Values, p: int, row: Write) -> None:
+        """A write to a channel inside, or to a ring."""
+        c, value = self.finder.channel_at(p, row.port), values.value(row.value)
+        number = self.channels[c]
+        if c not in self.region.inside:
+            count = self.got_count[c]
+            self.got_count[c] += 1
+            values.add(f'ring_{number}[(at_{number} + {count}) & mask_{number}] = {value};')
+        else:
+            values.add(f'item_{number}_{self.put_count[c]} = {value};')
+            self.put_count[c] += 1
+        values.add(f'if (is_traced) kpn_record_put(network, {p}, {number}, {value});')
+
+    def lines(self) -> Iterator[str]:
+        """The function, and its tables."""
+        head = f'region_{self.number}(struct kpn_network *network, unsigned self'
+        names = ', '.join(self.finder.names[p] for p in self.region.laps)
+        yield f'/* {names} */'
+        yield f'KPN_INLINE enum kpn_stop any_{head}, const bool is_traced) {{'
+        yield from self.beginning()
+        yield '  while (made < periods) {'
+        yield from self.period()
+        yield '  }'
+        yield from self.ending()
+        yield '}'
+        for word, value in (('plain', 'false'), ('traced', 'true')):
+            yield f'static enum kpn_stop {word}_{head}) {{ return any_region_{self.number}(network, self, {value}); }}'
+        yield from self.tables()
+
+    def beginning(self) -> Iterator[str]:
+        """The locals: how many periods can be made, rings, first items, variables."""
+        yield '  int64_t *const kept = network->variables;'
+        yield '  size_t made = 0, periods = KPN_MOST_ITEMS;'
+        yield '  enum kpn_stop stop = KPN_PAUSED;'
+        yield '  unsigned fuel = KPN_FUEL;'
+        yield '  struct kpn_history_mark mark = {0};'
+        for needs, side, call in ((self.region.gets, 'got', 'kpn_unread'), (self.region.puts, 'put', 'kpn_free_room')):
+            for c, count in needs.items():
+                number = self.channels[c]
+                yield f'  struct kpn_channel *const c_{number} = &network->channels[{number}];'
+                yield f'  int64_t *const ring_{number} = c_{number}->ring;'
+                yield f'  const size_t mask_{number} = c_{number}->mask;'
+                yield f'  size_t at_{number} = c_{number}->{side};'
+                yield f'  periods = kpn_periods(periods, {call}(c_{number}), {count});'
+        yield '  if (periods == 0) return KPN_EMPTY;'
+        for c, count in self.region.inside.items():
+            number = self.channels[c]
+            if count:
+                yield f'  struct kpn_channel *const c_{number} = &network->channels[{number}];'
+            for k in range(count):
+                yield f'  int64_t first_{number}_{k} = c_{number}->ring[(c_{number}->got + {k}) & c_{number}->mask];'
+        for p, live in self.live.items():
+            for name in live:
+                word = 'k' if name in self.assigned[p] else 'm'
+                yield f'  int64_t {word}{p}_{name} = kept[{self.place_of(p, name)}];'
+        yield '  (void)kept; (void)fuel; (void)mark; (void)is_traced;'
+
+    def place_of(self, p: int, name: str) -> int:
+        """Where a variable is among those of the network."""
+        return self.starts[p] + self.rows(p).variables.index(name)
+
+    def period(self) -> Iterator[str]:
+        """A period, which is kept at its end."""
+        for p in self.region.laps:
+            for name in self.assigned[p]:
+                start = f' = k{p}_{name}' if name in self.live[p] else ' = 0'
+                yield f'    int64_t m{p}_{name}{start};'
+        for c, count in self.put_count.items():
+            for k in range(count):
+                yield f'    int64_t item_{self.channels[c]}_{k};'
+        yield '    if (is_traced) mark = kpn_history_mark(network->history);'
+        yield from self.body
+        yield from self.keeping()
+        yield '    made++;'
+        yield '    continue;'
+        text = '\n'.join(self.body)
+        stops = {'overflow': 'KPN_OVERFLOW', 'zero_divisor': 'KPN_ZERO_DIVISOR',
+                 'starved': 'made ? KPN_PAUSED : KPN_LAPPED'}
+        ways = [label for label in stops if f'goto {label};' in text]
+        for label in ways:
+            yield f'  {label}: stop = {stops[label]}; goto dropped;'
+        if ways:
+            yield '  dropped:'
+            yield '    if (is_traced) kpn_history_cut(network->history, mark);'
+            yield '    break;'
+
+    def keeping(self) -> Iterator[str]:
+        """What keeps a period."""
+        for p, name in self.carried():
+            yield f'    k{p}_{name} = m{p}_{name};'
+        for c, count in self.region.inside.items():
+            number, put = self.channels[c], self.put_count[c]
+            for k in range(count):
+                item = f'first_{number}_{k + put}' if k + put < count else f'item_{number}_{k + put - count}'
+                yield f'    first_{number}_{k} = {item};'
+        for c, count in (*self.region.gets.items(), *self.region.puts.items()):
+            yield f'    at_{self.channels[c]} += {count};'
+
+    def ending(self) -> Iterator[str]:
+        """What a turn of a region puts back."""
+        for p, name in self.carried():
+            yield f'  kept[{self.place_of(p, name)}] = k{p}_{name};'
+        for c, count in self.region.inside.items():
+            number = self.channels[c]
+            for k in range(count):
+                yield f'  c_{number}->ring[(c_{number}->got + {k}) & c_{number}->mask] = first_{number}_{k};'
+        yield '  network->regions[self].periods += made;'
+        yield f'  network->commits += made * {2 * sum(self.put_count.values())};'
+        for needs, side in ((self.region.gets, 'got'), (self.region.puts, 'put')):
+            for c in needs:
+                yield f'  kpn_publish_{side}(network, c_{self.channels[c]}, at_{self.channels[c]});'
+        yield '  return stop;'
+
+    def tables(self) -> Iterator[str]:
+        """The tables of the members and of what a period needs."""
+        members = ', '.join(f'{{{p}, {laps}}}' for p, laps in self.region.laps.items())
+        yield f'static const struct kpn_member members_{self.number}[] = {{{members}}};'
+        needs = [f'{{{self.channels[c]}, {word}, {count}}}' for of, word in
+                 ((self.region.gets, 'false'), (self.region.puts, 'true')) for c, count in of.items()]
+        if needs:
+            yield f'static const struct kpn_need needs_{self.number}[] = {{{", ".join(needs)}}};'
+        yield ''
+
+    def plan(self) -> str:
+        """The region in the table of regions."""
+        needs = len(self.region.gets) + len(self.region.puts)
+        return f'  {{plain_region_{self.number}, traced_region_{self.number}, members_{self.number}, ' \
+               f'{f"needs_{self.number}" if needs else "NULL"}, {len(self.region.laps)}, {needs}}},'

@@ -1,0 +1,235 @@
+"""Regions: processes whose periods are made in one function.
+
+A process may belong to one if it is a loop without end whose talks stand outside of inner blocks, behind assignments
+and writes of first items. So it has the same talks in each turn of its loop, a lap. In a period of a region each member
+makes a fixed number of laps, and each channel inside has at the end as many items as at the beginning. The order of the
+rows in a period is found by stepping the members under the capacities of the channels. So it is the order of a legal
+history.
+"""
+from __future__ import annotations
+
+import collections
+import fractions
+import math
+from typing import Dict, Iterator, List, NamedTuple, Optional, Sequence, Set, Tuple
+
+from ..language import Description
+from .paths import Assign, Leave, Read, Rows, Test, Write
+
+# The most rows of a period. What is larger falls apart at its widest channel.
+MOST_ROWS = 500
+
+
+class Loop(NamedTuple):
+    """A process as first items and laps: the row at the head of its loop, the row behind the last one of a lap, the
+    talks of a lap at each port, and the first items at each port."""
+
+    head: int
+    end: int
+    rates: Dict[str, int]
+    first: Dict[str, int]
+
+
+class Region(NamedTuple):
+    """Its members with their laps in a period, the channels inside with the items that lie there at the beginning, what
+    a period gets and puts elsewhere, and the rows of a period as (member, lap, row)."""
+
+    laps: Dict[int, int]
+    inside: Dict[str, int]
+    gets: Dict[str, int]
+    puts: Dict[str, int]
+    order: List[Tuple[int, int, int]]
+
+
+def loop_of(rows: Rows) -> Optional[Loop]:
+    """A process as first items and laps, if it has this form."""
+    first: Dict[str, int] = collections.Counter()
+    for head, row in enumerate(rows.rows):
+        if isinstance(row, Test):
+            break
+        if not isinstance(row, (Assign, Write)):
+            return None
+        if isinstance(row, Write):
+            first[row.port] += 1
+    else:
+        return None
+    if not row.is_loop or not isinstance(row.condition, int) or row.condition == 0:
+        return None
+    end = row.otherwise - 1
+    rates: Dict[str, int] = collections.Counter()
+    for place in range(head + 1, end):
+        inner = rows.rows[place]
+        if isinstance(inner, (Read, Write)):
+            rates[inner.port] += 1
+        if isinstance(inner, Test):
+            if any(isinstance(it, (Read, Write)) for it in rows.rows[place:end_of(rows, place)]):
+                return None
+    return Loop(head, end, rates, first) if rates else None
+
+
+def end_of(rows: Rows, place: int) -> int:
+    """The row behind an `if` or a `while`."""
+    row = rows.rows[place]
+    assert isinstance(row, Test)
+    before = rows.rows[row.otherwise - 1]
+    assert isinstance(before, Leave)
+    return row.otherwise if row.is_loop else before.to
+
+
+class Finder:
+    """Finds the regions of a network."""
+
+    def __init__(self, description: Description, rows: Dict[str, Rows]):
+        self.rows, self.entries = rows, [entry for _, entry in description.instances]
+        self.names = [name for name, _ in description.instances]
+        self.capacities = {name: capacity or 0 for _, name, capacity in description.channels}
+        loops = {name: loop_of(it) for name, it in rows.items()}
+        self.loops = {p: loop for p, entry in enumerate(self.entries) for loop in [loops[entry.process]] if loop}
+        self.writers: Dict[str, Tuple[int, str]] = {}
+        self.readers: Dict[str, Tuple[int, str]] = {}
+        for p, entry in enumerate(self.entries):
+            process = rows[entry.process].process
+            self.readers.update({c: (p, port) for c, port in zip(entry.ins, process.ins)})
+            self.writers.update({c: (p, port) for c, port in zip(entry.outs, process.outs)})
+        self.links = {c for c in self.capacities if c in self.writers and c in self.readers
+                      and self.writers[c][0] in self.loops and self.readers[c][0] in self.loops}
+
+    def regions(self) -> Iterator[Region]:
+        """All regions of two members and more."""
+        left = [members for members in self.components(set(self.loops), self.links) if len(members) > 1]
+        while left:
+            members = left.pop()
+            inside = {c for c in self.links if self.writers[c][0] in members and self.readers[c][0] in members}
+            laps = self.balance(members, inside)
+            if laps is None:
+                continue
+            if sum(laps[p] * (self.loops[p].end - self.loops[p].head) for p in members) > MOST_ROWS:
+                left += [part for part in self.cut(members, inside) if len(part) > 1]
+                continue
+            region = self.period(laps, inside)
+            if region:
+                yield region
+
+    def components(self, members: Set[int], links: Set[str]) -> List[Set[int]]:
+        """The sets of processes that these channels connect."""
+        found: List[Set[int]] = []
+        left = set(members)
+        while left:
+            part, border = set(), [min(left)]
+            while border:
+                p = border.pop()
+                if p not in part:
+                    part.add(p)
+                    border += [self.readers[c][0] for c in links if self.writers[c][0] == p]
+                    border += [self.writers[c][0] for c in links if self.readers[c][0] == p]
+            found.append(part)
+            left -= part
+        return found
+
+    def cut(self, members: Set[int], inside: Set[str]) -> List[Set[int]]:
+        """Parts of a set of processes, apart at its widest channels."""
+        links, parts = set(inside), [members]
+        while len(parts) == 1:
+            links.remove(max(links, key=lambda c: (self.capacities[c], c)))
+            parts = self.components(members, links)
+        return parts
+
+    def balance(self, members: Set[int], inside: Set[str]) -> Optional[Dict[int, int]]:
+        """The least numbers of laps after which each channel has as many items as before, if there are any."""
+        found, border = {min(members): fractions.Fraction(1)}, [min(members)]
+        while border:
+            p = border.pop()
+            for c in inside:
+                (writer, put), (reader, got) = self.writers[c], self.readers[c]
+                rates = self.loops[writer].rates.get(put, 0), self.loops[reader].rates.get(got, 0)
+                if p in (writer, reader):
+                    if 0 in rates:
+                        return None
+                    q, ratio = (reader, fractions.Fraction(*rates)) if p == writer else \
+                        (writer, fractions.Fraction(rates[1], rates[0]))
+                    border += [q] if q not in found else []
+                    if found.setdefault(q, found[p] * ratio) != found[p] * ratio:
+                        return None
+        scale = math.lcm(*(it.denominator for it in found.values()))
+        counts = {p: int(it * scale) for p, it in found.items()}
+        least = math.gcd(*counts.values())
+        return {p: count // least for p, count in sorted(counts.items())}
+
+    def period(self, laps: Dict[int, int], inside: Set[str]) -> Optional[Region]:
+        """The region of these laps, if its members can make a period under the capacities."""
+        first = {c: self.loops[self.writers[c][0]].first.get(self.writers[c][1], 0) for c in sorted(inside)}
+        if any(count > self.capacities[c] for c, count in first.items()):
+            return None
+        region = Region(laps, first, {}, {}, [])
+        for p, count in laps.items():
+            entry, process = self.entries[p], self.rows[self.entries[p].process].process
+            sides = (entry.ins, process.ins, region.gets), (entry.outs, process.outs, region.puts)
+            for channels, ports, needs in sides:
+                for c, port in zip(channels, ports):
+                    if c not in inside and self.loops[p].rates.get(port):
+                        needs[c] = count * self.loops[p].rates[port]
+        return region if self.step(region) else None
+
+    def step(self, region: Region) -> bool:
+        """Steps the members through a period, each as far as it can go, and notes the order."""
+        unread, at, moved = dict(region.inside), {p: (0, self.loops[p].head + 1) for p in region.laps}, True
+        while moved:
+            moved = False
+            for p, count in region.laps.items():
+                lap, place = at[p]
+                while lap < count and self.may_step(p, place, unread):
+                    region.order.append((p, lap, place))
+                    place, moved = place + 1, True
+                    if place == self.loops[p].end:
+                        lap, place = lap + 1, self.loops[p].head + 1
+                at[p] = lap, place
+        return all(at[p][0] == count for p, count in region.laps.items())
+
+    def channel_at(self, p: int, port: str) -> str:
+        """The channel at a port of a process."""
+        entry, process = self.entries[p], self.rows[self.entries[p].process].process
+        return dict(zip((*process.ins, *process.outs), (*entry.ins, *entry.outs)))[port]
+
+    def may_step(self, p: int, place: int, unread: Dict[str, int]) -> bool:
+        """Whether a member may go on past a row; counts the items of the channels inside."""
+        row = self.rows[self.entries[p].process].rows[place]
+        if not isinstance(row, (Read, Write)):
+            return True
+        c = self.channel_at(p, row.port)
+        if c not in unread:
+            return True
+        if unread[c] == (0 if isinstance(row, Read) else self.capacities[c]):
+            return False
+        unread[c] += -1 if isinstance(row, Read) else 1
+        return True
+
+
+def variables_of(rows: Rows, loop: Loop) -> Tuple[List[str], List[str]]:
+    """The variables that have to be known at the head of a loop, and those that laps set."""
+    known: Set[str] = set()
+    live: Dict[str, None] = {}
+    assigned: Dict[str, None] = {}
+    inner = loop.head
+    for place in range(loop.head + 1, loop.end):
+        row = rows.rows[place]
+        live.update(dict.fromkeys(it for it in used_in(row) if it not in known))
+        if isinstance(row, Test):
+            inner = max(inner, end_of(rows, place))
+        if isinstance(row, (Assign, Read)):
+            assigned[row.target] = None
+            if place >= inner:
+                known.add(row.target)
+    return list(live), list(assigned)
+
+
+def used_in(row: object) -> Sequence[str]:
+    """The variables in the expression of a row."""
+    tree = row.condition if isinstance(row, Test) else row.value if isinstance(row, (Assign, Write)) else 0
+    left, found = [tree], []
+    while left:
+        tree = left.pop()
+        if isinstance(tree, str):
+            found.append(tree)
+        elif isinstance(tree, tuple):
+            left += tree[1:]
+    return found

@@ -1,0 +1,316 @@
+/* certify.c: the proved `kpn` judges a run. */
+#define _GNU_SOURCE
+#include <errno.h>
+#include <fcntl.h>
+#include <stdio.h>
+#include <stdlib.h>
+#include <string.h>
+#include <sys/wait.h>
+#include <unistd.h>
+
+#include "program.h"
+
+enum { PATH = 4096 };
+
+/* A folder for what `kpn` reads, and the texts of the words that name files in it. */
+struct folder {
+  char path[PATH];
+  size_t file_count;
+};
+
+static bool make_folder(struct folder *folder) {
+  const char *base = getenv("TMPDIR");
+  folder->file_count = 0;
+  int length = snprintf(folder->path, sizeof folder->path, "%s/kpn-XXXXXX", base && *base ? base : "/tmp");
+  return length > 0 && length < PATH - 64 && mkdtemp(folder->path);
+}
+
+/* The path of a file by its number; the texts live until the folder is dropped. */
+static char *path_of(const struct folder *folder, size_t number) {
+  char *path = malloc(PATH);
+  if (path) {
+    snprintf(path, PATH, "%.*s/%zu", PATH - 32, folder->path, number);
+  }
+  return path;
+}
+
+static char *open_next(struct folder *folder, int *to) {
+  char *path = path_of(folder, folder->file_count);
+  *to = path ? open(path, O_WRONLY | O_CREAT | O_TRUNC | O_CLOEXEC, 0600) : -1;
+  folder->file_count += *to >= 0;
+  return path;
+}
+
+static void drop_folder(struct folder *folder) {
+  for (size_t k = 0; k < folder->file_count; k++) {
+    char *path = path_of(folder, k);
+    if (path) {
+      unlink(path);
+      free(path);
+    }
+  }
+  rmdir(folder->path);
+}
+
+static bool write_to(void *to, const char *text, size_t length) {
+  return kpn_write_all(*(int *)to, text, length);
+}
+
+/* Stores a text in a new file of the folder, and gives its path. */
+static char *store_text(struct folder *folder, const char *text) {
+  int to;
+  char *path = open_next(folder, &to);
+  if (to < 0 || !kpn_write_all(to, text, strlen(text)) || close(to) != 0) {
+    free(path);
+    return NULL;
+  }
+  return path;
+}
+
+static char *store_history(struct folder *folder, const struct kpn_run *run) {
+  int to;
+  char *path = open_next(folder, &to);
+  const struct kpn_plan *plan = run->network.plan;
+  if (to < 0 || !kpn_history_write(&run->history, plan->is_policy_all, plan->is_growth_double, write_to, &to) ||
+      close(to) != 0) {
+    free(path);
+    return NULL;
+  }
+  return path;
+}
+
+/* Starts `kpn` with these words, and gives what it writes. */
+static FILE *start(char *const *words, pid_t *child) {
+  int ends[2];
+  if (pipe2(ends, O_CLOEXEC) != 0) {
+    return NULL;
+  }
+  *child = fork();
+  if (*child == 0) {
+    dup2(ends[1], STDOUT_FILENO);
+    execvp(words[0], words);
+    fprintf(stderr, "kpn: %s does not run: %s; name the program `kpn` by KPN_PROGRAM\n", words[0], strerror(errno));
+    _exit(127);
+  }
+  close(ends[1]);
+  if (*child < 0) {
+    close(ends[0]);
+    return NULL;
+  }
+  return fdopen(ends[0], "r");
+}
+
+/* The status of `kpn`, once all is read. */
+static int finish(FILE *from, pid_t child) {
+  int status;
+  fclose(from);
+  while (waitpid(child, &status, 0) < 0) {
+    if (errno != EINTR) {
+      return -1;
+    }
+  }
+  return WIFEXITED(status) ? WEXITSTATUS(status) : -1;
+}
+
+/* Reads a word up to a space or a line feed, and tells which. */
+static int next_word(FILE *from, char *word, size_t room) {
+  size_t length = 0;
+  int byte = getc_unlocked(from);
+  while (byte != ' ' && byte != '\n' && byte != EOF) {
+    if (length + 1 < room) {
+      word[length++] = (char)byte;
+    }
+    byte = getc_unlocked(from);
+  }
+  word[length] = 0;
+  return byte;
+}
+
+/* Compares the journal in the rest of a line with what a run gave of a sink: all of it, or as many as --take says. If
+   only the first events were judged, the journal begins what the run gave. */
+static bool is_given(FILE *from, int last, const struct kpn_run *run, const struct kpn_text_items *given) {
+  char word[64];
+  size_t count = 0;
+  bool is_right = true;
+  while (last == ' ') {
+    int64_t item;
+    last = next_word(from, word, sizeof word);
+    if (count == given->count && run->words.has_take && count == run->words.take) {
+      continue;
+    }
+    is_right = is_right && count < given->count && kpn_read_item(word, strlen(word), &item) &&
+               given->items[count] == item;
+    count++;
+  }
+  return is_right && (count == given->count || run->history.count > run->history.most);
+}
+
+/* Reads what `kpn audit` says behind its first line. */
+static bool are_all_given(FILE *from, const struct kpn_run *run, bool *is_exact, const char **wrong) {
+  char word[64];
+  next_word(from, word, sizeof word);
+  int last = next_word(from, word, sizeof word);
+  *is_exact = strcmp(word, "yes") == 0;
+  for (size_t c = 0; c < run->network.plan->channel_count && last != EOF; c++) {
+    static const struct kpn_text_items none;
+    bool is_sink = run->network.plan->channels[c].kind == KPN_SINK, is_right;
+    last = next_word(from, word, sizeof word);
+    while (word[0] && word[strlen(word) - 1] != ':') {
+      last = next_word(from, word, sizeof word);
+    }
+    is_right = is_given(from, last, run, is_sink ? &run->sinks[c].list : &none);
+    if (is_sink && !is_right) {
+      *wrong = run->network.plan->channels[c].name;
+      return false;
+    }
+  }
+  return last != EOF;
+}
+
+/* Judges the answer of `kpn audit`. */
+static int judge(FILE *from, const struct kpn_run *run) {
+  char line[64] = "";
+  bool is_exact = false, is_cut = run->history.count > run->history.most;
+  const char *wrong = NULL;
+  if (!fgets(line, sizeof line, from)) {
+    return kpn_refuse(KPN_NOT_CERTIFIED, "not certified: `kpn audit` gives no answer%s",
+                      run->history.count > 8000000 ? "; a trace has at most 268435456 bytes: give --events N" : "");
+  }
+  line[strcspn(line, "\n")] = 0;
+  if (strcmp(line, "legal") != 0) {
+    return kpn_refuse(KPN_NOT_CERTIFIED, "not certified: %s; please report the network and its input", line);
+  }
+  if (!are_all_given(from, run, &is_exact, &wrong)) {
+    return kpn_refuse(KPN_NOT_CERTIFIED, "not certified: the items of the sink `%s` are not those of the history",
+                      wrong ? wrong : "?");
+  }
+  if (!is_cut && is_exact != (run->outcome == KPN_ENDED) && run->outcome != KPN_ENOUGH &&
+      run->outcome != KPN_STOPPED) {
+    return kpn_refuse(KPN_NOT_CERTIFIED, "not certified: the outcome is not that of the history");
+  }
+  if (is_cut) {
+    return kpn_refuse(0, "certified: legal, the first %llu of %llu events", (unsigned long long)run->history.most,
+                      (unsigned long long)run->history.count);
+  }
+  return kpn_refuse(0, "certified: legal, %sexact", is_exact ? "" : "not ");
+}
+
+int kpn_certify(struct kpn_run *run) {
+  struct folder folder;
+  pid_t child;
+  int status = KPN_NOT_CERTIFIED;
+  if (!make_folder(&folder)) {
+    return kpn_refuse(status, "not certified: no folder can be made in TMPDIR");
+  }
+  char *net = store_text(&folder, run->network.plan->text), *trace = store_history(&folder, run);
+  char *words[] = {(char *)run->program, "audit", net, trace, "--steps", "1000000000", NULL};
+  FILE *from = net && trace ? start(words, &child) : NULL;
+  if (from) {
+    status = judge(from, run);
+    while (getc_unlocked(from) != EOF) {
+    }
+    if (finish(from, child) != 0 && status == 0) {
+      status = kpn_refuse(KPN_NOT_CERTIFIED, "not certified: `kpn audit` has failed");
+    }
+  } else {
+    kpn_refuse(status, "not certified: the trace cannot be stored in %s, or `kpn` cannot be started", folder.path);
+  }
+  drop_folder(&folder);
+  free(net);
+  free(trace);
+  return status;
+}
+
+/* ---- the same run by `kpn run` */
+
+/* Compares what a report writes with what `kpn` writes. */
+struct comparison {
+  FILE *from;
+  bool is_same;
+};
+
+static bool compare(void *to, const char *text, size_t length) {
+  struct comparison *comparison = to;
+  for (size_t k = 0; k < length && comparison->is_same; k++) {
+    comparison->is_same = getc_unlocked(comparison->from) == (unsigned char)text[k];
+  }
+  return true;
+}
+
+static char *store_items(struct folder *folder, const struct kpn_text_items *list) {
+  int to;
+  char *path = open_next(folder, &to), line[32];
+  FILE *file = to >= 0 ? fdopen(to, "w") : NULL;
+  bool is_stored = file != NULL;
+  for (size_t k = 0; is_stored && k < list->count; k++) {
+    char *end = kpn_digits(line, list->items[k]);
+    *end++ = '\n';
+    is_stored = fwrite(line, 1, (size_t)(end - line), file) == (size_t)(end - line);
+  }
+  if ((file && fclose(file) != 0) || !is_stored) {
+    free(path);
+    return NULL;
+  }
+  return path;
+}
+
+/* The words of `kpn run` for a run: 2 for each source, and 8 at most beside these. */
+static bool run_words(struct folder *folder, const struct kpn_run *run, char **words) {
+  char number[32], *path;
+  size_t count = 0;
+  words[count++] = strdup(run->program);
+  words[count++] = strdup("run");
+  words[count++] = store_text(folder, run->network.plan->text);
+  for (size_t k = 0; k < run->words.source_count; k++) {
+    const struct kpn_end *source = &run->words.sources[k];
+    path = store_items(folder, &run->lists[source->channel]);
+    words[count++] = strdup("--source");
+    words[count++] = path ? malloc(PATH + 64) : NULL;
+    if (path && words[count - 1]) {
+      snprintf(words[count - 1], PATH + 64, "%s=%s", source->name, path);
+    }
+    free(path);
+  }
+  for (int k = 0; k < 2; k++) {
+    if (k == 0 ? run->words.has_take : run->words.has_most_commits) {
+      *kpn_digits(number, (int64_t)(k == 0 ? run->words.take : run->words.most_commits)) = 0;
+      words[count++] = strdup(k == 0 ? "--take" : "--max-commits");
+      words[count++] = strdup(number);
+    }
+  }
+  for (size_t k = 0; k < count; k++) {
+    if (!words[k]) {
+      return false;
+    }
+  }
+  return true;
+}
+
+int kpn_compare_runs(struct kpn_run *run) {
+  struct folder folder;
+  pid_t child;
+  size_t most = 2 * run->words.source_count + 8;
+  char **words = calloc(most, sizeof *words);
+  if (!words || !make_folder(&folder)) {
+    free(words);
+    return kpn_refuse(KPN_NOT_CERTIFIED, "not checked: no folder can be made in TMPDIR");
+  }
+  struct comparison comparison = {run_words(&folder, run, words) ? start(words, &child) : NULL, true};
+  if (comparison.from) {
+    kpn_report(run, compare, &comparison);
+    comparison.is_same = comparison.is_same && getc_unlocked(comparison.from) == EOF;
+    while (getc_unlocked(comparison.from) != EOF) {
+    }
+    finish(comparison.from, child);
+  }
+  drop_folder(&folder);
+  for (size_t k = 0; k < most; k++) {
+    free(words[k]);
+  }
+  free(words);
+  if (!comparison.from || !comparison.is_same) {
+    return kpn_refuse(KPN_NOT_CERTIFIED, "not checked: `kpn run` does not give this report%s",
+                      run->words.has_most_commits ? "" : "; a long run there wants --max-commits N");
+  }
+  return kpn_refuse(0, "checked: the report is that of `kpn run`");
+}

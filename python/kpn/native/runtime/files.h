@@ -1,0 +1,30 @@
+/* files.h: the files that a run stores. */
+#ifndef KPN_FILES_H
+#define KPN_FILES_H
+
+#include <stdbool.h>
+#include <stddef.h>
+
+/* An output. A plain file is written to a part file, which takes its place; a device is written directly. */
+struct kpn_file {
+  const char *name;
+  char *target, *part;   /* behind all links; null if it is a device */
+  int to;
+  bool is_open;
+};
+
+/* Whether an output would be written over another file. `others` are files that are read or written. */
+bool kpn_file_clashes(const char *name, const char *const *others, size_t count, bool are_outputs);
+
+/* Makes an output ready, writes to it, and puts it in its place. False says that a device has failed. */
+bool kpn_file_prepare(struct kpn_file *file);
+bool kpn_file_write(void *file, const char *text, size_t length);
+bool kpn_file_store(struct kpn_file *file);
+
+/* Drops what was not stored. */
+void kpn_file_drop(struct kpn_file *file);
+
+/* Writes all bytes to a descriptor. */
+bool kpn_write_all(int to, const char *text, size_t length);
+
+#endif

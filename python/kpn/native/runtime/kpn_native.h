@@ -1,0 +1,35 @@
+/* kpn_native.h: what a compiled network has beside the session of kpn.h.
+
+   `kpn compile NET --library -o libnet.a` makes an archive with kpn_open, kpn_channel, kpn_feed, kpn_close_source,
+   kpn_step, kpn_take, kpn_is_complete, kpn_verdict, kpn_trace and kpn_free for this one network. So a program that uses
+   a session of kpn.h changes to it by linking. What differs:
+
+     - `kpn_open` takes the text that was compiled, as it was given or in its canonical form, or none (a length of 0).
+     - `kpn_step` counts gets, puts, waits, ends and each thousand turns of loops as commits, and may make some
+       thousands more than it is asked for.
+     - A trace is kept only from `kpn_keep_trace` on, which has to come before all else. Without it a session takes no
+       more memory than its channels.
+     - Nothing is proved of it. `kpn audit` judges its trace.
+
+   All state lies in one block of memory behind the session, and there are no variables outside of it. */
+#ifndef KPN_NATIVE_H
+#define KPN_NATIVE_H
+
+#include "kpn.h"
+
+#ifdef __cplusplus
+extern "C" {
+#endif
+
+enum {
+  KPN_OTHER_TEXT = 65, /* not the text that was compiled */
+  KPN_NO_TRACE = 66    /* the trace is not kept, or is asked for too late */
+};
+
+uint32_t kpn_keep_trace(kpn_session *session);
+
+#ifdef __cplusplus
+}
+#endif
+
+#endif

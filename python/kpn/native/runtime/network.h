@@ -1,0 +1,270 @@
+/* network.h: the state of a compiled network, and what its processes do to it.
+
+   The generated C has a constant `struct kpn_plan` and a function for the turns of each kind of process. A turn begins
+   with the positions of the process's channels in locals, and puts them back at its end. A process that cannot go on
+   leaves the queue at once. Its wait becomes an event later, before the run can come to a stop: until then it counts as
+   ready, which each legal history allows. All items lie in rings; the item of position k is `ring[k & mask]`. */
+#ifndef KPN_NETWORK_H
+#define KPN_NETWORK_H
+
+#include <stdbool.h>
+#include <stddef.h>
+#include <stdint.h>
+
+#include "history.h"
+#include "kpn.h"
+
+#define KPN_INLINE static inline __attribute__((always_inline, unused))
+
+enum {
+  KPN_MOST_CHANNELS = 1024,
+  KPN_OUTSIDE = 0xffff,   /* in place of a process: the writer of a source, the reader of a sink */
+  KPN_FUEL = 16384,       /* the most turns of loops in a turn of a process */
+  KPN_MOST_ITEMS = 4096,  /* the most items that a turn of a process gets from a channel, or puts there */
+  KPN_LATE = 1024         /* after so many turns waits become events, also while a process is ready */
+};
+
+enum kpn_kind { KPN_CHANNEL, KPN_SOURCE, KPN_SINK };
+
+/* Where a process is. A stalled one waits, and its wait is no event yet. A parked one is ready in a history; it stands
+   at the head of its loop, and its region makes its laps, or gathers. */
+enum kpn_being { KPN_READY, KPN_STALLED, KPN_WAITING, KPN_OVER, KPN_PARKED };
+
+/* How a turn has ended: with fuel used up, after a talk (only if a turn has one talk), without an item, without room,
+   with the last lap that the process may make, or with the end of the process. */
+enum kpn_stop { KPN_PAUSED, KPN_TALKED, KPN_EMPTY, KPN_FULL, KPN_LAPPED, KPN_DONE, KPN_OVERFLOW, KPN_ZERO_DIVISOR };
+
+/* Beside the outcomes of kpn.h: there is none yet. */
+enum { KPN_GOING = 0 };
+
+struct kpn_channel {
+  int64_t *ring;
+  size_t mask;
+  size_t got, put;         /* the positions of the next get and the next put */
+  size_t room;             /* the most items that may lie here now: those of the ring, and at most the capacity */
+  uint32_t capacity;
+  uint16_t writer, reader;
+  bool reader_waits, writer_waits; /* whether somebody has to know of the next put, of the next get */
+  bool is_shut;            /* a source that is closed, a sink that was left, a channel whose reader has ended */
+};
+
+struct kpn_process {
+  uint16_t at;             /* the row where it is */
+  uint16_t channel;        /* what it waits on */
+  uint8_t being;
+  uint8_t why;             /* KPN_EMPTY or KPN_FULL of a wait, and else how the process has ended */
+  uint16_t region;         /* KPN_OUTSIDE if there is none */
+  bool is_listed;          /* among those whose waits are to become events */
+  uint64_t lap, last_lap;  /* of a member of a region: the turns of its loop since the region was apart, and at most */
+};
+
+/* A region is apart while its members make turns of their own; it gathers while each of them goes on to the head of its
+   loop, until all have made the same number of periods; then it is together, and makes whole periods in one
+   function. */
+enum kpn_way { KPN_APART, KPN_GATHERING, KPN_TOGETHER };
+
+struct kpn_region {
+  uint8_t way;
+  bool is_ready, is_over;   /* in the queue; never together again, since a member has ended or will fault */
+  uint16_t gathered;        /* members that are parked */
+  uint32_t patience, left;  /* how many times it does not gather, since it was of no use; how many are left */
+  uint64_t periods;         /* since it came together */
+};
+
+struct kpn_network;
+typedef enum kpn_stop kpn_turn(struct kpn_network *network, unsigned self);
+
+/* What a period of a region gets from a channel that others write, or puts on one that others read. */
+struct kpn_need {
+  uint16_t channel;
+  bool is_put;
+  uint32_t count;
+};
+
+struct kpn_member {
+  uint16_t process;
+  uint32_t laps;           /* in a period */
+};
+
+struct kpn_region_plan {
+  kpn_turn *turn, *traced_turn;
+  const struct kpn_member *members;
+  const struct kpn_need *needs;
+  uint16_t member_count, need_count;
+};
+
+struct kpn_channel_plan {
+  const char *name;
+  enum kpn_kind kind;
+  uint32_t capacity;
+  uint16_t writer, reader;
+};
+
+struct kpn_process_plan {
+  const char *name;
+  kpn_turn *turn, *traced_turn;
+  const uint16_t *ports;   /* the channels of its in ports, then of its out ports */
+  uint16_t in_count, out_count;
+  uint32_t variables;      /* where its variables begin */
+};
+
+/* A network as it was compiled. */
+struct kpn_plan {
+  const char *text, *given; /* the canonical description, and the one that was compiled */
+  size_t given_length;
+  const struct kpn_channel_plan *channels;
+  const struct kpn_process_plan *processes;
+  const int64_t *variables; /* as they are at the beginning */
+  const struct kpn_region_plan *regions;
+  size_t channel_count, process_count, variable_count, region_count;
+  uint32_t limit;
+  bool is_policy_all, is_growth_double;
+  bool is_one_talk;        /* a turn is a commit of `kpn run`: one talk, or its steps used up; waits are events
+                              immediately */
+};
+
+/* Takes what has come to a sink. */
+typedef void kpn_taker(struct kpn_network *network, unsigned channel);
+
+struct kpn_network {
+  const struct kpn_plan *plan;
+  struct kpn_channel *channels;
+  struct kpn_process *processes;
+  int64_t *variables;
+  struct kpn_region *regions;
+  uint16_t *queue, *stalled;   /* who is ready, in a ring, where regions are behind processes; whose waits are to become
+                                  events */
+  size_t first_ready, ready_count, stalled_count, still_count; /* still: waiting or over */
+  size_t turns;                /* since waits became events */
+  uint64_t commits;
+  kpn_taker *taker;            /* who takes from the sinks at once; null if the owner does so when it likes */
+  void *owner;
+  struct kpn_run_history *history; /* null without a trace */
+  bool lacks_memory;
+};
+
+/* ---- what a turn needs */
+
+/* How many items a turn may get. */
+KPN_INLINE size_t kpn_unread(const struct kpn_channel *channel) {
+  size_t count = channel->put - channel->got;
+  return count < KPN_MOST_ITEMS ? count : KPN_MOST_ITEMS;
+}
+
+/* How many items a turn may put. Nobody reads behind a reader that has ended: there the ring is written round and
+   round. */
+KPN_INLINE size_t kpn_free_room(const struct kpn_channel *channel) {
+  if (channel->is_shut) {
+    return KPN_MOST_ITEMS;
+  }
+  size_t count = channel->room - (channel->put - channel->got);
+  return count < KPN_MOST_ITEMS ? count : KPN_MOST_ITEMS;
+}
+
+void kpn_serve_reader(struct kpn_network *network, struct kpn_channel *channel);
+void kpn_serve_writer(struct kpn_network *network, struct kpn_channel *channel);
+void kpn_make_ready(struct kpn_network *network, unsigned process);
+
+/* Publishes what a turn has put up to a position. */
+KPN_INLINE void kpn_publish_put(struct kpn_network *network, struct kpn_channel *channel, size_t put) {
+  if (put != channel->put) {
+    network->commits += put - channel->put;
+    channel->put = put;
+    if (channel->reader_waits) {
+      kpn_serve_reader(network, channel);
+    }
+  }
+}
+
+/* The least of a count of periods, and of those for which a channel has items or room. */
+KPN_INLINE size_t kpn_periods(size_t most, size_t items, size_t needed) {
+  return items / needed < most ? items / needed : most;
+}
+
+/* Publishes what a turn has got up to a position. */
+KPN_INLINE void kpn_publish_got(struct kpn_network *network, struct kpn_channel *channel, size_t got) {
+  if (got != channel->got) {
+    network->commits += got - channel->got;
+    channel->got = got;
+    if (channel->writer_waits) {
+      kpn_serve_writer(network, channel);
+    }
+  }
+}
+
+KPN_INLINE void kpn_record(struct kpn_network *network, enum kpn_event_kind kind, unsigned process, unsigned channel,
+                           int64_t item) {
+  if (!kpn_history_add(network->history, kind, process, channel, item)) {
+    network->lacks_memory = true;
+  }
+}
+
+KPN_INLINE void kpn_record_put(struct kpn_network *network, unsigned process, unsigned channel, int64_t item) {
+  kpn_record(network, KPN_PUT, process, channel, item);
+  if (network->taker && network->channels[channel].reader == KPN_OUTSIDE && !network->channels[channel].is_shut) {
+    kpn_record(network, KPN_TAKE, KPN_OUTSIDE, channel, item);
+  }
+}
+
+/* A quotient and a remainder whose divisor is neither 0 nor -1. Narrow divisions take less time. */
+KPN_INLINE int64_t kpn_quotient(int64_t a, int64_t b) {
+  if ((((uint64_t)a | (uint64_t)b) >> 32) == 0) {
+    return (int64_t)((uint32_t)a / (uint32_t)b);
+  }
+  return a / b;
+}
+
+KPN_INLINE int64_t kpn_remainder(int64_t a, int64_t b) {
+  if ((((uint64_t)a | (uint64_t)b) >> 32) == 0) {
+    return (int64_t)((uint32_t)a % (uint32_t)b);
+  }
+  return a % b;
+}
+
+/* ---- regions */
+
+void kpn_gather(struct kpn_network *network);
+bool kpn_scatter_idle(struct kpn_network *network);
+void kpn_park(struct kpn_network *network, unsigned process);
+void kpn_region_turn(struct kpn_network *network, unsigned region);
+void kpn_wake_region(struct kpn_network *network, unsigned region);
+void kpn_end_region(struct kpn_network *network, unsigned region);
+
+/* ---- what the owner of a network calls. A bool that is false says that memory was refused. */
+
+/* The arrays of a network in one block, which begins with its channels; or null. */
+void *kpn_make_network(struct kpn_network *network, const struct kpn_plan *plan);
+
+/* Begins: each process is ready, the sources are open, all rings are empty. The arrays have the sizes of the plan. */
+void kpn_begin(struct kpn_network *network);
+
+/* Gives a channel a larger ring, for at least so many items. */
+bool kpn_reserve(struct kpn_network *network, unsigned channel, size_t items);
+
+/* Gives each channel its first ring. A sink that is taken from at once has room for more than its capacity. */
+bool kpn_reserve_all(struct kpn_network *network, bool with_sources);
+void kpn_drop_rings(struct kpn_network *network);
+
+/* Makes turns until `most` commits were made in all, none is ready, or memory lacks. */
+void kpn_go(struct kpn_network *network, uint64_t most);
+
+/* One turn, if a process is ready. */
+void kpn_go_once(struct kpn_network *network);
+
+/* Lets the waits of those that cannot go on become events, with the growths that they owe. */
+void kpn_write_waits(struct kpn_network *network);
+
+/* The outside: feeds an item, has fed items, closes a source, has taken from a sink up to a position, leaves a sink. */
+bool kpn_feed_item(struct kpn_network *network, unsigned source, int64_t item);
+void kpn_fed(struct kpn_network *network, unsigned source);
+void kpn_close(struct kpn_network *network, unsigned source);
+void kpn_taken(struct kpn_network *network, unsigned sink);
+void kpn_leave(struct kpn_network *network, unsigned sink);
+
+/* How the run has come to a stop; KPN_GOING while a process is ready. */
+unsigned kpn_verdict_of(struct kpn_network *network);
+
+/* Whether nothing more is ever put on each channel, whatever the capacities. */
+void kpn_complete(const struct kpn_network *network, bool *complete);
+
+#endif

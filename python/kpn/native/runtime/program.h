@@ -1,0 +1,76 @@
+/* program.h: a compiled network as a program. */
+#ifndef KPN_PROGRAM_H
+#define KPN_PROGRAM_H
+
+#include "files.h"
+#include "items.h"
+#include "network.h"
+
+/* The statuses beside those of outcomes. */
+enum { KPN_REFUSED = 1, KPN_USAGE = 2, KPN_LACKS_MEMORY = 6, KPN_FAULTED = 8, KPN_NOT_CERTIFIED = 9 };
+
+/* A word NAME=FILE. */
+struct kpn_end {
+  const char *name, *file;
+  unsigned channel;
+};
+
+enum kpn_format { KPN_LINES, KPN_S16, KPN_S32, KPN_S64 };
+
+/* What the words of the command line ask for. */
+struct kpn_words {
+  struct kpn_end *sources, *sinks;
+  size_t source_count, sink_count;
+  const char *trace;
+  bool has_take, is_certified, is_checked, has_most_commits, is_quiet;
+  uint64_t take, most_commits, events;
+  enum kpn_format format;
+};
+
+/* Where a sink's items go in a run. */
+struct kpn_run_sink {
+  struct kpn_text_items list;
+  size_t count; /* of all that came */
+};
+
+struct kpn_run {
+  struct kpn_network network;
+  struct kpn_run_history history;
+  struct kpn_words words;
+  const char *program;         /* the program `kpn` that judges runs */
+  struct kpn_text_items *lists;     /* of each channel: what a source is fed */
+  struct kpn_run_sink *sinks;  /* of each channel */
+  size_t sinks_short;          /* sinks that have not given as many as --take says */
+  unsigned outcome;
+  struct kpn_file trace, *files; /* of each channel: where a sink is stored */
+};
+
+/* Reads the words behind the command. If they are wrong it says so and gives false. */
+bool kpn_read_words(struct kpn_words *words, bool is_stream, int count, char **given);
+
+/* Finds the channels of the ends. If a name is wrong it says so and gives false. */
+bool kpn_find_ends(const struct kpn_plan *plan, struct kpn_words *words);
+
+/* Refuses outputs that would be written over other files; 0, or the status. `-` is a standard end of a stream. */
+int kpn_check_outputs(const struct kpn_words *words, bool is_stream);
+
+/* Says what is wrong, in the form of `kpn`, and gives the status. */
+int kpn_refuse(int status, const char *format, ...) __attribute__((format(printf, 2, 3)));
+
+/* The whole program, with the path of `kpn`. */
+int kpn_main(const struct kpn_plan *plan, const char *program, int count, char **words);
+int kpn_commands(struct kpn_run *run);
+int kpn_command_stream(struct kpn_run *run);
+
+/* Writes the report of a run. */
+bool kpn_report(const struct kpn_run *run, kpn_writer *writer, void *to);
+
+/* Writes which processes have faulted or wait, and the outcome if there is one. Under `enough` processes may be ahead
+   of what was asked for, so it says nothing of them. */
+bool kpn_report_end(const struct kpn_run *run, kpn_writer *writer, void *to);
+
+/* Has `kpn audit` judge the history, or `kpn run` give the same report. 0, or the status with which the run fails. */
+int kpn_certify(struct kpn_run *run);
+int kpn_compare_runs(struct kpn_run *run);
+
+#endif

@@ -1,0 +1,199 @@
+/* session.c: the session of kpn.h for a compiled network. */
+#include <stdlib.h>
+#include <string.h>
+
+#include "kpn_native.h"
+#include "network.h"
+
+#define LACKS(pointer, length) (!(pointer) && (length) > 0)
+
+extern const struct kpn_plan kpn_plan;
+
+struct session {
+  struct kpn_network network;
+  struct kpn_run_history history;
+  bool has_begun, has_lost_events;
+};
+
+static struct kpn_network *network_of(kpn_session *session) {
+  return &((struct session *)session->at)->network;
+}
+
+static bool is_of_kind(const struct kpn_network *network, size_t c, enum kpn_kind kind) {
+  return c < network->plan->channel_count && network->plan->channels[c].kind == kind;
+}
+
+/* The answer of a call that may have lacked memory. What was lost of the trace stays lost. */
+static uint32_t answer(struct session *session) {
+  bool has_lacked = session->network.lacks_memory;
+  session->has_begun = true;
+  session->has_lost_events = session->has_lost_events || (has_lacked && session->network.history);
+  session->network.lacks_memory = false;
+  return has_lacked ? KPN_NO_MEMORY : KPN_OK;
+}
+
+uint32_t kpn_open(const char *text, size_t length, kpn_session *session, kpn_place *place) {
+  if (LACKS(text, length) || !session || !place) return KPN_NULL;
+  *place = (kpn_place){false, 0};
+  session->at = NULL;
+  bool is_canonical = length == strlen(kpn_plan.text) && memcmp(text, kpn_plan.text, length) == 0;
+  bool is_given = length == kpn_plan.given_length && memcmp(text, kpn_plan.given, length) == 0;
+  if (length > 0 && !is_canonical && !is_given) return KPN_OTHER_TEXT;
+  struct session *made = calloc(1, sizeof *made);
+  void *block = made ? kpn_make_network(&made->network, &kpn_plan) : NULL;
+  if (!block) {
+    free(made);
+    return KPN_NO_MEMORY;
+  }
+  session->at = made;
+  kpn_begin(&made->network);
+  if (!kpn_reserve_all(&made->network, true)) {
+    kpn_free(session);
+    return KPN_NO_MEMORY;
+  }
+  return KPN_OK;
+}
+
+uint32_t kpn_keep_trace(kpn_session *session) {
+  if (!session) return KPN_NULL;
+  if (!session->at) return KPN_NO_SESSION;
+  struct session *own = session->at;
+  if (own->has_begun) return KPN_NO_TRACE;
+  own->history.most = UINT64_MAX;
+  own->network.history = &own->history;
+  return KPN_OK;
+}
+
+uint32_t kpn_channel(kpn_session *session, const char *name, size_t length, size_t *channel) {
+  if (!session || LACKS(name, length) || !channel) return KPN_NULL;
+  *channel = 0;
+  if (!session->at) return KPN_NO_SESSION;
+  const struct kpn_plan *plan = network_of(session)->plan;
+  for (size_t c = 0; c < plan->channel_count; c++) {
+    if (strlen(plan->channels[c].name) == length && memcmp(plan->channels[c].name, name, length) == 0) {
+      *channel = c;
+      return KPN_OK;
+    }
+  }
+  return KPN_NO_CHANNEL;
+}
+
+uint32_t kpn_feed(kpn_session *session, size_t source, const int64_t *items, size_t count, size_t *fed) {
+  if (!session || LACKS(items, count) || !fed) return KPN_NULL;
+  *fed = 0;
+  if (!session->at) return KPN_NO_SESSION;
+  struct kpn_network *network = network_of(session);
+  if (!is_of_kind(network, source, KPN_SOURCE)) return KPN_NO_SUCH_END;
+  if (network->channels[source].is_shut) return KPN_SOURCE_CLOSED;
+  while (*fed < count && !network->lacks_memory) {
+    if (kpn_feed_item(network, (unsigned)source, items[*fed])) {
+      ++*fed;
+    } else {
+      network->lacks_memory = true;
+    }
+  }
+  kpn_fed(network, (unsigned)source);
+  return answer(session->at);
+}
+
+uint32_t kpn_close_source(kpn_session *session, size_t source) {
+  if (!session) return KPN_NULL;
+  if (!session->at) return KPN_NO_SESSION;
+  struct kpn_network *network = network_of(session);
+  if (!is_of_kind(network, source, KPN_SOURCE)) return KPN_NO_SUCH_END;
+  if (network->channels[source].is_shut) return KPN_SOURCE_CLOSED;
+  kpn_close(network, (unsigned)source);
+  return answer(session->at);
+}
+
+uint32_t kpn_step(kpn_session *session, uint64_t most, uint64_t *commits) {
+  if (!session || !commits) return KPN_NULL;
+  *commits = 0;
+  if (!session->at) return KPN_NO_SESSION;
+  struct kpn_network *network = network_of(session);
+  uint64_t before = network->commits;
+  kpn_go(network, most < UINT64_MAX - before ? before + most : UINT64_MAX);
+  *commits = network->commits - before;
+  return answer(session->at);
+}
+
+uint32_t kpn_take(kpn_session *session, size_t sink, int64_t *items, size_t room, size_t *taken) {
+  if (!session || LACKS(items, room) || !taken) return KPN_NULL;
+  *taken = 0;
+  if (!session->at) return KPN_NO_SESSION;
+  struct kpn_network *network = network_of(session);
+  if (!is_of_kind(network, sink, KPN_SINK)) return KPN_NO_SUCH_END;
+  struct kpn_channel *channel = &network->channels[sink];
+  while (*taken < room && channel->got != channel->put && !network->lacks_memory) {
+    int64_t item = channel->ring[channel->got & channel->mask];
+    if (network->history) {
+      kpn_record(network, KPN_TAKE, KPN_OUTSIDE, (unsigned)sink, item);
+    }
+    channel->got++;
+    items[(*taken)++] = item;
+    kpn_taken(network, (unsigned)sink);
+  }
+  return answer(session->at);
+}
+
+uint32_t kpn_is_complete(kpn_session *session, size_t channel, bool *complete) {
+  if (!session || !complete) return KPN_NULL;
+  *complete = false;
+  if (!session->at) return KPN_NO_SESSION;
+  bool all[KPN_MOST_CHANNELS];
+  if (channel >= network_of(session)->plan->channel_count) return KPN_NO_CHANNEL;
+  kpn_complete(network_of(session), all);
+  *complete = all[channel];
+  return KPN_OK;
+}
+
+uint32_t kpn_verdict(kpn_session *session, uint32_t *verdict) {
+  if (!session || !verdict) return KPN_NULL;
+  *verdict = 0;
+  if (!session->at) return KPN_NO_SESSION;
+  *verdict = kpn_verdict_of(network_of(session));
+  return KPN_OK;
+}
+
+/* Where a trace is written; without a place its length is counted. */
+struct room {
+  char *text;
+  size_t length;
+};
+
+static bool write_to(void *to, const char *text, size_t length) {
+  struct room *room = to;
+  if (room->text) {
+    memcpy(room->text + room->length, text, length);
+  }
+  room->length += length;
+  return true;
+}
+
+uint32_t kpn_trace(kpn_session *session, char *text, size_t room, size_t *length) {
+  if (!session || LACKS(text, room) || !length) return KPN_NULL;
+  *length = 0;
+  if (!session->at) return KPN_NO_SESSION;
+  const struct session *own = session->at;
+  const struct kpn_plan *plan = own->network.plan;
+  struct room counted = {NULL, 0}, written = {text, 0};
+  if (!own->network.history) return KPN_NO_TRACE;
+  if (own->has_lost_events) return KPN_NO_MEMORY;
+  kpn_history_write(&own->history, plan->is_policy_all, plan->is_growth_double, write_to, &counted);
+  *length = counted.length;
+  if (counted.length > room) return KPN_TOO_SMALL;
+  kpn_history_write(&own->history, plan->is_policy_all, plan->is_growth_double, write_to, &written);
+  return KPN_OK;
+}
+
+uint32_t kpn_free(kpn_session *session) {
+  if (!session) return KPN_NULL;
+  if (!session->at) return KPN_NO_SESSION;
+  struct session *own = session->at;
+  kpn_drop_rings(&own->network);
+  kpn_history_free(&own->history);
+  free(own->network.channels);
+  free(own);
+  session->at = NULL;
+  return KPN_OK;
+}

@@ -1,0 +1,427 @@
+/* stream.c: the command `stream`, on items as they come. */
+#define _GNU_SOURCE
+#include <fcntl.h>
+#include <signal.h>
+#include <stdio.h>
+#include <stdlib.h>
+#include <string.h>
+#include <sys/stat.h>
+#include <unistd.h>
+
+#include "devices.h"
+
+/* So many commits are made until the inputs are looked at again, also while processes are ready; and so many at the end
+   of an input that is wrong. */
+enum { SLICE = 65536, LAST_SLICE = 16 * SLICE };
+
+struct stream {
+  struct kpn_run *run;
+  struct kpn_input **inputs;   /* of each channel; null if it is no source */
+  struct kpn_output **outputs; /* of each channel; null if it is no sink */
+  const char **files;          /* of each channel: IN or OUT */
+  int status;                  /* of what is wrong with a device */
+  char wrong[64];              /* its line, without the end */
+  unsigned wrong_channel;
+};
+
+static const struct kpn_plan *plan_of(const struct stream *stream) {
+  return stream->run->network.plan;
+}
+
+static void fail(struct stream *stream, unsigned c, int status, const char *line) {
+  if (stream->status == 0) {
+    stream->status = status;
+    stream->wrong_channel = c;
+    snprintf(stream->wrong, sizeof stream->wrong, "%s", line);
+  }
+}
+
+/* ---- ends */
+
+/* Completes the options: the only source is standard input if it is left out, and the only sink standard output. */
+static int complete_ends(struct stream *stream, enum kpn_kind kind, struct kpn_end *ends, size_t *count) {
+  const struct kpn_plan *plan = plan_of(stream);
+  size_t of_kind = 0;
+  for (unsigned c = 0; c < plan->channel_count; c++) {
+    of_kind += plan->channels[c].kind == kind;
+  }
+  for (size_t k = 0; k < *count; k++) {
+    stream->files[ends[k].channel] = ends[k].file;
+  }
+  for (unsigned c = 0; c < plan->channel_count; c++) {
+    if (plan->channels[c].kind == kind && !stream->files[c]) {
+      if (of_kind != 1) {
+        bool is_source = kind == KPN_SOURCE;
+        return kpn_refuse(KPN_USAGE, "usage: --%s %s=%s", is_source ? "source" : "sink", plan->channels[c].name,
+                          is_source ? "IN" : "OUT");
+      }
+      stream->files[c] = "-";
+    }
+  }
+  return 0;
+}
+
+static bool is_plain(const char *file) {
+  struct stat told;
+  return strcmp(file, "-") != 0 && stat(file, &told) == 0 && S_ISREG(told.st_mode);
+}
+
+static int check_inputs(const struct stream *stream) {
+  const struct kpn_plan *plan = plan_of(stream);
+  for (unsigned c = 0; c < plan->channel_count; c++) {
+    for (unsigned d = 0; d < c; d++) {
+      if (plan->channels[c].kind == KPN_SOURCE && plan->channels[d].kind == KPN_SOURCE &&
+          strcmp(stream->files[c], stream->files[d]) == 0 && !is_plain(stream->files[c])) {
+        return kpn_refuse(KPN_USAGE, "usage: --source NAME=IN, a plain file if two sources have it");
+      }
+    }
+  }
+  return 0;
+}
+
+static int open_inputs(struct stream *stream) {
+  for (unsigned c = 0; c < plan_of(stream)->channel_count; c++) {
+    if (plan_of(stream)->channels[c].kind == KPN_SOURCE) {
+      struct kpn_input *input = calloc(1, sizeof *input);
+      stream->inputs[c] = input;
+      if (!input) {
+        return kpn_refuse(KPN_LACKS_MEMORY, "42 NoMemory");
+      }
+      bool is_standard = strcmp(stream->files[c], "-") == 0;
+      input->from = is_standard ? STDIN_FILENO : open(stream->files[c], O_RDONLY | O_CLOEXEC);
+      if (input->from < 0) {
+        return kpn_refuse(KPN_REFUSED, "26 Read");
+      }
+      input->is_open = true;
+    }
+  }
+  return 0;
+}
+
+static int open_outputs(struct stream *stream) {
+  struct kpn_run *run = stream->run;
+  run->trace.name = run->words.trace;
+  if (run->trace.name && !kpn_file_prepare(&run->trace)) {
+    return kpn_refuse(KPN_REFUSED, "27 Write");
+  }
+  for (unsigned c = 0; c < plan_of(stream)->channel_count; c++) {
+    if (plan_of(stream)->channels[c].kind == KPN_SINK) {
+      struct kpn_output *output = calloc(1, sizeof *output);
+      stream->outputs[c] = output;
+      if (!output) {
+        return kpn_refuse(KPN_LACKS_MEMORY, "42 NoMemory");
+      }
+      bool is_standard = strcmp(stream->files[c], "-") == 0;
+      output->to = is_standard ? STDOUT_FILENO
+                               : open(stream->files[c], O_WRONLY | O_CREAT | O_TRUNC | O_CLOEXEC, 0666);
+      if (output->to < 0) {
+        return kpn_refuse(KPN_REFUSED, "27 Write");
+      }
+      run->sinks_short++;
+    }
+  }
+  return 0;
+}
+
+/* ---- items */
+
+static void take(struct kpn_network *network, unsigned c) {
+  struct stream *stream = network->owner;
+  struct kpn_run *run = stream->run;
+  struct kpn_channel *channel = &network->channels[c];
+  struct kpn_output *output = stream->outputs[c];
+  uint64_t most = run->words.has_take ? run->words.take : UINT64_MAX;
+  bool was_short = output->count < most;
+  while (channel->got != channel->put) {
+    if (output->count < most) {
+      kpn_give_item(output, run->words.format, channel->ring[channel->got & channel->mask]);
+    }
+    channel->got++;
+  }
+  run->sinks_short -= was_short && output->count == most;
+}
+
+static void flush_all(struct stream *stream) {
+  for (unsigned c = 0; c < plan_of(stream)->channel_count; c++) {
+    if (stream->outputs[c]) {
+      kpn_flush(stream->outputs[c]);
+    }
+  }
+}
+
+/* Notes which outputs have failed or gone. False says that the run is over. */
+static bool look_at_outputs(struct stream *stream) {
+  struct kpn_network *network = &stream->run->network;
+  bool has_sink = false, is_read = false;
+  char line[64];
+  for (unsigned c = 0; c < plan_of(stream)->channel_count; c++) {
+    struct kpn_output *output = stream->outputs[c];
+    if (!output) {
+      continue;
+    }
+    if (output->has_failed) {
+      fail(stream, c, KPN_REFUSED, "27 Write");
+    }
+    if (output->has_misfit) {
+      snprintf(line, sizeof line, "54 NoSample of %lld", (long long)output->misfit);
+      fail(stream, c, KPN_REFUSED, line);
+    }
+    if (output->has_gone && !network->channels[c].is_shut) {
+      kpn_leave(network, c);
+    }
+    has_sink = true;
+    is_read = is_read || !output->has_gone;
+  }
+  return stream->status == 0 && (is_read || !has_sink);
+}
+
+/* What stands behind the items of an input: its end, which closes the source, or what is wrong. */
+static void look_behind_items(struct stream *stream, unsigned c, enum kpn_input_state state) {
+  char line[64];
+  if (state == KPN_BAD_ITEM) {
+    snprintf(line, sizeof line, "25 BadItem at %zu", stream->inputs[c]->line);
+    fail(stream, c, KPN_REFUSED, line);
+  } else if (state == KPN_CUT_SAMPLE) {
+    fail(stream, c, KPN_REFUSED, "29 CutSample");
+  } else if (state == KPN_NO_MORE_ITEMS) {
+    stream->inputs[c]->is_open = false;
+    kpn_close(&stream->run->network, c);
+  }
+}
+
+/* Feeds the items whose bytes are there. What stands behind them is looked at only if there are none, since perhaps
+   nobody will ever ask for it. False says that there was nothing to do. */
+static bool feed_what_is_there(struct stream *stream, unsigned c) {
+  struct kpn_network *network = &stream->run->network;
+  struct kpn_input *input = stream->inputs[c];
+  bool has_fed = false;
+  for (;;) {
+    size_t start = input->start, line = input->line;
+    int64_t item;
+    enum kpn_input_state state = kpn_next_item(input, stream->run->words.format, &item);
+    if (state == KPN_ITEM && !kpn_feed_item(network, c, item)) {
+      fail(stream, c, KPN_LACKS_MEMORY, "28 NoMemory");
+      return true;
+    }
+    if (state != KPN_ITEM && has_fed) {
+      input->start = start;
+      input->line = line;
+      kpn_fed(network, c);
+      return true;
+    }
+    if (state != KPN_ITEM) {
+      look_behind_items(stream, c, state);
+      return state != KPN_NO_ITEM_YET;
+    }
+    has_fed = true;
+  }
+}
+
+static void read_more(struct stream *stream, unsigned c) {
+  if (!kpn_read_more(stream->inputs[c])) {
+    fail(stream, c, KPN_REFUSED, "26 Read");
+  }
+}
+
+/* The least open source for whose item somebody waits, or the number of channels. */
+static unsigned awaited_source(const struct stream *stream) {
+  unsigned c = 0, count = (unsigned)plan_of(stream)->channel_count;
+  while (c < count && !(stream->inputs[c] && stream->inputs[c]->is_open &&
+                        stream->run->network.channels[c].reader_waits)) {
+    c++;
+  }
+  return c;
+}
+
+/* Nobody waits for an open source, and none is ready. Under `policy all` a growth may follow once all inputs are used
+   up. */
+static void close_all(struct stream *stream) {
+  struct kpn_network *network = &stream->run->network;
+  for (unsigned c = 0; c < plan_of(stream)->channel_count; c++) {
+    struct kpn_input *input = stream->inputs[c];
+    while (plan_of(stream)->is_policy_all && input && input->is_open && stream->status == 0) {
+      if (!feed_what_is_there(stream, c)) {
+        flush_all(stream);
+        read_more(stream, c);
+      }
+    }
+    if (input && input->is_open) {
+      input->is_open = false;
+      kpn_close(network, c);
+    }
+  }
+}
+
+/* Feeds a source for whose item somebody waits. If it has to wait for the item, all that was computed goes out
+   first. */
+static void serve_source(struct stream *stream, unsigned c) {
+  const struct kpn_input *input = stream->inputs[c];
+  if (feed_what_is_there(stream, c)) {
+    return;
+  }
+  bool is_readable = kpn_is_readable(input);
+  if (is_readable || !stream->run->network.ready_count) {
+    if (!is_readable) {
+      flush_all(stream);
+    }
+    read_more(stream, c);
+  }
+}
+
+/* Looks whether the run is over behind a slice; feeds it if not. */
+static bool is_over(struct stream *stream, uint64_t most) {
+  struct kpn_run *run = stream->run;
+  unsigned source = awaited_source(stream);
+  run->outcome = run->words.has_take && run->sinks_short == 0 ? KPN_ENOUGH : kpn_verdict_of(&run->network);
+  if (run->outcome == KPN_GOING && run->network.commits >= most) {
+    run->outcome = KPN_STOPPED;
+  }
+  if (run->outcome == KPN_ENOUGH || run->outcome == KPN_STOPPED) {
+    return true;
+  }
+  if (source < plan_of(stream)->channel_count) {
+    serve_source(stream, source);
+    return false;
+  }
+  if (run->outcome == KPN_GOING) {
+    return false;
+  }
+  close_all(stream);
+  run->outcome = kpn_verdict_of(&run->network);
+  return run->outcome != KPN_GOING;
+}
+
+/* Goes on until there is an outcome, or a device has failed or gone. What came before a wrong item is computed. */
+static void go(struct stream *stream) {
+  struct kpn_network *network = &stream->run->network;
+  uint64_t most = stream->run->words.has_most_commits ? stream->run->words.most_commits : UINT64_MAX;
+  while (look_at_outputs(stream) && !network->lacks_memory) {
+    uint64_t slice = network->commits + SLICE;
+    kpn_go(network, slice < most ? slice : most);
+    if (is_over(stream, most)) {
+      return;
+    }
+  }
+  if (!network->lacks_memory) {
+    uint64_t slice = network->commits + LAST_SLICE;
+    kpn_go(network, slice < most ? slice : most);
+  }
+  stream->run->outcome = KPN_GOING;
+}
+
+/* ---- the end */
+
+static bool has_fault(const struct kpn_network *network) {
+  for (size_t p = 0; p < network->plan->process_count; p++) {
+    if (network->processes[p].being == KPN_OVER && network->processes[p].why != KPN_DONE) {
+      return true;
+    }
+  }
+  return false;
+}
+
+static bool write_told(void *to, const char *text, size_t length) {
+  (void)to;
+  return kpn_write_all(STDERR_FILENO, text, length);
+}
+
+/* Says how the stream has ended, and gives the status by that. */
+static int conclude(struct stream *stream) {
+  static const int statuses[] = {[KPN_CLOGGED] = 3, [KPN_JAMMED] = 4, [KPN_STOPPED] = 5};
+  struct kpn_run *run = stream->run;
+  const struct kpn_plan *plan = plan_of(stream);
+  bool complete[KPN_MOST_CHANNELS], are_all = true;
+  kpn_complete(&run->network, complete);
+  for (unsigned c = 0; c < plan->channel_count; c++) {
+    struct kpn_output *output = stream->outputs[c];
+    if (!output) {
+      continue;
+    }
+    if (!run->words.is_quiet) {
+      fprintf(stderr, "sink %s: %llu items, %scomplete\n", plan->channels[c].name, (unsigned long long)output->count,
+              complete[c] ? "" : "not ");
+    }
+    are_all = are_all && (complete[c] || output->has_gone ||
+                          (run->words.has_take && output->count >= run->words.take));
+  }
+  if (!run->words.is_quiet) {
+    kpn_report_end(run, write_told, NULL);
+  }
+  if (run->outcome != KPN_ENOUGH && has_fault(&run->network)) {
+    return KPN_FAULTED;
+  }
+  return are_all || run->outcome < KPN_CLOGGED || run->outcome == KPN_ENOUGH ? 0 : statuses[run->outcome];
+}
+
+static int store_trace(struct kpn_run *run) {
+  const struct kpn_plan *plan = run->network.plan;
+  if (run->trace.name && !(kpn_history_write(&run->history, plan->is_policy_all, plan->is_growth_double,
+                                             kpn_file_write, &run->trace) && kpn_file_store(&run->trace))) {
+    return kpn_refuse(KPN_REFUSED, "27 Write");
+  }
+  return 0;
+}
+
+static int run_stream(struct stream *stream) {
+  struct kpn_run *run = stream->run;
+  struct kpn_network *network = &run->network;
+  network->owner = stream;
+  network->taker = take;
+  run->history.most = UINT64_MAX;
+  network->history = run->words.trace ? &run->history : NULL;
+  kpn_begin(network);
+  if (!kpn_reserve_all(network, true)) {
+    return kpn_refuse(KPN_LACKS_MEMORY, "42 NoMemory");
+  }
+  signal(SIGPIPE, SIG_IGN);
+  go(stream);
+  flush_all(stream);
+  look_at_outputs(stream);
+  if (network->lacks_memory) {
+    return kpn_refuse(KPN_LACKS_MEMORY, "42 NoMemory");
+  }
+  if (stream->status) {
+    run->outcome = KPN_GOING;
+  }
+  int status = conclude(stream), stored = store_trace(run);
+  if (stream->status) {
+    unsigned c = stream->wrong_channel;
+    kpn_refuse(0, "%s", stream->wrong);
+    fprintf(stderr, "at --%s %s=%s\n", stream->inputs[c] ? "source" : "sink", plan_of(stream)->channels[c].name,
+            stream->files[c]);
+    return stream->status;
+  }
+  return stored ? stored : status;
+}
+
+int kpn_command_stream(struct kpn_run *run) {
+  size_t count = run->network.plan->channel_count + 1;
+  struct stream stream = {.run = run,
+                          .inputs = calloc(count, sizeof *stream.inputs),
+                          .outputs = calloc(count, sizeof *stream.outputs),
+                          .files = calloc(count, sizeof *stream.files)};
+  int status = KPN_LACKS_MEMORY;
+  if (stream.inputs && stream.outputs && stream.files) {
+    status = kpn_check_outputs(&run->words, true);
+    status = status ? status : kpn_find_ends(run->network.plan, &run->words) ? 0 : KPN_REFUSED;
+    status = status ? status : complete_ends(&stream, KPN_SOURCE, run->words.sources, &run->words.source_count);
+    status = status ? status : complete_ends(&stream, KPN_SINK, run->words.sinks, &run->words.sink_count);
+    status = status ? status : check_inputs(&stream);
+    status = status ? status : open_inputs(&stream);
+    status = status ? status : open_outputs(&stream);
+    status = status ? status : run_stream(&stream);
+  } else {
+    kpn_refuse(status, "42 NoMemory");
+  }
+  for (size_t c = 0; c + 1 < count && stream.inputs && stream.outputs; c++) {
+    free(stream.inputs[c]);
+    free(stream.outputs[c]);
+  }
+  kpn_drop_rings(&run->network);
+  kpn_file_drop(&run->trace);
+  kpn_history_free(&run->history);
+  free(stream.inputs);
+  free(stream.outputs);
+  free(stream.files);
+  return status;
+}

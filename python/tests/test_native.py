@@ -1,0 +1,375 @@
+"""Compiled networks beside `kpn`: the examples, random networks, wrong bodies, words, streams, sessions."""
+import ctypes
+import os
+import pathlib
+import random
+import resource
+import shutil
+import subprocess
+import sys
+import tempfile
+import unittest
+
+from support import GALLERY, PROGRAM, TOP
+
+sys.path.append(str(TOP / 'bench/stress'))
+os.environ.setdefault('CFLAGS', '-std=c11 -O0 -w')
+
+import kpn  # noqa: E402
+import native  # noqa: E402
+from kpn.native import command  # noqa: E402
+from native_networks import MARKS  # noqa: E402
+
+NETWORKS, PROCESSES = 12, 2
+# Wrong bodies: a file of the package, a text that stands there once, and what stands there instead. Each has to be
+# found within 50 random networks.
+WRONG = {
+    'a reader wakes no writer': ('network.h', 'if (channel->writer_waits) {', 'if (0) {'),
+    'a writer wakes no reader': ('network.h', 'if (channel->reader_waits) {',
+                                 'if (channel->reader_waits && channel->reader == KPN_OUTSIDE) {'),
+    'an ended reader wakes no writer': ('network.c', '    }\n    if (channel->writer_waits) {', '    }\n    if (0) {'),
+    'a wait is written late without its growth': ('network.c', 'if (may_grow(network, c)) {', 'if (0) {'),
+    'room for one more': ('network.h', 'channel->room - (channel->put', 'channel->room + 1 - (channel->put'),
+    'two places of a channel inside are one': ('region_text.py', '_{count - first}', '_0'),
+}
+
+
+def compiled(text, folder, *options):
+    """A network as a program of the usual schedule."""
+    (pathlib.Path(folder) / 'net.kpn').write_text(text)
+    words = [sys.executable, '-m', 'kpn.native', 'net.kpn', '-o', 'prog', *options]
+    return subprocess.run(words, cwd=folder, capture_output=True, text=True, env=environment())
+
+
+def environment(package=TOP / 'python'):
+    return {**os.environ, 'KPN_PROGRAM': PROGRAM, 'PYTHONPATH': str(package)}
+
+
+class WithFolder(unittest.TestCase):
+    def setUp(self):
+        made = tempfile.TemporaryDirectory(prefix='kpn-')
+        self.addCleanup(made.cleanup)
+        self.folder = pathlib.Path(made.name)
+
+    def call(self, *words, **more):
+        done = subprocess.run(words, cwd=self.folder, capture_output=True, text=True, env=environment(), **more)
+        return done.returncode, done.stdout, done.stderr
+
+
+@unittest.skipUnless(shutil.which('cc'), 'there is no C compiler')
+class Equal(WithFolder):
+    def test_examples(self):
+        runtime = command.compile_runtime(str(self.folder))
+        files = sorted(file for folder in (TOP / 'examples', TOP / 'examples/worked', GALLERY)
+                       for file in folder.glob('*.kpn') if self.call(PROGRAM, 'check', str(file))[0] == 0)
+        for file in files:
+            with self.subTest(file=file.name), tempfile.TemporaryDirectory(prefix='kpn-') as folder:
+                text, chosen = file.read_text(), random.Random(file.name)
+                lists = {line.split()[1].rstrip(';'): [chosen.randrange(-50, 50) for _ in range(40)]
+                         for line in text.replace(';', ';\n').splitlines() if line.split()[:1] == ['source']}
+                trial = native.Trial(folder, text, lists, runtime)
+                for options in ([], ['--take', '6']):
+                    trial.judge(options)
+
+    def test_operators(self):
+        """Each operator on operands at the edges; a process faults, or its sink gives the value."""
+        runtime, edges = command.compile_runtime(str(self.folder)), (-2**63, -2**63 + 1, -1, 0, 1, 2**63 - 1)
+        for marks in (MARKS[:5], MARKS[5:10], MARKS[10:]):
+            text, network = '', ''
+            for number, mark in enumerate(marks):
+                text += f'process f{number}(out o; par a, b, c, d) {{ x = (a - c); y = (b - d); ' \
+                        f'write o (x {mark} y); write o (-x {mark} !y); }}\n'
+                for k, (x, y) in enumerate((x, y) for x in edges for y in edges):
+                    name = f'z{number}_{k}'
+                    values = max(x, -2**63 + 1), max(y, -2**63 + 1), int(x == -2**63), int(y == -2**63)
+                    network += f'sink {name} cap 1; {name} = f{number}(; {name}; {", ".join(map(str, values))});\n'
+            with self.subTest(marks=marks), tempfile.TemporaryDirectory(prefix='kpn-') as folder:
+                native.Trial(folder, f'{text}network {{\n{network}}}\n', {}, runtime).judge([])
+
+    def test_random_networks(self):
+        found = native.try_networks(NETWORKS, 1, PROCESSES)
+        self.assertNotIsInstance(found, str, found)
+
+    def test_wrong_bodies(self):
+        for name, (file, old, new) in WRONG.items():
+            with self.subTest(name=name):
+                shutil.copytree(TOP / 'include', self.folder / 'include', dirs_exist_ok=True)
+                package = self.folder / name.replace(' ', '_')
+                shutil.copytree(TOP / 'python/kpn', package / 'kpn', ignore=shutil.ignore_patterns('__pycache__'))
+                [edited] = (package / 'kpn/native').rglob(file)
+                text = edited.read_text()
+                self.assertEqual(text.count(old), 1, name)
+                edited.write_text(text.replace(old, new))
+                words = ['50', '1', '--seconds', '20', '--processes', str(PROCESSES), '--schedules', 'fuse']
+                done = subprocess.run([sys.executable, TOP / 'bench/stress/native.py', *words],
+                                      capture_output=True, text=True, env=environment(package))
+                self.assertEqual(done.returncode, 1, f'{name}: {done.stdout}{done.stderr}')
+
+
+@unittest.skipUnless(shutil.which('cc'), 'there is no C compiler')
+class Words(WithFolder):
+    DOUBLE = 'process double(in i; out o) { while 1 { read i x; write o (x * 2); } }\n' \
+             'network { source s; sink z cap 1; d = double(s; z); }\n'
+
+    def setUp(self):
+        super().setUp()
+        self.assertEqual(compiled(self.DOUBLE, self.folder).returncode, 0)
+        (self.folder / 'in').write_text('1\n-2\n4611686018427387904\n')
+        self.report = 'sink z: 2 -4\nfault d overflow\nended\n'
+
+    def run_it(self, *words):
+        return self.call('./prog', 'run', '--source', 's=in', *words)
+
+    def test_report_says_that_nothing_is_proved(self):
+        told = 'kpn: compiled: nothing is proved of the program that runs here\n'
+        self.assertEqual(self.run_it(), (0, self.report, told))
+
+    def test_certified(self):
+        status, out, told = self.run_it('--certify', '--check', 'items')
+        self.assertEqual((status, out), (0, self.report))
+        self.assertIn('kpn: certified: legal, exact\nkpn: checked: the report is that of `kpn run`\n', told)
+        self.assertIn('certified: legal, the first 4 of', self.run_it('--certify', '--events', '4')[2])
+
+    def test_what_kpn_does_not_confirm_is_not_reported(self):
+        for program in ('/bin/true', '/bin/echo', '/nowhere/kpn'):
+            for words in (['--certify'], ['--check', 'items']):
+                done = subprocess.run(['./prog', 'run', '--source', 's=in', *words], cwd=self.folder,
+                                      capture_output=True, text=True, env={**os.environ, 'KPN_PROGRAM': program})
+                self.assertEqual((done.returncode, done.stdout), (9, ''))
+                self.assertRegex(done.stderr, 'kpn: not (certified|checked): ')
+
+    def test_wrong_words(self):
+        for words in (['--workers', '2'], ['--take', '0'], ['--take'], ['--tak', '1'], ['--trace', 'in'],
+                      ['--sink', 'z=in'], ['--sink', 'z'], ['--check', 'all'], ['--take', '1', '--take', '1'],
+                      ['--trace', 'o', '--sink', 'z=o'], ['--trace', 'o', '--sink', 'z=o.kpn-part']):
+            status, out, told = self.run_it(*words)
+            self.assertEqual((status, out), (2, ''), words)
+            self.assertIn('kpn: usage: ', told)
+
+    def test_refused_inputs(self):
+        (self.folder / 'bad').write_text('1\n2x\n')
+        for words, line in ((['--source', 's=bad'], '25 BadItem at 2'), (['--source', 's=nope'], '26 Read'),
+                            (['--source', 't=in'], '22 UnknownName at 0'), (['--trace', 'no/where'], '27 Write'),
+                            (['--source', 's=in', '--source', 's=in'], '23 DoubleName at 1'),
+                            (['--sink', 's=o'], '22 UnknownName at 0')):
+            status, out, told = self.call('./prog', 'run', *words)
+            self.assertEqual((status, out), (1, ''), words)
+            self.assertTrue(told.endswith(f'kpn: {line}\n'), told)
+
+    def test_outputs(self):
+        (self.folder / 'old').write_text('old')
+        (self.folder / 'link').symlink_to('old')
+        self.assertEqual(self.run_it('--trace', 'trace', '--sink', 'z=link')[:2], (0, self.report))
+        self.assertEqual((self.folder / 'old').read_text(), '2\n-4\n')
+        self.assertTrue((self.folder / 'link').is_symlink())
+        self.assertEqual(list(self.folder.glob('*part')), [])
+        wanted = self.call(PROGRAM, 'audit', 'net.kpn', 'trace')[1]
+        self.assertTrue(wanted.startswith('legal\nexact yes\n'), wanted)
+
+    def test_full_device(self):
+        with open('/dev/full', 'w') as full:
+            done = subprocess.run(['./prog', 'run'], cwd=self.folder, stdout=full, stderr=subprocess.PIPE, text=True)
+        self.assertEqual(done.returncode, 1)
+        self.assertTrue(done.stderr.endswith('kpn: 27 Write\n'), done.stderr)
+
+    def test_refused_memory(self):
+        text = 'process p(out o) { while 1 { write o 1; } }\nnetwork { sink z cap 1; a = p(; z); }\n'
+        self.assertEqual(compiled(text, self.folder).returncode, 0)
+        least = 1 << 26
+        for words in (['--take', '1000000000'], ['--trace', 'trace', '--take', '1000000000']):
+            status, out, told = self.call('./prog', 'run', *words, preexec_fn=lambda: resource.setrlimit(
+                resource.RLIMIT_AS, (least, least)))
+            self.assertEqual((status, out), (6, ''))
+            self.assertTrue(told.endswith('kpn: 42 NoMemory\n'), told)
+        self.assertFalse((self.folder / 'trace').exists())
+
+    def test_no_compiler(self):
+        for words, cc in ((['net.kpn', '-o', 'prog'], '/nowhere/cc'), (['net.kpn', '--c', '-o', 'no/where'], 'cc')):
+            done = subprocess.run([sys.executable, '-m', 'kpn.native', *words], cwd=self.folder, capture_output=True,
+                                  text=True, env={**environment(), 'CC': cc})
+            self.assertEqual(done.returncode, 70)
+            self.assertRegex(done.stderr, r'^kpn: there is no file or program (/nowhere/cc|no/where); .*\n$')
+
+    def test_refused_description(self):
+        done = compiled('network { sink z cap 0; }\n', self.folder)
+        self.assertEqual((done.returncode, done.stderr), (1, 'kpn: 13 NoWriter at 0\n'))
+
+
+@unittest.skipUnless(shutil.which('cc'), 'there is no C compiler')
+class Streams(WithFolder):
+    """Streams beside `kpn stream`: outputs, what is told, statuses."""
+    QUOTIENTS = 'process d(in a, b; out o, p) { while 1 { read a x; read b y; write o (x + y); write p (x / y); } }\n' \
+                'network { source a; source b; sink o cap 1; sink p cap 2; d = d(a, b; o, p); }\n'
+
+    def compare(self, words, given=b''):
+        """Runs both programs."""
+        answers = []
+        for program in ([PROGRAM, 'stream', 'net.kpn'], ['./prog', 'stream']):
+            (self.folder / 'out').unlink(missing_ok=True)
+            done = subprocess.run([*program, *words], cwd=self.folder, input=given, capture_output=True, timeout=60)
+            out = (self.folder / 'out').read_bytes() if (self.folder / 'out').exists() else None
+            told = done.stderr.replace(b'kpn: compiled: nothing is proved of the program that runs here\n', b'')
+            answers.append((done.returncode, done.stdout, told, out))
+        self.assertEqual(*answers, words)
+
+    def test_two_sources(self):
+        self.assertEqual(compiled(self.QUOTIENTS, self.folder).returncode, 0)
+        for name, text in (('one', '1\n'), ('three', '1\n2\n0\n'), ('bad', '1\n2\nx\n')):
+            (self.folder / name).write_text(text)
+        ends = ['--sink', 'o=-', '--sink', 'p=out']
+        for a, b in (('one', 'three'), ('three', 'three'), ('three', 'bad'), ('bad', 'one'), ('-', 'three'), ('-', '-'),
+                     ('nope', 'one'), ('out', 'one')):
+            self.compare(['--source', f'a={a}', '--source', f'b={b}', *ends], b'5\n6\n7')
+        self.compare([])
+        self.compare(['--source', 'a=one', '--source', 'b=one', '--sink', 'o=/dev/full', '--sink', 'p=out', '--quiet'])
+        self.compare(['--source', 'a=one', '--source', 'b=one', '--sink', 'o=no/x', '--sink', 'p=out'])
+        self.compare(['--source', 'a=one', '--source', 'c=one', *ends])
+        self.compare(['--source', 'a=one', '--source', 'b=one', '--sink', 'o=-', '--sink', 'p=-'])
+
+    def test_formats(self):
+        self.assertEqual(compiled(Words.DOUBLE, self.folder).returncode, 0)
+        for given in (b'', b'\n', b'1\r\n2\r', b'-9223372036854775809', b'0' * 30, b'007\n-0\n1',
+                      b'4611686018427387904'):
+            self.compare([], given)
+        whole = bytes(range(256)) * 3
+        for format in ('s16le', 's32le', 's64le'):
+            for length in range(20):
+                self.compare(['--format', format, '--sink', 'z=out'], whole[-length:])
+
+    def test_all_leaves_before_a_wait(self):
+        text = 'process mean(in i; out o) { while 1 { read i x; s = (s + x); n = (n + 1); write o (s / n); } }\n' \
+               'process copy(in i; out o) { while 1 { read i x; write o x; } }\n' \
+               'network { source i; channel c cap 9; sink o cap 1; m = mean(i; c); k = copy(c; o); }\n'
+        self.assertEqual(compiled(text, self.folder).returncode, 0)
+        with subprocess.Popen(['./prog', 'stream', '--quiet'], cwd=self.folder, stdin=subprocess.PIPE,
+                              stdout=subprocess.PIPE, bufsize=0) as child:
+            for given, wanted in ((b'4\n', b'4\n'), (b'8\n', b'6\n'), (b'0\n' * 9, b'4\n3\n'), (b'1', b'')):
+                child.stdin.write(given)
+                child.stdin.flush()
+                got = child.stdout.read(len(wanted))
+                self.assertEqual(got, wanted)
+            self.assertEqual(child.communicate()[0], b'2\n2\n1\n1\n1\n1\n1\n1\n')
+
+    def test_reader_has_gone(self):
+        self.assertEqual(compiled(Words.DOUBLE, self.folder).returncode, 0)
+        done = subprocess.run('yes 1 | ./prog stream --trace trace | head -n 3; exit ${PIPESTATUS[1]}', shell=True,
+                              executable='/bin/bash', cwd=self.folder, capture_output=True, text=True)
+        self.assertEqual((done.returncode, done.stdout), (0, '2\n2\n2\n'))
+        self.assertTrue(self.call(PROGRAM, 'audit', 'net.kpn', 'trace')[1].startswith('legal\n'))
+
+
+@unittest.skipUnless(shutil.which('cc'), 'there is no C compiler')
+class Sessions(WithFolder):
+    """The session of kpn.h, called through a shared object."""
+    TEXT = 'process mix(in a, b; out o, p) { while 1 { read a x; write p x; read b y; write o (x + y); } }\n' \
+           'process delay(in i; out o) { write o 0; while 1 { read i x; write o x; } }\n' \
+           'process quit(in i; out o) { k = 0; while (k < 40) { read i x; write o x; k = (k + 1); } }\n' \
+           'network { source a; source b; channel c cap 2; channel d cap 1; sink o cap 2; sink p cap 3;\n' \
+           '  m = mix(a, d; o, c); e = delay(b; d); q = quit(c; p); }\n'
+
+    def setUp(self):
+        super().setUp()
+        done = compiled(self.TEXT, self.folder, '--library')
+        self.assertEqual((done.returncode, done.stderr), (0, ''))
+        whole = ['-Wl,--whole-archive', 'prog', '-Wl,--no-whole-archive']
+        subprocess.run(['cc', '-shared', '-o', 'prog.so', *whole], cwd=self.folder, check=True)
+        self.library = ctypes.CDLL(str(self.folder / 'prog.so'))
+        self.session, self.place = ctypes.c_void_p(), ctypes.create_string_buffer(16)
+        self.assertEqual(self.ask('open', b'', 0, ctypes.byref(self.session), self.place, has_session=False), 0)
+
+    def ask(self, name, *rest, has_session=True):
+        before = [ctypes.byref(self.session)] if has_session else []
+        return getattr(self.library, f'kpn_{name}')(*before, *rest)
+
+    def told(self, name, *rest, kind=ctypes.c_size_t):
+        """What a call tells behind its other words."""
+        told = kind()
+        self.assertEqual(self.ask(name, *rest, ctypes.byref(told)), 0, name)
+        return told.value
+
+    def channel(self, name):
+        return self.told('channel', name.encode(), ctypes.c_size_t(len(name)))
+
+    def take(self, sink, room):
+        items = (ctypes.c_int64 * room)()
+        return items[:self.told('take', ctypes.c_size_t(sink), items, ctypes.c_size_t(room))]
+
+    def test_fed_piece_by_piece(self):
+        self.assertEqual(self.ask('keep_trace'), 0)
+        chosen, given, got = random.Random(2), {'a': [], 'b': []}, {'o': [], 'p': []}
+        for _ in range(200):
+            name = chosen.choice('ab')
+            items = [chosen.randrange(-2**62, 2**62) for _ in range(chosen.randrange(4))]
+            given[name] += items
+            array = (ctypes.c_int64 * len(items))(*items)
+            self.assertEqual(self.told('feed', ctypes.c_size_t(self.channel(name)), array, ctypes.c_size_t(len(items))),
+                             len(items))
+            self.told('step', ctypes.c_uint64(chosen.choice((1, 7, 10000))), kind=ctypes.c_uint64)
+            for sink in got:
+                got[sink] += self.take(self.channel(sink), chosen.randrange(4))
+        for name in given:
+            self.assertEqual(self.ask('close_source', ctypes.c_size_t(self.channel(name))), 0)
+            self.assertEqual(self.ask('close_source', ctypes.c_size_t(self.channel(name))), 44)
+        while self.told('step', ctypes.c_uint64(10000), kind=ctypes.c_uint64):
+            for sink in got:
+                got[sink] += self.take(self.channel(sink), 100)
+        self.judge(given, got)
+
+    def judge(self, given, got):
+        """The items are those of `kpn run`, and the trace is legal."""
+        words = []
+        for name, items in given.items():
+            (self.folder / f'{name}.in').write_text(''.join(f'{it}\n' for it in items))
+            words += ['--source', f'{name}={name}.in']
+        outcome = self.call(PROGRAM, 'run', 'net.kpn', *words, '--sink', 'o=o.out', '--sink', 'p=p.out')[1].split()[-1]
+        for name, items in got.items():
+            self.assertEqual((self.folder / f'{name}.out').read_text(), ''.join(f'{it}\n' for it in items))
+        self.assertEqual((outcome, self.told('verdict', kind=ctypes.c_uint32)), ('clogged', 2))
+        self.assertTrue(self.told('is_complete', ctypes.c_size_t(self.channel('p')), kind=ctypes.c_bool))
+        length = ctypes.c_size_t()
+        self.assertEqual(self.ask('trace', b'', ctypes.c_size_t(0), ctypes.byref(length)), 61)
+        text = ctypes.create_string_buffer(length.value)
+        self.assertEqual(self.told('trace', text, length), length.value)
+        (self.folder / 'trace').write_bytes(text.raw)
+        self.assertTrue(self.call(PROGRAM, 'audit', 'net.kpn', 'trace')[1].startswith('legal\n'))
+        self.assertEqual((self.ask('free'), self.ask('free')), (0, 62))
+
+    def test_faults(self):
+        none, number = ctypes.byref(ctypes.c_size_t()), ctypes.c_size_t
+        self.assertEqual(self.ask('feed', number(4), b'', number(0), none), 43)
+        self.assertEqual(self.ask('take', number(0), b'', number(0), none), 43)
+        self.assertEqual(self.ask('channel', b'x', number(1), none), 64)
+        self.assertEqual(self.ask('channel', b'x', number(1), None), 63)
+        self.assertEqual(self.ask('trace', b'', number(0), none), 66)
+        self.told('step', ctypes.c_uint64(9), kind=ctypes.c_uint64)
+        self.assertEqual(self.ask('keep_trace'), 66)
+        for text, answer in ((self.TEXT.encode(), 0), (b'network {\n}\n', 65)):
+            other = ctypes.c_void_p()
+            self.assertEqual(self.ask('open', text, number(len(text)), ctypes.byref(other), self.place,
+                                      has_session=False), answer)
+        self.assertEqual(self.ask('free'), 0)
+
+
+@unittest.skipUnless(shutil.which('cc'), 'there is no C compiler')
+class Compiles(WithFolder):
+    def test_from_python(self):
+        net = kpn.Network()
+        net.sink('y', kpn.parts.fir(net.source('x'), [1, 4, 6, 4, 1]))
+        program = net.compile(cache=self.folder)
+        self.assertEqual(net.compile(cache=self.folder).path, program.path)
+        self.assertEqual(len(list(self.folder.iterdir())), 1)
+        given = list(range(50))
+        wanted = net.run(given, trace=True)
+        for certify in (False, True):
+            found = program.run(given, trace=True, certify=certify)
+            self.assertEqual((dict(found), found.outcome, found.waits), (dict(wanted), wanted.outcome, wanted.waits))
+        self.assertEqual([row['put'] for row in found.stats.channels], [row['put'] for row in wanted.stats.channels])
+        with self.assertRaisesRegex(kpn.KpnError, 'no --workers'):
+            program.run(given, workers=2)
+        with self.assertRaisesRegex(kpn.KpnError, 'has no sink|no writer'):
+            net.sink('z')
+            net.compile(cache=self.folder)
+
+
+if __name__ == '__main__':
+    unittest.main()

@@ -1,0 +1,80 @@
+"""What `./kpn install` and tools/release.py put together, without the library for C: tools/clib.py tests that."""
+import os
+import pathlib
+import subprocess
+import sys
+import tempfile
+import unittest
+import zipfile
+
+TOP = pathlib.Path(__file__).resolve().parent.parent.parent
+sys.path += [str(TOP / 'tools'), str(TOP / 'python')]
+
+import install  # noqa: E402
+import pages  # noqa: E402
+import wheel_builder  # noqa: E402
+
+PROGRAM = pathlib.Path(os.environ.get('KPN_PROGRAM', pages.PROVED))
+DOUBLES = 'import kpn; print(kpn.find_program()); print(kpn.Network.from_text(open("two.kpn").read()).run()["z"])'
+
+
+def said(*words, **more):
+    return subprocess.run(words, check=True, capture_output=True, text=True, **more).stdout
+
+
+class Installed(unittest.TestCase):
+    def setUp(self):
+        room = tempfile.TemporaryDirectory()
+        self.addCleanup(room.cleanup)
+        self.room = pathlib.Path(room.name)
+
+    def test_program(self):
+        install.tree_of(PROGRAM, None, '').write(self.room / 'prefix')
+        (self.room / 'link').symlink_to('prefix/bin/kpn')
+        two = self.room / 'prefix' / install.DOCUMENTS / 'examples/two.kpn'
+        self.assertEqual(said(self.room / 'link', 'run', two), 'sink z: 312\nended\n')
+
+    def test_settings(self):
+        install.tree_of(PROGRAM, None, '').write(self.room)
+        (self.room / 'lib/kpn/kpn').write_text('#!/bin/sh\necho "$GLIBC_TUNABLES $1"\n')
+        settings = 'glibc.malloc.hugetlb=1:glibc.malloc.mmap_threshold=4194304'
+        plain = {it: value for it, value in os.environ.items() if it != 'GLIBC_TUNABLES'}
+        self.assertEqual(said(self.room / 'bin/kpn', 'a b', env=plain), f'{settings} a b\n')
+        self.assertEqual(said(self.room / 'bin/kpn', 'a b', env={**plain, 'GLIBC_TUNABLES': ''}), ' a b\n')
+
+    def test_again(self):
+        """A second time replaces what is there, also where another file led elsewhere."""
+        (self.room / 'bin').mkdir()
+        (self.room / 'mine').write_text('mine')
+        (self.room / 'bin/kpn').symlink_to('../mine')
+        for _ in range(2):
+            install.tree_of(PROGRAM, None, '').write(self.room)
+        self.assertEqual((self.room / 'mine').read_text(), 'mine')
+        self.assertEqual(said(self.room / 'bin/kpn', '--version'), said(PROGRAM, '--version'))
+
+    def test_licences(self):
+        tree = install.tree_of(PROGRAM, None, '')
+        text = tree.files[f'{install.DOCUMENTS}/licences/README'].decode()
+        for crate in ('clap', 'strsim', 'indexmap'):
+            self.assertIn(f'- {crate}\n', text)
+            self.assertTrue(any(path.startswith(f'{install.DOCUMENTS}/licences/{crate}/') for path in tree.files))
+
+    def test_version(self):
+        self.assertEqual(wheel_builder.VERSION, pages.version_of(PROGRAM))
+
+    def test_wheel(self):
+        name = wheel_builder.build_with_program(self.room, PROGRAM.read_bytes(), {'licenses/x': b''}, 'any', '0')
+        with zipfile.ZipFile(self.room / name) as wheel:
+            wheel.extractall(self.room / 'site')
+            self.assertEqual(wheel.getinfo(wheel_builder.INSIDE).external_attr >> 16, 0o100755)
+            self.assertIn('Tag: py3-none-any', wheel.read('kpn-0.dist-info/WHEEL').decode())
+        inside = self.room / 'site' / wheel_builder.INSIDE
+        inside.chmod(0o755)
+        (self.room / 'two.kpn').write_bytes((TOP / 'examples/two.kpn').read_bytes())
+        env = {it: value for it, value in os.environ.items() if it != 'KPN_PROGRAM'}
+        told = said(sys.executable, '-c', DOUBLES, cwd=self.room, env={**env, 'PYTHONPATH': str(self.room / 'site')})
+        self.assertEqual(told, f'{inside}\n[312]\n')
+
+
+if __name__ == '__main__':
+    unittest.main()
