@@ -17,6 +17,8 @@ extern uint32_t kpn_c_close_source(kpn_session session, size_t source, kpn_sessi
 extern uint32_t kpn_c_step(kpn_session session, uint64_t most, kpn_session *back, uint64_t *commits);
 extern uint32_t kpn_c_take(kpn_session session, size_t sink, int64_t *items, size_t room, kpn_session *back,
                            size_t *taken);
+extern uint32_t kpn_c_move(kpn_session session, const kpn_item *items, size_t count, uint64_t most, kpn_wanted *places,
+                           size_t place_count, kpn_session *back, kpn_amounts *amounts);
 extern uint32_t kpn_c_is_complete(kpn_session session, size_t channel, kpn_session *back, bool *complete);
 extern uint32_t kpn_c_verdict(kpn_session session, kpn_session *back, uint32_t *verdict);
 extern uint32_t kpn_c_trace(kpn_session session, uint8_t *text, size_t room, kpn_session *back, size_t *length);
@@ -86,6 +88,14 @@ uint32_t kpn_take(kpn_session *session, size_t sink, int64_t *items, size_t room
   *taken = 0;
   if (!session->at) return KPN_NO_SESSION;
   return kpn_c_take(*session, sink, AT(items), room, session, taken);
+}
+
+uint32_t kpn_move(kpn_session *session, const kpn_item *items, size_t count, uint64_t most, kpn_wanted *places,
+                  size_t place_count, kpn_amounts *amounts) {
+  if (!session || LACKS(items, count) || LACKS(places, place_count) || !amounts) return KPN_NULL;
+  *amounts = (kpn_amounts){0, 0, 0};
+  if (!session->at) return KPN_NO_SESSION;
+  return kpn_c_move(*session, AT(items), count, most, AT(places), place_count, session, amounts);
 }
 
 uint32_t kpn_is_complete(kpn_session *session, size_t channel, bool *complete) {

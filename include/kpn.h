@@ -14,6 +14,7 @@
      kpn_close_source    says that nothing more comes to a source
      kpn_step      lets processes go on, for so many commits or until none is ready
      kpn_take      takes what came to a sink
+     kpn_move      feeds, steps and takes in one call: the fastest way in lock step with a simulator
      kpn_is_complete     whether nothing more ever comes to a channel
      kpn_verdict   how the run has come to a stop, if it has
      kpn_trace     what has happened so far, as the text that `kpn audit` reads
@@ -26,8 +27,8 @@
      - A null pointer, a wrong number and a session that was freed are faults, also if there is nothing to feed or take.
        (A pointer to 0 items may be null.)
      - A buffer that is too small is a fault. The call then changes no buffer, and tells the sizes that are needed.
-     - Memory that is refused is a fault. `kpn_feed`, `kpn_step` and `kpn_take` tell how much they had done before; all
-       other calls leave the session as it was. A process whose commit was refused is ready again.
+     - Memory that is refused is a fault. `kpn_feed`, `kpn_step`, `kpn_take` and `kpn_move` tell how much they had done
+       before; all other calls leave the session as it was. A process whose commit was refused is ready again.
      - No call waits, starts a thread or writes anywhere but to its buffers. No call takes longer than its work: a
        process makes at most 1,000 steps in a commit.
 
@@ -138,6 +139,30 @@ uint32_t kpn_step(kpn_session *session, uint64_t most, uint64_t *commits);
 
 /* Takes as many items as there are and as there is room for, and tells how many. */
 uint32_t kpn_take(kpn_session *session, size_t sink, int64_t *items, size_t room, size_t *taken);
+
+/* An item for a source. */
+typedef struct {
+  size_t channel;
+  int64_t item;
+} kpn_item;
+
+/* A place for the next item of a sink. `has_item` is told: whether one was there. */
+typedef struct {
+  size_t channel;
+  int64_t item;
+  bool has_item;
+} kpn_wanted;
+
+typedef struct {
+  size_t fed;       /* how many items were fed */
+  uint64_t commits; /* how many commits were made */
+  size_t served;    /* how many places have an item, or the note that none was there */
+} kpn_amounts;
+
+/* Feeds each item to its source, steps, and serves each place, all in order: what kpn_feed, kpn_step and kpn_take do in
+   several calls. At a fault it stops where it is, and what it had done stays. */
+uint32_t kpn_move(kpn_session *session, const kpn_item *items, size_t count, uint64_t most, kpn_wanted *places,
+                  size_t place_count, kpn_amounts *amounts);
 uint32_t kpn_is_complete(kpn_session *session, size_t channel, bool *complete);
 
 /* 0 if the run has not come to a stop, or KPN_ENDED, KPN_CLOGGED or KPN_JAMMED. */

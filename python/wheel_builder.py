@@ -13,10 +13,12 @@ METADATA = '''Metadata-Version: 2.1
 Name: kpn
 Version: {version}
 Summary: Kahn process networks, built in Python and run by the program kpn of Combrieks
+License: not chosen yet
 Requires-Python: >=3.9
 Description-Content-Type: text/markdown
 
 '''
+SUFFIXES = ('.py', '.c', '.h', '.js', '.css', '.html')
 ANY = 'py3-none-any'
 WHEEL = 'Wheel-Version: 1.0\nGenerator: wheel_builder\nRoot-Is-Purelib: {pure}\nTag: {tag}\n'
 # The program in a wheel, and the command that calls it.
@@ -46,7 +48,7 @@ def write(folder, files, more=(), tag=ANY, version=VERSION):
 
 def package():
     """The files of the package by their paths."""
-    files = [it for it in sorted((HERE / NAME).rglob('*')) if it.suffix in ('.py', '.c', '.h') or it.name == 'py.typed']
+    files = [it for it in sorted((HERE / NAME).rglob('*')) if it.suffix in SUFFIXES or it.name == 'py.typed']
     found = {it.relative_to(HERE).as_posix(): it.read_bytes() for it in files}
     found[f'{NAME}/native/runtime/kpn.h'] = (HERE.parent / 'include/kpn.h').read_bytes()
     return found

@@ -104,7 +104,10 @@ def try_edits(crate, kit, room, names):
 
 
 def main():
-    if len(sys.argv) < 2 or sys.argv[1] in ('-h', '--help'):
+    if sys.argv[1:2] in (['-h'], ['--help']):
+        print(__doc__)
+        return 0
+    if len(sys.argv) < 2:
         sys.exit(__doc__)
     name, *flags = sys.argv[1:]
     crates, kit = prover.read_crates(TOP), prover.find_kit()

@@ -8,7 +8,8 @@ yet. The libraries below it are those of the tree of KPN_BASE, or else of this t
 that lack. `headers` compares include/kpn.h, c/kpn.c and the exports of `kpn_c`,
 and needs no build. `test` does that too, and then compares drivers in C, in Rust by cargo and in Python by ctypes with
 the program: on the examples, on N random networks, under AddressSanitizer and valgrind, with each memory request
-refused in turn, and with a million items. It is no part of the gate.
+refused in turn, and with a million items. It also builds c/wrapper.cpp by the C++ compilers that are there. It is no
+part of the gate.
 """
 import argparse
 import ctypes
@@ -17,6 +18,7 @@ import pathlib
 import random
 import re
 import resource
+import shutil
 import subprocess
 import sys
 import tempfile
@@ -98,10 +100,14 @@ TYPES = {
     '&mut [i64]': ['int64_t *', 'size_t '], '&mut [usize]': ['size_t *', 'size_t '], 'usize': ['size_t '],
     'u64': ['uint64_t '], '&mut usize': ['size_t *'], '&mut u64': ['uint64_t *'], '&mut u32': ['uint32_t *'],
     '&mut bool': ['bool *'], '&Limits': ['const kpn_limits *'], '&mut Ran': ['kpn_ran *'],
-    '&mut Place': ['kpn_place *'], 'Held': ['kpn_session '], '&mut Held': ['kpn_session *'],
+    '&[Item]': ['const kpn_item *', 'size_t '], '&mut [Wanted]': ['kpn_wanted *', 'size_t '],
+    '&mut Amounts': ['kpn_amounts *'], '&mut Place': ['kpn_place *'], 'Held': ['kpn_session '],
+    '&mut Held': ['kpn_session *'],
 }
-FIELDS = {'u32': 'uint32_t', 'u64': 'uint64_t', 'usize': 'size_t', 'bool': 'bool', '*mut u8': 'void *'}
-STRUCTS = {'Limits': 'kpn_limits', 'Ran': 'kpn_ran', 'Place': 'kpn_place', 'Held': 'kpn_session'}
+FIELDS = {'u32': 'uint32_t', 'i64': 'int64_t', 'u64': 'uint64_t', 'usize': 'size_t', 'bool': 'bool',
+          '*mut u8': 'void *'}
+STRUCTS = {'Limits': 'kpn_limits', 'Ran': 'kpn_ran', 'Place': 'kpn_place', 'Held': 'kpn_session', 'Item': 'kpn_item',
+           'Wanted': 'kpn_wanted', 'Amounts': 'kpn_amounts'}
 
 
 def exports(text):
@@ -134,7 +140,8 @@ def check_headers():
     same('prototypes', *pairs)
     same('a guard for each', {f'kpn_c_{it[4:]}' for it in pairs[0]}, set(exports(rattle)))
     for name, other in STRUCTS.items():
-        body = re.search(rf'pub struct {name} {{(.*?)\n}}', rattle, re.S).group(1)
+        head = rf'#\[repr\(C\)\]\n#\[derive\([\w, ]+\)\]\npub struct {name} {{(.*?)\n}}'
+        body = re.search(head, rattle, re.S).group(1)
         ours = [FIELDS[it] for it in re.findall(r'^    (?:pub )?\w+: (\*mut u8|\w+),', body, re.M)
                 if it != 'Global']
         body = re.search(rf'typedef struct {{((?:(?!typedef).)*?)}} {other};', header, re.S).group(1)
@@ -442,6 +449,35 @@ class Tests:
                 sys.exit(f'refused at {number}: {codes}\n{got[1]}')
         print(f'refused memory: {counts}')
 
+    def moves_refused(self, chance, networks=3, most=400):
+        """A driver of kpn_move goes on where a refusal has stopped it, and prints the same."""
+        call('cc', *STRICT, '-o', self.room / 'moves', TOP / 'c/moves.c', self.folder / 'libkpn.a')
+        for _ in range(networks):
+            text = random_networks.network(chance)[0].encode()
+            (self.room / 'net').write_bytes(text)
+            ends = [','.join(declared_as(kind, text)) or '-' for kind in (b'source', b'sink')]
+            wanted = self.answer([self.room / 'moves'], ['net', *ends, 12])
+            for number in range(1, most):
+                more = {**os.environ, 'LD_PRELOAD': str(self.room / 'refuse.so'), 'FIRST': str(number),
+                        'LAST': str(number)}
+                got = self.answer([self.room / 'moves'], ['net', *ends, 12], env=more)
+                if got[0] != 2:
+                    same(f'moves, refused at {number}', wanted, got)
+        print(f'moves: {networks} networks, each of {most} requests refused in turn, print the same')
+
+    def wrapper(self):
+        """kpn.hpp by the compilers that are there, under sanitizers, and the examples."""
+        for compiler in filter(shutil.which, ('g++', 'clang++')):
+            words = ['-std=c++17', '-O1', '-Wall', '-Wextra', '-Wpedantic', '-Werror', '-I', TOP / 'include']
+            made = self.room / compiler
+            call(compiler, *words, '-fsanitize=address,undefined', '-o', made, TOP / 'c/wrapper.cpp',
+                 self.folder / 'libkpn.a')
+            same(compiler, (0, 'wrapper: as by hand\n'), self.answer([made], [])[:2])
+            print(f'kpn.hpp by {compiler}: as by hand')
+        for name, last in (('plant', 'step 200'), ('tanks', '299 ')):
+            call('cc', *STRICT, '-o', self.room / name, TOP / f'examples/c/{name}.c', self.folder / 'libkpn.a')
+            same(name, True, self.answer([self.room / name], [])[1].splitlines()[-1].startswith(last))
+
     def million(self):
         """A million items through a session, beside the program, in processor time."""
         words = [*STRICT, '-o', self.room / 'million', TOP / 'c/million.c', self.folder / 'libkpn.a']
@@ -487,8 +523,10 @@ def main():
             tests.random(asked.networks, chance)
             tests.under_tools(chance)
             tests.refused(*[it.encode() if isinstance(it, str) else it for it in random_networks.network(chance)])
+            tests.moves_refused(chance)
+            tests.wrapper()
             tests.million()
 
 
 if __name__ == '__main__':
-    main()
+    prover.end_with(main)

@@ -3,6 +3,7 @@
 channel holds and every process does at the start and after each event, and which processes the event woke. Another
 program than the proved one (histories.py) computes it, only from the history.
 """
+import argparse
 import pathlib
 
 import histories
@@ -69,6 +70,7 @@ def replayed(section):
 
 
 def main():
+    argparse.ArgumentParser(description=__doc__, formatter_class=argparse.RawDescriptionHelpFormatter).parse_args()
     sections = (FOLDER / 'stdin').read_text().split('\n.\n')[:-1]
     (FOLDER / 'stdout').write_text(''.join(replayed(f'{section}\n') for section in sections))
 

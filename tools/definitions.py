@@ -8,6 +8,7 @@ Without a crate it prints those of all, and it is run by hand. It leaves out two
 not public, and those that only contracts of private functions cite, which their file or a heading in it calls
 scaffolding.
 """
+import argparse
 import pathlib
 import re
 import sys
@@ -60,10 +61,13 @@ def listed(crates):
 
 def main():
     crates = {it.name: it for it in sorted((TOP / 'crates').iterdir()) if it.name.startswith('kpn')}
-    unknown = [name for name in sys.argv[1:] if name not in crates]
+    parser = argparse.ArgumentParser(description=__doc__, formatter_class=argparse.RawDescriptionHelpFormatter)
+    parser.add_argument('crates', nargs='*', metavar='CRATE')
+    asked = parser.parse_args().crates
+    unknown = [name for name in asked if name not in crates]
     if unknown:
         sys.exit(f'no crate of the program is named {", ".join(unknown)}')
-    print(listed([crates[name] for name in sys.argv[1:] or crates]))
+    print(listed([crates[name] for name in asked or crates]))
 
 
 if __name__ == '__main__':

@@ -10,6 +10,7 @@
 - The table of crates has to have as many edits and tests of each crate as there are.
 - No line is longer than 120 columns, except rows of tables.
 """
+import argparse
 import pathlib
 import re
 import sys
@@ -150,6 +151,7 @@ def wrong_counts(document):
 
 
 def main():
+    argparse.ArgumentParser(description=__doc__, formatter_class=argparse.RawDescriptionHelpFormatter).parse_args()
     files = list(files_of_project())
     paths = {str(file.relative_to(TOP)) for file in [*files, *TOP.iterdir()]}
     words, wrong = known_words(files), []

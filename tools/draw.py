@@ -6,9 +6,9 @@ warning. It is run by hand, and needs the program `dot` (in Debian the package g
 
 The pictures go to FOLDER, if there is one. Those of PICTURES, which README and GUIDE show, go to docs/pictures/ too.
 """
+import argparse
 import pathlib
 import subprocess
-import sys
 import tempfile
 
 TOP = pathlib.Path(__file__).resolve().parent.parent
@@ -57,10 +57,13 @@ def write(path, picture):
 
 
 def main():
+    parser = argparse.ArgumentParser(description=__doc__, formatter_class=argparse.RawDescriptionHelpFormatter)
+    parser.add_argument('folder', nargs='?', type=pathlib.Path)
+    folder = parser.parse_args().folder
     for example in sorted(EXAMPLES.glob('*.kpn')):
         picture = svg(kpn('draw', example))
-        for folder in sys.argv[1:]:
-            write(pathlib.Path(folder) / f'{example.stem}.svg', picture)
+        if folder:
+            write(folder / f'{example.stem}.svg', picture)
     for name, (example, words) in PICTURES.items():
         file = EXAMPLES / example
         picture = svg(kpn('draw', file) if words is None else drawing_after(file, words))

@@ -310,6 +310,7 @@ def wrong_claims(rows):
 
 
 def main():
+    argparse.ArgumentParser(description=__doc__, formatter_class=argparse.RawDescriptionHelpFormatter).parse_args()
     given, wanted = FOLDER / 'stdin', FOLDER / 'stdout'
     by_hand, mark, lines = given.read_text().rpartition(EXAMPLES)
     answered_by_hand = wanted.read_text().rpartition(EXAMPLES)[0]

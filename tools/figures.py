@@ -70,8 +70,10 @@ def advice(audit, bounded, free, c):
     if last is None:
         return ''
     number = min(bounded.needed(c), last) if bounded.length == free.length else free.needed(c)
-    would, has = ('keeps', '') if number <= last else ('would keep', f', and it has {last}')
-    return f'{audit.network.channels[c]}: {number} {would} the run as short as it can be{has}\n'
+    said, limit = f'{audit.network.channels[c]}: cap {number}', audit.network.growing.limit
+    if number > limit:
+        return f'{said} would be advised, but the limit is {limit}\n'
+    return f'{said} is advised' + (f', and it has {last}' if number > last else '') + '\n'
 
 
 def in_ticks(count):
@@ -162,8 +164,18 @@ def drawing(network, trace=None, across=False):
 
 # ---- what is said of a legal history that is not exact
 
-def sink_line(audit, c, is_complete, may_continue):
-    more = 'a longer run' if may_continue else 'more room (`cap`, `limit`)'
+def what_lacks(audit, complete):
+    """What may put more on a sink: turns, input or room."""
+    network = audit.network
+    if any(not audit.has_ended(p) and audit.blocked(p) is None for p in range(len(network.instances))):
+        return 'a longer run'
+    awaited = [wait[1] for wait in audit.waits() if wait and wait[0] == 'empty']
+    if any(network.kinds[c] == 'source' and not complete[c] for c in awaited):
+        return 'more input'
+    return 'more room (`cap`, `limit`)'
+
+
+def sink_line(audit, c, is_complete, more):
     said = 'complete: nothing more is ever put there' if is_complete else f'not complete: {more} may put more there'
     return f'`{audit.network.channels[c]}` is {said}\n'
 
@@ -192,7 +204,7 @@ def explained(network, trace):
     if audit.is_quiet():
         return audit.text()
     complete = audit.complete()
-    may_continue = any(not audit.has_ended(p) and audit.blocked(p) is None for p in range(len(network.instances)))
-    sinks = [sink_line(audit, c, complete[c], may_continue) for c in network.of_kind('sink')]
+    more = what_lacks(audit, complete)
+    sinks = [sink_line(audit, c, complete[c], more) for c in network.of_kind('sink')]
     full = [unread_line(audit, wait[1], complete) for wait in audit.waits() if wait and wait[0] == 'full']
     return audit.text() + ''.join(sinks + full)

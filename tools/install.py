@@ -20,6 +20,8 @@ import prover
 
 TOP = pathlib.Path(__file__).resolve().parent.parent
 DOCUMENTS = 'share/doc/kpn'
+# What the kit's sources say of tables that are Unicode's.
+UNICODE = 'Unicode License'
 # Documents for those who change Combrieks.
 FOR_DEVELOPERS = ('ARCHITECTURE.md', 'DECISIONS.md', 'PROVING.md', 'WORDS.md')
 WRAPPER = '''#!/bin/sh
@@ -37,11 +39,18 @@ Version: {version}
 Cflags: -I${{prefix}}/include
 Libs: -L${{prefix}}/lib -l:libkpn.a
 '''
-LICENCES = '''The program and the libraries have parts of these crates of the Rattle kit:
+UNLICENSED = '''The licence of Combrieks itself is not chosen yet: its owner has to choose one. Until then
+nobody is given a right to copy, to change or to pass on what is its own here.
+'''
+LICENCES = UNLICENSED + '''
+The program and the libraries also have parts of these crates of the Rattle kit:
 
 {named}
 
-Their licences are in the folders here. The kit states no licence for {others}.
+Their licences are in the folders here. The kit states no licence for {others} as a whole.
+Sources of {noticed} name licences of what they were made from, in NOTICES here. The program also has start
+files of glibc and of GCC. Their licences, the LGPL and the GPL, have exceptions for what is linked
+with such files, and the kit has no text of them.
 '''
 
 
@@ -66,12 +75,22 @@ class Tree:
         """Puts all of it below a prefix, in place of what stands there."""
         for path in [*self.files, *self.links]:
             (prefix / path).parent.mkdir(parents=True, exist_ok=True)
-            (prefix / path).unlink(missing_ok=True)
-        for path, data in self.files.items():
-            (prefix / path).write_bytes(data)
-            (prefix / path).chmod(self.mode(path))
-        for path, target in self.links.items():
-            (prefix / path).symlink_to(target)
+            made = (prefix / path).with_name(f'.{os.getpid()}.kpn')
+            try:
+                self.put(path, made)
+                made.replace(prefix / path)
+            except OSError as error:
+                made.unlink(missing_ok=True)
+                raise OSError(error.errno, error.strerror, prefix / path) from None
+
+    def put(self, path: str, made: pathlib.Path) -> None:
+        """Makes a file or a link of the tree."""
+        made.unlink(missing_ok=True)
+        if path in self.links:
+            made.symlink_to(self.links[path])
+        else:
+            made.write_bytes(self.files[path])
+            made.chmod(self.mode(path))
 
 
 def kit_crates(kit: pathlib.Path, roots: list[prover.Crate]) -> list[str]:
@@ -88,15 +107,32 @@ def kit_crates(kit: pathlib.Path, roots: list[prover.Crate]) -> list[str]:
     return sorted(found)
 
 
+def notices_of(folder: pathlib.Path) -> str:
+    """The comments in the sources of a crate that name a licence, each below the name of its file."""
+    found = []
+    for file in sorted((folder / 'src').rglob('*.rt')):
+        blocks = re.findall(r'(?:^//.*\n)+', file.read_text(errors='replace'), re.M)
+        found += [f'{file.relative_to(folder)}\n\n{re.sub(r"^// ?", "", it, flags=re.M)}' for it in blocks
+                  if re.search('licen[cs]e', it, re.I)]
+    return '\n'.join(found)
+
+
 def add_licences(tree: Tree, kit: pathlib.Path) -> None:
     known = prover.read_crates(TOP)
-    named, others = [], []
+    named, others, noticed = [], [], []
     for name in kit_crates(kit, [known['kpn'], known['kpn_c']]):
-        texts = sorted((kit / 'rattle' / name).glob('LICENSE*'))
+        folder, place = kit / 'rattle' / name, f'{DOCUMENTS}/licences/{name}'
+        texts, notices = sorted(folder.glob('LICENSE*')), notices_of(folder)
         (named if texts else others).append(name)
         for text in texts:
-            tree.copy(text, f'{DOCUMENTS}/licences/{name}/{text.name}')
-    text = LICENCES.format(named='\n'.join(f'- {it}' for it in named), others=', '.join(others))
+            tree.copy(text, f'{place}/{text.name}')
+        if notices and not texts:
+            noticed.append(name)
+            tree.files[f'{place}/NOTICES'] = notices.encode()
+            if UNICODE in notices:
+                tree.copy(kit / 'rattle/unicode/LICENSE-UNICODE', f'{place}/LICENSE-UNICODE')
+    text = LICENCES.format(named='\n'.join(f'- {it}' for it in named), others=', '.join(others),
+                           noticed=', '.join(noticed))
     tree.files[f'{DOCUMENTS}/licences/README'] = text.encode()
 
 
@@ -124,6 +160,8 @@ def tree_of(program: pathlib.Path, library: pathlib.Path | None, date: str) -> T
     tree.copy(program, 'lib/kpn/kpn')
     tree.files['bin/kpn'] = (WRAPPER + launcher[launcher.index(SETTINGS):]).encode()
     tree.files.update({path: text.encode() for path, text in pages.files(program, version, date).items()})
+    if program.read_bytes() != tree.files['lib/kpn/kpn']:
+        sys.exit(f'kpn: {program} has changed meanwhile: call this once more')
     if library:
         add_library(tree, library, version)
     add_documents(tree)
@@ -152,4 +190,4 @@ def main() -> None:
 
 
 if __name__ == '__main__':
-    main()
+    prover.end_with(main)

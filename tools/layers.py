@@ -5,10 +5,10 @@ A body counts if it is one call, with or without `?`, whose receiver and argumen
 borrowed or not. Functions in impls of traits do not count, and neither do the calls that the library offers to its
 users, which are named below. With -v it prints each function with its body. It depends on the layout of `rt fmt`.
 """
+import argparse
 import collections
 import pathlib
 import re
-import sys
 
 TOP = pathlib.Path(__file__).resolve().parent.parent
 BESIDE = re.compile(r'(check_|bench_|test_|commit_)')
@@ -77,6 +77,9 @@ def hands_on(names, body):
 
 
 def main():
+    parser = argparse.ArgumentParser(description=__doc__, formatter_class=argparse.RawDescriptionHelpFormatter)
+    parser.add_argument('-v', action='store_true', dest='shows_all')
+    shows_all = parser.parse_args().shows_all
     found, all_of_them = collections.Counter(), 0
     for file in sorted(TOP.glob('crates/*/src/**/*.rt')):
         crate = file.relative_to(TOP / 'crates').parts[0]
@@ -87,7 +90,7 @@ def main():
             if of_trait or name in OFFERED.get(crate, '').split() or not hands_on(names, body):
                 continue
             found[crate] += 1
-            if '-v' in sys.argv:
+            if shows_all:
                 print(f'{file.relative_to(TOP)}:{line}: {name}: {" ".join(it.strip() for it in body)}')
     print(f'{found.total()} of {all_of_them} functions only hand on: ' + ', '.join(f'{n} in {it}' for it, n in found.most_common()))
 

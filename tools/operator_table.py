@@ -5,6 +5,7 @@ answer. It computes with whole numbers that have no bound.
 It also writes the lines of crates/check_examples below the heading `# Operators in processes`: the same operators in
 assignments, with a variable or a number on each side, and the comparisons as tests. Each pair without a value has a
 process of its own."""
+import argparse
 import pathlib
 
 LEAST, MOST = -2**63, 2**63 - 1
@@ -107,6 +108,7 @@ def write_between(file, lines):
 
 
 def main():
+    argparse.ArgumentParser(description=__doc__, formatter_class=argparse.RawDescriptionHelpFormatter).parse_args()
     table = list(rows())
     (CRATES / 'check_operators/stdin').write_text(''.join(f'{line}\n' for line, _ in table))
     (CRATES / 'check_operators/stdout').write_text(''.join(f'{wanted}\n' for _, wanted in table))

@@ -14,6 +14,9 @@ import dataclasses
 import pathlib
 import re
 import subprocess
+import sys
+
+import prover
 
 TOP = pathlib.Path(__file__).resolve().parent.parent
 PROVED = TOP / 'crates/kpn/out/kpn'
@@ -262,7 +265,10 @@ def files(program: pathlib.Path, version: str, date: str) -> dict[str, str]:
 
 
 def version_of(program: pathlib.Path) -> str:
-    return said(program, '--version').split()[1]
+    told = said(program, '--version')
+    if not re.fullmatch(r'kpn \d+(\.\d+)*\n', told):
+        sys.exit(f'{program} is not the program kpn')
+    return told.split()[1]
 
 
 def main() -> None:
@@ -277,4 +283,4 @@ def main() -> None:
 
 
 if __name__ == '__main__':
-    main()
+    prover.end_with(main)

@@ -1,6 +1,7 @@
 """What crates.txt says of the crates, and how to call the prover for one of them: in the words that `rt` uses, but over
 libraries in a folder of the caller's. `build.py` and `gate.py` use it.
 """
+import os
 import pathlib
 import subprocess
 import sys
@@ -24,6 +25,24 @@ def find_kit():
         print('\nkpn: interrupted', file=sys.stderr)
         sys.exit(130)
     sys.exit(f'kpn: the Rattle toolchain does not run: `rt doc`: {why}')
+
+
+def end_with(main):
+    """A failing file, a failing program or an interrupt is told in a line."""
+    try:
+        status = main()
+        if sys.stdout:
+            sys.stdout.flush()
+    except OSError as error:
+        # What is still to be written goes nowhere: it would fail again.
+        os.dup2(os.open(os.devnull, os.O_WRONLY), 1)
+        status = f'kpn: {error.filename or "a file"}: {error.strerror or error}'
+    except subprocess.CalledProcessError as error:
+        status = '\n'.join(filter(None, [error.stderr, f'kpn: {error.cmd[0]} ended with status {error.returncode}']))
+    except KeyboardInterrupt:
+        print('\nkpn: interrupted', file=sys.stderr)
+        status = 130
+    sys.exit(status)
 
 
 def could_not(error):

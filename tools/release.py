@@ -55,8 +55,12 @@ The sums above are of the files in bin/ and lib/. In a clone of Combrieks, with 
     rt ci                             # proves everything from nothing, tries the wrong bodies, and runs all tests
     tools/release.py OUT              # builds the program and the library, and tells their sums
 
-docs/GUARANTEES.md says what is proved, and README.md what is trusted. The licences of what the program has from the
-kit are in share/doc/kpn/licences.
+docs/GUARANTEES.md says what is proved, and README.md what is trusted.
+
+The licence
+-----------
+
+{unlicensed}The licences of what the program has from the kit are in share/doc/kpn/licences.
 '''
 PACKED = '''
 How to install it
@@ -100,8 +104,9 @@ CHANGELOG = '''kpn ({version}) unstable; urgency=low
 
  -- {maintainer}  {date}
 '''
-COPYRIGHT = '''The package has Combrieks, whose repository states no licence, and parts of crates of the Rattle kit. The
-file licences/README beside this one names these crates, and licences/ has the texts of their licences.
+COPYRIGHT = install.UNLICENSED + '''
+The package also has parts of crates of the Rattle kit. The file licences/README beside this one names these crates, and
+licences/ has the texts of their licences.
 Where such a text is the Apache License 2.0, it is also in /usr/share/common-licenses/Apache-2.0. These are the
 notices in them:
 
@@ -116,19 +121,19 @@ kpn: unstripped-static-library
 class Origin:
     """What a release was made from."""
 
-    def __init__(self, program: pathlib.Path, is_proved: bool) -> None:
-        self.program, self.is_proved = program, is_proved
+    def __init__(self, program: pathlib.Path, library: pathlib.Path | None, is_proved: bool) -> None:
+        self.program, self.library, self.is_proved = program, library, is_proved
         self.version = pages.version_of(program) + ('' if is_proved else '+unproved')
         self.commit = git('rev-parse', 'HEAD')
         self.maintainer = git('log', '-1', '--format=%cn <%ce>')
         self.time = int(git('log', '-1', '--format=%ct'))
         self.kit, _, self.logic = (prover.find_kit() / 'KIT-ID').read_text().split()[:3]
-        self.glibc = least_glibc(program)
+        self.glibc = least_glibc([program, *([library / clib.SHARED] if library else [])])
 
-    def text(self, tree: install.Tree, name: str) -> str:
+    def text(self, tree: install.Tree) -> str:
         parts = {path: data for path, data in tree.files.items() if path.startswith(('bin/', 'lib/'))}
         how = 'whose program is proved' if self.is_proved else 'of which nothing is proved: it is made to be tried'
-        return ORIGIN.format(**vars(self), how=how, name=name, sums=sums_of(parts))
+        return ORIGIN.format(**vars(self), how=how, sums=sums_of(parts), unlicensed=install.UNLICENSED)
 
 
 def git(*words: str) -> str:
@@ -139,13 +144,16 @@ def sums_of(files: dict[str, bytes]) -> str:
     return '\n'.join(f'{hashlib.sha256(data).hexdigest()}  {path}' for path, data in sorted(files.items()))
 
 
-def least_glibc(program: pathlib.Path) -> str:
-    """The earliest version of glibc that has all that a program takes from it."""
-    told = subprocess.run(['objdump', '-p', program], check=True, capture_output=True, text=True).stdout
-    others = set(re.findall(r'NEEDED +(\S+)', told)) - SYSTEM
-    if others:
-        sys.exit(f'{program} needs {", ".join(sorted(others))}: it is no release for other systems')
-    return max(re.findall(r'GLIBC_(\d+\.\d+)', told), key=lambda it: [int(part) for part in it.split('.')])
+def least_glibc(files: list[pathlib.Path]) -> str:
+    """The earliest version of glibc that has all that programs and shared objects take from it."""
+    versions: list[str] = []
+    for file in files:
+        told = subprocess.run(['objdump', '-p', file], check=True, capture_output=True, text=True).stdout
+        others = set(re.findall(r'NEEDED +(\S+)', told)) - SYSTEM
+        if others:
+            sys.exit(f'{file} needs {", ".join(sorted(others))}: it is no release for other systems')
+        versions += re.findall(r'GLIBC_(\d+\.\d+)', told)
+    return max(versions, key=lambda it: [int(part) for part in it.split('.')])
 
 
 def add_files(archive: tarfile.TarFile, tree: install.Tree, top: str, time: int) -> None:
@@ -173,7 +181,8 @@ def make_archive(out: pathlib.Path, tree: install.Tree, name: str, time: int) ->
 
 def notices_in(tree: install.Tree) -> str:
     texts = [(path.split('/')[-2], data.decode()) for path, data in tree.files.items() if '/licences/' in path]
-    return '\n'.join(f'{crate}: {it}' for crate, text in texts for it in re.findall(r'^Copyright \(c\).*', text, re.M))
+    pattern = re.compile(r'^Copyright (?:\(c\)|©).*', re.M)
+    return '\n'.join(f'{crate}: {it}' for crate, text in texts for it in pattern.findall(text))
 
 
 def packed(text: str) -> bytes:
@@ -230,10 +239,10 @@ def make_wheel(out: pathlib.Path, tree: install.Tree, origin: Origin) -> pathlib
     return out / wheel_builder.build_with_program(out, tree.files['lib/kpn/kpn'], more, platform, origin.version)
 
 
-def find_parts(asked: argparse.Namespace) -> tuple[Origin, pathlib.Path | None]:
-    """The program, and the folder of the library."""
+def find_parts(asked: argparse.Namespace) -> Origin:
+    """The program, and the folder of the library if there is one."""
     if asked.program:
-        return Origin(asked.program.resolve(), False), asked.library
+        return Origin(asked.program.resolve(), asked.library, False)
     changed = git('status', '--porcelain')
     if changed:
         sys.exit(f'commit these files or put them aside first, so that the release is of a commit:\n{changed}')
@@ -242,7 +251,21 @@ def find_parts(asked: argparse.Namespace) -> tuple[Origin, pathlib.Path | None]:
     library = TOP / 'out/c'
     if not clib.build(library):
         sys.exit('there is no release of what is not proved')
-    return Origin(pages.PROVED, True), library
+    return Origin(pages.PROVED, library, True)
+
+
+def make_all(out: pathlib.Path, origin: Origin) -> list[pathlib.Path]:
+    """Makes the files of a release in a folder."""
+    name = f'kpn-{origin.version}-x86_64-linux'
+    tree = install.tree_of(origin.program, origin.library, formatdate(origin.time)[5:16])
+    text = origin.text(tree)
+    tree.files[f'{install.DOCUMENTS}/RELEASE'] = text.encode()
+    archive = make_archive(out, tree, name, origin.time)
+    package, wheel = make_package(out, tree, origin), make_wheel(out, tree, origin)
+    sums = sums_of({it.name: it.read_bytes() for it in (archive, package, wheel)})
+    text += PACKED.format(archive=archive.name, package=package.name, wheel=wheel.name, name=name, sums=sums)
+    (out / f'{name}.txt').write_text(text)
+    return [archive, package, wheel, out / f'{name}.txt']
 
 
 def main() -> None:
@@ -254,20 +277,14 @@ def main() -> None:
     for tool in ('dpkg-deb', 'objdump'):
         if not shutil.which(tool):
             sys.exit(f'there is no {tool}: install the packages dpkg and binutils')
-    origin, library = find_parts(asked)
-    name, out = f'kpn-{origin.version}-x86_64-linux', asked.out
-    out.mkdir(parents=True, exist_ok=True)
-    tree = install.tree_of(origin.program, library, formatdate(origin.time)[5:16])
-    text = origin.text(tree, name)
-    tree.files[f'{install.DOCUMENTS}/RELEASE'] = text.encode()
-    archive = make_archive(out, tree, name, origin.time)
-    package, wheel = make_package(out, tree, origin), make_wheel(out, tree, origin)
-    sums = sums_of({it.name: it.read_bytes() for it in (archive, package, wheel)})
-    text += PACKED.format(archive=archive.name, package=package.name, wheel=wheel.name, name=name, sums=sums)
-    (out / f'{name}.txt').write_text(text)
-    for file in (archive, package, wheel, out / f'{name}.txt'):
-        print(f'{file}: {file.stat().st_size:,} bytes')
+    origin = find_parts(asked)
+    asked.out.mkdir(parents=True, exist_ok=True)
+    # All of it is there in the end, or nothing.
+    with tempfile.TemporaryDirectory(prefix='.kpn-', dir=asked.out) as name:
+        for file in make_all(pathlib.Path(name), origin):
+            made = file.replace(asked.out / file.name)
+            print(f'{made}: {made.stat().st_size:,} bytes')
 
 
 if __name__ == '__main__':
-    main()
+    prover.end_with(main)

@@ -4,9 +4,9 @@
 Words: the description's file, n, and NAME=FILE for each source that has items. Like `kpn rounds`, it prints a line for
 each channel. The tests' expected values come from here. It trusts its input: it does not check descriptions.
 """
+import argparse
 import pathlib
 import re
-import sys
 import typing
 
 TOKEN = re.compile(r'\s+|#[^\n]*|([A-Za-z_]\w*|\d+|<=|>=|==|!=|&&|\|\||[-(){};,=+*/%<>!])')
@@ -255,12 +255,16 @@ def rounds(text, turns, sources):
 
 
 def main():
-    file, turns, *given = sys.argv[1:]
+    parser = argparse.ArgumentParser(description=__doc__, formatter_class=argparse.RawDescriptionHelpFormatter)
+    parser.add_argument('file', type=pathlib.Path)
+    parser.add_argument('n', type=int)
+    parser.add_argument('given', nargs='*', metavar='NAME=FILE')
+    asked = parser.parse_args()
     sources = {}
-    for word in given:
+    for word in asked.given:
         name, _, items = word.partition('=')
         sources[name] = [int(line) for line in pathlib.Path(items).read_text().split()]
-    for name, items in rounds(pathlib.Path(file).read_text(), int(turns), sources).items():
+    for name, items in rounds(asked.file.read_text(), asked.n, sources).items():
         print(name + ':' + ''.join(f' {item}' for item in items))
 
 

@@ -10,6 +10,7 @@ whole. For a second look at the whole crate, remove the folder that the last lin
 With --goals it lists single goals and lemmas, in millions of steps of the prover: these do not depend on what else the
 machine does. An `S` marks those that `search` has answered. An answer by hand takes a hundredth of the steps.
 """
+import argparse
 import collections
 import itertools
 import json
@@ -67,14 +68,16 @@ def show_goals(folder, n):
 
 
 def main():
-    words = [it for it in sys.argv[1:] if it != '--goals']
-    if len(words) not in (1, 2):
-        sys.exit(__doc__)
-    folder = KEPT / words[0]
+    parser = argparse.ArgumentParser(description=__doc__, formatter_class=argparse.RawDescriptionHelpFormatter)
+    parser.add_argument('crate')
+    parser.add_argument('number', nargs='?', default=20, type=int)
+    parser.add_argument('--goals', action='store_true')
+    asked = parser.parse_args()
+    folder = KEPT / asked.crate
     if not folder.is_dir():
-        sys.exit(f'there is no check of {words[0]} yet: call tools/check.py {words[0]} --jobs 1 first')
-    show = show_goals if '--goals' in sys.argv else show_times
-    show(folder, int(words[1]) if len(words) == 2 else 20)
+        sys.exit(f'there is no check of {asked.crate} yet: call tools/check.py {asked.crate} --jobs 1 first')
+    show = show_goals if asked.goals else show_times
+    show(folder, asked.number)
 
 
 if __name__ == '__main__':

@@ -15,6 +15,10 @@ import time
 
 HERE = pathlib.Path(__file__).resolve().parent
 TOP = HERE.parent.parent
+sys.path.append(str(TOP / 'bench'))
+
+import measure  # noqa: E402
+
 RUNS = 3
 
 
@@ -52,7 +56,7 @@ def programs(folder):
 
 
 def main():
-    counts = [int(word) for word in sys.argv[1:]] or [1_000_000, 10_000_000]
+    counts = measure.asked(__doc__, {'counts': [1_000_000, 10_000_000]}).counts
     with tempfile.TemporaryDirectory() as name:
         folder = pathlib.Path(name)
         measured = programs(folder)

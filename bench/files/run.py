@@ -22,6 +22,10 @@ import threading
 import time
 
 TOP = pathlib.Path(__file__).resolve().parent.parent.parent
+sys.path.append(str(TOP / 'bench'))
+
+import measure  # noqa: E402
+
 DATA = TOP / 'crates/check_examples/data'
 # the trace of two.kpn, which lies there in version 1, in the version that a run stores
 TRACE = (DATA / 'histories/two.trace').read_bytes().replace(
@@ -945,5 +949,5 @@ def main():
 
 
 if __name__ == '__main__':
-    PROGRAM = os.path.abspath(sys.argv[1]) if len(sys.argv) > 1 else str(TOP / 'crates/kpn/out/kpn')
+    PROGRAM = os.path.abspath(measure.asked(__doc__, {'program': str(TOP / 'crates/kpn/out/kpn')}).program)
     main()

@@ -19,6 +19,10 @@ import threading
 import time
 
 TOP = pathlib.Path(__file__).resolve().parent.parent.parent
+sys.path.append(str(TOP / 'bench'))
+
+import measure  # noqa: E402
+
 COPY = """process copy(in here; out there) { while 1 { read here item; write there item; } }
 network { source s; sink z cap 1; c = copy(s; z); }
 """
@@ -525,5 +529,5 @@ def main():
 
 
 if __name__ == '__main__':
-    PROGRAM = str(pathlib.Path(sys.argv[1] if len(sys.argv) > 1 else TOP / 'crates/kpn/out/kpn').resolve())
+    PROGRAM = os.path.realpath(measure.asked(__doc__, {'program': str(TOP / 'crates/kpn/out/kpn')}).program)
     sys.exit(main())

@@ -18,12 +18,16 @@ import networks  # noqa: E402
 from kpn.native import command  # noqa: E402
 from kpn.program import answer, find_program  # noqa: E402
 
-# The name, what makes the text for so many items, the channels that each item goes through.
+KAHN = "Kahn's example, capacity 1"
+# The name, what makes the text for so many items, the channels that each item goes through, and how many times the
+# speed of Go is wanted. Kahn's example goes on for ever, and a part of its items is wanted.
 ROWS = (
-    ('pipeline of 8, capacity 1', lambda items: networks.pipeline(8, 1, items), 9),
-    ('pipeline of 8, capacity 64', lambda items: networks.pipeline(8, 64, items), 9),
-    ('pipeline of 64, capacity 64', lambda items: networks.pipeline(64, 64, items), 65),
-    ('split and join of 2, capacity 64', lambda items: networks.split_and_join(64, items), 4),
+    ('pipeline of 8, capacity 1', lambda items: networks.pipeline(8, 1, items), 9, None),
+    ('pipeline of 8, capacity 64', lambda items: networks.pipeline(8, 64, items), 9, 20),
+    ('pipeline of 64, capacity 64', lambda items: networks.pipeline(64, 64, items), 65, 20),
+    ('split and join of 2, capacity 64', lambda items: networks.split_and_join(64, items), 4, 15),
+    ('sieve of 100, capacity 64', lambda items: networks.sieve(100, 64, items), 12, 4),
+    (KAHN, lambda items: networks.kahn(), 3, 10),
 )
 HOPS_HERE, HOPS_COMPILED = 2_000_000, 60_000_000
 
@@ -38,17 +42,18 @@ def compiled(folder, name, text, schedule, runtime):
 
 def rates(folder, row, runtime, runs):
     """A line of the table."""
-    name, made, channels = row
+    name, made, channels, wanted = row
     few, many = HOPS_HERE // channels, HOPS_COMPILED // channels
+    take_few, take_many = ([], []) if name != KAHN else (['--take', str(few)], ['--take', str(many)])
     source = pathlib.Path(folder, 'description')
     source.write_text(made(few))
-    commands = {'kpn run': ([find_program(), 'run', str(source), '--max-commits', '1000000000'], HOPS_HERE)}
+    commands = {'kpn run': ([find_program(), 'run', str(source), '--max-commits', '1000000000', *take_few], HOPS_HERE)}
     for schedule in reversed(command.SCHEDULES):
-        words = [compiled(folder, 'net', made(many), schedule, runtime), 'run', '--max-commits', '1000000000']
+        words = [compiled(folder, 'net', made(many), schedule, runtime), 'run', '--max-commits', '1000000000', *take_many]
         commands[schedule] = words, HOPS_COMPILED
     if shutil.which('go'):
         go = pathlib.Path(folder, 'net.go')
-        go.write_text(networks.as_go(made(few), []))
+        go.write_text(networks.as_go(made(few), few if take_few else 0))
         measure.Run(['go', 'build', '-o', str(go.with_suffix('')), str(go)])
         commands['Go'] = [str(go.with_suffix(''))], HOPS_HERE
     best = {}
@@ -56,7 +61,8 @@ def rates(folder, row, runtime, runs):
         for who, (words, hops) in commands.items():
             seconds = measure.Run(words, {**os.environ, 'GOMAXPROCS': '1'}).seconds
             best[who] = max(best.get(who, 0), hops / seconds / 1e6)
-    return f'{name:34}' + ''.join(f'{who} {rate:7.1f}  ' for who, rate in best.items())
+    beside = f'{best["fuse"] / best["Go"]:.0f} of Go ({wanted or "none"} wanted)' if 'Go' in best else ''
+    return f'{name:34}' + ''.join(f'{who} {rate:7.1f}  ' for who, rate in best.items()) + beside
 
 
 def filters(folder, runtime, runs):

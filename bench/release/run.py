@@ -41,7 +41,8 @@ STEPS = [
      './plant', PLANT),
     ('C with the shared object', 'cc /usr/share/doc/kpn/examples/c/plant.c -lkpn -o plant && ./plant', PLANT),
     ('the package taken away', 'dpkg -r kpn && ! command -v kpn && echo gone', 'gone'),
-    ('the wheel', f"python3 -m venv v && v/bin/pip install -q --no-index *.whl && v/bin/python -c '{NETWORK}'",
+    ('an environment of Python', 'python3 -m venv v && echo made', 'made'),
+    ('the wheel', f"v/bin/pip install -q --no-index *.whl && v/bin/python -c '{NETWORK}'",
      '[100, 400, 600, 400, 100, 0]'),
     ('the command of the wheel', 'v/bin/kpn run kpn-*/share/doc/kpn/examples/fibonacci.kpn --take 10', FIBONACCI),
 ]

@@ -16,6 +16,10 @@ import sys
 import tempfile
 
 TOP = pathlib.Path(__file__).resolve().parent.parent.parent
+sys.path.append(str(TOP / 'bench'))
+
+import measure  # noqa: E402
+
 CASES = TOP / 'crates/check_examples'
 
 # the stack that is enough for each row, in KiB, and the step of the search
@@ -105,8 +109,7 @@ def deep_rows(folder):
         yield [command, 'deepest', 'deep.trace']
 
 
-def main():
-    every = int(sys.argv[2]) if len(sys.argv) > 2 else 1
+def main(every):
     found = {}
     with tempfile.TemporaryDirectory(prefix='kpn-stack-') as name:
         folder = pathlib.Path(name) / 'data'
@@ -121,6 +124,7 @@ def main():
 
 
 if __name__ == '__main__':
-    PROGRAM = os.path.abspath(sys.argv[1]) if len(sys.argv) > 1 else str(TOP / 'crates/kpn/out/kpn')
-    ENVIRONMENT = {**os.environ, **({'PADDING': 'x' * int(sys.argv[3])} if len(sys.argv) > 3 else {})}
-    main()
+    asked = measure.asked(__doc__, {'program': str(TOP / 'crates/kpn/out/kpn'), 'every': 1, 'padding': 0})
+    PROGRAM = os.path.abspath(asked.program)
+    ENVIRONMENT = {**os.environ, **({'PADDING': 'x' * asked.padding} if asked.padding else {})}
+    main(asked.every)

@@ -1,12 +1,13 @@
 #!/usr/bin/env python3
 """Random networks as compiled programs, beside `kpn run` and judged by `kpn audit`.
 
-usage: bench/stress/native.py [NETWORKS [SEED]] [--processes N] [--seconds N] [--schedules NAME..]
+usage: bench/stress/native.py [NETWORKS [SEED]] [--faults] [--processes N] [--seconds N] [--schedules NAME..]
 
 KPN_PROGRAM names the program `kpn`, and CC and CFLAGS the compiler. Each network is compiled under both schedules. The
 one of `kpn run` has to give the same report, status, trace and files byte for byte. The usual one has to give the same
 report if `kpn run` comes to an end, and its trace has to be legal. It ends with 1 at the first difference, and prints
-the network. It is no part of the gate, but python/tests/test_native.py runs a part of it.
+the network. With `--faults` the networks fuse, and have faults and long loops within their periods. It is no part of
+the gate, but python/tests/test_native.py runs a part of it.
 """
 import argparse
 import collections
@@ -94,10 +95,10 @@ class Trial:
             raise Difference(f'schedule {schedule} {options}: {told[:200]}')
 
 
-def try_network(seed, runtime, seconds, schedules):
+def try_network(seed, runtime, seconds, schedules, are_faulty):
     """One network by its number, with and without --take; gives the outcomes."""
     chosen = random.Random(seed)
-    text, lists = native_networks.network(chosen)
+    text, lists = native_networks.network(chosen, are_faulty)
     with tempfile.TemporaryDirectory(prefix='kpn-') as folder:
         try:
             trial = Trial(folder, text, lists, runtime, seconds, schedules)
@@ -106,13 +107,14 @@ def try_network(seed, runtime, seconds, schedules):
             return f'network {seed}: {found}\n{text}{lists}'
 
 
-def try_networks(count, first, processes, seconds=None, schedules=command.SCHEDULES):
+def try_networks(count, first, processes, seconds=None, schedules=command.SCHEDULES, are_faulty=False):
     """So many networks; gives how many runs came to each outcome, or the first difference."""
     counts = collections.Counter()
     with tempfile.TemporaryDirectory(prefix='kpn-') as folder, \
             concurrent.futures.ProcessPoolExecutor(processes) as pool:
         runtime = command.compile_runtime(folder)
-        left = [pool.submit(try_network, seed, runtime, seconds, schedules) for seed in range(first, first + count)]
+        left = [pool.submit(try_network, seed, runtime, seconds, schedules, are_faulty)
+                for seed in range(first, first + count)]
         for number, future in enumerate(left):
             found = future.result()
             if isinstance(found, str):
@@ -128,11 +130,12 @@ def main():
     parser = argparse.ArgumentParser(description=__doc__.split('\n')[0])
     parser.add_argument('networks', nargs='?', type=int, default=100)
     parser.add_argument('seed', nargs='?', type=int, default=1)
+    parser.add_argument('--faults', action='store_true', help='networks that fuse, with a fault in a period')
     parser.add_argument('--processes', type=int, default=2)
     parser.add_argument('--seconds', type=int, default=120, help='the most that a run may take')
     parser.add_argument('--schedules', nargs='+', choices=command.SCHEDULES, default=command.SCHEDULES)
     given = parser.parse_args()
-    found = try_networks(given.networks, given.seed, given.processes, given.seconds, given.schedules)
+    found = try_networks(given.networks, given.seed, given.processes, given.seconds, given.schedules, given.faults)
     if isinstance(found, str):
         print(found)
         return 1

@@ -1,4 +1,5 @@
-"""Random networks for compiled programs: of all statements and operators, and of signal processes that fuse."""
+"""Random networks for compiled programs: of all statements and operators, and of signal processes that fuse, with and
+without a fault in one statement of a period."""
 import pathlib
 import runpy
 
@@ -133,25 +134,33 @@ class Signal:
         of_in, of_out = [f'i{k}' for k in range(len(ins))], [f'o{k}' for k in range(len(outs))]
         talks = [port for port, rate in zip([*of_in, *of_out], rates) for _ in range(rate)]
         random.shuffle(talks)
-        known = ['x', 'y', 'k', 'state', 'h']
-        body = 'x = 0; y = 0; k = 0; state = 0; ' + ' '.join(f'write {of_out[0]} {it};' for it in first) + ' while 1 { '
-        for port in talks:
-            if random.random() < 0.1:
-                body += random.choice(('k = (k % 9); ', '')) + 'while (k > 0) { k = ((k - 1) % 99); y = (y + k); } '
-            if random.random() < 0.1:
-                body += 'if (x > 0) { state = (state + 1); } else { while (x < 0) { x = (x + 9); } y = x; } '
-            if random.random() < 0.4:
-                target = random.choice(('state', 'k', 'y'))
-                body += f'{target} = {self.value(known)}; '
-            body += f'read {port} x; ' if port in of_in else f'write {port} {self.value(known)}; '
-        body += f'state = ((state + x) % {random.choice((5, 1000, 1000003))}); }}'
+        begun = ['x = 0;', 'y = 0;', 'k = 0;', 'state = 0;', *(f'write {of_out[0]} {it};' for it in first)]
+        lap = [statement for port in talks for statement in self.statements(port, port in of_in)]
+        lap.append(f'state = ((state + x) % {random.choice((5, 1000, 1000003))});')
+        body = f'{" ".join(begun)} {self.loop(lap)}'
         name = f'f{self.count}'
         self.text += process(name, of_in, of_out, ['h'], body)
         self.lines.append(instance(f'a{self.count}', name, ins, outs, [random.randrange(-3, 4)]))
 
-    def value(self, known):
-        """An expression that faults seldom: at one value of an item."""
+    def loop(self, lap):
+        """The loop of a process, of the statements of a lap."""
+        return f'while 1 {{ {" ".join(lap)} }}'
+
+    def statements(self, port, is_read):
+        """A talk, and what comes before it in a lap."""
         random = self.random
+        if random.random() < 0.1:
+            yield from random.choice((['k = (k % 9);'], []))
+            yield 'while (k > 0) { k = ((k - 1) % 99); y = (y + k); }'
+        if random.random() < 0.1:
+            yield 'if (x > 0) { state = (state + 1); } else { while (x < 0) { x = (x + 9); } y = x; }'
+        if random.random() < 0.4:
+            yield f'{random.choice(("state", "k", "y"))} = {self.value()};'
+        yield f'read {port} x;' if is_read else f'write {port} {self.value()};'
+
+    def value(self):
+        """An expression that faults seldom: at one value of an item."""
+        random, known = self.random, ('x', 'y', 'k', 'state', 'h')
         kind = random.random()
         if kind < 0.03:
             return f'(1000 / (x - {random.randrange(-99, 100)}))'
@@ -187,8 +196,37 @@ class Signal:
         return f'{self.text}network {{ {" ".join(self.lines)} }}\n', self.lists
 
 
-def network(random):
+# The turns of a loop that use up the fuel of a turn, or nearly, or more.
+TURNS = (16382, 16383, 16384, 16385, 16386, 32768)
+
+
+class Faulty(Signal):
+    """Signal processes of which every third has a fault, or a loop at the limits of fuel, somewhere in one lap: in an
+    assignment, a test, a branch or a write."""
+
+    def loop(self, lap):
+        random = self.random
+        if random.random() < 0.65:
+            return super().loop(lap)
+        number, place = random.randrange(1, 120), random.randrange(len(lap))
+        bad = random.choice((f'(1 / (n - {number}))', f'(y % (n - {number}))',
+                             f'((n == {number}) * (9223372036854775807 + (n == {number})))'))
+        turns = random.choice(TURNS)
+        statements = [f'y = {bad};', f'if {bad} {{ y = 1; }} else {{ y = 2; }}', f'while (0 * {bad}) {{ y = 3; }}',
+                      f'if (n == {number}) {{ y = {bad}; }} else {{ y = 4; }}',
+                      f'if (n == {number}) {{ k = {turns}; while (k > 0) {{ k = (k - 1); }} }} else {{ }}']
+        if lap[place].startswith('write'):
+            word, port, value = lap[place].rstrip(';').split(' ', 2)
+            lap[place] = f'{word} {port} ({value} + {bad});'
+        else:
+            lap.insert(place, random.choice(statements))
+        return f'n = 0; {super().loop(["n = (n + 1);", *lap])}'
+
+
+def network(random, are_faulty=False):
     """The text of a network, and a list of items for each of its sources by name."""
+    if are_faulty:
+        return Faulty(random).network()
     kind = random.random()
     if kind < 0.25:
         return mixed_network(random)

@@ -37,6 +37,7 @@ import mixed
 TOP = pathlib.Path(__file__).resolve().parent.parent.parent
 DATA = TOP / 'crates/check_examples/data'
 ROWS = TOP / 'crates/check_examples/stdin'
+KINDS = ('tests', 'runs', 'threads', 'memory', 'commands', 'streams', 'mixed')
 TESTS = ('check_pool', 'check_pool')
 WORKERS = (1, 2, 4, 16)
 PROCESSORS = {'all processors': [], 'two processors': ['taskset', '-c', '0,1']}
@@ -270,6 +271,11 @@ def mix(seconds, program):
 
 def main():
     what, *words = sys.argv[1:] or ['']
+    if what in ('-h', '--help'):
+        print(__doc__)
+        return None
+    if what not in KINDS:
+        sys.exit(__doc__)
     if what == 'tests':
         return repeat_tests(int(words[0]))
     program = words[-1] if words and not words[-1].isdecimal() else str(TOP / 'crates/kpn/out/kpn')
@@ -289,8 +295,6 @@ def main():
             refuse_streams(copy)
         elif what == 'mixed':
             mix(int(words[0]), copy)
-        else:
-            sys.exit(__doc__)
 
 
 ROWS_OF_RUNS = rows('run')

@@ -11,6 +11,10 @@ import sys
 import time
 
 TOP = pathlib.Path(__file__).resolve().parent.parent.parent
+sys.path.append(str(TOP / 'bench'))
+
+import measure  # noqa: E402
+
 BENCH = TOP / 'crates/bench_parts'
 DATA = TOP / 'crates/check_examples/data'
 WORKERS = (1, 2, 3, 4, 16)
@@ -57,8 +61,8 @@ def stress(network, workers, runs, seed):
 
 
 def main():
-    wanted = int(sys.argv[1]) if len(sys.argv) > 1 else 10_000
-    seed = int(sys.argv[2]) if len(sys.argv) > 2 else 1
+    asked = measure.asked(__doc__, {'runs': 10_000, 'seed': 1})
+    wanted, seed = asked.runs, asked.seed
     subprocess.run(['rt', 'run'], cwd=BENCH, stdin=subprocess.DEVNULL, check=True, capture_output=True)
     runs = -(-wanted // (len(NETWORKS) * len(WORKERS)))
     for workers in WORKERS:

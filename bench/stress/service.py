@@ -16,7 +16,12 @@ import subprocess
 import sys
 import time
 
-CRATE = pathlib.Path(__file__).resolve().parent.parent.parent / 'crates/example_service'
+TOP = pathlib.Path(__file__).resolve().parent.parent.parent
+sys.path.append(str(TOP / 'bench'))
+
+import measure  # noqa: E402
+
+CRATE = TOP / 'crates/example_service'
 PROGRAM = CRATE / 'out/example_service'
 RUNS, BUSY = 1_000, 4
 
@@ -50,22 +55,18 @@ class Counts:
 
 
 def main():
-    words = sys.argv[1:]
-    if words[:1] == ['--help'] or len(words) > 3:
-        sys.exit(__doc__)
-    runs, busy = [int(word) for word in words[:2]] + [RUNS, BUSY][len(words[:2]):]
-    program = words[2] if len(words) > 2 else PROGRAM
+    asked = measure.asked(__doc__, {'runs': RUNS, 'busy': BUSY, 'program': str(PROGRAM)})
     wanted = (CRATE / 'stdout').read_bytes()
     counts = Counts()
-    load = [subprocess.Popen([sys.executable, '-c', 'while True: pass']) for _ in range(busy)]
+    load = [subprocess.Popen([sys.executable, '-c', 'while True: pass']) for _ in range(asked.busy)]
     try:
-        for _ in range(runs):
-            counts.run(program, wanted)
+        for _ in range(asked.runs):
+            counts.run(asked.program, wanted)
     finally:
         for process in load:
             process.kill()
             process.wait()
-    print(f'{counts.line()}; {busy} busy processes')
+    print(f'{counts.line()}; {asked.busy} busy processes')
     return 1 if counts.hangs or counts.wrong else 0
 
 

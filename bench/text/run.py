@@ -13,6 +13,10 @@ import time
 
 HERE = pathlib.Path(__file__).resolve().parent
 TOP = HERE.parent.parent
+sys.path.append(str(TOP / 'bench'))
+
+import measure  # noqa: E402
+
 RUNS = 3
 LIMIT = 1_048_576
 ITEMS = 10_000_000
@@ -65,6 +69,7 @@ def items_file(path):
 
 
 def main():
+    measure.asked(__doc__, {})
     subprocess.run([TOP / 'kpn', '--version'], check=True, stdout=subprocess.DEVNULL)
     kpn = str(TOP / 'crates/kpn/out/kpn')
     with tempfile.TemporaryDirectory() as name:

@@ -7,6 +7,7 @@ of what the text of the network means.
 from . import parts
 from .compiled import Compiled
 from .errors import KpnError, Place
+from .fixed import Q, Range
 from .live import Live
 from .network import Network
 from .process import Process, Stream
@@ -14,5 +15,5 @@ from .program import find_program
 from .running import Result, Stats, Wait, run
 from .trace import Event, Trace, read_trace
 
-__all__ = ['Compiled', 'Event', 'KpnError', 'Live', 'Network', 'Place', 'Process', 'Result', 'Stats', 'Stream', 'Trace', 'Wait',
-           'find_program', 'parts', 'read_trace', 'run']
+__all__ = ['Compiled', 'Event', 'KpnError', 'Live', 'Network', 'Place', 'Process', 'Q', 'Range', 'Result',
+           'Stats', 'Stream', 'Trace', 'Wait', 'find_program', 'parts', 'read_trace', 'run']

@@ -1,4 +1,4 @@
-"""`python -m kpn`: lists the parts, runs the gallery, and writes its texts."""
+"""`python -m kpn`: lists and shows the parts, runs the gallery, writes its texts, and makes a page of a run."""
 from __future__ import annotations
 
 import argparse
@@ -8,8 +8,9 @@ import sys
 import time
 from typing import List, Optional
 
-from . import KpnError, parts
+from . import KpnError, parts, view
 from .gallery import GALLERY, stored_text
+from .parts import shown
 
 
 def first_line(thing: object) -> str:
@@ -19,12 +20,21 @@ def first_line(thing: object) -> str:
 
 def list_all() -> int:
     """Writes what parts and what networks there are."""
-    print('Parts, in kpn.parts (help(kpn.parts.fir) tells more):')
+    print('Parts, in kpn.parts (python -m kpn parts NAME tells more):')
     for name in parts.__all__:
         print(f'  {name:18} {first_line(getattr(parts, name))}')
     print('\nNetworks of the gallery (python -m kpn gallery [NAME ..] runs them):')
     for name, module in GALLERY.items():
         print(f'  {name:18} {first_line(module)}')
+    return 0
+
+
+def show_parts(names: List[str], is_page: bool) -> int:
+    """Writes the texts of parts with an example, or a page with their pictures."""
+    if is_page:
+        print(shown.page_of(names or parts.__all__), end='')
+    else:
+        print('\n'.join(map(shown.text_of, names or parts.__all__)), end='')
     return 0
 
 
@@ -51,6 +61,12 @@ def store(folder: str) -> int:
     return 0
 
 
+def write_page(file: str, trace: str, steps: Optional[int]) -> int:
+    """Writes a page that shows a run."""
+    sys.stdout.buffer.write(view.page(file, trace, steps=steps).encode())
+    return 0
+
+
 def main(words: Optional[List[str]] = None) -> int:
     """Does what the words ask, and gives the status."""
     try:
@@ -73,11 +89,22 @@ def run_command(words: Optional[List[str]]) -> int:
     command = commands.add_parser('gallery', help='run networks, and compare the sinks with plain Python')
     command.add_argument('names', nargs='*', metavar='NAME', help='a network; without one all of them')
     command.add_argument('--samples', type=int, default=10_000, metavar='N', help='items for each source (10000)')
+    command = commands.add_parser('parts', help='show parts, each with an example and its network')
+    command.add_argument('names', nargs='*', metavar='NAME', help='a part; without one all of them')
+    command.add_argument('--html', action='store_true', help='write a page with the pictures that Graphviz makes')
     command = commands.add_parser('store', help='write the texts of the gallery into a folder')
     command.add_argument('folder')
+    command = commands.add_parser('view', help='write a page of HTML that shows a run, from its trace')
+    command.add_argument('file', metavar='FILE', help='the description')
+    command.add_argument('trace', metavar='TRACE', help='what `kpn run --trace` has stored')
+    command.add_argument('--steps', type=int, metavar='N', help='most steps of a process before an event')
     given = parser.parse_args(words)
     if given.command == 'store':
         return store(given.folder)
+    if given.command == 'parts':
+        return show_parts(given.names, given.html)
+    if given.command == 'view':
+        return write_page(given.file, given.trace, given.steps)
     if given.command == 'gallery':
         unknown = [name for name in given.names if name not in GALLERY]
         if unknown:

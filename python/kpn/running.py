@@ -19,6 +19,7 @@ from typing import Sequence, Tuple, Union
 from .errors import KpnError, seconds, whole
 from .program import Program, call, failure, find_program
 from .trace import Trace
+from .view import page
 
 if TYPE_CHECKING:
     from .network import Layout, Network
@@ -187,6 +188,11 @@ class Result(collections.abc.Mapping):  # type: ignore[type-arg]
         Raises KpnError if the picture would have more than 2,000 ticks, or gets, puts and waits.
         """
         return self._ask('timeline', '--svg', *words_of(**{'from': first, 'to': last}))
+
+    def view(self) -> str:
+        """A page of HTML that shows the run: the network, the run in time, items and tables. Store it in a file."""
+        folder, trace = self._traced()
+        return page(os.path.join(folder, TEXT), trace, program=self._program, title='a run')
 
     def _repr_svg_(self) -> Optional[str]:
         """The picture that a notebook shows, if there is a trace and it is not too long."""

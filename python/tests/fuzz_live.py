@@ -4,6 +4,7 @@
 
 A round that hangs ends the program with a traceback.
 """
+import argparse
 import faulthandler
 import itertools
 import os
@@ -284,7 +285,7 @@ def fuzz(rounds, first=0):
         signal.signal(signal.SIGALRM, handler)
 
 
-def main(rounds=5_000, first=0):
+def main(rounds, first):
     """Makes so many rounds, and tells how long they took."""
     begun, most = time.monotonic(), first + rounds
     for start in range(first, most, 500):
@@ -294,4 +295,7 @@ def main(rounds=5_000, first=0):
 
 
 if __name__ == '__main__':
-    main(*map(int, sys.argv[1:]))
+    parser = argparse.ArgumentParser(description=__doc__, formatter_class=argparse.RawDescriptionHelpFormatter)
+    parser.add_argument('rounds', nargs='?', default=5_000, type=int)
+    parser.add_argument('first', nargs='?', default=0, type=int)
+    main(**vars(parser.parse_args()))

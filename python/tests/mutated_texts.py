@@ -2,6 +2,7 @@
 
     python3 python/tests/mutated_texts.py [ROUNDS [FIRST SEED]]
 """
+import argparse
 import pathlib
 import random
 import re
@@ -117,7 +118,7 @@ def difference(text):
         f'{error or printed}'
 
 
-def main(rounds=5_000, first=0):
+def main(rounds, first):
     """Compares so many texts; gives the status."""
     refused = 0
     for seed in range(first, first + rounds):
@@ -132,4 +133,7 @@ def main(rounds=5_000, first=0):
 
 
 if __name__ == '__main__':
-    sys.exit(main(*map(int, sys.argv[1:])))
+    parser = argparse.ArgumentParser(description=__doc__, formatter_class=argparse.RawDescriptionHelpFormatter)
+    parser.add_argument('rounds', nargs='?', default=5_000, type=int)
+    parser.add_argument('first', nargs='?', default=0, type=int)
+    sys.exit(main(**vars(parser.parse_args())))

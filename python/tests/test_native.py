@@ -17,12 +17,13 @@ os.environ.setdefault('CFLAGS', '-std=c11 -O0 -w')
 
 import kpn  # noqa: E402
 import native  # noqa: E402
+import native_fixed  # noqa: E402
 from kpn.native import command  # noqa: E402
 from native_networks import MARKS  # noqa: E402
 
 NETWORKS, PROCESSES = 12, 2
-# Wrong bodies: a file of the package, a text that stands there once, and what stands there instead. Each has to be
-# found within 50 random networks.
+# Wrong bodies: a file of the package, a text that stands there once, what stands there instead, and the kind of
+# networks. Each has to be found within 50 random networks.
 WRONG = {
     'a reader wakes no writer': ('network.h', 'if (channel->writer_waits) {', 'if (0) {'),
     'a writer wakes no reader': ('network.h', 'if (channel->reader_waits) {',
@@ -31,6 +32,10 @@ WRONG = {
     'a wait is written late without its growth': ('network.c', 'if (may_grow(network, c)) {', 'if (0) {'),
     'room for one more': ('network.h', 'channel->room - (channel->put', 'channel->room + 1 - (channel->put'),
     'two places of a channel inside are one': ('region_text.py', '_{count - first}', '_0'),
+    'a period with a fault is kept': ('region_text.py', "yield '    break;'",
+                                      "yield from [*self.keeping(), '    break;']", '--faults'),
+    'the events of a dropped period are kept': ('network.h', 'kpn_history_cut(network->history, mark);',
+                                                '(void)mark;', '--faults'),
 }
 
 
@@ -91,7 +96,7 @@ class Equal(WithFolder):
         self.assertNotIsInstance(found, str, found)
 
     def test_wrong_bodies(self):
-        for name, (file, old, new) in WRONG.items():
+        for name, (file, old, new, *kind) in WRONG.items():
             with self.subTest(name=name):
                 shutil.copytree(TOP / 'include', self.folder / 'include', dirs_exist_ok=True)
                 package = self.folder / name.replace(' ', '_')
@@ -100,7 +105,7 @@ class Equal(WithFolder):
                 text = edited.read_text()
                 self.assertEqual(text.count(old), 1, name)
                 edited.write_text(text.replace(old, new))
-                words = ['50', '1', '--seconds', '20', '--processes', str(PROCESSES), '--schedules', 'fuse']
+                words = ['50', '1', *kind, '--seconds', '20', '--processes', str(PROCESSES), '--schedules', 'fuse']
                 done = subprocess.run([sys.executable, TOP / 'bench/stress/native.py', *words],
                                       capture_output=True, text=True, env=environment(package))
                 self.assertEqual(done.returncode, 1, f'{name}: {done.stdout}{done.stderr}')
@@ -236,6 +241,20 @@ class Streams(WithFolder):
             for length in range(20):
                 self.compare(['--format', format, '--sink', 'z=out'], whole[-length:])
 
+    def test_cut_at_each_byte(self):
+        """A stream that ends after any byte, and one that waits there and then goes on."""
+        self.assertEqual(compiled(Words.DOUBLE, self.folder).returncode, 0)
+        given, wanted = b'-12\r\n7\n0033\n', b'-24\n14\n66\n'
+        for length in range(len(given) + 1):
+            self.compare([], given[:length])
+            lines = given[:length].count(b'\n')
+            first = b''.join(wanted.splitlines(keepends=True)[:lines])
+            with subprocess.Popen(['./prog', 'stream', '--quiet'], cwd=self.folder, stdin=subprocess.PIPE,
+                                  stdout=subprocess.PIPE, bufsize=0) as child:
+                child.stdin.write(given[:length])
+                self.assertEqual(child.stdout.read(len(first)) if first else b'', first)
+                self.assertEqual(child.communicate(given[length:])[0], wanted[len(first):])
+
     def test_all_leaves_before_a_wait(self):
         text = 'process mean(in i; out o) { while 1 { read i x; s = (s + x); n = (n + 1); write o (s / n); } }\n' \
                'process copy(in i; out o) { while 1 { read i x; write o x; } }\n' \
@@ -348,6 +367,40 @@ class Sessions(WithFolder):
             self.assertEqual(self.ask('open', text, number(len(text)), ctypes.byref(other), self.place,
                                       has_session=False), answer)
         self.assertEqual(self.ask('free'), 0)
+
+
+@unittest.skipUnless(shutil.which('cc'), 'there is no C compiler')
+class Fixed(WithFolder):
+    """Archives with static memory."""
+    LOOP = 'process add(in i, b; out o, c) { while 1 { read i x; read b y; write o (x + y); write c (x + y); } }\n' \
+           'process delay(in i; out o) { write o 0; while 1 { read i x; write o (x % 1000); } }\n' \
+           'network { limit 8; source s; channel b cap 1; channel c cap 1; sink z cap 3; a = add(s, b; z, c);' \
+           ' d = delay(c; b); }\n'
+    # Two items a lap wait where there is room for one: the channel grows.
+    GROWS = 'process two(in i; out o, p) { while 1 { read i x; write o x; write o x; write p x; } }\n' \
+            'process join(in o, p; out z) { while 1 { read p x; read o y; read o y; write z (x / (y - 5)); } }\n' \
+            'network { limit 4; source s; channel o cap 1; channel p cap 1; sink z cap 1; t = two(s; o, p);' \
+            ' j = join(o, p; z); }\n'
+
+    def test_sessions(self):
+        for text in (self.LOOP, self.GROWS):
+            self.assertEqual(native_fixed.try_network(text, {'s': [9, -1, 8, 7, 6, 40, 5, 3] * 5}), 'ended')
+
+    @unittest.skipUnless(shutil.which('nm'), 'there is no nm')
+    def test_nothing_takes_memory_or_writes(self):
+        self.assertEqual(compiled(self.LOOP, self.folder, '--fixed', '8').returncode, 0)
+        lines = [line.split() for line in self.call('nm', 'prog')[1].splitlines()]
+        wanted = {line[-1] for line in lines if line[:1] == ['U']}
+        own = {line[-1] for line in lines if len(line) == 3}
+        self.assertLessEqual(wanted - own, {'memcpy', 'memcmp', 'memset', 'strlen', '_GLOBAL_OFFSET_TABLE_'})
+        self.assertIn('kpn_step', own)
+
+    def test_refused(self):
+        for options, status, told in ((['--fixed', '8'], 70, 'kpn: usage: --fixed wants `limit N;`'),
+                                      (['--fixed', '0'], 2, 'a number from 1 to 1048576, and not 0')):
+            done = compiled(Words.DOUBLE, self.folder, *options)
+            self.assertEqual(done.returncode, status)
+            self.assertIn(told, done.stderr)
 
 
 @unittest.skipUnless(shutil.which('cc'), 'there is no C compiler')

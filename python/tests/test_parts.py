@@ -4,6 +4,7 @@ import math
 import random
 import unittest
 
+import test_signals
 from support import kpn, run_one
 
 from kpn import parts
@@ -107,7 +108,7 @@ CASES = {
 
 class Parts(unittest.TestCase):
     def test_each_part_has_a_case(self):
-        self.assertEqual(sorted(CASES), parts.__all__)
+        self.assertEqual(sorted({*CASES, *test_signals.CASES, *test_signals.NEAR}), parts.__all__)
 
     def test_what_comes_out(self):
         for name, cases in CASES.items():

@@ -52,9 +52,33 @@ class Installed(unittest.TestCase):
         self.assertEqual((self.room / 'mine').read_text(), 'mine')
         self.assertEqual(said(self.room / 'bin/kpn', '--version'), said(PROGRAM, '--version'))
 
+    def test_programs_that_are_none(self):
+        changes = self.room / 'changes'
+        changes.write_text(f'#!/bin/sh\necho >> "$0"\nexec {PROGRAM.resolve()} "$@"\n')
+        changes.chmod(0o755)
+        for program, why in (('/bin/true', '/bin/true is not the program kpn'),
+                             (changes, f'kpn: {changes} has changed meanwhile: call this once more'),
+                             (self.room / 'none', f'kpn: {self.room}/none: No such file or directory'),
+                             (self.room, f'kpn: {self.room}: Permission denied')):
+            words = [sys.executable, TOP / 'tools/install.py', self.room / 'prefix', '--program', program]
+            done = subprocess.run(words, capture_output=True, text=True)
+            self.assertEqual((done.returncode, done.stdout, done.stderr), (1, '', f'{why}\n'))
+        self.assertFalse((self.room / 'prefix').exists())
+
+    def test_prefix_that_takes_no_files(self):
+        tree = install.tree_of(PROGRAM, None, '')
+        (self.room / 'bin/kpn').mkdir(parents=True)
+        with self.assertRaises(OSError) as caught:
+            tree.write(self.room)
+        self.assertEqual(caught.exception.filename, self.room / 'bin/kpn')
+        self.assertEqual(list(self.room.rglob('.*')), [])
+
     def test_licences(self):
         tree = install.tree_of(PROGRAM, None, '')
         text = tree.files[f'{install.DOCUMENTS}/licences/README'].decode()
+        self.assertIn('The licence of Combrieks itself is not chosen yet', text)
+        self.assertIn('Unicode License v3', tree.files[f'{install.DOCUMENTS}/licences/core/NOTICES'].decode())
+        self.assertIn(f'{install.DOCUMENTS}/licences/core/LICENSE-UNICODE', tree.files)
         for crate in ('clap', 'strsim', 'indexmap'):
             self.assertIn(f'- {crate}\n', text)
             self.assertTrue(any(path.startswith(f'{install.DOCUMENTS}/licences/{crate}/') for path in tree.files))

@@ -1,5 +1,5 @@
 //! Channels as rows of calls, each with its answer. For a while a heap is full, and calls get no memory.
-use kpn_chan::Channel;
+use kpn_chan::{Channel, Unread};
 use kpn_limits::MAX_CAPACITY;
 use linked_list_allocator::LocalHeap;
 use std::alloc::{AllocError, Global};
@@ -95,7 +95,10 @@ fn holds(
     channel: &Channel<&LocalHeap>,
     journal: &[i64],
 ) -> Result<bool, AllocError> {
-    Ok(channel.copy_journal(alloc)?.as_slice() == journal)
+    let Ok(copy) = channel.copy_journal(alloc) else {
+        return Err(AllocError);
+    };
+    Ok(copy.as_slice() == journal)
 }
 
 /// Whether it has this journal, and the heap has memory for a copy.
@@ -104,7 +107,10 @@ fn holds_in<'h>(
     channel: &Channel<&'h LocalHeap>,
     journal: &[i64],
 ) -> Result<bool, AllocError> {
-    Ok(channel.copy_journal(heap)?.as_slice() == journal)
+    let Ok(copy) = channel.copy_journal(heap) else {
+        return Err(AllocError);
+    };
+    Ok(copy.as_slice() == journal)
 }
 
 /// Makes a call: whether it answers so.
@@ -315,5 +321,26 @@ fn channels_answer_as_these_rows_say(rt: HostRuntime) -> Result<(), Fail> {
     for (name, row) in &ROWS {
         make_all(&rt, rt.alloc(), row, name)?;
     }
+    Ok(())
+}
+
+/// Puts items one by one on a channel that forgets, and reads each: whether it answers so.
+fn passes(alloc: Global, items: i64) -> Result<bool, AllocError> {
+    let mut channel = Channel::keeping(alloc, Some(4), false)?;
+    let mut is_so = !channel.is_kept();
+    for item in 0..items {
+        channel.reserve_one()?;
+        channel.put(item);
+        is_so = is_so && channel.len() == 1 && channel.get() == Some(item);
+    }
+    let is_forgotten = matches!(channel.copy_journal(alloc), Err(Unread::Forgotten));
+    let begins = channel.begins_with(&[0]);
+    channel.retire();
+    Ok(is_so && is_forgotten && !begins && channel.len() == 0)
+}
+
+#[test]
+fn a_channel_forgets(rt: HostRuntime) -> Result<(), Fail> {
+    assert!(rt; passes(rt.alloc(), 1_000)?);
     Ok(())
 }

@@ -41,7 +41,9 @@ fn is_fed<A: Allocator, B: Allocator>(
     if network.channels() != 2 || network.instances() != 1 {
         return Ok(false);
     }
-    let journal = configuration.copy_journal(alloc, 0)?;
+    let Ok(journal) = configuration.copy_journal(alloc, 0) else {
+        return Ok(false);
+    };
     let channel = configuration.channel(0);
     Ok(
         journal.as_slice() == items

@@ -2,7 +2,7 @@
 ghost use Rattle.std.specs.Prelude.{◌<◌, length};
 ghost use Rattle.kpn_run_configuration.specs.Configuration.{IsConfiguration};
 
-use anyhow::Result;
+use anyhow::{Result, bail};
 use kpn_net::{Network, Policy};
 use kpn_run_configuration::Configuration;
 use std::alloc::Global;
@@ -21,7 +21,9 @@ fn write_channel<O: Write>(
     requires channel { c < length network.now.channels }
 {
     let channel = state.channel(c);
-    let journal = state.copy_journal(alloc, c)?;
+    let Ok(journal) = state.copy_journal(alloc, c) else {
+        bail!("there is no journal");
+    };
     let (items, read, capacity) = (journal.as_slice(), channel.read_count(), channel.cap());
     let (closed, left) = (state.is_closed(c), channel.is_retired());
     writeln!(

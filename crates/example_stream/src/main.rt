@@ -6,7 +6,7 @@ ghost use Rattle.std.specs.Bool.{⊤};
 
 use anyhow::Result;
 use kpn_net::Network;
-use kpn_stream::{Limits, Look, SinkFault, Sinks, SourceFault, Sources, stream};
+use kpn_stream::{Keeping, Limits, Look, SinkFault, Sinks, SourceFault, Sources, stream};
 use kpn_text::read_network;
 use std::alloc::Global;
 use std::io::Write;
@@ -80,7 +80,14 @@ impl<O: Write> Sinks for Display<'_, O> {
 
 fn run<O: Write>(alloc: Global, network: &Network, out: &mut O) -> Result<()> {
     let mut sensor = Sensor { readings: 0 };
-    let streamed = stream(alloc, network, &mut sensor, &mut Display { out }, &LIMITS)?;
+    let streamed = stream(
+        alloc,
+        network,
+        &mut sensor,
+        &mut Display { out },
+        &LIMITS,
+        Keeping::Nothing,
+    )?;
     writeln!(out, "{:?}", streamed.ending)?;
     Ok(())
 }

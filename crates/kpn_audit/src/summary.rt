@@ -38,7 +38,10 @@ pub(crate) fn summary<A: Allocator + Copy>(
     };
     fill_in(alloc, network, &configuration, &mut audit)?;
     audit.exact = configuration.is_quiet(network);
-    audit.journals = configuration.into_journals(alloc)?;
+    let Ok(journals) = configuration.into_journals(alloc) else {
+        return Err(AllocError);
+    };
+    audit.journals = journals;
     Ok(audit)
 }
 

@@ -15,7 +15,7 @@ use Rattle.kpn_book.specs.Releasing.{Releases, IsNoneHeldBelow}
 
 pub released : (p : ℕ) (before : Book) → IsHeld before p → Releases p before (put_back p before)
 released p before held = record {
-  tables = refl;
+  alone = refl;
   processes = length-set before.schedule.states p Ready;
   here = λ there. ap is_held (get_or-set_same before.schedule.states p Ready Ready held.there);
   others = λ q there free. elim (cases_eq q p) [
@@ -32,7 +32,7 @@ free_if state other = refl
 
 pub not_held : (p : ℕ) (before : Book) → (IsHeld before p → ⊥) → Releases p before before
 not_held p before other = record {
-  tables = refl;
+  alone = refl;
   processes = refl;
   here = λ there. free_if (state_at before.schedule.states p) (λ held. other (record { there = there; held = held }));
   others = λ q there free. free;

@@ -17,7 +17,7 @@ mod telling;
 
 pub use here::run_here;
 pub use kpn_run_history::{Counts, State, Verdict, View};
-pub use kpn_run_state::{Book, Claim, Done, Refused};
+pub use kpn_run_state::{Book, Claim, Done, Keeping, Refused, Unread};
 pub use outcome::{Limits, Outcome};
 pub use releasing::put_back_held;
 pub use report::Report;

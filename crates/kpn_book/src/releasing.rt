@@ -1,13 +1,13 @@
 //! What workers hold when a run is over is put back.
 ghost use Rattle.std.specs.Prelude.{◌≡◌};
 ghost use Rattle.kpn_run_state.specs.Book.{held_count};
-ghost use Rattle.kpn_book.specs.Releasing.{Releases};
+ghost use Rattle.kpn_book.specs.Releasing.{ChangesScheduleAlone, Releases};
 
 use kpn_run_state::Book;
 
 /// Puts back each process that is held.
 pub fn put_back_held(book: &mut Book<'_>)
-    ensures tables { book.new.tables ≡ book.old.tables }
+    ensures alone { ChangesScheduleAlone book.old book.new }
     ensures none { held_count book.new ≡ 0 }
 {
     'processes: for p in 0..book.network().instances() {

@@ -14,14 +14,17 @@ use kpn_run_history::View;
 use kpn_run_state::Book;
 use std::alloc::{AllocError, Global};
 
-/// The report of a run that has come to this outcome. The error is that memory ran out.
+/// The report of a run that has come to this outcome. The error is that memory ran out, or that the book does not keep
+/// the journals.
 pub fn report_of(alloc: Global, book: Book<'_>, outcome: Outcome) -> Result<Report, AllocError>
     ensures { IfOk result (λ report. IsWrittenFrom book.entry outcome report) }
 {
     book.known();
     let network = book.network();
     let commits = book.commits();
-    let (view, history) = book.into_view(alloc)?;
+    let Ok((view, history)) = book.into_view(alloc) else {
+        return Err(AllocError);
+    };
     let taken = read_of_sinks(alloc, network, &view)?;
     Ok(Report {
         outcome,

@@ -3,3 +3,4 @@ pub mod Leading
 pub mod OneMore
 pub mod Networks
 pub mod SessionLemmas
+pub mod OneWanted

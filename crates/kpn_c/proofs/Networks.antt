@@ -1,18 +1,23 @@
 -- No call changes the network.
-use Rattle.std.proofs.Common.{◌≡◌, ℕ, Bool, true, false, List, [], ◌∷◌, Result, Ok, Err, refl, ap, ◌∙◌}
+use Rattle.std.proofs.Common.{◌≡◌, ℕ, Bool, true, false, ℤ, Option, Some, None, List, [], ◌∷◌, map, take, Result, Ok, Err, refl, ap, ◌∙◌}
 use Rattle.std.specs.Prelude.{OnOk, OnErr}
 use Rattle.kpn_run_history.specs.declared.event.Event.{Event}
-use Rattle.kpn_run_history.specs.declared.event.Event.TheVariants.{Close}
+use Rattle.kpn_run_history.specs.declared.event.Event.TheVariants.{Close, Take}
 use Rattle.kpn_run_configuration.specs.Configuration.{closed_in}
 use Rattle.kpn_run_state.specs.declared.answers.Done.{Done}
 use Rattle.kpn_run_state.specs.declared.answers.Refused.{Refused}
 use Rattle.kpn_run_state.specs.Book.{Book}
 use Rattle.kpn_run_state.specs.Appending.{Happens, AllHappen}
-use Rattle.kpn_run_state.specs.Refusals.{closes_by, Closes}
+use Rattle.kpn_run_state.specs.Refusals.{closes_by, Closes, takes_item}
 use Rattle.kpn_run_state.specs.Stepping.{StepsNext, StepsInVain}
 use Rattle.kpn_run_state.proofs.Appended.{tables_stay, commit_tables}
 use Rattle.kpn_c.specs.Calls.{Turns, no_turn, one_turn_more, stops_by, StepsEach}
 use Rattle.kpn_c.specs.declared.stepping.Stepped.{Stepped}
+use Rattle.kpn_c.specs.declared.taking.Taken.{Taken}
+use Rattle.kpn_c.specs.declared.moving.Item.{Item}
+use Rattle.kpn_c.specs.declared.moving.Wanted.{Wanted}
+use Rattle.kpn_c.specs.declared.moving.Moved.{Moved}
+use Rattle.kpn_c.specs.Moving.{feed_of, TakesAll, no_take, one_take_more, steps_if, takes_if, has_fed, has_stepped, Moves}
 
 happens_tables : (e : Event) (before after : Book) → Happens e before after → after.tables ≡ before.tables
 happens_tables e before after is = tables_stay (e ∷ is.growth) before after is.appends
@@ -60,3 +65,31 @@ pub steps_tables : (quota most : ℕ) (stepped : Stepped) (before after : Book)
 steps_tables quota most stepped before after steps =
     stops_tables stepped.is_refused quota most stepped.commits steps.last after steps.stops
     ∙ turns_tables quota before stepped.commits steps.last steps.turns
+
+taking_tables : (item : Option ℤ) (c : ℕ) (before after : Book) → takes_item c item before after
+    → after.tables ≡ before.tables
+taking_tables None c before after is = ap (λ b. b.tables) is.1
+taking_tables (Some v) c before after is = happens_tables (Take c v) before after is.1
+
+takes_tables : (first : Book) (asked kept : List Wanted) (last : Book) → TakesAll first asked kept last
+    → last.tables ≡ first.tables
+takes_tables first _ _ _ no_take = refl
+takes_tables first _ _ _ (one_take_more {asked} {kept} w item before after so_far next) =
+    taking_tables item w.channel before after next.takes ∙ takes_tables first asked kept before so_far
+
+steps_if_tables : (goes_on : Bool) (quota most : ℕ) (stepped : Stepped) (before after : Book)
+    → steps_if goes_on quota most stepped before after → after.tables ≡ before.tables
+steps_if_tables false quota most stepped before after is = ap (λ b. b.tables) is.1
+steps_if_tables true quota most stepped before after is = steps_tables quota most stepped before after is
+
+takes_if_tables : (goes_on : Bool) (taken : Taken) (asked kept : List Wanted) (before after : Book)
+    → takes_if goes_on taken asked kept before after → after.tables ≡ before.tables
+takes_if_tables false taken asked kept before after is = ap (λ b. b.tables) is.2
+takes_if_tables true taken asked kept before after is = takes_tables before _ _ after is.takes
+
+pub moves_tables : (items : List Item) (quota most : ℕ) (moved : Moved) (asked kept : List Wanted)
+    (before after : Book) → Moves items quota most moved asked kept before after → after.tables ≡ before.tables
+moves_tables items quota most moved asked kept before after moves =
+    takes_if_tables (has_stepped moved) moved.taken asked kept moves.stepped after moves.takes
+    ∙ steps_if_tables (has_fed moved) quota most moved.stepped moves.fed moves.stepped moves.steps
+    ∙ all_tables (map feed_of (take moved.fed.count items)) before moves.fed moves.feeds.feeds

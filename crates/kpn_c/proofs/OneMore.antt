@@ -8,8 +8,8 @@ use Rattle.kpn_run_state.specs.Book.{Book}
 use Rattle.kpn_run_state.specs.Appending.{Happens, AllHappen}
 use Rattle.kpn_book.proofs.Happening.{join, one}
 
-module _ (event : ℤ → Event) (a b c : Book) where
-  one_more : (xs : List ℤ) (v : ℤ) → AllHappen (map event xs) a b → Happens (event v) b c
+module _ {X : Type 0} (event : X → Event) (a b c : Book) where
+  pub one_more : (xs : List X) (v : X) → AllHappen (map event xs) a b → Happens (event v) b c
       → AllHappen (map event (xs ++ v ∷ [])) a c
   one_more xs v so_far next =
       subst (λ es. AllHappen es a c) (sym (map-append event xs (v ∷ [])))
@@ -40,7 +40,7 @@ since_first P event xs count first now happen moved holds =
       | inr other ↦ moved (omega (arith, other))
     ]
 
-pub rest_then : (kept room : List ℤ) (count : ℕ) (v : ℤ) → drop count kept ≡ drop count room
+pub rest_then : {X : Type 0} (kept room : List X) (count : ℕ) (v : X) → drop count kept ≡ drop count room
     → drop (count + 1) (set kept count v) ≡ drop (count + 1) room
 rest_then kept room count v rest =
     drop-set-lt (count + 1) kept count v (omega arith)

@@ -8,6 +8,11 @@ use Rattle.kpn_run_state.specs.declared.answers.Refused.{Refused}
 use Rattle.kpn_run_state.specs.Refusals.{Closes, RefusesClose}
 use Rattle.kpn_c.specs.Faults.{number_of_refusal}
 use Rattle.kpn_c.specs.Calls.{FeedsEach, StepsEach, TakesEach, TellsComplete}
+use Rattle.kpn_c.specs.declared.moving.Item.{Item}
+use Rattle.kpn_c.specs.declared.moving.Wanted.{Wanted}
+use Rattle.kpn_c.specs.declared.moving.Moved.{Moved}
+use Rattle.kpn_c.specs.declared.sessions.Amounts.{Amounts}
+use Rattle.kpn_c.specs.Moving.{Moves, code_of_moved}
 use Rattle.kpn_c.specs.Session.{Session}
 use Rattle.kpn_run_history.specs.declared.stored.Version.TheVariants.{Two}
 use Rattle.kpn_book.specs.RunHere.{IsFirst}
@@ -58,6 +63,20 @@ pub record Steps (most code commits : ℕ) (before after : Session) : Type 0 whe
   pub is_refused : Bool
   pub number : code ≡ (if is_refused then 42 else 0)
   pub steps : StepsEach 1000 most (record { commits = commits; is_refused = is_refused }) before.book after.book
+
+-- how much of each was done
+abbrev pub amounts_of : Moved → Amounts
+amounts_of moved =
+    record { fed = moved.fed.count; commits = moved.stepped.commits; served = moved.taken.count }
+
+-- items were fed, commits were made and places were served, as is told, and the number says why no more
+pub record MovesItems (items : List Item) (most code : ℕ) (told : Amounts) (asked kept : List Wanted)
+    (before after : Session) : Type 0 where
+  pub document : after.document ≡ before.document
+  pub moved : Moved
+  pub number : code ≡ code_of_moved moved
+  pub amounts : told ≡ amounts_of moved
+  pub moves : Moves items 1000 most moved asked kept before.book after.book
 
 -- a source was closed, or the number says why not
 pub record ClosesSource (source code : ℕ) (before after : Session) : Type 0 where

@@ -9,3 +9,4 @@ pub mod Calls
 pub mod Running
 pub mod Slices
 pub mod Texts
+pub mod Moving

@@ -9,6 +9,7 @@ mod feeding;
 mod held;
 mod lists;
 mod loose;
+mod moving;
 mod running;
 mod runs;
 mod session;
@@ -21,8 +22,9 @@ mod telling;
 mod texts;
 
 pub use held::Held;
+pub use moving::{Item, Wanted};
 pub use runs::{Limits, Ran, kpn_c_check, kpn_c_run};
 pub use sessions::{
-    kpn_c_channel, kpn_c_close_source, kpn_c_feed, kpn_c_free, kpn_c_is_complete, kpn_c_open,
-    kpn_c_step, kpn_c_take, kpn_c_trace, kpn_c_verdict,
+    Amounts, kpn_c_channel, kpn_c_close_source, kpn_c_feed, kpn_c_free, kpn_c_is_complete,
+    kpn_c_move, kpn_c_open, kpn_c_step, kpn_c_take, kpn_c_trace, kpn_c_verdict,
 };

@@ -12,8 +12,10 @@ ghost use Rattle.kpn_run_state.specs.Detached.{book_on};
 ghost use Rattle.kpn_run_state.specs.Refusals.{Closes, RefusesClose};
 ghost use Rattle.kpn_book.specs.RunHere.{IsFirst};
 ghost use Rattle.kpn_c.specs.Calls.{FeedsEach, StepsEach, TakesEach, TellsComplete};
+ghost use Rattle.kpn_c.specs.Moving.{Moves};
 
 use crate::feeding::{Fed, feed_each};
+use crate::moving::{Item, Moved, Wanted, move_items};
 use crate::stepping::{Stepped, step_each};
 use crate::taking::{Taken, take_each};
 use crate::telling::trace_of;
@@ -28,9 +30,10 @@ use std::str;
 const QUOTA: u32 = 1_000;
 
 /// A run of the network that a text describes. It owns its document, and borrows nothing. Channels go by their numbers.
+/// Each call moves a session twice, so the document stands in a box.
 #[derive(Drop)]
 pub struct Session {
-    document: Document,
+    document: Box<Document>,
     detached: Detached,
 }
 
@@ -45,9 +48,9 @@ impl Model for Session {
 
     ghost coded = { Prim.hlevel (codes, parts_code) };
 
-    ghost view = { λ s. session_of s.document s.detached };
+    ghost view = { λ s. session_of s.document.value s.detached };
 
-    ghost invariant = { λ s. IsBook (book_on s.document.tables s.detached) };
+    ghost invariant = { λ s. IsBook (book_on s.document.value.tables s.detached) };
 }
 
 impl Session {
@@ -59,7 +62,10 @@ impl Session {
     {
         let document = read_network(alloc, text)?;
         let detached = first_book(alloc, document.network())?;
-        Ok(Session { document, detached })
+        match Box::new(alloc, document) {
+            Ok(document) => Ok(Session { document, detached }),
+            Err(_) => Err(TextFault::NoMemory),
+        }
     }
 
     /// Does nothing. A caller's proof learns from it what holds of the book of a session.
@@ -120,6 +126,20 @@ impl Session {
         (Session { document, detached }, taken)
     }
 
+    /// Feeds items, makes turns and takes what is wanted, as the calls above do one after the other. What is refused
+    /// ends the call, and what was done before stays.
+    pub fn move_items(self, items: &[Item], most: u64, places: &mut [Wanted]) -> (Session, Moved)
+        ensures document { result.0.document ≡ self.document }
+        ensures moved { Moves items.now QUOTA most result.1 places.old places.new
+            self.book result.0.book }
+    {
+        let Session { document, detached } = self;
+        let mut book = attached(&document, detached);
+        let moved = move_items(&mut book, items, QUOTA, most, places);
+        let detached = book.detach();
+        (Session { document, detached }, moved)
+    }
+
     /// Whether a channel is complete: nothing more is ever put there. `None` if no channel has this number.
     pub fn is_complete(self, channel: usize) -> (Session, Option<bool>)
         ensures same { result.0 ≡ self }
@@ -170,9 +190,9 @@ impl Session {
 }
 
 /// The book of a session on its network.
-fn attached(document: &Document, detached: Detached) -> Book<'_>
-    requires { IsBook (book_on document.now.tables detached) }
-    ensures { result ≡ book_on document.now.tables detached }
+fn attached(document: &Box<Document>, detached: Detached) -> Book<'_>
+    requires { IsBook (book_on document.now.value.tables detached) }
+    ensures { result ≡ book_on document.now.value.tables detached }
 {
     Book::attach(document.network(), detached)
 }

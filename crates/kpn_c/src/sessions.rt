@@ -1,12 +1,13 @@
 //! Sessions, which C keeps. Each call gets a session and hands it back.
 ghost use Rattle.kpn_c.specs.Sessions.{IsOpen};
-ghost use Rattle.kpn_c.specs.Exports.{Leads, Feeds, Takes, Steps, ClosesSource, TellsVerdict, TellsIfComplete, FindsChannel, TellsTrace, Opens};
+ghost use Rattle.kpn_c.specs.Exports.{Leads, Feeds, Takes, Steps, MovesItems, ClosesSource, TellsVerdict, TellsIfComplete, FindsChannel, TellsTrace, Opens};
 
 use crate::codes::{
     NO_CHANNEL, NO_MEMORY, OK, Place, TOO_SMALL, code_of_cause, code_of_verdict, tell,
 };
 use crate::fault::{fault_of, number_of};
 use crate::held::Held;
+use crate::moving::{Item, Wanted, code_of_moved};
 use crate::session::Session;
 use crate::slices::put_bytes;
 use crate::slot::{free, kept, put_back, taken};
@@ -124,6 +125,40 @@ pub extern "C" fn kpn_c_take(
     *back = put_back(boxed, session);
     *count = got.count;
     code_of_cause(got.cause)
+}
+
+/// How many items a call has fed, how many commits it has made, and how many places it has served.
+#[repr(C)]
+#[derive(Clone, Copy)]
+pub struct Amounts {
+    pub fed: usize,
+    pub commits: u64,
+    pub served: usize,
+}
+
+/// Feeds items, makes turns of processes and takes items.
+#[unsafe(no_mangle)]
+pub extern "C" fn kpn_c_move(
+    held: Held,
+    items: &[Item],
+    most: u64,
+    places: &mut [Wanted],
+    back: &mut Held,
+    amounts: &mut Amounts,
+) -> u32
+    requires { IsOpen held.slot }
+    ensures { Leads (MovesItems items.now most result amounts.new places.old places.new)
+        held.slot back.new.slot }
+{
+    let (boxed, session) = taken(held);
+    let (session, moved) = session.move_items(items, most, places);
+    *back = put_back(boxed, session);
+    *amounts = Amounts {
+        fed: moved.fed.count,
+        commits: moved.stepped.commits,
+        served: moved.taken.count,
+    };
+    code_of_moved(&moved)
 }
 
 /// Tells whether a channel is complete.

@@ -8,7 +8,7 @@ use Rattle.std.proofs.lemmas.List.{length-append, drop-append-le, append_assoc, 
 use Rattle.std.proofs.lemmas.Option.{slice_get_within}
 use Rattle.circular_buffer.proofs.Places.{slice_get-drop}
 use Rattle.kpn_chan.specs.declared.chunks.Chunks.{Chunks}
-use Rattle.kpn_chan.specs.Chunks.{AreFull, IsChunks, IsCounted, items_of}
+use Rattle.kpn_chan.specs.Chunks.{AreFull, IsChunks, IsCounted, items_of, all_of}
 use Rattle.kpn_chan.specs.Ring.{IsLaidOut}
 use Rattle.circular_buffer.specs.Buffer.{Buffer}
 use Rattle.kpn_chan.specs.declared.chunks.TheConstants.{CHUNK}
@@ -150,12 +150,23 @@ counted c is =
     let many = count_of c.full.items c.last.items is.full in
     record { full = is.full; count = omega (arith, many, is.few, is.last, c.last.ok) }
 
+-- and all that were ever put
+pub bounded : {A : Type 0} (c : Chunks A) → IsChunks c → length (all_of c) < 2 ^ 64
+bounded c is =
+    let many = count_of c.full.items c.last.items is.full in
+    let all = length-append c.past.items (items_of c) in
+    omega (arith, all, many, is.few, is.last, is.count, is.bound, c.last.ok)
+
+-- what is in memory is all, if it is kept
+pub all_kept : {A : Type 0} (c : Chunks A) → IsChunks c → c.keeps ≡ true → all_of c ≡ items_of c
+all_kept c is keeps = ap (λ (l : List ℤ). l ++ items_of c) (is.kept keeps)
+
 -- an item that leaves the ring is the next one of the journal
 pub passed : {A : Type 0} (journal : Chunks A) (read : ℕ) (before after : Buffer ℤ) (item : ℤ)
     → IsLaidOut journal read (Some before) → slice_get before.items 0 ≡ Some item → after.items ≡ drop 1 before.items
     → IsLaidOut journal (read + 1) (Some after) × (read + 1 < 2 ^ 64)
 passed journal read before after item is given rest =
-    let all = items_of journal in
+    let all = all_of journal in
     let some : 0 < length before.items = slice_get_within before.items 0 item given in
     let left : length before.items ≡ length all - read =
     ap (λ (l : List ℤ). length l) is.unread ∙ length-drop read all in
@@ -163,7 +174,7 @@ passed journal read before after item is given rest =
     let unread : after.items ≡ drop (read + 1) all =
     rest ∙ ap (λ (l : List ℤ). drop 1 l) is.unread ∙ drop-drop 1 read all in (
       record { chunks = is.chunks; place = next; unread = unread },
-      omega (arith, next, (counted journal is.chunks).count),
+      omega (arith, next, bounded journal is.chunks),
     )
 
 -- a list begins with another if it has the items of the other at their places

@@ -15,6 +15,8 @@ pub record ChannelState : Type 0 where
   pub is_retired : Bool
   -- whether the next item is sure of its room in memory
   pub is_reserved : Bool
+  -- whether the journal is kept in memory
+  pub is_kept : Bool
 
 -- the items that were read
 abbrev pub already_read : ChannelState → List ℤ
@@ -40,7 +42,22 @@ next_item c = if c.is_retired then None else slice_get (unread c) 0
 -- a channel on which nothing has happened yet
 abbrev pub opened : Option ℕ → Bool → ChannelState
 opened capacity reserved =
-    record { journal = []; read = 0; capacity = capacity; is_retired = false; is_reserved = reserved }
+    record {
+      journal = [];
+      read = 0;
+      capacity = capacity;
+      is_retired = false;
+      is_reserved = reserved;
+      is_kept = true;
+    }
+
+-- the same channel, whose journal is kept only if this says so
+abbrev pub opened_as : (keeps : Bool) → Option ℕ → Bool → ChannelState
+opened_as keeps capacity reserved = record (opened capacity reserved) { is_kept = keeps }
+
+-- the journal, if it is kept
+abbrev pub kept_journal : ChannelState → List ℤ
+kept_journal c = if c.is_kept then c.journal else []
 
 -- the channel with room for its next item
 abbrev pub with_room : ChannelState → ChannelState

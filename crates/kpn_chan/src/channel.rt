@@ -1,18 +1,20 @@
 //! A channel: the journal of all items that were put, in chunks, and a ring of the unread ones, so that a read looks
 //! into no chunk.
-ghost use Rattle.std.specs.Prelude.{◌≡◌, ◌<◌, ◌≤◌, ◌^◌, length, [], ◌↔◌, IsTrue, true, IsOk, IfOk, is_ok, if◌then◌else◌, slice_get, take, nat_lt};
-ghost use Rattle.kpn_chan.specs.Channel.{unread, is_full, next_item, opened, with_room, after_put, after_get, retired, MayGrow, grown, MayGrowTo, grown_to};
+ghost use Rattle.std.specs.Prelude.{◌≡◌, ◌<◌, ◌≤◌, ◌^◌, length, [], ◌↔◌, IsTrue, false, IfErr, true, IsOk, IfOk, is_ok, if◌then◌else◌, slice_get, take, nat_lt};
+ghost use Rattle.kpn_chan.specs.Channel.{unread, is_full, next_item, opened, opened_as, kept_journal, with_room, after_put, after_get, retired, MayGrow, grown, MayGrowTo, grown_to};
+ghost use Rattle.kpn_chan.specs.declared.unread.Unread.TheVariants.{Forgotten};
 
 use crate::chunks::Chunks;
 use crate::journal::Journal;
+use crate::unread::Unread;
 use circular_buffer::HeapCircularBuffer;
 use std::alloc::{AllocError, Allocator, Global};
 use std::marker::Model;
 
 /// A queue of whole numbers from one writer to one reader, with all that was ever put on it.
 ///
-/// Contracts see its journal, how many of its items were read, its capacity, whether its reader is
-/// gone, and whether the next item is reserved.
+/// Contracts see its journal, how many of its items were read, its capacity, whether its reader is gone, whether the next
+/// item is reserved, and whether the journal is kept. If it is not, only proofs know what was read long ago.
 #[derive(Debug)]
 pub struct Channel<A: Allocator = Global> {
     journal: Chunks<A>,
@@ -40,17 +42,18 @@ impl<A: Allocator> Model for Channel<A> {
     ghost use Rattle.std.specs.Prelude.{◌&&◌};
     ghost use Rattle.std.specs.Option.{is_none};
     ghost use Rattle.kpn_chan.specs.Channel.{ChannelState};
-    ghost use Rattle.kpn_chan.specs.Chunks.{items_of, has_room};
+    ghost use Rattle.kpn_chan.specs.Chunks.{all_of, has_room};
     ghost use Rattle.kpn_chan.specs.Ring.{has_place, IsLaidOut};
 
     ghost Value = { ChannelState };
 
     ghost view = { λ c. record {
-      journal = items_of c.journal;
+      journal = all_of c.journal;
       read = c.read;
       capacity = c.capacity;
       is_retired = is_none c.ring;
       is_reserved = has_room c.journal && has_place c.ring;
+      is_kept = c.journal.keeps;
     } };
 
     ghost invariant = { λ c. IsLaidOut c.journal c.read c.ring };
@@ -66,12 +69,19 @@ impl<A: Allocator + Copy> Channel<A> {
     pub fn new(alloc: A, cap: Option<u32>) -> Result<Self, AllocError>
         ensures { IfOk result (λ channel. channel ≡ opened cap channel.is_reserved) }
     {
+        Channel::keeping(alloc, cap, true)
+    }
+
+    /// The same channel, whose journal is kept only if `keeps` says so.
+    pub fn keeping(alloc: A, cap: Option<u32>, keeps: bool) -> Result<Self, AllocError>
+        ensures { IfOk result (λ channel. channel ≡ opened_as keeps cap channel.is_reserved) }
+    {
         let places = match cap {
             Some(capacity) => Self::FIRST_PLACES.min(capacity as usize),
             None => Self::FIRST_PLACES,
         };
         Ok(Channel {
-            journal: Chunks::new(alloc),
+            journal: Chunks::new(alloc, keeps),
             ring: Some(HeapCircularBuffer::with_capacity(alloc, places)?),
             read: 0,
             capacity: cap,
@@ -163,7 +173,7 @@ impl<A: Allocator> Channel<A> {
         if let Some(ring) = &mut self.ring {
             let _is_put = ring.try_push_back(item);
         }
-        self.journal.last.push_reserved(item);
+        self.journal.push_reserved(item);
     }
 
     /// The oldest unread item, which is then read. If nothing is unread or the channel is retired, it returns `None`
@@ -194,13 +204,13 @@ impl<A: Allocator> Channel<A> {
     }
 
     /// How many items are unread, on a retired channel too.
-    #[tactic(auto, using(crate::proofs::Places::counted))]
+    #[tactic(auto, using(crate::proofs::Places::bounded))]
     pub fn len(&self) -> usize
         ensures { result ≡ length (unread self.now) }
     {
         match &self.ring {
             Some(ring) => ring.len(),
-            None => self.journal.len() - self.read,
+            None => self.journal.count() - self.read,
         }
     }
 
@@ -236,20 +246,29 @@ impl<A: Allocator> Channel<A> {
         self.capacity
     }
 
-    /// The item at a place of the journal, counted from 0, or `None` past its end.
-    #[tactic(auto, using(crate::proofs::Places::counted))]
+    /// Whether the journal is kept.
+    pub fn is_kept(&self) -> bool
+        ensures { result ≡ self.now.is_kept }
+    {
+        self.journal.keeps
+    }
+
+    /// The item at a place of the journal, counted from 0, or `None` past its end. Of a journal that is not kept it may
+    /// be another one.
+    #[tactic(auto, using(crate::proofs::Places::counted, crate::proofs::Places::all_kept))]
     pub fn at(&self, place: usize) -> Option<i64>
-        ensures { result ≡ slice_get self.now.journal place }
+        ensures { IsTrue self.now.is_kept → result ≡ slice_get self.now.journal place }
     {
         self.journal.at(place)
     }
 
-    /// Whether the journal begins with these items.
-    #[tactic(auto, using(crate::proofs::Places::counted))]
+    /// Whether the journal is kept and begins with these items.
+    #[tactic(auto, using(crate::proofs::Places::counted, crate::proofs::Places::all_kept))]
     pub fn begins_with(&self, items: &[i64]) -> bool
-        ensures { IsTrue result ↔ (items.now ≡ take (length items.now) self.now.journal) }
+        ensures { IsTrue result
+            ↔ (IsTrue self.now.is_kept × (items.now ≡ take (length items.now) self.now.journal)) }
     {
-        self.journal.begins_with(items)
+        self.journal.keeps && self.journal.begins_with(items)
     }
 
     /// Marks that the reader is gone: from now on nothing is read, and the channel is never full. The journal, the read
@@ -268,32 +287,39 @@ impl<A: Allocator> Channel<A> {
         self.ring.is_none()
     }
 
-    /// A list of all items that were ever put, oldest first. The error is that memory ran out.
-    #[tactic(auto, using(crate::proofs::Places::counted))]
-    pub fn copy_journal<B: Allocator>(&self, alloc: B) -> Result<Vec<i64, B>, AllocError>
-        ensures { IfOk result (λ items. items.items ≡ self.now.journal) }
+    /// A list of all items that were ever put, oldest first.
+    #[tactic(auto, using(crate::proofs::Places::counted, crate::proofs::Places::all_kept))]
+    pub fn copy_journal<B: Allocator>(&self, alloc: B) -> Result<Vec<i64, B>, Unread>
+        ensures items { IfOk result (λ items. items.items ≡ self.now.journal) }
+        ensures forgotten { IfErr result (λ why. why ≡ Forgotten → self.now.is_kept ≡ false) }
     {
-        self.journal.copy_first(alloc, self.journal.len())
+        if !self.journal.keeps {
+            return Err(Unread::Forgotten);
+        }
+        Ok(self.journal.copy_first(alloc, self.journal.len())?)
     }
 
-    /// All items that were ever put, oldest first, moved out of the channel.
-    #[tactic(auto, using(crate::proofs::Places::counted))]
+    /// All items that were ever put, oldest first, moved out of the channel; none if they are not kept.
+    #[tactic(auto, using(crate::proofs::Places::counted, crate::proofs::Places::all_kept))]
     pub fn into_journal(self) -> Journal<A>
-        ensures { result ≡ self.journal }
+        ensures { result ≡ kept_journal self }
     {
         let Channel {
-            journal,
+            mut journal,
             ring,
             read: _,
             capacity: _,
         } = self;
         drop(ring);
+        if !journal.keeps {
+            journal.last.clear();
+        }
         Journal { chunks: journal }
     }
 
     /// Does nothing. A caller's proof learns from it what holds of every channel: no more items were read than were
     /// put, and their number fits a `usize`.
-    #[tactic(auto, using(crate::proofs::Places::counted))]
+    #[tactic(auto, using(crate::proofs::Places::bounded))]
     pub fn known(&self)
         ensures read { self.now.read ≤ length self.now.journal }
         ensures bound { length self.now.journal < 2 ^ 64 }

@@ -1,7 +1,9 @@
-//! A list in chunks, so that an item never moves once its chunk is full. It has all that was put on a channel.
-ghost use Rattle.std.specs.Prelude.{◌≡◌, ◌↔◌, Some, ◌<◌, ◌≤◌, [], length, take, drop, is_ok, IsOk, IfOk, IsTrue, slice_get, vec_len, vec_capacity};
-ghost use Rattle.kpn_chan.specs.Chunks.{items_of, has_room, IsChunks, IsCounted};
+//! A list in chunks, so that an item never moves once its chunk is full. It has all that was put on a channel, or it
+//! hands what it has to proofs when its chunk is full, and forgets it.
+ghost use Rattle.std.specs.Prelude.{◌≡◌, ◌↔◌, Some, false, OnOk, OnErr, ◌<◌, ◌≤◌, [], ◌∷◌, ◌++◌, length, take, drop, is_ok, IsOk, IfOk, IsTrue, slice_get, vec_len, vec_capacity};
+ghost use Rattle.kpn_chan.specs.Chunks.{items_of, all_of, has_room, IsChunks, IsCounted};
 
+use kpn_past::Past;
 use std::alloc::{AllocError, Allocator};
 use std::mem;
 
@@ -14,21 +16,35 @@ pub const MAX_CHUNKS: usize = 1 << 48;
 /// How many places the first chunk begins with.
 const FIRST_PLACES: usize = 4;
 
+/// How many places the chunk has whose items are forgotten when it is full.
+const SHORT: usize = 256;
+
+/// How many items may be forgotten: as many as the full chunks may hold.
+pub const MOST_GONE: usize = 1 << 60;
+
 /// The items in order: those of the full chunks, which never move, and those of the last one. That one doubles until it
-/// is as long as a full one.
+/// is as long as a full one. If nothing is kept, the last chunk is the only one, and each time that it is full its items
+/// become past: they are counted, and only proofs know them.
 #[derive(Debug, Drop)]
 pub struct Chunks<A: Allocator> {
+    pub(crate) past: Past<i64>,
+    pub(crate) gone: usize,
+    pub(crate) keeps: bool,
     pub(crate) full: Vec<Vec<i64, A>, A>,
     pub(crate) last: Vec<i64, A>,
 }
 
 impl<A: Allocator + Copy> Chunks<A> {
     /// No items. It takes no memory. It keeps the allocator for the chunks.
-    pub(crate) fn new(alloc: A) -> Self
-        ensures items { items_of result ≡ [] }
+    pub(crate) fn new(alloc: A, keeps: bool) -> Self
+        ensures items { all_of result ≡ [] }
+        ensures keeps { result.keeps ≡ keeps }
         ensures chunks { IsChunks result }
     {
         Chunks {
+            past: Past::new(),
+            gone: 0,
+            keeps,
             full: Vec::new(alloc),
             last: Vec::new(alloc),
         }
@@ -38,7 +54,8 @@ impl<A: Allocator + Copy> Chunks<A> {
     #[inline(always)]
     pub(crate) fn reserve_one(&mut self) -> Result<(), AllocError>
         requires { IsChunks self.old }
-        ensures items { items_of self.new ≡ items_of self.old }
+        ensures items { all_of self.new ≡ all_of self.old }
+        ensures keeps { self.new.keeps ≡ self.old.keeps }
         ensures chunks { IsChunks self.new }
         ensures room { has_room self.new ≡ is_ok result }
         ensures already { IsTrue (has_room self.old) → IsOk result }
@@ -55,10 +72,14 @@ impl<A: Allocator + Copy> Chunks<A> {
     fn extend(&mut self) -> Result<(), AllocError>
         requires chunks { IsChunks self.old }
         requires none { vec_capacity self.old.last ≤ vec_len self.old.last }
-        ensures items { items_of self.new ≡ items_of self.old }
+        ensures items { all_of self.new ≡ all_of self.old }
+        ensures keeps { self.new.keeps ≡ self.old.keeps }
         ensures chunks { IsChunks self.new }
         ensures room { has_room self.new ≡ is_ok result }
     {
+        if !self.keeps {
+            return self.forget();
+        }
         let len = self.last.len();
         if len < CHUNK {
             return self
@@ -74,6 +95,30 @@ impl<A: Allocator + Copy> Chunks<A> {
         self.full.push_reserved(full);
         Ok(())
     }
+
+    /// Makes room for one more item where nothing is kept: what is in memory becomes past.
+    fn forget(&mut self) -> Result<(), AllocError>
+        requires chunks { IsChunks self.old }
+        requires none { vec_capacity self.old.last ≤ vec_len self.old.last }
+        requires keeps { self.old.keeps ≡ false }
+        ensures items { all_of self.new ≡ all_of self.old }
+        ensures keeps { self.new.keeps ≡ self.old.keeps }
+        ensures chunks { IsChunks self.new }
+        ensures room { has_room self.new ≡ is_ok result }
+    {
+        let len = self.last.len();
+        if len == 0 {
+            return self.last.reserve_exact(SHORT);
+        }
+        if MOST_GONE - self.gone < len {
+            return Err(AllocError);
+        }
+        self.gone += len;
+        let past = mem::replace(&mut self.past, Past::new());
+        self.past = past.and_all(&self.last);
+        self.last.clear();
+        Ok(())
+    }
 }
 
 impl<A: Allocator> Chunks<A> {
@@ -84,7 +129,27 @@ impl<A: Allocator> Chunks<A> {
         self.last.len() < self.last.capacity()
     }
 
-    /// How many items there are.
+    /// Puts an item at the end, in the room that there is. It takes no memory.
+    #[inline(always)]
+    pub(crate) fn push_reserved(&mut self, item: i64)
+        requires chunks { IsChunks self.old }
+        requires room { IsTrue (has_room self.old) }
+        ensures items { all_of self.new ≡ all_of self.old ++ item ∷ [] }
+        ensures keeps { self.new.keeps ≡ self.old.keeps }
+        ensures chunks { IsChunks self.new }
+    {
+        self.last.push_reserved(item);
+    }
+
+    /// How many items there are, with those that were forgotten.
+    pub(crate) fn count(&self) -> usize
+        requires { IsChunks self.now }
+        ensures { result ≡ length (all_of self.now) }
+    {
+        self.gone + self.len()
+    }
+
+    /// How many items are in memory.
     pub(crate) fn len(&self) -> usize
         requires { IsCounted self.now }
         ensures { result ≡ length (items_of self.now) }

@@ -7,6 +7,7 @@ ghost use Rattle.std.proofs.Common.{rules};
 ghost use Rattle.kpn_chan.specs.Chunks.{items_of, IsCounted};
 
 use crate::chunks::Chunks;
+use kpn_past::Past;
 use std::alloc::{AllocError, Allocator, Global};
 use std::marker::Model;
 
@@ -57,6 +58,9 @@ impl<A: Allocator + Copy> Journal<A> {
     {
         Journal {
             chunks: Chunks {
+                past: Past::new(),
+                gone: 0,
+                keeps: true,
                 full: Vec::new(alloc),
                 last: items,
             },

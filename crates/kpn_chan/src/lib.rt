@@ -6,6 +6,8 @@ mod channel;
 mod chunks;
 mod journal;
 pub mod laws;
+mod unread;
 
 pub use channel::Channel;
 pub use journal::Journal;
+pub use unread::Unread;

@@ -3,7 +3,6 @@ use Rattle.std.specs.Prelude.{◌≡◌, ℕ, List, Option, Some, None, map, opt
 use Rattle.kpn_text.specs.Document.{canonical_text}
 use Rattle.kpn_command_base.specs.declared.refusal.Refusal.{Refusal}
 use Rattle.kpn_command_base.specs.declared.refusal.Refusal.TheVariants.{NoMemory}
-use Rattle.kpn_command_base.specs.Refusal.{status_of}
 use Rattle.kpn_command_base.specs.declared.conclusion.Conclusion.{Conclusion}
 use Rattle.kpn_command_base.specs.Conclusion.{Succeeds, Tells}
 use Rattle.kpn_shelf.specs.Shelf.{Loads, Aliases}
@@ -33,7 +32,7 @@ use Rattle.kpn_command_line.specs.declared.request.WordsFault.{WordsFault}
 use Rattle.kpn_command_line.specs.declared.request.WordsFault.TheVariants.{Usage, NoMemory as Unread}
 use Rattle.kpn_cli.specs.declared.here.Progress.{Progress}
 use Rattle.kpn_cli.specs.declared.here.Progress.TheVariants.{Answered, NeedsWorkers, NeedsDevices, NeedsOutput}
-use Rattle.kpn_cli.specs.Concludes.{Concludes}
+use Rattle.kpn_cli.specs.Concludes.{Concludes, IsReported}
 
 -- ---- answers
 
@@ -94,21 +93,22 @@ IsAnswer may_give may_alias remaining (Help text) input read answer =
 
 -- A timeline goes out while it is made. Given are the output and the place for faults, each as it was and as it is
 -- afterwards, and the status.
-pub data TellsTimeline {O E : Type 0} (contents : O → Option (List ℕ)) (may_give : Loads) (file trace : List ℕ)
-    (steps : ℕ) (out written : O) (err told : E) (status : ℕ) : Type 0 where
+pub data TellsTimeline {O E : Type 0} (contents : O → Option (List ℕ)) (holds : E → Option (List ℕ))
+    (may_give : Loads) (file trace : List ℕ) (steps : ℕ) (out written : O) (err told : E) (status : ℕ) : Type 0 where
   -- the text for these files goes out whole, and nothing is reported
   whole : HasGoneOut (IsTimeline may_give file trace steps) (contents out) (contents written) status → told ≡ err →
-      TellsTimeline contents may_give file trace steps out written err told status
+      TellsTimeline contents holds may_give file trace steps out written err told status
   -- there is none, or it can't be written whole
-  refused : (refusal : Refusal) → IsNoTimeline may_give file trace out written refusal → status ≡ status_of refusal →
-      TellsTimeline contents may_give file trace steps out written err told status
+  refused : (refusal : Refusal) → IsNoTimeline may_give file trace out written refusal →
+      IsReported holds refusal err told status →
+      TellsTimeline contents holds may_give file trace steps out written err told status
 
 -- the same for a request of a timeline
-abbrev pub TellsAsked : {O E : Type 0} → (contents : O → Option (List ℕ)) (may_give : Loads) → Request
-    → (out written : O) (err told : E) (status : ℕ) → Type 0
-TellsAsked contents may_give (Timeline file trace steps) out written err told status =
-    TellsTimeline contents may_give file.now trace.now steps out written err told status
-TellsAsked contents may_give request out written err told status = ⊥
+abbrev pub TellsAsked : {O E : Type 0} → (contents : O → Option (List ℕ)) (holds : E → Option (List ℕ))
+    (may_give : Loads) → Request → (out written : O) (err told : E) (status : ℕ) → Type 0
+TellsAsked contents holds may_give (Timeline file trace steps) out written err told status =
+    TellsTimeline contents holds may_give file.now trace.now steps out written err told status
+TellsAsked contents holds may_give request out written err told status = ⊥
 
 -- ---- the program
 
@@ -116,32 +116,32 @@ TellsAsked contents may_give request out written err told status = ⊥
 -- faults, each as it was and as it is afterwards, and the status.
 pub data Runs {S I F O G E : Type 0} (may_give : S → Loads) (may_alias : S → Aliases) (names : Names F G)
     (remaining : I → Option (List ℕ)) (left_in : F → Option (List ℕ)) (contents : O → Option (List ℕ))
-    (holds_in : G → Option (List ℕ)) (asked : List (List ℕ)) (shelf kept : S) (input read : I) (out written : O)
-    (err told : E) (status : ℕ) : Type 0 where
+    (holds_in : G → Option (List ℕ)) (holds : E → Option (List ℕ)) (asked : List (List ℕ)) (shelf kept : S)
+    (input read : I) (out written : O) (err told : E) (status : ℕ) : Type 0 where
   -- the words ask for something, which is answered, and the answer is carried out
   answers : (request : Request) → IsAsked asked request → (answer : Result Conclusion Refusal) →
       IsAnswer (may_give shelf) (may_alias shelf) remaining request input read answer →
-      Concludes may_give contents answer shelf kept out written err told status →
-      Runs may_give may_alias names remaining left_in contents holds_in asked
+      Concludes may_give contents holds answer shelf kept out written err told status →
+      Runs may_give may_alias names remaining left_in contents holds_in holds asked
       shelf kept input read out written err told status
   -- they ask for a stream, which reads and writes while it goes on
   streams : (stream : StreamRequest) → IsAsked asked (Stream stream) →
       Streams may_give names (known_of remaining left_in contents holds_in) stream
       shelf kept input read out written status →
-      Runs may_give may_alias names remaining left_in contents holds_in asked
+      Runs may_give may_alias names remaining left_in contents holds_in holds asked
       shelf kept input read out written err told status
   -- they ask for a timeline, which goes out while it is made
   tells : (request : Request) → IsAsked asked request → kept ≡ shelf → read ≡ input →
-      TellsAsked contents (may_give shelf) request out written err told status →
-      Runs may_give may_alias names remaining left_in contents holds_in asked
+      TellsAsked contents holds (may_give shelf) request out written err told status →
+      Runs may_give may_alias names remaining left_in contents holds_in holds asked
       shelf kept input read out written err told status
   -- they are not understood, and the place for faults gets how to use words
   unclear : AreUnclear asked → kept ≡ shelf → read ≡ input → written ≡ out → status ≡ 2 →
-      Runs may_give may_alias names remaining left_in contents holds_in asked
+      Runs may_give may_alias names remaining left_in contents holds_in holds asked
       shelf kept input read out written err told status
   -- there is no memory to read them
-  unread : kept ≡ shelf → read ≡ input → written ≡ out → status ≡ status_of NoMemory →
-      Runs may_give may_alias names remaining left_in contents holds_in asked
+  unread : kept ≡ shelf → read ≡ input → written ≡ out → IsReported holds NoMemory err told status →
+      Runs may_give may_alias names remaining left_in contents holds_in holds asked
       shelf kept input read out written err told status
 
 -- ---- scaffolding: what the parts of the code answer
@@ -158,7 +158,7 @@ ComesTo may_give may_alias remaining request input read (NeedsDevices stream) = 
 ComesTo may_give may_alias remaining request input read (NeedsOutput file trace steps) =
     (request ≡ Timeline file trace steps) × (read ≡ input)
 
--- the status for words that are not understood, or for want of memory to read them
-abbrev pub fault_status : WordsFault → ℕ
-fault_status (Usage text) = 2
-fault_status Unread = status_of NoMemory
+-- words that are not understood have status 2, and want of memory to read them is reported
+abbrev pub TellsFault : {E : Type 0} → (holds : E → Option (List ℕ)) → WordsFault → (err told : E) (status : ℕ) → Type 0
+TellsFault holds (Usage text) err told status = status ≡ 2
+TellsFault holds Unread err told status = IsReported holds NoMemory err told status

@@ -5,7 +5,8 @@ use Rattle.kpn_text_items.specs.declared.fault.WriteFault.{WriteFault}
 use Rattle.kpn_text_items.specs.declared.fault.WriteFault.TheVariants.{Write}
 use Rattle.kpn_command_base.specs.declared.refusal.Refusal.{Refusal}
 use Rattle.kpn_command_base.specs.declared.refusal.Refusal.TheVariants.{Output}
-use Rattle.kpn_command_base.specs.Refusal.{status_of}
+use Rattle.kpn_command_base.specs.Refusal.{status_of, refusal_line}
+use Rattle.kpn_command_base.specs.Told.{IsTold}
 use Rattle.kpn_shelf.specs.Shelf.{Loads, KeepsOthers}
 use Rattle.kpn_command_base.specs.declared.conclusion.Conclusion.{Conclusion}
 use Rattle.kpn_command_base.specs.Conclusion.{StoredFile, files_in}
@@ -36,26 +37,34 @@ pub record IsCutShort {S : Type 0} (may_give : S → Loads) (files : List Stored
 
 -- ---- what becomes of an answer
 
+-- a refusal is reported: the place for faults gets its line, as far as it takes it, and the status is that of the
+-- refusal
+abbrev pub IsReported : {E : Type 0} → (holds : E → Option (List ℕ)) → Refusal → (err told : E) (status : ℕ) → Type 0
+IsReported holds refusal err told status =
+    IsTold (holds err) (holds told) (refusal_line refusal ++ 10 ∷ []) × (status ≡ status_of refusal)
+
 -- A conclusion is carried out. Given are the shelf, the output and the place for faults, each as it was and as it is
 -- afterwards, and the status.
-pub data IsCarriedOut {S O E : Type 0} (may_give : S → Loads) (contents : O → Option (List ℕ)) (made : Conclusion)
-    (shelf kept : S) (out written : O) (err told : E) (status : ℕ) : Type 0 where
+pub data IsCarriedOut {S O E : Type 0} (may_give : S → Loads) (contents : O → Option (List ℕ))
+    (holds : E → Option (List ℕ)) (made : Conclusion) (shelf kept : S) (out written : O) (err told : E)
+    (status : ℕ) : Type 0 where
   -- the files are stored, then the text goes out whole, and nothing is reported
   whole : AreStored may_give (files_in made) shelf kept → Appends (contents out) (contents written) made.text.items →
       told ≡ err → status ≡ made.status →
-      IsCarriedOut may_give contents made shelf kept out written err told status
+      IsCarriedOut may_give contents holds made shelf kept out written err told status
   -- the files are stored, and the text can't be written whole
-  unwritten : AreStored may_give (files_in made) shelf kept → status ≡ status_of (Output Write) →
-      IsCarriedOut may_give contents made shelf kept out written err told status
+  unwritten : AreStored may_give (files_in made) shelf kept → IsReported holds (Output Write) err told status →
+      IsCarriedOut may_give contents holds made shelf kept out written err told status
   -- a file can't be stored, and nothing goes out
   cut_short : (fault : WriteFault) → IsCutShort may_give (files_in made) shelf kept → written ≡ out →
-      status ≡ status_of (Output fault) →
-      IsCarriedOut may_give contents made shelf kept out written err told status
+      IsReported holds (Output fault) err told status →
+      IsCarriedOut may_give contents holds made shelf kept out written err told status
 
--- A conclusion is carried out. A refusal gives the status, no file is stored, and nothing goes out.
+-- A conclusion is carried out. A refusal is reported, no file is stored, and nothing goes out.
 abbrev pub Concludes : {S O E : Type 0} → (may_give : S → Loads) (contents : O → Option (List ℕ))
-    → Result Conclusion Refusal → (shelf kept : S) (out written : O) (err told : E) (status : ℕ) → Type 0
-Concludes may_give contents (Ok made) shelf kept out written err told status =
-    IsCarriedOut may_give contents made shelf kept out written err told status
-Concludes may_give contents (Err refusal) shelf kept out written err told status =
-    (kept ≡ shelf) × (written ≡ out) × (status ≡ status_of refusal)
+    (holds : E → Option (List ℕ)) → Result Conclusion Refusal → (shelf kept : S) (out written : O) (err told : E)
+    (status : ℕ) → Type 0
+Concludes may_give contents holds (Ok made) shelf kept out written err told status =
+    IsCarriedOut may_give contents holds made shelf kept out written err told status
+Concludes may_give contents holds (Err refusal) shelf kept out written err told status =
+    (kept ≡ shelf) × (written ≡ out) × IsReported holds refusal err told status

@@ -17,8 +17,8 @@ pub(crate) fn conclude<S: Shelf, O: Write, E: Write>(
     out: &mut O,
     err: &mut E,
 ) -> u8
-    ensures { Concludes S.may_give O.contents answer shelf.old shelf.new out.old out.new
-        err.old err.new result }
+    ensures { Concludes S.may_give O.contents E.contents answer shelf.old shelf.new
+        out.old out.new err.old err.new result }
 {
     let conclusion = match answer {
         Ok(conclusion) => conclusion,

@@ -33,8 +33,9 @@ pub fn command<R: Threads + Wait + Clock + Sync, S: Shelf + Ports, I: Look, O: W
     err: &mut E,
 ) -> u8
     ensures { Runs S.may_give S.may_alias (names_of S.comes_from S.goes_to)
-        I.remaining S.Input.remaining O.contents S.Output.contents (map string_bytes words.now)
-        shelf.old shelf.new input.old input.new out.old out.new err.old err.new result }
+        I.remaining S.Input.remaining O.contents S.Output.contents E.contents
+        (map string_bytes words.now) shelf.old shelf.new input.old input.new out.old out.new
+        err.old err.new result }
 {
     match read_words(alloc, words) {
         Ok(request) => match answer_here(alloc, request, shelf, input) {
@@ -64,8 +65,8 @@ fn tell_timeline<S: Shelf, O: Write, E: Write>(
     out: &mut O,
     err: &mut E,
 ) -> u8
-    ensures { TellsTimeline O.contents (S.may_give shelf.now) file.now trace.now steps
-        out.old out.new err.old err.new result }
+    ensures { TellsTimeline O.contents E.contents (S.may_give shelf.now) file.now trace.now
+        steps out.old out.new err.old err.new result }
 {
     match timeline_command(alloc, file, trace, steps, shelf, out) {
         Ok(status) => status,

@@ -13,6 +13,7 @@ pub mod Sources
 pub mod SourceRefusals
 pub mod Inputs
 pub mod FaultLine
+pub mod Told
 pub mod Refusal
 -- What the contracts of this crate speak of: the outputs of a run, and the text of its report.
 pub mod Outputs

@@ -9,7 +9,9 @@ use Rattle.kpn_text.specs.declared.fault.TextFault.TheVariants as text
 use Rattle.kpn_trace.specs.declared.fault.TraceFault.TheVariants as trace
 use Rattle.kpn_command_base.specs.declared.refusal.Refusal.{Refusal}
 use Rattle.kpn_command_base.specs.declared.refusal.Refusal.TheVariants.{NotText, UnknownProcess, SourceWord, TraceWord, SinkWord, PictureWords, Input, Description, Names, Output, Trace, NoMemoryToAudit, PolicyDiffers, Threads, Abandoned, Foreign, NoMemory}
-use Rattle.kpn_command_base.specs.FaultLine.{fault_line, input_fault_line, output_fault_line, text_fault_line, name_fault_line, trace_fault_line}
+use Rattle.kpn_command_base.specs.declared.refusal.Line.{Line}
+use Rattle.kpn_command_base.specs.declared.refusal.Line.TheVariants.{Usage, Fault}
+use Rattle.kpn_command_base.specs.FaultLine.{told, fault_line, input_fault_line, output_fault_line, text_fault_line, name_fault_line, trace_fault_line}
 
 -- the line, without its line feed
 abbrev pub refusal_line : Refusal → List ℕ
@@ -58,3 +60,10 @@ status_of Threads = 7
 status_of Abandoned = 7
 status_of Foreign = 7
 status_of other = 1
+
+-- ---- scaffolding
+
+-- the text of a line that the code has made
+abbrev pub line_text : Line → List ℕ
+line_text (Usage text) = text.now
+line_text (Fault line) = told line

@@ -1,14 +1,17 @@
 //! Fault lines: how the program reports a fault on standard error.
-ghost use Rattle.std.specs.Prelude.{◌≡◌, Some, None};
+ghost use Rattle.std.specs.Prelude.{◌≡◌, ◌++◌, [], ◌∷◌, Some, None};
+ghost use Rattle.kpn_command_base.specs.Told.{AreWritten};
 ghost use Rattle.kpn_command_base.specs.FaultLine.{told, input_fault_line, output_fault_line, program_fault_line, net_fault_line, text_fault_line, name_fault_line, trace_fault_line};
 
 use crate::option_fault::OptionFault;
+use crate::telling::{put, put_more, put_number, put_place};
 use kpn_lang::ProgramFault;
 use kpn_net::NetFault;
 use kpn_text::TextFault;
 use kpn_text_items::{ItemFault, WriteFault};
 use kpn_trace::TraceFault;
 use std::fmt;
+use std::io::Write;
 
 /// A fault as the program reports it: `kpn: NUMBER NAME`, and ` at PLACE` if it has a place.
 #[derive(Clone, Copy)]
@@ -38,6 +41,19 @@ impl fmt::Display for FaultLine {
 }
 
 impl FaultLine {
+    /// Writes the line and a line feed, as far as they are taken. It returns whether all is.
+    pub(crate) fn tell<E: Write>(&self, err: &mut E) -> bool
+        ensures { AreWritten (E.contents err.old) (E.contents err.new)
+            (told self.now ++ 10 ∷ []) result }
+    {
+        let whole = put(err, b"kpn: ");
+        let whole = put_number(whole, err, self.number as usize);
+        let whole = put_more(whole, err, b" ");
+        let whole = put_more(whole, err, self.name.as_bytes());
+        let whole = put_place(whole, err, self.place);
+        put_more(whole, err, b"\n")
+    }
+
     /// A fault that has no place.
     pub(crate) fn new(number: u8, name: &'static str) -> FaultLine
         ensures { result ≡ record { number = number; name = name.entry; place = None } }

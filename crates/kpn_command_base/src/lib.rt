@@ -23,6 +23,7 @@ mod run_request;
 mod sources;
 mod stream_request;
 mod tables;
+mod telling;
 mod trace_bytes;
 
 pub use audit_text::text_of_audit;

@@ -1,11 +1,12 @@
 //! Refusals: why a command gives no answer, the line that reports it, and the status that the program then
 //! ends with.
-ghost use Rattle.std.specs.Prelude.{◌≡◌, ◌++◌, [], ◌∷◌, OnOk};
-ghost use Rattle.std.specs.Io.KnownBytes.{Appends};
-ghost use Rattle.kpn_command_base.specs.Refusal.{wants_memory};
+ghost use Rattle.std.specs.Prelude.{◌≡◌, ◌++◌, [], ◌∷◌};
+ghost use Rattle.kpn_command_base.specs.Refusal.{line_text, wants_memory};
+ghost use Rattle.kpn_command_base.specs.Told.{AreWritten, IsTold};
 
 use crate::fault_line::FaultLine;
 use crate::option_fault::OptionFault;
+use crate::telling::{put, put_more};
 use kpn_lang::ProgramFault;
 use kpn_net::NetFault;
 use kpn_text::TextFault;
@@ -55,6 +56,15 @@ pub enum Refusal {
     NoMemory,
 }
 
+/// The line that reports a refusal, without its line feed.
+#[derive(Clone, Copy)]
+pub(crate) enum Line {
+    /// How a word is to be.
+    Usage(&'static str),
+    /// A fault with a number.
+    Fault(FaultLine),
+}
+
 impl From<AllocError> for Refusal {
     ghost use Rattle.std.specs.Prelude.{◌≡◌};
     ghost use Rattle.kpn_command_base.specs.declared.refusal.Refusal.TheVariants.{NoMemory};
@@ -84,39 +94,9 @@ impl fmt::Display for Refusal {
     ghost output = { λ refusal. Some (refusal_line refusal) };
 
     fn fmt<W: fmt::Write>(&self, f: &mut fmt::Formatter<W>) -> fmt::Result {
-        match self {
-            Refusal::NotText => write!(f, "kpn: usage: words of UTF-8 text"),
-            Refusal::UnknownProcess => write!(f, "kpn: usage: copy, double or sum"),
-            Refusal::SourceWord => write!(f, "kpn: usage: --source NAME=FILE"),
-            Refusal::TraceWord => {
-                write!(
-                    f,
-                    "kpn: usage: --trace OUT, a file that is no input and no other output"
-                )
-            }
-            Refusal::SinkWord => {
-                write!(
-                    f,
-                    "kpn: usage: --sink NAME=OUT, a file that is no input and no other output"
-                )
-            }
-            Refusal::PictureWords => {
-                write!(
-                    f,
-                    "kpn: usage: --from T and --to T, with at most 2000 gets, puts, waits and growths between them"
-                )
-            }
-            Refusal::Input(fault) => write!(f, "{}", FaultLine::of_input(fault)),
-            Refusal::Description(fault) => write!(f, "{}", FaultLine::of_text(*fault)),
-            Refusal::Names(fault) => write!(f, "{}", FaultLine::of_name(*fault)),
-            Refusal::Output(fault) => write!(f, "{}", FaultLine::of_output(fault)),
-            Refusal::Trace(fault) => write!(f, "{}", FaultLine::of_trace(fault)),
-            Refusal::NoMemoryToAudit => write!(f, "{}", FaultLine::new(51, "NoMemory")),
-            Refusal::PolicyDiffers => write!(f, "{}", FaultLine::new(53, "PolicyDiffers")),
-            Refusal::Threads => write!(f, "{}", FaultLine::new(48, "Threads")),
-            Refusal::Abandoned => write!(f, "{}", FaultLine::new(49, "Abandoned")),
-            Refusal::Foreign => write!(f, "{}", FaultLine::new(47, "Foreign")),
-            Refusal::NoMemory => write!(f, "{}", FaultLine::new(42, "NoMemory")),
+        match self.line() {
+            Line::Usage(text) => write!(f, "{text}"),
+            Line::Fault(line) => write!(f, "{line}"),
         }
     }
 }
@@ -145,20 +125,59 @@ impl Refusal {
         }
     }
 
-    /// Writes the one line that reports the refusal.
-    pub fn tell<E: Write>(&self, err: &mut E) -> Result<(), WriteFault>
-        ensures { OnOk result
-            (Appends (E.contents err.old) (E.contents err.new) (refusal_line self.now ++ 10 ∷ [])) }
+    /// The line that reports the refusal.
+    fn line(&self) -> Line
+        ensures { line_text result ≡ refusal_line self.now }
     {
-        writeln!(err, "{self}").map_err(|_| WriteFault::Write)
+        match self {
+            Refusal::NotText => Line::Usage("kpn: usage: words of UTF-8 text"),
+            Refusal::UnknownProcess => Line::Usage("kpn: usage: copy, double or sum"),
+            Refusal::SourceWord => Line::Usage("kpn: usage: --source NAME=FILE"),
+            Refusal::TraceWord => Line::Usage(
+                "kpn: usage: --trace OUT, a file that is no input and no other output",
+            ),
+            Refusal::SinkWord => Line::Usage(
+                "kpn: usage: --sink NAME=OUT, a file that is no input and no other output",
+            ),
+            Refusal::PictureWords => Line::Usage(
+                "kpn: usage: --from T and --to T, with at most 2000 gets, puts, waits and growths between them",
+            ),
+            Refusal::Input(fault) => Line::Fault(FaultLine::of_input(fault)),
+            Refusal::Description(fault) => Line::Fault(FaultLine::of_text(*fault)),
+            Refusal::Names(fault) => Line::Fault(FaultLine::of_name(*fault)),
+            Refusal::Output(fault) => Line::Fault(FaultLine::of_output(fault)),
+            Refusal::Trace(fault) => Line::Fault(FaultLine::of_trace(fault)),
+            Refusal::NoMemoryToAudit => Line::Fault(FaultLine::new(51, "NoMemory")),
+            Refusal::PolicyDiffers => Line::Fault(FaultLine::new(53, "PolicyDiffers")),
+            Refusal::Threads => Line::Fault(FaultLine::new(48, "Threads")),
+            Refusal::Abandoned => Line::Fault(FaultLine::new(49, "Abandoned")),
+            Refusal::Foreign => Line::Fault(FaultLine::new(47, "Foreign")),
+            Refusal::NoMemory => Line::Fault(FaultLine::new(42, "NoMemory")),
+        }
     }
 
-    /// Reports the refusal and returns its status. If standard error takes nothing, only the status
-    /// reports it.
-    pub fn report<E: Write>(&self, err: &mut E) -> u8
-        ensures { result ≡ status_of self.now }
+    /// Writes the line and a line feed, as far as they are taken. It returns whether all is.
+    fn tell<E: Write>(&self, err: &mut E) -> bool
+        ensures { AreWritten (E.contents err.old) (E.contents err.new)
+            (refusal_line self.now ++ 10 ∷ []) result }
     {
-        let _ = self.tell(err);
+        match self.line() {
+            Line::Usage(text) => {
+                let whole = put(err, text.as_bytes());
+                put_more(whole, err, b"\n")
+            }
+            Line::Fault(line) => line.tell(err),
+        }
+    }
+
+    /// Reports the refusal on a line and returns its status. If standard error takes no more, only the status reports
+    /// it.
+    pub fn report<E: Write>(&self, err: &mut E) -> u8
+        ensures status { result ≡ status_of self.now }
+        ensures told { IsTold (E.contents err.old) (E.contents err.new)
+            (refusal_line self.now ++ 10 ∷ []) }
+    {
+        let _whole = self.tell(err);
         self.status()
     }
 }

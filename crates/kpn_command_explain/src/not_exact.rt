@@ -29,10 +29,26 @@ fn can_one_continue(audit: &Audit) -> bool {
     false
 }
 
-// Which sinks are complete, and what gives more on the others: turns, if a process can continue, or else room.
+// Whether one of the processes waits for an item of a source that is still open.
+fn does_one_await_input(document: &Document, audit: &Audit) -> bool {
+    for wait in audit.waits.as_slice() {
+        if let Wait::Empty(c) = *wait {
+            let is_complete = audit.complete.as_slice().get(c).copied().unwrap_or(false);
+            if !is_complete && document.network().is_source(c) {
+                return true;
+            }
+        }
+    }
+    false
+}
+
+// Which sinks are complete, and what gives more on the others: turns, if a process can continue; input, if one waits for
+// it; or else room.
 fn push_sinks(text: &mut String, document: &Document, audit: &Audit) -> Pushed {
     let rest = if can_one_continue(audit) {
         "a longer run may put more there"
+    } else if does_one_await_input(document, audit) {
+        "more input may put more there"
     } else {
         "more room (`cap`, `limit`) may put more there"
     };

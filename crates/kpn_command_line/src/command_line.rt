@@ -346,8 +346,8 @@ standard error names the source or sink. A sink whose reader has gone is left. A
 says of each sink how many items it has and whether these are complete, which processes have faulted or
 wait, and the outcome as `kpn run` does.
 
-All events and items are kept in memory until the end: a million items through ten processes take some
-600 MB. The trace is stored at the end.
+Only what is unread is kept in memory. With --trace all events and items are: a million items through
+ten processes take some 600 MB. The trace is stored at the end.
 
 Statuses: 0 if no process faulted and each sink is complete, was left, or has the K items of --take; 8
 if a process faulted; 3 for clogged, 4 for jammed and 5 for stopped if a sink is not complete; 1 for a
@@ -408,8 +408,8 @@ fn audit_words<'a>(alloc: Global) -> Result<Command<'a>, AllocError>
 const STATS_HELP: &str = "\
 Counts the events of a trace that `kpn run --trace` has stored. Writes how long the run is if each get
 and put takes one tick, with the capacities and without any, which processes bind it to this length, a
-table of the channels, a table of the processes, and which capacities keep the run as short as it can be.
-They are for speed: clogged runs may need more.
+table of the channels, a table of the processes, and advice on capacities. It is for speed: clogged runs
+may need more.
 
 Of each channel: the items that were put and read, those that are left unread, the most that lay
 unread, the capacity at first and at last, how often it grew, how often its reader came to wait for an

@@ -5,7 +5,7 @@ ghost use Rattle.kpn_command_stream.specs.Ending.{AreClosed, IsOutcomeAt, IsOver
 use crate::summary::{SinkEnd, sink_ends};
 use kpn_book::outcome_of;
 use kpn_lang::Sequence;
-use kpn_run_history::{History, State, View};
+use kpn_run_history::{History, State};
 use kpn_run_state::Book;
 use kpn_stream::{Ending, Limits, Outcome, Streamed, end_numbers_of};
 use std::alloc::{AllocError, Global};
@@ -31,15 +31,7 @@ pub(crate) fn over_of(
     let Streamed { ending, mut book } = streamed;
     let sinks = sink_ends(alloc, &book)?;
     let outcome = outcome_at(alloc, ending, &mut book, limits)?;
-    let (view, history) = book.into_view(alloc)?;
-    let View {
-        journals: _,
-        read: _,
-        caps: _,
-        retired: _,
-        states,
-        counts: _,
-    } = view;
+    let (states, history) = book.into_states(alloc)?;
     Ok(Over {
         sinks,
         outcome,

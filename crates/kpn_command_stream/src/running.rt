@@ -7,7 +7,7 @@ use crate::places::Places;
 use kpn_command_base::{Refusal, StreamRequest};
 use kpn_net::Network;
 use kpn_shelf::{Look, Ports, Shelf};
-use kpn_stream::{Limits, SinkFault, Sinks, Streamed, stream};
+use kpn_stream::{Keeping, Limits, SinkFault, Sinks, Streamed, stream};
 use kpn_stream_devices::{Input, Inputs, Output, Outputs};
 use kpn_text::Document;
 use std::alloc::{AllocError, Global};
@@ -24,6 +24,14 @@ pub(crate) fn limits_of(request: &StreamRequest<'_>) -> Limits
         commits: request.commits.unwrap_or(u64::MAX),
         take: request.take,
         quota: QUOTA,
+    }
+}
+
+/// What is kept of a stream: only a trace reads what has happened.
+fn keeping_of(request: &StreamRequest<'_>) -> Keeping {
+    match request.trace {
+        Some(_) => Keeping::All,
+        None => Keeping::Nothing,
     }
 }
 
@@ -111,6 +119,7 @@ fn run_between<'n, I: Look, F: Look + Drop, O: Write, G: Write + Drop>(
         network,
         places,
         &limits,
+        keeping_of(request),
         &mut sources,
         &mut sinks,
         lost,
@@ -124,6 +133,7 @@ fn run_over<'n, I: Look, F: Look + Drop, O: Write, G: Write + Drop>(
     network: &'n Network,
     places: &Places<'_>,
     limits: &Limits,
+    keeping: Keeping,
     sources: &mut Inputs<'_, I, F>,
     sinks: &mut Outputs<'_, O, G>,
     lost: &mut Vec<Lost>,
@@ -138,7 +148,7 @@ fn run_over<'n, I: Look, F: Look + Drop, O: Write, G: Write + Drop>(
     ensures no_source { OnErr result (sources.new ≡ sources.old) }
     ensures no_sink { OnErr result (sinks.new ≡ sinks.old) }
 {
-    let streamed = stream(alloc, network, sources, sinks, limits)?;
+    let streamed = stream(alloc, network, sources, sinks, limits, keeping)?;
     flush_each(places, sinks, lost);
     Ok(streamed)
 }

@@ -213,24 +213,33 @@ fn push_advice(text: &mut String, document: &Document, audit: &Audit, times: &Ti
         let Some(last) = last_cap(audit, c) else {
             continue;
         };
-        let name = document.channel_name(c);
         let needed = if is_shortest {
             times.bounded.capacity_needed(c).min(last)
         } else {
             times.free.capacity_needed(c)
         };
-        if needed <= last {
-            write!(
-                text,
-                "{name}: {needed} keeps the run as short as it can be\n"
-            )?;
-        } else {
-            write!(
-                text,
-                "{name}: {needed} would keep the run as short as it can be, "
-            )?;
-            write!(text, "and it has {last}\n")?;
-        }
+        push_capacity(text, document, c, needed, last)?;
     }
     Ok(())
+}
+
+// The advice on a channel that has this last capacity and could use another. None may be above the limit.
+fn push_capacity(
+    text: &mut String,
+    document: &Document,
+    c: usize,
+    needed: usize,
+    last: usize,
+) -> Pushed {
+    let name = document.channel_name(c);
+    let limit = document.network().limit();
+    if needed > limit as usize {
+        write!(text, "{name}: cap {needed} would be advised, ")?;
+        write!(text, "but the limit is {limit}\n")
+    } else if needed > last {
+        write!(text, "{name}: cap {needed} is advised, ")?;
+        write!(text, "and it has {last}\n")
+    } else {
+        write!(text, "{name}: cap {needed} is advised\n")
+    }
 }

@@ -12,6 +12,7 @@ use Rattle.std.specs.declared.sync.ledger.Ledger as ledger
 use Rattle.circular_buffer.proofs.cells.Base.TheSendSync as base
 use Rattle.circular_buffer.proofs.cells.Cells.TheSendSync as cells
 use Rattle.circular_buffer.proofs.cells.Deed.TheSendSync as deed
+use Rattle.kpn_past.proofs.past.Past.TheSendSync as past
 use Rattle.kpn_lang.proofs.syntax.Op.TheSendSync as op
 use Rattle.kpn_lang.proofs.start.Start.TheSendSync as start
 use Rattle.kpn_lang.proofs.link.Link.TheSendSync as link
@@ -74,13 +75,13 @@ network_sync = let programs = program_sync in search (crosses, sendable) depth 4
 -- ---- a book, which goes from one to the other
 
 history_send : IsSend (History.the_field heap.the_row ghosts).row
-history_send = search (crosses, sendable) depth 40
+history_send = search (past.the_send, crosses, sendable) depth 40 fits 20000
 
 frame_send : IsSend Frame.the_field.row
 frame_send = search (crosses, sendable) depth 40
 
 channel_send : IsSend (Channel.the_field heap.the_row ghosts).row
-channel_send = search (base.the_field_send, cells.the_send, deed.the_send, crosses, sendable) depth 40
+channel_send = search (past.the_send, base.the_field_send, cells.the_send, deed.the_send, crosses, sendable) depth 40
 
 configuration_send : IsSend (Configuration.the_field heap.the_row ghosts).row
 configuration_send = let frame = frame_send in let channel = channel_send in search (crosses, sendable) depth 40

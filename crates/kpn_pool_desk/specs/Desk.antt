@@ -1,11 +1,13 @@
 -- What lies under the lock of a run, and what holds of it whenever the lock is free.
-use Rattle.std.specs.Prelude.{◌≡◌, ◌≤◌, ◌<◌, ◌+◌, ◌-◌, ℕ, Bool, true, false, min, max, count_by, Option, Some, None}
+use Rattle.std.specs.Prelude.{◌≡◌, ◌≤◌, ◌<◌, ◌+◌, ◌-◌, ℕ, Bool, true, false, [], min, max, count_by, Option, Some, None, ⊤}
 use Rattle.std.specs.Int.{div_ceil}
 use Rattle.kpn_net.specs.Tables.{Tables}
 use Rattle.kpn_run_history.specs.Ends.{IsSettled}
 use Rattle.kpn_run_history.specs.Views.{is_ready}
 use Rattle.kpn_run_state.specs.Book.{Book}
 use Rattle.kpn_run_state.specs.Kept.{IsBook}
+use Rattle.kpn_pool_desk.specs.declared.phases.Next.{Next}
+use Rattle.kpn_pool_desk.specs.declared.phases.Next.TheVariants as next
 use Rattle.kpn_pool_desk.specs.declared.seat.Why.{Why}
 use Rattle.kpn_pool_desk.specs.declared.seat.Why.TheVariants.{Halted, Settled, Limit}
 
@@ -25,6 +27,12 @@ pub record IsDesk (t : Tables) (count : ℕ) (d : Desk) : Type 0 where
   pub book : IsBook d.book
   pub counted : d.total ≡ d.book.commits
   pub workers : d.workers ≡ count
+
+-- a desk of a run in which nothing has happened yet, with all its workers
+pub record IsOpened (d : Desk) : Type 0 where
+  pub nothing : d.book.history ≡ []
+  pub on : d.halts ≡ false
+  pub all : d.working ≡ d.workers
 
 -- ---- what a worker claims
 
@@ -73,3 +81,8 @@ IsReason d most (Some Settled) = (d.halts ≡ false) × IsSettled d.book.tables 
 IsReason d most (Some Limit) = IsOngoing d × (most ≤ d.book.commits)
 IsReason d most (Some why) = ⊥
 IsReason d most None = IsOngoing d × (d.book.commits < most)
+
+-- what a worker does next, where this many commits are allowed: if it ends, there is a reason
+abbrev pub EndsFor : Desk → (most : ℕ) → Next → Type 0
+EndsFor d most (next.End why) = IsReason d most (Some why)
+EndsFor d most other = ⊤

@@ -1,5 +1,5 @@
 -- What a seat that feeds a source, or takes from a sink, knows of its own calls.
-use Rattle.std.specs.Prelude.{◌≡◌, ◌≢◌, ℕ, ℤ, Bool, true, false, List, [], ◌∷◌, ◌++◌, map, take, slice_get, Option, Some, None}
+use Rattle.std.specs.Prelude.{◌≡◌, ◌≢◌, ℕ, ℤ, Bool, true, false, List, [], ◌∷◌, ◌++◌, map, take, slice_get, Option, Some, None, IsTrue}
 use Rattle.std.specs.List.{filter, remove, All}
 use Rattle.kpn_lang.specs.Prefix.{IsPrefix}
 use Rattle.kpn_net.specs.declared.tables.ChannelSpec.{ChannelSpec}
@@ -122,6 +122,12 @@ pub record MayRefuseTakes (t : Tables) (seats : List EndSeat) (cause : Refused) 
   pub seat : EndSeat
   pub there : slice_get seats place ≡ Some seat
   pub refused : MayRefuseTake (is_sink (channel_at t seat.channel)) cause
+
+-- the journal of the channel of a seat is kept, and begins with what the seat fed
+abbrev pub HasFed : EndSeat → Book → Type 0
+HasFed seat b =
+    let channel = channel_in b.configuration seat.channel in
+    IsTrue channel.is_kept × IsPrefix seat.items channel.journal
 
 -- a snapshot for a seat that has fed these items to a source: if the seat is of another run, it has fed something, or
 -- has no such source

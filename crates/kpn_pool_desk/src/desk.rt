@@ -6,7 +6,7 @@ ghost use Rattle.kpn_run_history.specs.Views.{Agrees, AreCounts};
 ghost use Rattle.kpn_run_state.specs.Kept.{IsBook};
 ghost use Rattle.kpn_pool_desk.specs.declared.crew.Awaited.TheVariants.{There, Ended};
 ghost use Rattle.kpn_pool_desk.specs.declared.crew.Need.TheVariants.{Item, Room};
-ghost use Rattle.kpn_pool_desk.specs.Desk.{halted, IsReason, ready_in, share_in};
+ghost use Rattle.kpn_pool_desk.specs.Desk.{halted, IsOpened, IsReason, ready_in, share_in};
 ghost use Rattle.kpn_pool_desk.specs.Seat.{AreNewSeats};
 ghost use Rattle.kpn_pool_desk.specs.Waiting.{IsMet};
 ghost use Rattle.kpn_run_state.specs.Snapshot.{ShowsARun, ShowsJournals, IsBelowKahn, IsKahnAtRest};
@@ -77,6 +77,7 @@ impl<'n, J: Job, A: Allocator + Copy> Desk<'n, J, A> {
         requires ledger { (blank.name ≡ J.name) × (blank.parts ≡ J.parts) }
         requires network { network.now ≡ J.network }
         requires workers { workers ≡ J.parts }
+        ensures desk { IfOk result (λ opened. IsOpened opened.0) }
         ensures workers { IfOk result (λ opened. AreNewSeats workers opened.1.items) }
     {
         let mut seats = Vec::with_capacity(alloc, workers)?;
@@ -98,8 +99,7 @@ impl<'n, J: Job, A: Allocator + Copy> Desk<'n, J, A> {
         requires network { network.now ≡ J.network }
         requires workers { workers ≡ J.parts }
         requires total { total.total ≡ 0 }
-        ensures halts { IfOk result (λ desk. desk.halts ≡ false) }
-        ensures working { IfOk result (λ desk. desk.working ≡ workers) }
+        ensures { IfOk result IsOpened }
     {
         let book = Book::new(alloc, network)?;
         Ok(Desk {
@@ -169,7 +169,9 @@ impl<'n, J: Job, A: Allocator> Desk<'n, J, A> {
         the_history();
         journals();
         self.book.known();
-        let view = self.book.snapshot(alloc)?;
+        let Ok(view) = self.book.snapshot(alloc) else {
+            return Err(AllocError);
+        };
         Ok(view)
     }
 

@@ -4,6 +4,7 @@ ghost use Rattle.kpn_lang.specs.Prefix.{IsPrefix};
 ghost use Rattle.kpn_net.specs.Tables.{channel_at, is_source, is_sink};
 ghost use Rattle.kpn_chan.specs.Channel.{unread};
 ghost use Rattle.kpn_run_history.specs.declared.event.Event.TheVariants as event;
+ghost use Rattle.kpn_run_history.specs.Views.{Agrees};
 ghost use Rattle.kpn_run_configuration.specs.Configuration.{channel_in};
 ghost use Rattle.kpn_run_state.specs.Appending.{AppendsAll};
 ghost use Rattle.kpn_run_state.specs.Refusals.{RefusesFeed, RefusesClose, RefusesTake, RefusesLeave, Feeds, Closes, Takes, Leaves};
@@ -11,9 +12,9 @@ ghost use Rattle.kpn_pool_desk.specs.Desk.{with_book};
 ghost use Rattle.kpn_run_state.specs.Snapshot.{ShowsARun, shown_on, IsBelowKahn, IsKahnAtRest};
 ghost use Rattle.kpn_run_state.specs.declared.answers.Refused.TheVariants.{Full};
 ghost use Rattle.kpn_pool_desk.specs.declared.crew.Awaited.TheVariants.{There};
-ghost use Rattle.kpn_pool_desk.specs.declared.outside_seats.SnapFault.TheVariants.{NoMemory};
+ghost use Rattle.kpn_pool_desk.specs.declared.outside_seats.SnapFault.TheVariants.{Foreign, NoMemory};
 ghost use Rattle.kpn_pool_desk.specs.Waiting.{IsFullSource};
-ghost use Rattle.kpn_pool_desk.specs.OutsideSeats.{with_item, with_taken, HaveTaken, TakesMore, new_end, AreRecorded, FeedsUntil, TakesFirst, MayRefuseFeed, MayRefuseEnd, MayRefuseTake, MayRefuseTakes, MayRefuseSnapshot, AreSinks};
+ghost use Rattle.kpn_pool_desk.specs.OutsideSeats.{with_item, with_taken, HaveTaken, TakesMore, new_end, AreRecorded, FeedsUntil, TakesFirst, MayRefuseFeed, MayRefuseEnd, MayRefuseTake, MayRefuseTakes, MayRefuseSnapshot, HasFed, AreSinks};
 
 use crate::crew::Awaited;
 use crate::desk::Desk;
@@ -199,11 +200,19 @@ impl<A: Allocator> SourceSeat<A> {
             IsTrue (is_source (channel_at J.network self.now.channel))) }
         ensures fresh { IfOk result (λ view.
             IsPrefix self.now.items (shown_on view self.now.channel)) }
+        ensures agrees { IfOk result (λ view.
+            Agrees desk.now.book.tables desk.now.book.history view) }
         ensures refused { IfErr result
             (MayRefuseSnapshot (is_source (channel_at J.network self.now.channel)) self.now.items) }
+        ensures foreign { IfErr result (λ fault. (fault ≡ Foreign)
+            → IsTrue (is_source (channel_at J.network self.now.channel))
+            → ¬ (HasFed self.now desk.now.book)) }
     {
         let source = self.channel();
-        if !desk.book.network().is_source(source) || !desk.book.journal_begins(source, self.fed()) {
+        if !desk.book.network().is_source(source) {
+            return Err(SnapFault::Foreign);
+        }
+        if !self.fed().is_empty() && !desk.book.journal_begins(source, self.fed()) {
             return Err(SnapFault::Foreign);
         }
         Ok(desk.snapshot(alloc)?)

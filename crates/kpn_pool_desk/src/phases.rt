@@ -2,6 +2,7 @@
 //! and whom to notify once the lock is free.
 ghost use Rattle.std.specs.Prelude.{◌≡◌, IfOk};
 ghost use Rattle.kpn_pool_desk.specs.declared.crew.Awaited.TheVariants.{There, Ended};
+ghost use Rattle.kpn_pool_desk.specs.Desk.{EndsFor};
 ghost use Rattle.kpn_pool_desk.specs.Waiting.{IsMet};
 
 use crate::crew::{Awaited, Crew, Need};
@@ -56,7 +57,8 @@ impl<'n, J: Job, A: Allocator> Desk<'n, J, A> {
     /// a place for it; else it waits. `in_vain` says that nobody has committed since it let the lock go, and `looks_on`
     /// that it looks on before it rests.
     pub(crate) fn next(&mut self, most: u64, in_vain: bool, looks_on: bool) -> Next
-        ensures { self.new ≡ self.old }
+        ensures same { self.new ≡ self.old }
+        ensures ends { EndsFor self.old most result }
     {
         if let Some(why) = self.reason_to_end(most) {
             return Next::End(why);
@@ -84,7 +86,8 @@ impl<'n, J: Job, A: Allocator> Desk<'n, J, A> {
 
     /// A worker has looked on. Returns what it does next, if `most` commits are allowed.
     pub fn look_away(&mut self, stay: Stay, most: u64) -> Next
-        ensures { self.new ≡ self.old }
+        ensures same { self.new ≡ self.old }
+        ensures ends { EndsFor self.old most result }
     {
         self.crew.look_away();
         let in_vain = self.book.commits() == stay.commits;
@@ -93,7 +96,8 @@ impl<'n, J: Job, A: Allocator> Desk<'n, J, A> {
 
     /// A worker has rested. Returns what it does next, if `most` commits are allowed.
     pub fn rise(&mut self, stay: Stay, is_notified: bool, most: u64) -> Next
-        ensures { self.new ≡ self.old }
+        ensures same { self.new ≡ self.old }
+        ensures ends { EndsFor self.old most result }
     {
         self.crew.rise(stay.keeps_watch);
         let in_vain = !is_notified && self.book.commits() == stay.commits;

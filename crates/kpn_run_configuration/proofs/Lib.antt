@@ -3,6 +3,7 @@ pub mod Due
 pub mod Ending
 pub mod Exact
 pub mod Growing
+pub mod Keeping
 pub mod Leading
 pub mod Mirror
 pub mod Moments

@@ -1,6 +1,7 @@
 -- The configuration of a network: the states of its processes and the contents of its channels at one moment of a
 -- run.
 use Rattle.std.specs.Prelude.{◌≡◌, ℕ, ◌<◌, Bool, true, false, not, IsTrue, is_some, List, [], length, map, Option, Some, None, slice_index_or, slice_set}
+use Rattle.std.specs.List.{list_all}
 use Rattle.std.specs.Option.{unwrap_or}
 use Rattle.kpn_net.specs.declared.wait.Wait.{Wait}
 use Rattle.kpn_net.specs.declared.wait.Wait.TheVariants.{Nobody, Empty, Full}
@@ -45,6 +46,14 @@ frame_in s p = slice_index_or s.frames p no_frame
 -- the capacity of each channel, 0 if it has none
 abbrev pub capacities : Configuration → List ℕ
 capacities s = map (λ c. unwrap_or c.capacity 0) s.channels
+
+-- all items of each channel are kept in memory
+abbrev pub AreKept : Configuration → Type 0
+AreKept s = (c : ℕ) → c < length s.channels → IsTrue (channel_in s c).is_kept
+
+-- the same as a test
+abbrev pub are_kept : List ChannelState → Bool
+are_kept channels = list_all (λ channel. channel.is_kept) channels
 
 -- ---- a configuration of a network
 

@@ -1,12 +1,13 @@
 //! A configuration as it is stored: the channels, and for each process its wait, its end and its frame.
-ghost use Rattle.std.specs.Prelude.{◌≡◌, ◌<◌, List, length, map, IsTrue, IsOk, IfOk, is_ok, is_some, if◌then◌else◌};
-ghost use Rattle.kpn_chan.specs.Channel.{ChannelState, with_room, next_item};
-ghost use Rattle.kpn_run_configuration.specs.Configuration.{channel_in, closed_in, wait_in, end_in, frame_in, with_channel, IsConfiguration};
+ghost use Rattle.std.specs.Prelude.{◌≡◌, ◌<◌, false, List, length, map, IsTrue, IsOk, IfOk, IfErr, is_ok, is_some, if◌then◌else◌};
+ghost use Rattle.kpn_chan.specs.Channel.{ChannelState, with_room, next_item, kept_journal};
+ghost use Rattle.kpn_chan.specs.declared.unread.Unread.TheVariants.{Forgotten};
+ghost use Rattle.kpn_run_configuration.specs.Configuration.{channel_in, closed_in, wait_in, end_in, frame_in, with_channel, are_kept, AreKept, IsConfiguration};
 ghost use Rattle.kpn_run_configuration.specs.Run.{IsRun};
 ghost use Rattle.kpn_net.specs.Tables.{Tables};
 ghost use Rattle.kpn_run_history.specs.declared.event.Event.{Event};
 
-use kpn_chan::{Channel, Journal};
+use kpn_chan::{Channel, Journal, Unread};
 use kpn_lang::Sequence;
 use kpn_net::Wait;
 use kpn_run_history::How;
@@ -87,24 +88,28 @@ impl<A: Allocator> Configuration<A> {
         &self.channels[c]
     }
 
-    /// Moves the journals out of the configuration, in order of the channels' numbers. The error is that memory ran
-    /// out.
-    pub fn into_journals(self, alloc: A) -> Result<Sequence<Journal<A>, A>, AllocError>
-        ensures { let s = self in IfOk result (λ journals.
+    /// Moves the journals out of the configuration, in order of the channels' numbers.
+    pub fn into_journals(self, alloc: A) -> Result<Sequence<Journal<A>, A>, Unread>
+        ensures journals { let s = self in IfOk result (λ journals.
             journals ≡ map (λ (channel : ChannelState). channel.journal) s.channels) }
+        ensures forgotten { let s = self in IfErr result (λ why. why ≡ Forgotten → ¬ AreKept s) }
     {
         let Configuration { channels, .. } = self;
-        let journals = channels
-            .into_iter()
-            .map(|channel| channel.into_journal())
-            .collect(alloc)?;
-        Ok(Sequence::from_vec(journals))
+        if !all_kept(&channels) {
+            return Err(Unread::Forgotten);
+        }
+        match moved_journals(alloc, channels) {
+            Ok(journals) => Ok(journals),
+            Err(_) => Err(Unread::NoMemory),
+        }
     }
 
-    /// A copy of all items that were ever put on a channel, oldest first. The error is that memory ran out.
-    pub fn copy_journal<B: Allocator>(&self, alloc: B, c: usize) -> Result<Vec<i64, B>, AllocError>
+    /// A copy of all items that were ever put on a channel, oldest first.
+    pub fn copy_journal<B: Allocator>(&self, alloc: B, c: usize) -> Result<Vec<i64, B>, Unread>
         requires { c < length self.now.channels }
-        ensures { IfOk result (λ items. items.items ≡ (channel_in self.now c).journal) }
+        ensures items { IfOk result (λ items. items.items ≡ (channel_in self.now c).journal) }
+        ensures forgotten { IfErr result (λ why. why ≡ Forgotten
+            → (channel_in self.now c).is_kept ≡ false) }
     {
         self.channels[c].copy_journal(alloc)
     }
@@ -149,4 +154,26 @@ impl<A: Allocator> Configuration<A> {
     {
         &self.frames[p]
     }
+}
+
+/// The journals of these channels, those that are kept. The error is that memory ran out.
+fn moved_journals<A: Allocator>(
+    alloc: A,
+    channels: Vec<Channel<A>, A>,
+) -> Result<Sequence<Journal<A>, A>, AllocError>
+    ensures { let given = channels.items in IfOk result (λ journals.
+        journals ≡ map kept_journal given) }
+{
+    let mut journals = Vec::with_capacity(alloc, channels.len())?;
+    'channels: for channel in channels {
+        journals.push(channel.into_journal())?;
+    }
+    Ok(Sequence::from_vec(journals))
+}
+
+/// Whether all items of each of these channels are kept.
+fn all_kept<A: Allocator>(channels: &[Channel<A>]) -> bool
+    ensures { result ≡ are_kept channels.now }
+{
+    channels.iter().all(|channel| channel.is_kept())
 }

@@ -1,5 +1,5 @@
 -- What one more event does to the lists of a history.
-use Rattle.std.proofs.Common.{◌≡◌, ℕ, cond, Bool, true, false, ◌||◌, List, [], ◌∷◌, ◌++◌, Option, Some, None, refl, sym, ap, ◌∙◌, ◌-◌, suc, length, slice_get, arith}
+use Rattle.std.proofs.Common.{◌≡◌, ℕ, ◌<◌, cond, Bool, true, false, ◌||◌, List, [], ◌∷◌, ◌++◌, Option, Some, None, refl, sym, ap, ◌∙◌, ◌-◌, suc, length, slice_get, arith}
 use Rattle.std.specs.List.{filter, flat_map, last_or}
 use Rattle.std.proofs.lemmas.List.{flat_map_more, append-nil}
 use Rattle.std.proofs.lemmas.List.Elements.{filter-append}
@@ -42,6 +42,16 @@ last_or-at (x ∷ xs) = let one : suc (length xs) - 1 ≡ length xs = omega arit
 pub last_or-push : {A : Type 0} (o : Option A) (xs : List A) (x : A) → last_or o (xs ++ x ∷ []) ≡ Some x
 last_or-push o [] x = refl
 last_or-push o (y ∷ xs) x = last_or-push (Some y) xs x
+
+-- the last of the later list, or else of the earlier one
+pub last_or-append : {A : Type 0} (o : Option A) (xs ys : List A) → last_or o (xs ++ ys) ≡ last_or (last_or o xs) ys
+last_or-append o [] ys = refl
+last_or-append o (x ∷ xs) ys = last_or-append (Some x) xs ys
+
+-- what comes before a list with an element does not count
+pub last_or-some : {A : Type 0} (o : Option A) (xs : List A) → 0 < length xs → last_or None xs ≡ last_or o xs
+last_or-some o [] some = absurd omega (arith, some)
+last_or-some o (x ∷ xs) some = refl
 
 -- ---- the last event of a process
 

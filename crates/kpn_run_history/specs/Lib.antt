@@ -1,3 +1,4 @@
+pub mod Keeping
 pub mod Recorded
 pub mod Talks
 pub mod Channels

@@ -7,6 +7,7 @@ mod event;
 pub mod event_laws;
 pub mod growth_laws;
 mod history;
+mod keeping;
 pub mod laws;
 mod state;
 pub mod state_laws;
@@ -15,5 +16,6 @@ pub mod waking_laws;
 
 pub use event::{Event, How};
 pub use history::History;
+pub use keeping::Keeping;
 pub use state::{Counts, State, Verdict, View};
 pub use stored::{Trace, Version};

@@ -7,7 +7,8 @@ ghost use Rattle.kpn_chan.specs.Channel.{next_item, unread};
 ghost use Rattle.kpn_run_history.specs.Channels.{read_on, is_closed};
 ghost use Rattle.kpn_run_history.specs.Views.{AreCounts, Agrees};
 ghost use Rattle.kpn_run_history.specs.Ends.{IsVerdict};
-ghost use Rattle.kpn_run_configuration.specs.Configuration.{channel_in, frame_in};
+ghost use Rattle.kpn_run_history.specs.Keeping.{keeps_all};
+ghost use Rattle.kpn_run_configuration.specs.Configuration.{channel_in, frame_in, AreKept};
 ghost use Rattle.kpn_run_state.specs.Schedule.{all_ready};
 ghost use Rattle.kpn_run_state.specs.Kept.{IsBook};
 ghost use Rattle.kpn_run_state.specs.Snapshot.{ShowsARun, IsBelowKahn, IsKahnAtRest};
@@ -15,9 +16,11 @@ ghost use Rattle.kpn_run_state.specs.Snapshot.{ShowsARun, IsBelowKahn, IsKahnAtR
 use crate::open_book::OpenBook;
 use crate::schedule::Schedule;
 use crate::view::{copied_journals, view_without_journals};
+use kpn_chan::Unread;
+use kpn_lang::Sequence;
 use kpn_net::Network;
 use kpn_run_configuration::Configuration;
-use kpn_run_history::{Counts, History, Verdict, View};
+use kpn_run_history::{Counts, History, Keeping, State, Verdict, View};
 use std::alloc::{AllocError, Allocator, Global};
 use std::marker::Model;
 
@@ -64,7 +67,7 @@ impl<'n, A: Allocator> Model for Book<'n, A> {
 impl<'n, A: Allocator + Copy> Book<'n, A> {
     /// The book of a network at the start: nothing has happened, each process is at the start of its program, and all
     /// are ready, in order of number. It makes the room of the queue for all of them. The book keeps the allocator for
-    /// all that it will hold. The error is that memory ran out.
+    /// all that it will hold, and all that will happen. The error is that memory ran out.
     pub fn new(alloc: A, network: &'n Network) -> Result<Self, AllocError>
         ensures tables { IfOk result (λ book. book.tables ≡ network.now) }
         ensures history { IfOk result (λ book. book.history ≡ []) }
@@ -75,8 +78,26 @@ impl<'n, A: Allocator + Copy> Book<'n, A> {
             (p : ℕ) → p < length t.instances → frame_in book.configuration p
             ≡ start_frame (program_of t p) (instance_at t p).pars) }
         ensures book { IfOk result (λ book. IsBook book) }
+        ensures kept { IfOk result (λ book. AreKept book.configuration) }
     {
-        let configuration = Configuration::new(alloc, network)?;
+        Book::keeping(alloc, network, Keeping::All)
+    }
+
+    /// The same book, which keeps what it is told to keep of what will happen.
+    pub fn keeping(alloc: A, network: &'n Network, keeping: Keeping) -> Result<Self, AllocError>
+        ensures tables { IfOk result (λ book. book.tables ≡ network.now) }
+        ensures history { IfOk result (λ book. book.history ≡ []) }
+        ensures schedule { IfOk result (λ book.
+            book.schedule ≡ all_ready (length network.now.instances)) }
+        ensures commits { IfOk result (λ book. book.commits ≡ 0) }
+        ensures frames { let t = network.now in IfOk result (λ book.
+            (p : ℕ) → p < length t.instances → frame_in book.configuration p
+            ≡ start_frame (program_of t p) (instance_at t p).pars) }
+        ensures book { IfOk result (λ book. IsBook book) }
+        ensures kept { IfOk result (λ book. (c : ℕ) → c < length book.configuration.channels
+            → (channel_in book.configuration c).is_kept ≡ keeps_all keeping) }
+    {
+        let configuration = Configuration::keeping(alloc, network, keeping)?;
         let schedule = Schedule::new(alloc, network.instances())?;
         network.known();
         schedule.known();
@@ -84,7 +105,7 @@ impl<'n, A: Allocator + Copy> Book<'n, A> {
             parts: OpenBook {
                 network,
                 configuration,
-                history: History::new(alloc),
+                history: History::keeping(alloc, keeping),
                 schedule,
                 commits: 0,
             },
@@ -169,10 +190,12 @@ impl<'n, A: Allocator> Book<'n, A> {
         self.parts.configuration.is_closed(c)
     }
 
-    /// Whether the journal of a channel begins with these items. The journal is all that was ever put on the channel.
+    /// Whether the journal of a channel is kept, and begins with these items. The journal is all that was ever put on the
+    /// channel.
     pub fn journal_begins(&self, c: usize, items: &[i64]) -> bool
         requires { c < length self.now.tables.channels }
-        ensures { IsTrue result ↔ IsPrefix items.now (channel_in self.now.configuration c).journal }
+        ensures { IsTrue result ↔ (IsTrue (channel_in self.now.configuration c).is_kept
+            × IsPrefix items.now (channel_in self.now.configuration c).journal) }
     {
         self.parts.configuration.channel(c).begins_with(items)
     }
@@ -191,8 +214,8 @@ impl<'n, A: Allocator> Book<'n, A> {
 
     /// A view of the run at this moment, in lists of an allocator that the caller names. A legal history that owes no
     /// growth agrees with it. Each journal is a prefix of the least solution for what was fed, and is that solution if
-    /// each process has ended or waits on an empty channel. The error is that memory ran out.
-    pub fn snapshot<B: Allocator + Copy>(&self, alloc: B) -> Result<View<B>, AllocError>
+    /// each process has ended or waits on an empty channel. A journal that is not kept is an error.
+    pub fn snapshot<B: Allocator + Copy>(&self, alloc: B) -> Result<View<B>, Unread>
         ensures agrees { IfOk result (λ view. Agrees self.now.tables self.now.history view) }
         ensures states { IfOk result (λ view. view.states ≡ self.now.schedule.states) }
         ensures run { IfOk result (λ view. ShowsARun self.now.tables view) }
@@ -215,8 +238,8 @@ impl<'n, A: Allocator> Book<'n, A> {
 
 impl<'n> Book<'n> {
     /// A view of the run at its end, and its history. They are moved out of the book as far as possible: no journal is
-    /// copied. The error is that memory ran out.
-    pub fn into_view(self, alloc: Global) -> Result<(View, History), AllocError>
+    /// copied. A journal that is not kept is an error.
+    pub fn into_view(self, alloc: Global) -> Result<(View, History), Unread>
         ensures agrees { IfOk result (λ told. Agrees self.entry.tables self.entry.history told.0) }
         ensures states { IfOk result (λ told. told.0.states ≡ self.entry.schedule.states) }
         ensures history { IfOk result (λ told. told.1.events ≡ self.entry.history) }
@@ -231,5 +254,15 @@ impl<'n> Book<'n> {
         )?;
         view.journals = parts.configuration.into_journals(alloc)?;
         Ok((view, parts.history))
+    }
+
+    /// The states of the processes, and the history, which is moved out of the book. The error is that memory ran out.
+    pub fn into_states(self, alloc: Global) -> Result<(Sequence<State>, History), AllocError>
+        ensures states { IfOk result (λ told. told.0 ≡ self.entry.schedule.states) }
+        ensures history { IfOk result (λ told. told.1.events ≡ self.entry.history) }
+    {
+        let Book { parts } = self;
+        let states = parts.schedule.copy_states(alloc)?;
+        Ok((Sequence::from_vec(states), parts.history))
     }
 }

@@ -17,4 +17,5 @@ pub use answers::{Done, Refused};
 pub use book::Book;
 pub use claim::Claim;
 pub use detached::Detached;
-pub use kpn_run_history::{Counts, Event, Verdict, View};
+pub use kpn_chan::Unread;
+pub use kpn_run_history::{Counts, Event, Keeping, Verdict, View};

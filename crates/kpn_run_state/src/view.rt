@@ -5,7 +5,7 @@ ghost use Rattle.kpn_run_history.specs.Views.{AreCounts};
 ghost use Rattle.kpn_run_configuration.specs.Configuration.{channel_in};
 
 use crate::schedule::Schedule;
-use kpn_chan::Journal;
+use kpn_chan::{Journal, Unread};
 use kpn_lang::Sequence;
 use kpn_run_configuration::Configuration;
 use kpn_run_history::View;
@@ -65,20 +65,32 @@ fn add_channel<A: Allocator, B: Allocator>(
     Ok(())
 }
 
-/// Copies of the journals of this many channels.
+/// Copies of the journals of this many channels. One that is not kept is an error.
 pub(crate) fn copied_journals<A: Allocator, B: Allocator + Copy>(
     alloc: B,
     channels: usize,
     configuration: &Configuration<A>,
-) -> Result<Sequence<Journal<B>, B>, AllocError>
+) -> Result<Sequence<Journal<B>, B>, Unread>
     requires { channels ≡ length configuration.now.channels }
     ensures { let s = configuration.now in IfOk result (λ journals.
         journals ≡ map (λ c. (channel_in s c).journal) (range_with_len 0 channels)) }
 {
     let mut journals = Sequence::new(alloc);
     'channels: for c in 0..channels {
-        let journal = Journal::from_vec(alloc, configuration.copy_journal(alloc, c)?);
-        journals.push(journal)?;
+        let items = configuration.copy_journal(alloc, c)?;
+        add_journal(alloc, items, &mut journals)?;
     }
     Ok(journals)
+}
+
+/// Appends a journal with these items. The error is that memory ran out.
+fn add_journal<B: Allocator + Copy>(
+    alloc: B,
+    items: Vec<i64, B>,
+    journals: &mut Sequence<Journal<B>, B>,
+) -> Result<(), AllocError>
+    ensures { IfOk result (λ _. journals.new ≡ journals.old ++ items.items ∷ []) }
+{
+    journals.push(Journal::from_vec(alloc, items))?;
+    Ok(())
 }

@@ -17,5 +17,5 @@ pub use devices::{Look, Sinks, Sources};
 pub use ending::{Ending, Streamed};
 pub use ends::{EndNumbers, end_numbers_of};
 pub use faults::{SinkFault, SourceFault};
-pub use kpn_book::{Limits, Outcome};
+pub use kpn_book::{Keeping, Limits, Outcome};
 pub use running::stream;

@@ -16,10 +16,10 @@ use crate::stepping::{STRETCH, is_idle, step_stretch};
 use crate::taking::{flush_all, take_all};
 use kpn_book::{Limits, outcome_of};
 use kpn_net::Network;
-use kpn_run_state::Book;
+use kpn_run_state::{Book, Keeping};
 use std::alloc::{AllocError, Global};
 
-/// Runs a network over devices until there is an ending.
+/// Runs a network over devices until there is an ending. The book keeps what it is told to keep.
 ///
 /// In each turn the processes make steps until none is ready, or a stretch of 1,000 commits is over. Then the devices
 /// of the sinks take what has come. If the run has no outcome yet, and still no process is ready, the least open
@@ -40,6 +40,7 @@ pub fn stream<'n, S: Sources, K: Sinks>(
     sources: &mut S,
     sinks: &mut K,
     limits: &Limits,
+    keeping: Keeping,
 ) -> Result<Streamed<'n>, AllocError>
     ensures network { IfOk result (λ streamed. streamed.book.tables ≡ network.now) }
     ensures book { IfOk result (λ streamed. IsBook streamed.book) }
@@ -60,7 +61,7 @@ pub fn stream<'n, S: Sources, K: Sinks>(
     ensures no_sink { OnErr result (sinks.new ≡ sinks.old) }
 {
     let ends = end_numbers_of(alloc, network)?;
-    let mut book = Book::new(alloc, network)?;
+    let mut book = Book::keeping(alloc, network, keeping)?;
     let ending = run(&mut book, &ends, sources, sinks, limits);
     book.known();
     Ok(Streamed { ending, book })

@@ -16,7 +16,7 @@ ghost use Rattle.kpn_stream_devices.specs.declared.inputs.Inputs.{Inputs as Devi
 ghost use Rattle.kpn_stream_devices.specs.Inputs.{InputsGive, InputsLook, input_of};
 ghost use Rattle.kpn_stream_devices.specs.Window.{fresh, lines_used};
 ghost use Rattle.kpn_stream_devices.specs.declared.outputs.Output.{Output as One};
-ghost use Rattle.kpn_stream_devices.specs.declared.outputs.Outputs.{Outputs as All};
+ghost use Rattle.kpn_stream_devices.specs.declared.outputs.Outputs.{Outputs as Targets};
 ghost use Rattle.kpn_stream_devices.specs.Out.{HasOwnDevice, IsServed, items_bytes};
 ghost use Rattle.kpn_stream_devices.specs.Outputs.{OutputsFlush, OutputsTake, device_holds, output_of, was_put};
 
@@ -38,7 +38,7 @@ pub fn the_bad_line<I: Look, F: Look + Drop>()
 /// taken from the sink, in order, and nothing else. Once it keeps nothing, its device holds them.
 pub fn what_was_put<O: Write, G: Write + Drop>()
     ensures { (t : Tables) → IsNetwork t → (H : List Event) → Legal t H
-        → (wanted : Option ℕ) (first now : All O G) (failed : Option (ℕ × SinkFault))
+        → (wanted : Option ℕ) (first now : Targets O G) (failed : Option (ℕ × SinkFault))
         → Served (OutputsTake O.contents G.contents) (OutputsFlush O.contents G.contents)
         wanted first H failed now → (c i : ℕ) → is_sink (channel_at t c) ≡ true
         → output_of first.each.now.items c ≡ Some i → HasOwnDevice first.each.now.items i
@@ -51,7 +51,7 @@ pub fn what_was_put<O: Write, G: Write + Drop>()
 /// Once a stream has ended without a failed device, the device of each sink that was not left holds them.
 pub fn what_is_out<O: Write, G: Write + Drop>()
     ensures { (t : Tables) → IsNetwork t → (H : List Event) (wanted : Option ℕ)
-        → (first now : All O G) → (last : AreFlushedLast (OutputsTake O.contents G.contents)
+        → (first now : Targets O G) → (last : AreFlushedLast (OutputsTake O.contents G.contents)
         (OutputsFlush O.contents G.contents) wanted t [] first H now)
         → Legal t last.before → (c i : ℕ) → is_sink (channel_at t c) ≡ true
         → Contains (end_numbers is_sink t) c → output_of first.each.now.items c ≡ Some i

@@ -1,11 +1,12 @@
 //! What holds of all ticks, as contracts of functions that do nothing.
-ghost use Rattle.std.specs.Prelude.{◌≡◌, ℕ, Bool, false, List};
+ghost use Rattle.std.specs.Prelude.{◌≡◌, ℕ, Bool, true, false, List, sum};
 ghost use Rattle.kpn_net.specs.Tables.{Tables};
 ghost use Rattle.kpn_net.specs.Faults.{IsNetwork};
 ghost use Rattle.kpn_run_history.specs.declared.event.Event.{Event};
 ghost use Rattle.kpn_run_history.specs.Talks.{talk_of};
 ghost use Rattle.kpn_run_history.specs.Legal.{Legal};
 ghost use Rattle.kpn_ticks.specs.Ticks.{clocks_after};
+ghost use Rattle.kpn_ticks.specs.Chain.{shares_of};
 ghost use Rattle.kpn_ticks.specs.Reordered.{AreReordered};
 ghost use Rattle.kpn_ticks.specs.Schedules.{ticks_of, GrowsNothing, DifferBySchedule};
 
@@ -33,4 +34,10 @@ pub fn order_changes_no_tick()
     ensures { (t : Tables) (has_capacities : Bool) (H G : List Event)
         → AreReordered t has_capacities H G
         → clocks_after t has_capacities H ≡ clocks_after t has_capacities G }
+{}
+
+/// A longest chain has a get or put for each tick: the shares of the processes sum up to the last tick.
+pub fn shares_sum_up()
+    ensures { (t : Tables) → IsNetwork t → (H : List Event) → Legal t H
+        → sum (shares_of t H) ≡ (clocks_after t true H).last }
 {}

@@ -10,6 +10,6 @@ mod walk;
 
 pub use clocks::{Clocks, clocks_after};
 pub use held::reads_before;
-pub use laws::{order_changes_no_tick, schedules_change_no_tick};
+pub use laws::{order_changes_no_tick, schedules_change_no_tick, shares_sum_up};
 pub use traces::clocks_of;
 pub use walk::shares_of;

@@ -8,6 +8,7 @@ mod kind;
 pub mod laws;
 mod parts;
 mod reading;
+mod unwritten;
 mod words;
 mod writing;
 
@@ -16,4 +17,5 @@ pub use kind::how_word;
 pub use kpn_run_history::{Event, History, How, Trace, Version};
 pub use kpn_text_items::WriteFault;
 pub use reading::{read_event, read_trace};
+pub use unwritten::Unwritten;
 pub use writing::{event_line, write_trace};

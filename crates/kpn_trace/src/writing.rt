@@ -5,6 +5,7 @@ ghost use Rattle.kpn_trace.specs.TraceText.{head_text, event_text, trace_text};
 
 use crate::head::head;
 use crate::kind::how_word;
+use crate::unwritten::Unwritten;
 use kpn_net::{Growth, Policy};
 use kpn_run_history::{Event, History, Version};
 use kpn_text_items::WriteFault;
@@ -52,17 +53,21 @@ fn write_head<W: Write>(writer: &mut W, policy: Policy, growth: Growth) -> Resul
 
 /// Writes the trace of a history in version 2: its first lines, which name the policy and the growth, and the line of
 /// each event. It takes no memory, and makes some small writes for each event. So for a device, write into a buffer or
-/// make the text in memory first. After `WriteFault::Write` nobody knows how much went out.
+/// make the text in memory first. After `WriteFault::Write` nobody knows how much went out. Of a history that keeps no
+/// events it writes nothing.
 pub fn write_trace<W: Write, A: Allocator>(
     writer: &mut W,
     policy: Policy,
     growth: Growth,
     history: &History<A>,
-) -> Result<(), WriteFault>
+) -> Result<(), Unwritten>
     ensures { OnOk result
         (Appends (W.contents writer.old) (W.contents writer.new)
         (trace_text Version.Two policy growth history.now.events)) }
 {
+    if !history.is_kept() {
+        return Err(Unwritten::Forgotten);
+    }
     write_head(writer, policy, growth)?;
     for place in 0..history.len() {
         if let Some(event) = history.at(place) {

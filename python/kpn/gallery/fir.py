@@ -11,7 +11,7 @@ TAPS = (-3, 0, 19, 48, 48, 19, 0, -3)
 def build() -> Network:
     """The filter of the source `x` with the sink `y`."""
     net = Network()
-    net.sink('y', parts.fir(net.source('x'), TAPS))
+    net.sink('y', parts.fir(net.source('x'), TAPS, systolic=True))
     return net
 
 

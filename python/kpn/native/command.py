@@ -11,15 +11,17 @@ import tempfile
 from typing import List, Optional, Sequence
 
 from ..errors import KpnError
-from ..language import Reader
+from ..language import LARGEST_CAPACITY, Reader
 from ..program import call, find_program
 from .network_text import NetworkText
 
 RUNTIME = pathlib.Path(__file__).resolve().parent / 'runtime'
 # Of the runtime, and of kpn.h.
 HEADERS = (RUNTIME, RUNTIME.parents[3] / 'include')
-# What a library has of the runtime; a program has the rest.
-SESSION, LIBRARY = 'session.c', ('history.c', 'network.c', 'regions.c', 'rings.c', 'session.c')
+# What a library has of the runtime, and what one with static memory has; a program has neither session.
+LIBRARY = ('history.c', 'network.c', 'regions.c', 'rings.c', 'session.c', 'session_memory.c')
+FIXED = ('fixed.c', 'network.c', 'regions.c', 'session.c')
+SESSION = ('fixed.c', 'session.c', 'session_memory.c')
 # The schedules, from the usual one to that of `kpn run`.
 SCHEDULES = ('fuse', 'batch', 'kpn')
 # The status if the C compiler fails, as that of the launcher if a build fails.
@@ -31,10 +33,13 @@ int main(int count, char **words) {{ return kpn_main(&kpn_plan, "{program}", cou
 '''
 
 
-def c_of(canonical: str, schedule: str, given: bytes = b'') -> str:
-    """The C of a network, from its canonical text; the given text is only kept beside it."""
+def c_of(canonical: str, schedule: str, given: bytes = b'', fixed: int = 0) -> str:
+    """The C of a network, from its canonical text; the given text is only kept beside it. With static memory, so many
+    items may wait at each source."""
     description = Reader(canonical).description()
-    return '\n'.join(NetworkText(canonical, given, description, schedule).lines()) + '\n'
+    if fixed and 'limit' not in description.settings:
+        raise KpnError('usage: --fixed wants `limit N;` in the description, the most that a capacity may become')
+    return '\n'.join(NetworkText(canonical, given, description, schedule, fixed).lines()) + '\n'
 
 
 def compiler() -> List[str]:
@@ -55,7 +60,7 @@ def compile_runtime(folder: str) -> List[str]:
 
 def runtime_sources() -> List[pathlib.Path]:
     """The C files of the runtime of a program."""
-    return sorted(it for it in RUNTIME.glob('*.c') if it.name != SESSION)
+    return sorted(it for it in RUNTIME.glob('*.c') if it.name not in SESSION)
 
 
 def build(text: str, program: str, out: str, runtime: Sequence[str] = ()) -> int:
@@ -68,14 +73,16 @@ def build(text: str, program: str, out: str, runtime: Sequence[str] = ()) -> int
         return subprocess.run(words, check=False).returncode
 
 
-def build_library(text: str, out: str) -> int:
-    """Compiles the C of a network to an archive with the calls of a session."""
+def build_library(text: str, out: str, is_fixed: bool = False) -> int:
+    """Compiles the C of a network to an archive with the calls of a session. AR names the program for archives."""
+    names, flag = (FIXED, '-DKPN_FIXED') if is_fixed else (LIBRARY, '-fPIC')
+    archive = [*shlex.split(os.environ.get('AR', 'ar')), '-rc', os.path.abspath(out)]
     with tempfile.TemporaryDirectory(prefix='kpn-') as folder:
         source = pathlib.Path(folder, 'network_of.c')
         source.write_text(text)
-        sources = [str(source), *(str(RUNTIME / name) for name in LIBRARY)]
-        for command in ([*compiler(), '-fPIC', '-c', *sources], ['ar', '-rc', os.path.abspath(out), 'network_of.o', *(
-                name.replace('.c', '.o') for name in LIBRARY)]):
+        sources = [str(source), *(str(RUNTIME / name) for name in names)]
+        objects = [f'{pathlib.Path(it).stem}.o' for it in sources]
+        for command in ([*compiler(), flag, '-c', *sources], [*archive, *objects]):
             status = subprocess.run(command, cwd=folder, check=False).returncode
             if status:
                 return status
@@ -93,6 +100,9 @@ def main(words: Optional[List[str]] = None) -> int:
                         'only, or the commits of `kpn run`')
     parser.add_argument('--library', action='store_true',
                         help='make an archive with the session of kpn.h in place of a program')
+    parser.add_argument('--fixed', type=items_of, default=0, metavar='ITEMS',
+                        help='make such an archive with static memory, where so many items may wait at each source; '
+                        'the description has to set a limit')
     parser.add_argument('--c', action='store_true', help='write the C of the network in place of a program')
     given = parser.parse_args(words)
     try:
@@ -112,9 +122,18 @@ def compile_file(given: argparse.Namespace) -> int:
     if printed.returncode:
         sys.stderr.write(printed.stderr)
         return printed.returncode
-    text = c_of(printed.stdout, given.schedule, pathlib.Path(given.file).read_bytes())
+    beside = b'' if given.fixed else pathlib.Path(given.file).read_bytes()
+    text = c_of(printed.stdout, given.schedule, beside, given.fixed)
     if given.c:
         pathlib.Path(given.out).write_text(text)
         return 0
-    failed = build_library(text, given.out) if given.library else build(text, program, given.out)
+    is_library = given.library or given.fixed
+    failed = build_library(text, given.out, given.fixed > 0) if is_library else build(text, program, given.out)
     return FAILED if failed else 0
+
+
+def items_of(word: str) -> int:
+    """A number of items in static memory."""
+    if not word.isdecimal() or not 1 <= int(word) <= LARGEST_CAPACITY:
+        raise argparse.ArgumentTypeError(f'a number from 1 to {LARGEST_CAPACITY}, and not {word}')
+    return int(word)

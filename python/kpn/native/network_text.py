@@ -13,8 +13,10 @@ from .regions import Finder
 class NetworkText:
     """A whole network as C."""
 
-    def __init__(self, text: str, given: bytes, description: Description, schedule: str):
+    def __init__(self, text: str, given: bytes, description: Description, schedule: str, fixed: int = 0):
         self.text, self.given, self.description, self.is_one_talk = text, given, description, schedule == 'kpn'
+        # The most items that wait at a source in static memory; 0 if memory is taken as it is needed.
+        self.fixed = fixed
         self.rows = {it.name: rows_of(it) for it in description.processes}
         self.kinds: Dict[Kind, int] = {}
         self.numbers = {name: number for number, (_, name, _) in enumerate(description.channels)}
@@ -40,6 +42,8 @@ class NetworkText:
     def lines(self) -> Iterator[str]:
         """The lines of the C."""
         yield '/* Made by `kpn compile`. Nothing is proved of it. */'
+        if self.fixed:
+            yield from ('#ifndef KPN_FIXED', '#define KPN_FIXED', '#endif', '#include "fixed.h"')
         yield '#include "network.h"'
         yield '#pragma GCC diagnostic ignored "-Wtautological-compare"'
         yield ''
@@ -49,6 +53,8 @@ class NetworkText:
             yield from region.lines()
         yield from self.tables()
         yield from self.plan()
+        if self.fixed:
+            yield from self.memory()
 
     def tables(self) -> Iterator[str]:
         """The tables of channels and processes."""
@@ -84,6 +90,23 @@ class NetworkText:
         if self.regions:
             plans = [it.plan() for it in self.regions]
             yield '\n'.join(['static const struct kpn_region_plan regions[] = {', *plans, '};'])
+
+    def memory(self) -> Iterator[str]:
+        """The static memory."""
+        limit, rings = int(self.description.settings['limit']), []
+        for number, (kind, _, capacity) in enumerate(self.description.channels):
+            least = self.fixed if kind == 'source' else max(capacity or 0, limit)
+            rings.append(f'{{ring_{number}, {1 << (least - 1).bit_length()}}}')
+            yield f'static int64_t ring_{number}[{1 << (least - 1).bit_length()}];'
+        yield f'static const struct kpn_fixed_ring rings[] = {{{", ".join(rings or ["{0}"])}}};'
+        processes, regions = len(self.description.instances), len(self.regions)
+        arrays = (('struct kpn_channel', 'channels', len(rings)), ('struct kpn_process', 'processes', processes),
+                  ('struct kpn_region', 'regions', regions), ('int64_t', 'variables', self.starts[-1]),
+                  ('uint16_t', 'numbers', 2 * processes + regions))
+        for kind, name, count in arrays:
+            yield f'static {kind} own_{name}[{max(1, count)}];'
+        yield 'const struct kpn_fixed kpn_fixed = {own_channels, own_processes, own_variables, own_regions, own_numbers, ' \
+              'rings};'
 
     def plan(self) -> Iterator[str]:
         """The plan of the network."""

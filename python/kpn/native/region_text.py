@@ -177,7 +177,7 @@ class RegionText:
             yield f'  {label}: stop = {stops[label]}; goto dropped;'
         if ways:
             yield '  dropped:'
-            yield '    if (is_traced) kpn_history_cut(network->history, mark);'
+            yield '    if (is_traced) kpn_drop_events(network, mark);'
             yield '    break;'
 
     def keeping(self) -> Iterator[str]:

@@ -7,24 +7,9 @@ from typing import List, Sequence, Tuple, cast
 
 from ..errors import whole
 from ..process import Process, Stream
-from .arithmetic import MOST_BITS, ROUNDINGS, WRAPPED, gain, modulus
+from .arithmetic import MOST_BITS, ROUNDINGS, WRAPPED, modulus
 from .wiring import deal, downsample, merge, need
 
-# A tap multiplies the item, adds the sum of the taps before, and hands on the item before. The last hands on none.
-FIRST_TAP = Process.from_text('''
-process first_tap(in x; out next, sum; par h) {
-  before = 0;
-  while 1 { read x item; write next before; write sum (h * item); before = item; }
-}''')
-TAP = Process.from_text('''
-process tap(in x, s; out next, sum; par h) {
-  before = 0;
-  while 1 { read x item; read s part; write next before; write sum (part + (h * item)); before = item; }
-}''')
-LAST_TAP = Process.from_text('''
-process last_tap(in x, s; out sum; par h) {
-  while 1 { read x item; read s part; write sum (part + (h * item)); }
-}''')
 INTEGRATE = Process.from_text(f'''
 process integrate(in i; out o; par m) {{
   y = 0;
@@ -69,22 +54,6 @@ process butterfly(in ar, ai, br, bi; out cr, ci, dr, di; par wr, wi, divisor) {{
     write cr (a + re); write ci (b + y); write dr (a - re); write di (b - y);
   }}
 }}''')
-
-
-def fir(stream: Stream, taps: Sequence[int]) -> Stream:
-    """The sum of taps[k] times the item k places before, with 0 before the first item. There is one tap or more.
-
-    There is a process for each tap.
-
-    Rates: one out for one in. Faults: overflow.
-    """
-    need(len(taps) > 0, 'a FIR filter has at least one tap')
-    if len(taps) == 1:
-        return gain(stream, taps[0])
-    stream, total = FIRST_TAP(stream, taps[0])
-    for tap in taps[1:-1]:
-        stream, total = TAP(stream, total, tap)
-    return cast(Stream, LAST_TAP(stream, total, taps[-1]))
 
 
 def cic(stream: Stream, order: int, factor: int, bits: int = 62) -> Stream:

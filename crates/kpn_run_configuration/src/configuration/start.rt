@@ -3,29 +3,43 @@ ghost use Rattle.std.specs.Prelude.{◌≡◌, ◌<◌, ℕ, [], false, length, 
 ghost use Rattle.std.specs.Option.{unwrap_or};
 ghost use Rattle.kpn_net.specs.Tables.{channel_at, instance_at, program_of, capacity};
 ghost use Rattle.kpn_step.specs.Frame.{start_frame};
-ghost use Rattle.kpn_chan.specs.Channel.{opened};
-ghost use Rattle.kpn_run_configuration.specs.Configuration.{no_frame, frame_in};
+ghost use Rattle.kpn_chan.specs.Channel.{opened, opened_as};
+ghost use Rattle.kpn_run_history.specs.Keeping.{keeps_all};
+ghost use Rattle.kpn_run_configuration.specs.Configuration.{no_frame, frame_in, channel_in, AreKept};
 ghost use Rattle.kpn_run_configuration.specs.Run.{IsRun};
 
 use super::Configuration;
 use super::marked_waits::MarkedWaits;
 use kpn_chan::Channel;
 use kpn_net::Network;
-use kpn_run_history::How;
+use kpn_run_history::{How, Keeping};
 use kpn_step::Frame;
 use std::alloc::{AllocError, Allocator};
 
 impl<A: Allocator + Copy> Configuration<A> {
-    /// The configuration of a network at the start: its channels are empty, and each process is at its beginning. The
-    /// error is that memory ran out.
+    /// The configuration of a network at the start: its channels are empty, and each process is at its beginning. It
+    /// will keep all items. The error is that memory ran out.
     pub fn new(alloc: A, network: &Network) -> Result<Self, AllocError>
         ensures run { IfOk result (λ made. IsRun network.now [] made) }
         ensures frames { let t = network.now in
             IfOk result (λ made. (p : ℕ) → p < length t.instances
             → frame_in made p ≡ start_frame (program_of t p) (instance_at t p).pars) }
+        ensures kept { IfOk result AreKept }
+    {
+        Configuration::keeping(alloc, network, Keeping::All)
+    }
+
+    /// The same configuration, which will keep what it is told to keep.
+    pub fn keeping(alloc: A, network: &Network, keeping: Keeping) -> Result<Self, AllocError>
+        ensures run { IfOk result (λ made. IsRun network.now [] made) }
+        ensures frames { let t = network.now in
+            IfOk result (λ made. (p : ℕ) → p < length t.instances
+            → frame_in made p ≡ start_frame (program_of t p) (instance_at t p).pars) }
+        ensures kept { IfOk result (λ made. (c : ℕ) → c < length made.channels
+            → (channel_in made c).is_kept ≡ keeps_all keeping) }
     {
         network.known();
-        let channels = channels_at_start(alloc, network)?;
+        let channels = channels_at_start(alloc, network, keeping.is_all())?;
         let capacities = capacities_at_start(alloc, network)?;
         let closed = none_closed(alloc, network.channels())?;
         let waits = MarkedWaits::new(alloc, network.instances(), network.channels())?;
@@ -45,15 +59,16 @@ impl<A: Allocator + Copy> Configuration<A> {
 fn channels_at_start<A: Allocator + Copy>(
     alloc: A,
     network: &Network,
+    keeps: bool,
 ) -> Result<Vec<Channel<A>, A>, AllocError>
     ensures len { IfOk result (λ channels. length channels.items ≡ length network.now.channels) }
     ensures each { IfOk result (λ channels. (c : ℕ) → c < length network.now.channels
         → (let channel = slice_index_or channels.items c (opened None false) in
-        channel ≡ opened (capacity (channel_at network.now c)) channel.is_reserved)) }
+        channel ≡ opened_as keeps (capacity (channel_at network.now c)) channel.is_reserved)) }
 {
     let mut channels = Vec::with_capacity(alloc, network.channels())?;
     for c in 0..network.channels() {
-        let channel = Channel::new(alloc, network.cap_of(c))?;
+        let channel = Channel::keeping(alloc, network.cap_of(c), keeps)?;
         channels.push(channel)?;
     }
     Ok(channels)

@@ -11,7 +11,12 @@
        more memory than its channels.
      - Nothing is proved of it. `kpn audit` judges its trace.
 
-   All state lies in one block of memory behind the session, and there are no variables outside of it. */
+   All state lies in one block of memory behind the session, and there are no variables outside of it.
+
+   With `--fixed ITEMS` all memory is static, and nothing calls malloc or stdio. Then there is one session at a time, no
+   trace (neither kpn_keep_trace nor kpn_trace), and ITEMS of a source at most wait to be read: `kpn_feed` feeds as many
+   as there is room for, and is KPN_NO_MEMORY if there are more. (Under `policy all` a full channel grows only once all
+   sources are closed; so there all items of a source have to find room.) */
 #ifndef KPN_NATIVE_H
 #define KPN_NATIVE_H
 

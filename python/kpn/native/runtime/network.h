@@ -14,7 +14,12 @@
 #include "history.h"
 #include "kpn.h"
 
+/* Without optimisation no copies are wanted: such programs are only tests, and compile faster. */
+#ifdef __OPTIMIZE__
 #define KPN_INLINE static inline __attribute__((always_inline, unused))
+#else
+#define KPN_INLINE static inline __attribute__((unused))
+#endif
 
 enum {
   KPN_MOST_CHANNELS = 1024,
@@ -192,12 +197,27 @@ KPN_INLINE void kpn_publish_got(struct kpn_network *network, struct kpn_channel 
   }
 }
 
+#ifdef KPN_FIXED /* the network has static memory, and no history */
+KPN_INLINE void kpn_record(struct kpn_network *network, enum kpn_event_kind kind, unsigned process, unsigned channel,
+                           int64_t item) {
+  (void)network, (void)kind, (void)process, (void)channel, (void)item;
+}
+
+KPN_INLINE void kpn_drop_events(struct kpn_network *network, struct kpn_history_mark mark) {
+  (void)network, (void)mark;
+}
+#else
 KPN_INLINE void kpn_record(struct kpn_network *network, enum kpn_event_kind kind, unsigned process, unsigned channel,
                            int64_t item) {
   if (!kpn_history_add(network->history, kind, process, channel, item)) {
     network->lacks_memory = true;
   }
 }
+
+KPN_INLINE void kpn_drop_events(struct kpn_network *network, struct kpn_history_mark mark) {
+  kpn_history_cut(network->history, mark);
+}
+#endif
 
 KPN_INLINE void kpn_record_put(struct kpn_network *network, unsigned process, unsigned channel, int64_t item) {
   kpn_record(network, KPN_PUT, process, channel, item);

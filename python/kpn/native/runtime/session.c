@@ -1,22 +1,10 @@
 /* session.c: the session of kpn.h for a compiled network. */
-#include <stdlib.h>
+#include "session.h"
+
 #include <string.h>
 
-#include "kpn_native.h"
-#include "network.h"
-
-#define LACKS(pointer, length) (!(pointer) && (length) > 0)
-
-extern const struct kpn_plan kpn_plan;
-
-struct session {
-  struct kpn_network network;
-  struct kpn_run_history history;
-  bool has_begun, has_lost_events;
-};
-
 static struct kpn_network *network_of(kpn_session *session) {
-  return &((struct session *)session->at)->network;
+  return &((struct kpn_own_session *)session->at)->network;
 }
 
 static bool is_of_kind(const struct kpn_network *network, size_t c, enum kpn_kind kind) {
@@ -24,7 +12,7 @@ static bool is_of_kind(const struct kpn_network *network, size_t c, enum kpn_kin
 }
 
 /* The answer of a call that may have lacked memory. What was lost of the trace stays lost. */
-static uint32_t answer(struct session *session) {
+static uint32_t answer(struct kpn_own_session *session) {
   bool has_lacked = session->network.lacks_memory;
   session->has_begun = true;
   session->has_lost_events = session->has_lost_events || (has_lacked && session->network.history);
@@ -39,28 +27,14 @@ uint32_t kpn_open(const char *text, size_t length, kpn_session *session, kpn_pla
   bool is_canonical = length == strlen(kpn_plan.text) && memcmp(text, kpn_plan.text, length) == 0;
   bool is_given = length == kpn_plan.given_length && memcmp(text, kpn_plan.given, length) == 0;
   if (length > 0 && !is_canonical && !is_given) return KPN_OTHER_TEXT;
-  struct session *made = calloc(1, sizeof *made);
-  void *block = made ? kpn_make_network(&made->network, &kpn_plan) : NULL;
-  if (!block) {
-    free(made);
-    return KPN_NO_MEMORY;
-  }
+  struct kpn_own_session *made = kpn_make_session();
+  if (!made) return KPN_NO_MEMORY;
   session->at = made;
   kpn_begin(&made->network);
   if (!kpn_reserve_all(&made->network, true)) {
     kpn_free(session);
     return KPN_NO_MEMORY;
   }
-  return KPN_OK;
-}
-
-uint32_t kpn_keep_trace(kpn_session *session) {
-  if (!session) return KPN_NULL;
-  if (!session->at) return KPN_NO_SESSION;
-  struct session *own = session->at;
-  if (own->has_begun) return KPN_NO_TRACE;
-  own->history.most = UINT64_MAX;
-  own->network.history = &own->history;
   return KPN_OK;
 }
 
@@ -155,45 +129,10 @@ uint32_t kpn_verdict(kpn_session *session, uint32_t *verdict) {
   return KPN_OK;
 }
 
-/* Where a trace is written; without a place its length is counted. */
-struct room {
-  char *text;
-  size_t length;
-};
-
-static bool write_to(void *to, const char *text, size_t length) {
-  struct room *room = to;
-  if (room->text) {
-    memcpy(room->text + room->length, text, length);
-  }
-  room->length += length;
-  return true;
-}
-
-uint32_t kpn_trace(kpn_session *session, char *text, size_t room, size_t *length) {
-  if (!session || LACKS(text, room) || !length) return KPN_NULL;
-  *length = 0;
-  if (!session->at) return KPN_NO_SESSION;
-  const struct session *own = session->at;
-  const struct kpn_plan *plan = own->network.plan;
-  struct room counted = {NULL, 0}, written = {text, 0};
-  if (!own->network.history) return KPN_NO_TRACE;
-  if (own->has_lost_events) return KPN_NO_MEMORY;
-  kpn_history_write(&own->history, plan->is_policy_all, plan->is_growth_double, write_to, &counted);
-  *length = counted.length;
-  if (counted.length > room) return KPN_TOO_SMALL;
-  kpn_history_write(&own->history, plan->is_policy_all, plan->is_growth_double, write_to, &written);
-  return KPN_OK;
-}
-
 uint32_t kpn_free(kpn_session *session) {
   if (!session) return KPN_NULL;
   if (!session->at) return KPN_NO_SESSION;
-  struct session *own = session->at;
-  kpn_drop_rings(&own->network);
-  kpn_history_free(&own->history);
-  free(own->network.channels);
-  free(own);
+  kpn_drop_session(session->at);
   session->at = NULL;
   return KPN_OK;
 }

@@ -5,8 +5,8 @@ pub returns : goal.returns
 returns g c H run =
     let lists = c.in_ok-fill_in.ensures H run in
     shown c.args.network.now H c.args.configuration run
-    (record c.fill_in.new.audit { journals = c.in_ok-audit.field-0; exact = c.is_quiet.result })
-    c.in_ok-audit.ensures
+    (record c.fill_in.new.audit { journals = c.in-Ok.journals; exact = c.is_quiet.result })
+    c.in-Ok.ensures.journals
     (record {
       reads = lists.reads;
       caps = lists.caps;

@@ -20,7 +20,7 @@ returns-in-Ok-store_files g c =
     (unwritten
     (subst (λ (files : List StoredFile). AreStored g.S.Shelf.may_give files c.args.shelf.now c.store_files.new.shelf)
     (ap (map stored_as) c.deref.ensures.value) c.in-Ok-store_files.ensures.stored)
-    c.report-in-Err-write_whole.ensures)
+    (c.report-in-Err-write_whole.ensures.told, c.report-in-Err-write_whole.ensures.status))
 
 pub returns : goal.returns
 returns g c =
@@ -28,4 +28,4 @@ returns g c =
     (cut_short c.in-Err-store_files.fault
     (subst (λ (files : List StoredFile). IsCutShort g.S.Shelf.may_give files c.args.shelf.now c.store_files.new.shelf)
     (ap (map stored_as) c.deref.ensures.value) c.in-Err-store_files.ensures.cut_short) refl
-    c.report-in-Err-store_files.ensures)
+    (c.report-in-Err-store_files.ensures.told, c.report-in-Err-store_files.ensures.status))

@@ -7,18 +7,19 @@ use Rattle.kpn_command_line.specs.Asked.{IsAsked, IsRefused}
 use Rattle.kpn_command_line.specs.declared.request.WordsFault.{WordsFault}
 use Rattle.kpn_command_line.specs.declared.request.WordsFault.TheVariants.{Usage, NoMemory}
 use Rattle.kpn_command_stream.specs.Command.{Names}
-use Rattle.kpn_cli.specs.Command.{Runs, answers, streams, tells, unclear, unread, fault_status}
+use Rattle.kpn_cli.specs.Command.{Runs, answers, streams, tells, unclear, unread, TellsFault}
 use Rattle.kpn_cli.proofs.program.command.Goals as goal
 
 refused : {S I F O G E : Type 0} (may_give : S → Loads) (may_alias : S → Aliases) (names : Names F G)
     (remaining : I → Option (List ℕ)) (left_in : F → Option (List ℕ)) (contents : O → Option (List ℕ))
-    (holds_in : G → Option (List ℕ)) (asked : List (List ℕ)) (shelf : S) (input : I) (out : O) (err told : E)
-    (status : ℕ) (fault : WordsFault) → status ≡ fault_status fault → IsRefused asked fault
-    → Runs may_give may_alias names remaining left_in contents holds_in asked
+    (holds_in : G → Option (List ℕ)) (holds : E → Option (List ℕ)) (asked : List (List ℕ)) (shelf : S) (input : I)
+    (out : O) (err told : E) (status : ℕ) (fault : WordsFault) → TellsFault holds fault err told status
+    → IsRefused asked fault
+    → Runs may_give may_alias names remaining left_in contents holds_in holds asked
     shelf shelf input input out out err told status
-refused may_give may_alias names remaining left_in contents holds_in asked shelf input out err told status (Usage text) is cause =
+refused may_give may_alias names remaining left_in contents holds_in holds asked shelf input out err told status (Usage text) is cause =
     unclear cause refl refl refl is
-refused may_give may_alias names remaining left_in contents holds_in asked shelf input out err told status NoMemory is cause =
+refused may_give may_alias names remaining left_in contents holds_in holds asked shelf input out err told status NoMemory is cause =
     unread refl refl refl is
 
 pub returns-in-Answered : goal.returns-in-Answered
@@ -45,6 +46,7 @@ returns-in-NeedsOutput g c =
 
 pub returns-in-Err : goal.returns-in-Err
 returns-in-Err g c =
-    refused g.S.Shelf.may_give g.S.Shelf.may_alias _ g.I.Read.remaining _ g.O.Write.contents _ _ c.args.shelf.now
+    refused g.S.Shelf.may_give g.S.Shelf.may_alias _ g.I.Read.remaining _ g.O.Write.contents _ g.E.Write.contents _
+    c.args.shelf.now
     c.args.input.now c.args.out.now c.args.err.now c.refuse.new.err c.refuse.result c.in-Err.fault c.refuse.ensures
     c.in-Err.ensures

@@ -7,4 +7,5 @@ pub returns-in-Ok : goal.returns-in-Ok
 returns-in-Ok g c = whole c.in-Ok.ensures.ok refl
 
 pub returns-in-Err : goal.returns-in-Err
-returns-in-Err g c = refused c.in-Err.refusal c.in-Err.ensures.refused c.report.ensures
+returns-in-Err g c =
+    refused c.in-Err.refusal c.in-Err.ensures.refused (c.report.ensures.told, c.report.ensures.status)

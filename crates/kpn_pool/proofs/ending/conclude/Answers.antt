@@ -1,4 +1,4 @@
-use Rattle.std.proofs.Common.{◌≡◌, length, sym, ◌∙◌, subst}
+use Rattle.std.proofs.Common.{◌≡◌, length, ap, sym, ◌∙◌, subst}
 use Rattle.kpn_net.specs.Tables.{Tables}
 use Rattle.kpn_pool.specs.Fed.{AreFedBelow, AreClosedBelow}
 use Rattle.kpn_pool.proofs.Concluding.{journals_shown, are_supplied, IsReport-concluded}
@@ -13,7 +13,7 @@ pub returns : goal.returns
 returns c =
     let t = c.args.book.tables in
     let same : c.empty_sinks-emptied.new.book.tables ≡ t =
-    c.empty_sinks-emptied.ensures.tables ∙ c.put_back_held.ensures.tables in
+    c.empty_sinks-emptied.ensures.tables ∙ ap (λ b. b.tables) c.put_back_held.ensures.alone in
     let network : c.network-network.result.now ≡ t = c.network-network.ensures ∙ same in
     let report = c.in_ok-report.report in
     let fed =

@@ -1,6 +1,7 @@
 -- One more line is written; at the end they are all.
 use Rattle.std.proofs.Common.{◌+◌, take, append-nil, sym, ◌∙◌, subst, arith}
 use Rattle.std.proofs.lemmas.List.{take_all}
+use Rattle.std.specs.Bool.{IsTrue}
 use Rattle.std.specs.Io.KnownBytes.{Appends}
 use Rattle.std.proofs.lemmas.Option.{slice_get-get_or}
 use Rattle.kpn_run_history.specs.declared.event.Event.TheVariants.{Close}
@@ -19,6 +20,9 @@ loop-place-init g c =
 
 pub loop-place-preserved : goal.loop-place-preserved
 loop-place-preserved g c =
+    let kept : IsTrue c.args.history.now.is_kept = cc (c.is_kept.ensures, c.if-not-is_kept.false) in
+    let long = c.len-place-end.ensures kept in
+    let found_at = c.at.ensures kept in
     let events = c.args.history.now.events in
     let contents = g.W.Write.contents in
     elim c.match-at.branch [
@@ -29,14 +33,16 @@ loop-place-preserved g c =
           (sym w.writer-is)
           (one_more_written Two c.args.policy c.args.growth (contents c.args.writer.now) (contents c.loop-place.writer)
           (contents w.event_line.new.writer) events c.loop-place.place w.in-Some.event
-          (sym c.at.ensures ∙ w.in-Some.is) c.loop-place.invariant w.in_ok-event_line.ensures)
+          (sym found_at ∙ w.in-Some.is) c.loop-place.invariant w.in_ok-event_line.ensures)
       | in_default w ↦
           let found = slice_get-get_or events c.loop-place.place (Close 0) (omega arith) in
-          absurd (cc (found, c.at.ensures, w.in_default.is))
+          absurd (cc (found, found_at, w.in_default.is))
     ]
 
 pub returns : goal.returns
 returns g c =
+    let kept : IsTrue c.args.history.now.is_kept = cc (c.is_kept.ensures, c.if-not-is_kept.false) in
+    let long = c.len-place-end.ensures kept in
     subst (λ t. Appends (g.W.Write.contents c.args.writer.now) (g.W.Write.contents c.loop-place.writer)
     (trace_text Two c.args.policy c.args.growth t))
     (take_all c.loop-place.place c.args.history.now.events (omega arith)) c.loop-place.invariant

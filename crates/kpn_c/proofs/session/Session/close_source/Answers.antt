@@ -10,7 +10,7 @@ invariant_of-result c =
     let opened = c.attached-book.result in
     let last = c.close_source-closed.new.self in
     let said = c.close_source-closed.ensures in
-    book_after c.self.inside.document c.self.inside.detached opened last c.detach-detached.result
+    book_after c.self.inside.document.value c.self.inside.detached opened last c.detach-detached.result
     c.attached-book.ensures
     (close_tables c.args.source c.close_source-closed.result opened last said.done said.as_before)
     c.detach-detached.ensures.same c.detach-detached.ensures.book
@@ -20,7 +20,7 @@ returns-clause-closed c =
     let opened = c.attached-book.result in
     let last = c.close_source-closed.new.self in
     let said = c.close_source-closed.ensures in
-    of_session c.self.inside.document c.self.inside.detached opened last c.detach-detached.result
+    of_session c.self.inside.document.value c.self.inside.detached opened last c.detach-detached.result
     c.attached-book.ensures
     (close_tables c.args.source c.close_source-closed.result opened last said.done said.as_before)
     c.detach-detached.ensures.same c.args.self c.self.view_is
@@ -31,7 +31,7 @@ returns-clause-refused c =
     let opened = c.attached-book.result in
     let last = c.close_source-closed.new.self in
     let said = c.close_source-closed.ensures in
-    of_session c.self.inside.document c.self.inside.detached opened last c.detach-detached.result
+    of_session c.self.inside.document.value c.self.inside.detached opened last c.detach-detached.result
     c.attached-book.ensures
     (close_tables c.args.source c.close_source-closed.result opened last said.done said.as_before)
     c.detach-detached.ensures.same c.args.self c.self.view_is
@@ -42,7 +42,7 @@ returns-clause-as_before c =
     let opened = c.attached-book.result in
     let last = c.close_source-closed.new.self in
     let said = c.close_source-closed.ensures in
-    of_session c.self.inside.document c.self.inside.detached opened last c.detach-detached.result
+    of_session c.self.inside.document.value c.self.inside.detached opened last c.detach-detached.result
     c.attached-book.ensures
     (close_tables c.args.source c.close_source-closed.result opened last said.done said.as_before)
     c.detach-detached.ensures.same c.args.self c.self.view_is

@@ -8,7 +8,7 @@ pub invariant_of-result : goal.invariant_of-result
 invariant_of-result c =
     let opened = c.attached-book.result in
     let last = c.step_each-stepped.new.book in
-    book_after c.self.inside.document c.self.inside.detached opened last c.detach-detached.result
+    book_after c.self.inside.document.value c.self.inside.detached opened last c.detach-detached.result
     c.attached-book.ensures
     (steps_tables QUOTA c.args.most c.step_each-stepped.result opened last c.step_each-stepped.ensures)
     c.detach-detached.ensures.same c.detach-detached.ensures.book
@@ -17,7 +17,7 @@ pub returns-clause-stepped : goal.returns-clause-stepped
 returns-clause-stepped c =
     let opened = c.attached-book.result in
     let last = c.step_each-stepped.new.book in
-    of_session c.self.inside.document c.self.inside.detached opened last c.detach-detached.result
+    of_session c.self.inside.document.value c.self.inside.detached opened last c.detach-detached.result
     c.attached-book.ensures
     (steps_tables QUOTA c.args.most c.step_each-stepped.result opened last c.step_each-stepped.ensures)
     c.detach-detached.ensures.same c.args.self c.self.view_is

@@ -1,15 +1,30 @@
-use Rattle.std.proofs.Common.{rules, ◌≡◌, true, ap}
+use Rattle.std.proofs.Common.{rules, ◌≡◌, ◌∙◌, true, List, ℤ, length, ap, sym, subst, arith}
+use Rattle.std.specs.Bool.{IsTrue}
+use Rattle.std.proofs.lemmas.List.{nil_from_length}
 use Rattle.kpn_lang.specs.Prefix.{IsPrefix}
 use Rattle.kpn_net.specs.Tables.{channel_at, is_source}
 use Rattle.kpn_run_configuration.specs.Configuration.{channel_in}
+use Rattle.kpn_run_state.specs.Snapshot.{shown_on}
 use Rattle.kpn_run_state.proofs.Snapshots.{begins_shown}
 use Rattle.kpn_pool_desk.proofs.outside_seats.SourceSeat.snapshot.Goals as goal
+use Rattle.kpn_pool_desk.proofs.outside_seats.SourceSeat.snapshot.Goals.{else-not-is_empty-via-then-not-is_empty+else-not-journal_begins, else-not-is_empty-via-else-not-is_empty}
 
 pub returns-clause-fresh : goal.returns-clause-fresh
 returns-clause-fresh g c =
     let seat = c.args.self.now in
     let b = c.args.desk.now.book in
+    let shown = shown_on c.in_ok-snapshot.field-0 seat.channel in
     let same : c.desk.inside.book ≡ b = ap (λ d. d.book) c.desk.view_is in
-    let source : is_source (channel_at b.tables seat.channel) ≡ true = search rules in
-    let begins : IsPrefix seat.items (channel_in b.configuration seat.channel).journal = search rules in
-    begins_shown b c.in_ok-snapshot.field-0 c.in_ok-snapshot.ensures.journals seat.channel source seat.items begins
+    elim c.else-not-is_empty.branch [
+      | else-not-is_empty-via-then-not-is_empty+else-not-journal_begins w ↦
+          let source : is_source (channel_at b.tables seat.channel) ≡ true = search rules in
+          let begun : IsTrue w.journal_begins.result = search rules in
+          let told = w.journal_begins.ensures.0 begun in
+          let begins : IsPrefix seat.items (channel_in b.configuration seat.channel).journal = search rules in
+          begins_shown b c.in_ok-snapshot.field-0 c.in_ok-snapshot.ensures.journals seat.channel source seat.items begins
+      | else-not-is_empty-via-else-not-is_empty w ↦
+          let zero : length c.fed.result.now ≡ 0 =
+          grind (arith, c.is_empty.ensures, w.if-not-is_empty.false) in
+          let none = nil_from_length seat.items (ap length (sym c.fed.ensures) ∙ zero) in
+          subst (λ (l : List ℤ). IsPrefix l shown) (sym none) tt
+    ]

@@ -1,8 +1,14 @@
-use Rattle.std.proofs.Common.{None, ap, ◌∙◌}
+use Rattle.std.proofs.Common.{None, sym, ap, ◌∙◌}
 use Rattle.std.specs.List.{last_or}
-use Rattle.kpn_run_history.proofs.Events.{last_or-at}
+use Rattle.kpn_run_history.proofs.Events.{last_or-append}
 use Rattle.kpn_run_history.proofs.history.History.last.Goals as goal
 
 pub returns : goal.returns
-returns g c = rw (← c.self.view_is)
-    (c.copied.ensures ∙ c.last.ensures.value ∙ last_or-at c.deref.result.now ∙ ap (last_or None) c.deref.ensures.value)
+returns g c =
+    let inside = c.self.inside in
+    let events = inside.events.items in
+    rw (← c.self.view_is)
+    (c.newest_of.ensures
+    ∙ ap (λ l. last_or inside.newest l) c.deref.ensures.value
+    ∙ ap (λ o. last_or o events) c.self.invariant.last
+    ∙ sym (last_or-append None inside.past.items events))

@@ -2,25 +2,25 @@ use Rattle.std.proofs.Common.{refl, ap, ◌∙◌}
 use Rattle.kpn_run_state.specs.Schedule.{all_ready}
 use Rattle.kpn_run_state.specs.Book.{Book}
 use Rattle.kpn_run_state.proofs.Starting.{kept_at_start}
-use Rattle.kpn_run_state.proofs.book.Book.new.Goals as goal
+use Rattle.kpn_run_state.proofs.book.Book.keeping.Goals as goal
 
 pub invariant_of-result : goal.invariant_of-result
 invariant_of-result g c =
     let b : Book = record {
       tables = c.args.network.now;
-      history = c.new-3.result.events;
+      history = c.keeping-2.result.events;
       configuration = c.in_ok-configuration.configuration;
       schedule = c.in_ok-schedule.schedule;
       commits = 0;
     } in
-    kept_at_start b c.new-3.ensures.events c.in_ok-configuration.ensures.run
+    kept_at_start b c.keeping-2.ensures.events c.in_ok-configuration.ensures.run
     (c.in_ok-schedule.ensures ∙ ap all_ready c.instances.ensures) refl
 
 pub returns-clause-book : goal.returns-clause-book
 returns-clause-book g c =
     let b : Book = record {
       tables = c.args.network.now;
-      history = c.new-3.result.events;
+      history = c.keeping-2.result.events;
       configuration = c.in_ok-configuration.configuration;
       schedule = c.in_ok-schedule.schedule;
       commits = 0;
@@ -29,6 +29,6 @@ returns-clause-book g c =
       network = c.known.ensures;
       schedule = c.known-2.ensures.schedule;
       kept =
-          kept_at_start b c.new-3.ensures.events c.in_ok-configuration.ensures.run
+          kept_at_start b c.keeping-2.ensures.events c.in_ok-configuration.ensures.run
           (c.in_ok-schedule.ensures ∙ ap all_ready c.instances.ensures) refl;
     }

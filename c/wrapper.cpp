@@ -1,0 +1,101 @@
+/* Calls what kpn.hpp has, and compares what it tells with numbers by hand. It prints the first line that differs.
+   tools/clib.py builds it with the compilers that are there, under sanitizers. */
+#include "kpn.hpp"
+
+#include <array>
+#include <cstdio>
+#include <cstdlib>
+
+using items = std::vector<std::int64_t>;
+
+static void is(bool true_, int line) {
+  if (true_) return;
+  std::printf("wrapper.cpp:%d\n", line);
+  std::exit(1);
+}
+#define IS(condition) is((condition), __LINE__)
+
+static const char mean[] =
+    "process mean(in s; out m) { while 1 { read s x; sum = (sum + x); n = (n + 1); write m (sum / n); } }\n"
+    "network { source s; sink m cap 1; r = mean(s; m); }\n";
+
+/* The words of the error of a call. */
+template <class Call>
+static std::string words_of(Call call) {
+  try {
+    call();
+  } catch (const kpn::error &why) {
+    return why.what();
+  }
+  return "no error";
+}
+
+static void texts() {
+  kpn::check(mean);
+  IS(words_of([] { kpn::check("network { sink b cap 1; }"); }) == "13 NoWriter at 0");
+  IS(words_of([] { kpn::session one("network { x }"); }).substr(0, 13) == "21 Grammar at");
+  const auto ran = kpn::run(mean, {{3, 5, 10, -2}}, {1000, false, 0, 1000});
+  IS(ran.outcome == KPN_ENDED && ran.commits > 8 && ran.sinks.size() == 1 && ran.sinks[0] == (items{3, 4, 6, 4}));
+  IS(ran.trace.substr(0, 12) == "kpn-trace 2\n");
+  IS(words_of([] { kpn::run(mean, {}, {1, false, 0, 1}); }) == "60 Lists");
+}
+
+static void calls() {
+  kpn::session one(mean);
+  const auto s = one.channel("s"), m = one.channel("m");
+  one.feed(s, items{3, 5});
+  one.feed(s, 10);
+  IS(one.step(3) == 3 && one.step() > 0);
+  std::array<std::int64_t, 8> room{};
+  IS(one.take(m, room) == 1 && room[0] == 3);
+  one.step();
+  std::int64_t few[1];
+  IS(one.take(m, few) == 1 && few[0] == 4);
+  IS(!one.is_complete(m) && one.verdict() == 0);
+  one.close_source(s);
+  IS(words_of([&] { one.feed(s, 1); }) == "44 SourceClosed");
+  IS(words_of([&] { one.channel("t"); }) == "64 NoChannel");
+  one.step();
+  IS(one.take(m, room) == 1 && one.take(m, room) == 0);
+  one.step();
+  IS(one.is_complete(m) && one.verdict() == KPN_ENDED);
+  IS(one.trace().substr(0, 12) == "kpn-trace 2\n");
+}
+
+static void moves() {
+  kpn::session one(mean);
+  const auto s = one.channel("s"), m = one.channel("m");
+  const kpn_item given[] = {{s, -2}, {s, 4}};
+  std::vector<kpn_wanted> places = {{m, 7, false}, {m, 7, true}};
+  auto done = one.move(given, places);
+  IS(done.fed == 2 && done.commits > 0 && done.served == 2);
+  IS(places[0].has_item && places[0].item == -2 && !places[1].has_item && places[1].item == 7);
+  try {
+    one.move(std::array<kpn_item, 2>{{{s, 1}, {m, 1}}}, places);
+    IS(false);
+  } catch (const kpn::error &why) {
+    IS(why.number() == KPN_NO_SUCH_END && !why.has_place() && why.done().fed == 1 && why.done().served == 0);
+  }
+  done = one.move({}, places, 0);
+  IS(done.fed == 0 && done.commits == 0 && done.served == 2 && !places[0].has_item);
+}
+
+static void owners() {
+  kpn::session one(mean), two(mean);
+  one.feed(one.channel("s"), 5);
+  kpn::session three = std::move(one);
+  two = std::move(three);
+  two.step();
+  std::int64_t room[2];
+  IS(two.take(two.channel("m"), room) == 1 && room[0] == 5);
+  IS(words_of([&] { one.step(); }) == "62 NoSession");
+}
+
+int main() {
+  texts();
+  calls();
+  moves();
+  owners();
+  std::puts("wrapper: as by hand");
+  return 0;
+}

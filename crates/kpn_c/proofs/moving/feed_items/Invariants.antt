@@ -1,0 +1,9 @@
+use Rattle.std.proofs.Common.{map, take}
+use Rattle.kpn_run_state.specs.Appending.{AllHappen}
+use Rattle.kpn_c.specs.Moving.{feed_of}
+use Rattle.kpn_c.proofs.moving.feed_items.Given as goal
+
+abbrev pub invariant-items : goal.invariant-items
+invariant-items l = record {
+  feeds : AllHappen (map feed_of (take l.count l.items)) l.initial.book l.book;
+}

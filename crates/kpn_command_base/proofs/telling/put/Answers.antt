@@ -1,0 +1,12 @@
+-- What is written is taken from the rest.
+use Rattle.std.proofs.Common.{◌++◌, take}
+use Rattle.std.proofs.KnownBytes.{Appends-trans}
+use Rattle.kpn_command_base.proofs.LineLemmas.{moves_front}
+use Rattle.kpn_command_base.proofs.telling.put.Goals as goal
+
+pub writes-preserved-in-Ok : goal.writes-preserved-in-Ok
+writes-preserved-in-Ok g c =
+    let (done, split, appended) = c.writes.invariant in
+    let rest = c.writes.rest.now in
+    let n = c.in-Ok.n in
+    (done ++ take n rest, moves_front _ done rest n split, Appends-trans _ _ _ _ _ appended c.in-Ok.ensures.bytes)

@@ -1,0 +1,225 @@
+/* kpn.hpp: Kahn process networks in a C++17 program. It calls what kpn.h declares, and has nothing to link of its own.
+   What kpn.h says of its calls holds here too.
+
+   - A call that fails throws `kpn::error`, which has the number of the fault, its place and its words. Of `feed`,
+     `step`, `take` and `move` the error also has what was done before.
+   - A `kpn::session` frees itself. It can be moved, not copied.
+   - Items are passed as a `kpn::span`: anything with `data()` and `size()`, as a vector, an array or a `std::span`. */
+#ifndef KPN_HPP
+#define KPN_HPP
+
+#include <cstddef>
+#include <cstdint>
+#include <stdexcept>
+#include <string>
+#include <string_view>
+#include <type_traits>
+#include <utility>
+#include <vector>
+
+#include "kpn.h"
+
+namespace kpn {
+
+/* Elements that belong to somebody else. */
+template <class T>
+class span {
+ public:
+  constexpr span() noexcept = default;
+  constexpr span(T *data, std::size_t size) noexcept : data_(data), size_(size) {}
+  template <std::size_t N>
+  constexpr span(T (&array)[N]) noexcept : data_(array), size_(N) {}
+  template <class C, class = std::enable_if_t<std::is_convertible_v<decltype(std::declval<C &>().data()), T *>>>
+  constexpr span(C &&container) noexcept : data_(container.data()), size_(container.size()) {}
+
+  constexpr T *data() const noexcept { return data_; }
+  constexpr std::size_t size() const noexcept { return size_; }
+
+ private:
+  T *data_ = nullptr;
+  std::size_t size_ = 0;
+};
+
+/* The name of a fault, as in `kpn explain` and in docs/ERRORS.md, or an empty text. */
+inline std::string_view fault_name(std::uint32_t number) noexcept {
+  constexpr std::pair<std::uint32_t, std::string_view> names[] = {
+      {1, "TooMany"},      {2, "NoSuchBlock"},   {3, "BlockOrder"},   {4, "NoSuchVar"},   {5, "NoSuchPort"},
+      {6, "TooDeep"},      {7, "NoMemory"},      {10, "TooMany"},     {11, "NoSuchProgram"}, {12, "PortCount"},
+      {13, "NoWriter"},    {14, "TwoWriters"},   {15, "NoReader"},    {16, "TwoReaders"}, {17, "Capacity"},
+      {18, "NoMemory"},    {19, "NoSuchChannel"}, {20, "Token"},      {21, "Grammar"},    {22, "UnknownName"},
+      {23, "DoubleName"},  {24, "TooLong"},      {28, "NoMemory"},    {42, "NoMemory"},   {43, "NoSuchEnd"},
+      {44, "SourceClosed"}, {46, "SinkLeft"},    {60, "Lists"},       {61, "TooSmall"},   {62, "NoSession"},
+      {63, "Null"},        {64, "NoChannel"}};
+  for (const auto &[known, name] : names)
+    if (known == number) return name;
+  return {};
+}
+
+/* Why a call has failed. Its words are those of the program's error lines: `22 UnknownName at 145`. */
+class error : public std::runtime_error {
+ public:
+  explicit error(std::uint32_t number, kpn_place place = {false, 0}, kpn_amounts done = {0, 0, 0})
+      : std::runtime_error(words(number, place)), number_(number), place_(place), done_(done) {}
+
+  std::uint32_t number() const noexcept { return number_; }
+  bool has_place() const noexcept { return place_.has_place; }
+  std::size_t place() const noexcept { return place_.place; }
+  /* What the call had done before. */
+  const kpn_amounts &done() const noexcept { return done_; }
+
+ private:
+  static std::string words(std::uint32_t number, kpn_place place) {
+    std::string said = std::to_string(number);
+    if (const auto name = fault_name(number); !name.empty()) said.append(" ").append(name);
+    return place.has_place ? said + " at " + std::to_string(place.place) : said;
+  }
+
+  std::uint32_t number_;
+  kpn_place place_;
+  kpn_amounts done_;
+};
+
+/* Throws unless the number is that of success. */
+inline void check_fault(std::uint32_t number, kpn_place place = {false, 0}, kpn_amounts done = {0, 0, 0}) {
+  if (number != KPN_OK) throw error(number, place, done);
+}
+
+/* Throws unless the text describes a network. */
+inline void check(std::string_view text) {
+  kpn_place place;
+  const auto fault = kpn_check(text.data(), text.size(), &place);
+  check_fault(fault, place);
+}
+
+/* What a run has come to: the items of each sink, in order of channel number, and the trace. */
+struct ran {
+  std::uint32_t outcome = 0;
+  std::uint64_t commits = 0;
+  std::vector<std::vector<std::int64_t>> sinks;
+  std::string trace;
+};
+
+/* Runs a network on the lists of its sources, which come in order of channel number. The network runs twice, since the
+   first run tells the sizes. */
+inline ran run(std::string_view text, const std::vector<std::vector<std::int64_t>> &sources, const kpn_limits &limits) {
+  std::vector<std::int64_t> items;
+  std::vector<std::size_t> lengths;
+  for (const auto &list : sources) {
+    items.insert(items.end(), list.begin(), list.end());
+    lengths.push_back(list.size());
+  }
+  const kpn_lists lists = {items.data(), items.size(), lengths.data(), lengths.size()};
+  kpn_room room = {nullptr, 0, nullptr, 0, nullptr, 0};
+  kpn_ran told;
+  kpn_place place;
+  ran made;
+  auto fault = kpn_run(text.data(), text.size(), &lists, &limits, &room, &told, &place);
+  std::vector<std::int64_t> taken(told.item_count);
+  std::vector<std::size_t> counts(told.sink_count);
+  if (fault == KPN_TOO_SMALL) {
+    made.trace.resize(told.trace_length);
+    room = {taken.data(), taken.size(), counts.data(), counts.size(), made.trace.data(), made.trace.size()};
+    fault = kpn_run(text.data(), text.size(), &lists, &limits, &room, &told, &place);
+  }
+  check_fault(fault, place);
+  made.outcome = told.outcome;
+  made.commits = told.commits;
+  auto at = taken.cbegin();
+  for (const auto count : counts) {
+    made.sinks.emplace_back(at, at + static_cast<std::ptrdiff_t>(count));
+    at += static_cast<std::ptrdiff_t>(count);
+  }
+  return made;
+}
+
+/* A run that you feed, step and take from. */
+class session {
+ public:
+  explicit session(std::string_view text) {
+    kpn_place place;
+    const auto fault = kpn_open(text.data(), text.size(), &session_, &place);
+    check_fault(fault, place);
+  }
+  session(session &&other) noexcept : session_(std::exchange(other.session_, kpn_session{nullptr})) {}
+  session &operator=(session &&other) noexcept {
+    std::swap(session_, other.session_);
+    return *this;
+  }
+  session(const session &) = delete;
+  session &operator=(const session &) = delete;
+  ~session() {
+    if (session_.at) kpn_free(&session_);
+  }
+
+  /* The number of a channel. */
+  std::size_t channel(std::string_view name) {
+    std::size_t number;
+    check_fault(kpn_channel(&session_, name.data(), name.size(), &number));
+    return number;
+  }
+
+  void feed(std::size_t source, span<const std::int64_t> items) {
+    std::size_t fed;
+    const auto fault = kpn_feed(&session_, source, items.data(), items.size(), &fed);
+    check_fault(fault, {false, 0}, {fed, 0, 0});
+  }
+  void feed(std::size_t source, std::int64_t item) { feed(source, span<const std::int64_t>(&item, 1)); }
+  void close_source(std::size_t source) { check_fault(kpn_close_source(&session_, source)); }
+
+  /* Steps until no process is ready, or so many commits are made, and returns how many were. */
+  std::uint64_t step(std::uint64_t most = UINT64_MAX) {
+    std::uint64_t commits;
+    const auto fault = kpn_step(&session_, most, &commits);
+    check_fault(fault, {false, 0}, {0, commits, 0});
+    return commits;
+  }
+
+  /* Takes what is there and what there is room for, and returns how many items. */
+  std::size_t take(std::size_t sink, span<std::int64_t> room) {
+    std::size_t taken;
+    const auto fault = kpn_take(&session_, sink, room.data(), room.size(), &taken);
+    check_fault(fault, {false, 0}, {0, 0, taken});
+    return taken;
+  }
+
+  /* Feeds, steps and takes in one call. */
+  kpn_amounts move(span<const kpn_item> items, span<kpn_wanted> places, std::uint64_t most = UINT64_MAX) {
+    kpn_amounts done;
+    const auto fault =
+        kpn_move(&session_, items.data(), items.size(), most, places.data(), places.size(), &done);
+    check_fault(fault, {false, 0}, done);
+    return done;
+  }
+
+  bool is_complete(std::size_t channel) {
+    bool complete;
+    check_fault(kpn_is_complete(&session_, channel, &complete));
+    return complete;
+  }
+
+  /* 0, KPN_ENDED, KPN_CLOGGED or KPN_JAMMED. */
+  std::uint32_t verdict() {
+    std::uint32_t told;
+    check_fault(kpn_verdict(&session_, &told));
+    return told;
+  }
+
+  std::string trace() {
+    std::string text;
+    std::size_t length;
+    auto fault = kpn_trace(&session_, nullptr, 0, &length);
+    if (fault == KPN_TOO_SMALL) {
+      text.resize(length);
+      fault = kpn_trace(&session_, text.data(), text.size(), &length);
+    }
+    check_fault(fault);
+    return text;
+  }
+
+ private:
+  kpn_session session_ = {nullptr};
+};
+
+}  // namespace kpn
+
+#endif
