@@ -30,7 +30,7 @@ BUDGETS = {
     'docs/GUIDE.md': 1_000,
     'docs/LANGUAGE.md': 1_510,
     'docs/LIBRARY.md': 2_230,
-    'docs/PROVING.md': 2_970,
+    'docs/PROVING.md': 3_040,
     'docs/RUNS.md': 2_080,
     'docs/STREAMS.md': 1_110,
     'docs/TRACES.md': 840,
@@ -38,7 +38,7 @@ BUDGETS = {
     'python/README.md': 960,
     'bench/RESULTS.md': 2_450,
 }
-BUDGET = 36_570
+BUDGET = 36_640
 POINT = re.compile(r'\s*(?:[-*+]|\d+\.)\s+')
 END = re.compile(r'(?<=[.!?])["\')*]*\s+(?=["\'(*]*[A-Z0-9`])')
 WORD = re.compile(r"[^\s]*\w[^\s]*")
