@@ -1,5 +1,5 @@
-//! Tests of networks, channels, cycles of waiting processes, histories, configurations and audits, only by public calls:
-//! what no clause says, memory that runs out, and worked rows whose values come from outside.
+//! Tests of networks, channels, cycles of waiting processes, histories, configurations and audits, only by public
+//! calls: what no clause says, memory that runs out, and worked rows whose values come from outside.
 #![tactic(auto)]
 
 #[cfg(test)]

@@ -1,5 +1,5 @@
-//! Tests of the pool, by public calls only: what workers, gates, seats and runs by workers do that no clause can say. Each
-//! ends on any schedule, since whoever waits for somebody else waits for a bounded number of turns.
+//! Tests of the pool, by public calls only: what workers, gates, seats and runs by workers do that no clause can say.
+//! Each ends on any schedule, since whoever waits for somebody else waits for a bounded number of turns.
 #![tactic(auto)]
 
 #[cfg(test)]

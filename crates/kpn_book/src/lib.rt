@@ -1,5 +1,5 @@
-//! The book of a run, and a run on the calling thread only: what a run has come to under its limits, and what its report
-//! promises, whatever the schedule. This crate also passes on views, of `kpn_run_history`, and the book, of
+//! The book of a run, and a run on the calling thread only: what a run has come to under its limits, and what its
+//! report promises, whatever the schedule. This crate also passes on views, of `kpn_run_history`, and the book, of
 //! `kpn_run_state`.
 #![tactic(auto)]
 

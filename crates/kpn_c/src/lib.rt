@@ -1,6 +1,6 @@
-//! The calls of a network for C: checks, runs and sessions over flat data, where lists and items stand in slices and faults
-//! are numbers, and the exports of a static library. `include/kpn.h` says what each does, and what its caller owes. Only
-//! `c/kpn.c` calls these exports: it refuses null pointers first.
+//! The calls of a network for C: checks, runs and sessions over flat data, where lists and items stand in slices and
+//! faults are numbers, and the exports of a static library. `include/kpn.h` says what each does, and what its caller
+//! owes. Only `c/kpn.c` calls these exports: it refuses null pointers first.
 #![tactic(auto)]
 
 mod codes;

@@ -33,8 +33,8 @@ pub fn check(alloc: Global, text: &[u8]) -> Result<(), TextFault>
     }
 }
 
-/// Runs the network that a text describes on lists, one for each source, until there is an outcome under the limits. The
-/// lists stand one after the other in `items`, and have these lengths.
+/// Runs the network that a text describes on lists, one for each source, until there is an outcome under the limits.
+/// The lists stand one after the other in `items`, and have these lengths.
 pub fn run(
     alloc: Global,
     text: &[u8],

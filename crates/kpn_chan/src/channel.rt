@@ -13,8 +13,8 @@ use std::marker::Model;
 
 /// A queue of whole numbers from one writer to one reader, with all that was ever put on it.
 ///
-/// Contracts see its journal, how many of its items were read, its capacity, whether its reader is gone, whether the next
-/// item is reserved, and whether the journal is kept. If it is not, only proofs know what was read long ago.
+/// Contracts see its journal, how many of its items were read, its capacity, whether its reader is gone, whether the
+/// next item is reserved, and whether the journal is kept. If it is not, only proofs know what was read long ago.
 #[derive(Debug)]
 pub struct Channel<A: Allocator = Global> {
     journal: Chunks<A>,

@@ -23,8 +23,8 @@ const SHORT: usize = 256;
 pub const MOST_GONE: usize = 1 << 60;
 
 /// The items in order: those of the full chunks, which never move, and those of the last one. That one doubles until it
-/// is as long as a full one. If nothing is kept, the last chunk is the only one, and each time that it is full its items
-/// become past: they are counted, and only proofs know them.
+/// is as long as a full one. If nothing is kept, the last chunk is the only one, and each time that it is full its
+/// items become past: they are counted, and only proofs know them.
 #[derive(Debug, Drop)]
 pub struct Chunks<A: Allocator> {
     pub(crate) past: Past<i64>,

@@ -21,8 +21,9 @@ use std::time::Clock;
 /// The program over a shelf of files, an input, an output and a place for faults. The first of the words is the name
 /// that the user called the program by. It returns the status of the program: 0 for success and for help, 1 for a
 /// refused input, a device that fails or an illegal trace, 2 for words that are not understood, 3 for a run that has
-/// clogged, 4 for one that has jammed, 5 for one that has stopped or an audit without steps left, 6 for want of memory, 7
-/// for workers that came to no outcome, 8 for a stream of which a process has faulted. Only a run by workers may wait.
+/// clogged, 4 for one that has jammed, 5 for one that has stopped or an audit without steps left, 6 for want of memory,
+/// 7 for workers that came to no outcome, 8 for a stream of which a process has faulted. Only a run by workers may
+/// wait.
 pub fn command<R: Threads + Wait + Clock + Sync, S: Shelf + Ports, I: Look, O: Write, E: Write>(
     rt: &R,
     alloc: Global,

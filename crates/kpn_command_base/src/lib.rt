@@ -1,5 +1,5 @@
-//! What commands share: what words may ask of one, what it loads from a shelf, why it is refused, pieces of texts, audited
-//! traces, what a run hands out, and what a command comes to.
+//! What commands share: what words may ask of one, what it loads from a shelf, why it is refused, pieces of texts,
+//! audited traces, what a run hands out, and what a command comes to.
 #![tactic(auto)]
 
 mod audit_text;

@@ -42,8 +42,8 @@ fn does_one_await_input(document: &Document, audit: &Audit) -> bool {
     false
 }
 
-// Which sinks are complete, and what gives more on the others: turns, if a process can continue; input, if one waits for
-// it; or else room.
+// Which sinks are complete, and what gives more on the others: turns, if a process can continue; input, if one waits
+// for it; or else room.
 fn push_sinks(text: &mut String, document: &Document, audit: &Audit) -> Pushed {
     let rest = if can_one_continue(audit) {
         "a longer run may put more there"

@@ -56,7 +56,8 @@ pub enum Request<'a> {
         trace: &'a str,
         steps: u64,
     },
-    /// `timeline FILE TRACE --svg`, with the most steps before an event, and the first and the last tick of the picture.
+    /// `timeline FILE TRACE --svg`, with the most steps before an event, and the first and the last tick of the
+    /// picture.
     Picture {
         file: &'a str,
         trace: &'a str,

@@ -7,8 +7,8 @@ use std::alloc::Global;
 // How many processes the line names.
 const NAMED: usize = 5;
 
-/// Writes the line for these shares of a longest chain of so many ticks: the largest shares first, of equal ones that of
-/// the least process, then what is left of the ticks.
+/// Writes the line for these shares of a longest chain of so many ticks: the largest shares first, of equal ones that
+/// of the least process, then what is left of the ticks.
 pub(crate) fn push_bound(
     alloc: Global,
     text: &mut String,

@@ -12,9 +12,9 @@ use kpn_command_base::{
 use kpn_shelf::Shelf;
 use std::alloc::{AllocError, Global};
 
-/// What `kpn draw FILE` or `kpn draw FILE TRACE` comes to, in this direction. Each process may make `steps` steps before each of its
-/// events in the trace. It reads the description first, then the trace. For a trace that is not legal it tells what
-/// `kpn audit` tells.
+/// What `kpn draw FILE` or `kpn draw FILE TRACE` comes to, in this direction. Each process may make `steps` steps
+/// before each of its events in the trace. It reads the description first, then the trace. For a trace that is not
+/// legal it tells what `kpn audit` tells.
 pub fn draw_command<S: Shelf>(
     alloc: Global,
     file: &str,

@@ -1,5 +1,5 @@
-//! The drawing of a network: a directed graph in the language of Graphviz, with a line for each process, source, sink and
-//! channel. Rows show its words; what an audit shows of each part, `found` proves.
+//! The drawing of a network: a directed graph in the language of Graphviz, with a line for each process, source, sink
+//! and channel. Rows show its words; what an audit shows of each part, `found` proves.
 ghost use Rattle.std.specs.Prelude.{◌<◌, length};
 
 use crate::found::{Flow, flow_of, state_of};

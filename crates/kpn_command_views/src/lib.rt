@@ -1,5 +1,5 @@
-//! `kpn draw`, `kpn stats` and `kpn timeline` show a network or what a trace has done: a drawing, tables, and when its gets
-//! and puts take place.
+//! `kpn draw`, `kpn stats` and `kpn timeline` show a network or what a trace has done: a drawing, tables, and when its
+//! gets and puts take place.
 #![tactic(auto)]
 
 mod bound;

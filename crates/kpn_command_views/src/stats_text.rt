@@ -1,5 +1,5 @@
-//! The text that `kpn stats` writes of a legal history. Rows show its words and columns; the figures and times in it are
-//! proved where they are counted.
+//! The text that `kpn stats` writes of a legal history. Rows show its words and columns; the figures and times in it
+//! are proved where they are counted.
 ghost use Rattle.std.specs.Prelude.{◌≡◌, ◌<◌, length};
 
 use crate::bound::{push_bound, ticks_word};

@@ -1,5 +1,5 @@
-//! The command: it reads a network and the lists of its sources, runs the network, and concludes with the files to store
-//! and a report.
+//! The command: it reads a network and the lists of its sources, runs the network, and concludes with the files to
+//! store and a report.
 ghost use Rattle.std.specs.Prelude.{◌≡◌, IfOk, IfErr};
 ghost use Rattle.kpn_commands.specs.Run.{IsConcluded, IsRun, IsNoRun};
 

@@ -1,6 +1,6 @@
 //! A run of a network by several workers at once, which promises the report of a run on one thread; and its parts: the
-//! lock round a desk, what a worker does, and the calls of the outside, which wait for the lock. This crate also passes on
-//! the desk and the seats, of `kpn_pool_desk`.
+//! lock round a desk, what a worker does, and the calls of the outside, which wait for the lock. This crate also passes
+//! on the desk and the seats, of `kpn_pool_desk`.
 #![tactic(auto)]
 
 mod beside;

@@ -150,8 +150,8 @@ impl<'n, J: Job> Batch<'n, J> {
 }
 
 /// Commits the first processes of the queue where they stand, one after the other, as long as each stands at a read or
-/// at a write of a number or a variable, and the commits are below this number: at most 8, and none if the gate is to be
-/// asked for each.
+/// at a write of a number or a variable, and the commits are below this number: at most 8, and none if the gate is to
+/// be asked for each.
 fn go_at_once<J: Job, A: Allocator + Copy, G: Gate>(
     gate: &G,
     desk: &mut Desk<'_, J, A>,

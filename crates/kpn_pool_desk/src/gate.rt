@@ -28,8 +28,8 @@ pub trait Gate: Sync {
     fn between(&self, worker: usize, process: usize) -> Go
         ensures { may_answer self.now worker process result };
 
-    /// Whether it lets everything through, so that it need not be asked. By default it does not say so, and is asked for
-    /// each turn.
+    /// Whether it lets everything through, so that it need not be asked. By default it does not say so, and is asked
+    /// for each turn.
     fn lets_all(&self) -> bool
         ensures { (result ≡ true) → LetsAll (may_answer self.now) }
     {

@@ -47,8 +47,8 @@ pub fn quiet_is_finished()
         → (c : ℕ) → IsLeast t (fed t H) c (written_on H c) }
 {}
 
-/// Take two legal histories that are fed from the same lists, whatever their schedules and capacities. A channel that is
-/// complete in both has the same journal in both. One that is complete in the first begins with what the second has
+/// Take two legal histories that are fed from the same lists, whatever their schedules and capacities. A channel that
+/// is complete in both has the same journal in both. One that is complete in the first begins with what the second has
 /// there.
 pub fn complete_channels_agree()
     ensures same { (t : Tables) → IsNetwork t → (G H : List Event) → Legal t G → Legal t H

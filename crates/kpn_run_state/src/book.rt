@@ -190,8 +190,8 @@ impl<'n, A: Allocator> Book<'n, A> {
         self.parts.configuration.is_closed(c)
     }
 
-    /// Whether the journal of a channel is kept, and begins with these items. The journal is all that was ever put on the
-    /// channel.
+    /// Whether the journal of a channel is kept, and begins with these items. The journal is all that was ever put on
+    /// the channel.
     pub fn journal_begins(&self, c: usize, items: &[i64]) -> bool
         requires { c < length self.now.tables.channels }
         ensures { IsTrue result ↔ (IsTrue (channel_in self.now.configuration c).is_kept

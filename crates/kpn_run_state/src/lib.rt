@@ -1,5 +1,5 @@
-//! The value of a run, the book: a configuration with its history, which processes are ready or held and in which order;
-//! claims, commits and the calls of the outside.
+//! The value of a run, the book: a configuration with its history, which processes are ready or held and in which
+//! order; claims, commits and the calls of the outside.
 #![tactic(auto)]
 
 mod answers;

@@ -23,8 +23,8 @@ pub struct FileOutput<'a, R: Files<File = File> + Threads> {
 }
 
 impl<'a, R: System + AllocGlobal + Threads> FileOutput<'a, R> {
-    /// Opens the file of this name. A FIFO is open when it is first written. If no thread can be made for it, this waits.
-    /// A plain file keeps what it holds, and is locked.
+    /// Opens the file of this name. A FIFO is open when it is first written. If no thread can be made for it, this
+    /// waits. A plain file keeps what it holds, and is locked.
     pub(crate) fn open(rt: &'a R, name: &str) -> io::Result<FileOutput<'a, R>>
         ensures { IfOk result (λ output. string_bytes output.name ≡ name.now) }
     {

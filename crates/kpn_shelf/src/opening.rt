@@ -43,8 +43,8 @@ impl Opening {
         }
     }
 
-    /// Ends the thread, and wakes who waits for this end. Opened for both, a FIFO waits for nobody. Where the user has no
-    /// right to that, the thread is left to the end of the program.
+    /// Ends the thread, and wakes who waits for this end. Opened for both, a FIFO waits for nobody. Where the user has
+    /// no right to that, the thread is left to the end of the program.
     pub(crate) fn give_up<R: Files<File = File> + Threads>(self, rt: &R, name: &str) {
         if let Ok(_other_end) = OpenOptions::new().read(true).write(true).open(rt, name) {
             let _ = self.finish(rt);

@@ -28,8 +28,8 @@ pub trait Ports: Shelf {
             IfSome (Self.Input.remaining input) (λ bytes. Self.may_give self.now name.now (Ok bytes))) }
         ensures named { IfOk result (λ input. comes_from input ≡ name.now) };
 
-    /// Opens an output, and waits for nobody: an output that waits for somebody who reads does so at its first write, or
-    /// where it is dropped. A file keeps what it holds. Nobody else writes it from now on.
+    /// Opens an output, and waits for nobody: an output that waits for somebody who reads does so at its first write,
+    /// or where it is dropped. A file keeps what it holds. Nobody else writes it from now on.
     fn open_output(&self, name: &str) -> Result<Self::Output, WriteFault>
         ensures named { IfOk result (λ output. goes_to output ≡ name.now) };
 

@@ -1,5 +1,5 @@
-//! What follows from the clauses of `stream`, as contracts of functions that do nothing: from the answers of the devices
-//! to the lists of the sources and sinks, and to Kahn's least solution. The layers above cite them.
+//! What follows from the clauses of `stream`, as contracts of functions that do nothing: from the answers of the
+//! devices to the lists of the sources and sinks, and to Kahn's least solution. The layers above cite them.
 ghost use Rattle.std.specs.Prelude.{◌≡◌, ℕ, ◌≤◌, true, false, ℤ, List, [], ◌∷◌, ◌++◌, length, Option, Some};
 ghost use Rattle.kpn_lang.specs.Prefix.{IsPrefix};
 ghost use Rattle.kpn_net.specs.Tables.{Tables, channel_at, is_source, is_sink};
@@ -43,8 +43,8 @@ pub fn what_was_given<S: Sources>()
         → WasGiven S.gives S.looks first c H failed now }
 {}
 
-/// If the devices give lists, a stream is fed from these: what each source was fed begins its list, and is all of it once
-/// the source is closed.
+/// If the devices give lists, a stream is fed from these: what each source was fed begins its list, and is all of it
+/// once the source is closed.
 pub fn fed_from_lists<S: Sources>()
     ensures { (t : Tables) → IsNetwork t → (H : List Event) → Legal t H → (first now : S)
         (failed : Option (ℕ × SourceFault)) → Fed t S.gives S.looks first H failed now → (given : Family)
@@ -86,9 +86,9 @@ pub fn no_more_than_wanted<K: Sinks>()
 
 // ---- Kahn's theorem on streams
 
-/// What was taken from a sink is a prefix of the least solution, for all lists from which the stream was fed: on a closed
-/// source the items that it was fed, on an open one these and any others behind them. So it is for the items that nobody
-/// came to read. If the sink is complete, and all was taken from it, it is that least solution.
+/// What was taken from a sink is a prefix of the least solution, for all lists from which the stream was fed: on a
+/// closed source the items that it was fed, on an open one these and any others behind them. So it is for the items
+/// that nobody came to read. If the sink is complete, and all was taken from it, it is that least solution.
 pub fn taken_is_least()
     ensures below { (t : Tables) → IsNetwork t → (H : List Event) → Legal t H
         → (given : Family) → IsFedFrom t H given

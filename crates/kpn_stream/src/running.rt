@@ -31,9 +31,9 @@ use std::alloc::{AllocError, Global};
 /// source is read once whose answer is at hand. No source is waited for while a process is ready.
 ///
 /// A sink is left once nobody reads what its device hands on, and once it has given the items that the limits want of
-/// it and its device has handed them on. If a device fails, the call returns at once: what the devices of the sinks keep
-/// is for the caller to flush. If memory runs out, that is an ending too, and the book is that of the run so far. The
-/// error is that memory ran out before the run: no device was called.
+/// it and its device has handed them on. If a device fails, the call returns at once: what the devices of the sinks
+/// keep is for the caller to flush. If memory runs out, that is an ending too, and the book is that of the run so far.
+/// The error is that memory ran out before the run: no device was called.
 pub fn stream<'n, S: Sources, K: Sinks>(
     alloc: Global,
     network: &'n Network,
@@ -189,7 +189,8 @@ fn out_of_memory<K: Sinks>(
     Ending::NoMemory
 }
 
-/// The outcome of the run, if it has come to one. Before it is told, the devices of the sinks hand on all that they kept.
+/// The outcome of the run, if it has come to one. Before it is told, the devices of the sinks hand on all that they
+/// kept.
 fn come_to_outcome<K: Sinks>(
     book: &mut Book<'_>,
     ends: &EndNumbers,

@@ -16,8 +16,8 @@ use std::io::{ErrorKind, Write};
 /// With so many bytes an output hands on what it kept.
 const FULL: usize = 8192;
 
-/// The output of a sink: that of this file, or else standard output. And the bytes that it has not got yet, and how many
-/// items are still wanted, if there is such a number.
+/// The output of a sink: that of this file, or else standard output. And the bytes that it has not got yet, and how
+/// many items are still wanted, if there is such a number.
 #[derive(Drop)]
 pub struct Output<G: Drop> {
     pub channel: usize,

@@ -2,8 +2,8 @@
 //!
 //! A description is a text. `read_network` returns the one document that it spells, a network with the names of its
 //! parts, or the fault of the first phase that finds one. The phases are the tokens, the grammar, the names, the
-//! programs in order, and the network. `print_network` returns the canonical text of a document: two spaces for each level,
-//! one statement or item on each line, and no more words than it needs. This crate also passes on the calls of
+//! programs in order, and the network. `print_network` returns the canonical text of a document: two spaces for each
+//! level, one statement or item on each line, and no more words than it needs. This crate also passes on the calls of
 //! `kpn_text_items` that read and write item files.
 #![tactic(auto)]
 

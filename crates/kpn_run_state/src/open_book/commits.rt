@@ -143,7 +143,8 @@ impl<'n, A: Allocator> OpenBook<'n, A> {
         self.history.push(Event::Put(number(p), number(c), item));
     }
 
-    // The next three are rare. They write the state of the process once: a ready one goes from there to its wait or end.
+    // The next three are rare. They write the state of the process once: a ready one goes from there to its wait or
+    // end.
 
     #[cold]
     #[inline(never)]
@@ -182,8 +183,8 @@ impl<'n, A: Allocator> OpenBook<'n, A> {
         self.grow_if_owed(p)
     }
 
-    /// Ends process `p`, which is at this end. The processes that this wakes become ready. Then it makes the growth that
-    /// is owed.
+    /// Ends process `p`, which is at this end. The processes that this wakes become ready. Then it makes the growth
+    /// that is owed.
     #[cold]
     #[inline(never)]
     fn finish(&mut self, hold: Hold, p: usize, how: How) -> Done
