@@ -1,10 +1,10 @@
 #!/usr/bin/env python3
 """Looks at the texts of all crates as `rt ci` does before it proves them, and says within seconds what it would refuse.
 
-`tools/build.py` and `tools/check.py` call the prover alone, which takes texts that `rt ci` refuses: what HANDLES does not
-allow, a ghost name that hides one of the library's, a file that no check reads, a text that is not formatted. The looks
-are `rt`'s own, so this ends with an error if another `rt` has other names for them. It prints what is refused, and ends
-with 1 then.
+`tools/build.py` and `tools/check.py` call the prover alone, which takes texts that `rt ci` refuses: what HANDLES does
+not allow, a ghost name that hides one of the library's, a file that no check reads, a text that is not formatted. The
+looks are `rt`'s own, so this ends with an error if another `rt` has other names for them. It prints what is refused,
+and ends with 1 then.
 """
 import argparse
 import importlib.machinery

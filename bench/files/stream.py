@@ -32,7 +32,9 @@ network { source left; source right; sink z cap 1; t = turns(left, right; z); }
 FIRST = """process first(in i; out o) { write o 1; while 1 { read i x; write o (x + 1); } }
 network { source s; sink z cap 1; f = first(s; z); }
 """
-SPLITS = """process split(in i; out p, q) { while 1 { read i x; if ((x % 1000) == 0) { write q x; } else { write p x; } } }
+SPLITS = """process split(in i; out p, q) {
+  while 1 { read i x; if ((x % 1000) == 0) { write q x; } else { write p x; } }
+}
 network { source s; sink y cap 1; sink z cap 1; p = split(s; y, z); }
 """
 USAGE = b'kpn: usage: --%s, a file that is no input and no other output\n'

@@ -49,7 +49,8 @@ def rates(folder, row, runtime, runs):
     source.write_text(made(few))
     commands = {'kpn run': ([find_program(), 'run', str(source), '--max-commits', '1000000000', *take_few], HOPS_HERE)}
     for schedule in reversed(command.SCHEDULES):
-        words = [compiled(folder, 'net', made(many), schedule, runtime), 'run', '--max-commits', '1000000000', *take_many]
+        program = compiled(folder, 'net', made(many), schedule, runtime)
+        words = [program, 'run', '--max-commits', '1000000000', *take_many]
         commands[schedule] = words, HOPS_COMPILED
     if shutil.which('go'):
         go = pathlib.Path(folder, 'net.go')

@@ -57,8 +57,8 @@ def try_network(text, lists, by=()):
             return 'stopped'
         c = command.c_of(canonical, command.SCHEDULES[0], fixed=ALL_ITEMS if ' policy all;' in text else ITEMS)
         harness = str(TOP / 'bench/stress/native_fixed.c')
-        if command.build_library(c, f'{folder}/net.a', True) or \
-                subprocess.run([*command.compiler(), harness, 'net.a', '-o', 'prog'], cwd=folder, check=False).returncode:
+        link = [*command.compiler(), harness, 'net.a', '-o', 'prog']
+        if command.build_library(c, f'{folder}/net.a', True) or subprocess.run(link, cwd=folder, check=False).returncode:
             raise Difference('the compiler refuses the C')
         words = [*by, './prog', *(f'+{name}' for name in lists), *(f'-{sink}' for sink in sinks)]
         given = ''.join(' '.join(map(str, items)) + '\n' for items in lists.values())

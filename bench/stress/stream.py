@@ -2,12 +2,11 @@
 """Random networks by `kpn stream`, beside `kpn run` and tools/histories.py.
 
 Of two streams of one network, one reads plain files, and the other gets one source by standard input in pieces of
-random lengths. If that is the only source, both have to write the same trace; of several, that one is read whose answer
-comes first. Each trace has to be legal for the auditor and for tools/histories.py, and each sink's file has to have what
-the trace takes there. What two streams, or a stream and a run, put on a sink has to be the same where both are complete,
-and else one begins the other. It is no part of the gate.
-Words: for how many networks, by default 3,000; where the random numbers begin, else by chance; and the program, if
-another one than that of `kpn`.
+random lengths. If that is the only source, both have to write the same trace; of several, that one is read whose
+answer comes first. Each trace has to be legal for the auditor and for tools/histories.py, and each sink's file has to
+have what the trace takes there. What two streams, or a stream and a run, put on a sink has to be the same where both
+are complete, and else one begins the other. It is no part of the gate. Words: for how many networks, by default 3,000;
+where the random numbers begin, else by chance; and the program, if another one than that of `kpn`.
 """
 import collections
 import pathlib

@@ -105,8 +105,8 @@ class NetworkText:
                   ('uint16_t', 'numbers', 2 * processes + regions))
         for kind, name, count in arrays:
             yield f'static {kind} own_{name}[{max(1, count)}];'
-        yield 'const struct kpn_fixed kpn_fixed = {own_channels, own_processes, own_variables, own_regions, own_numbers, ' \
-              'rings};'
+        yield ('const struct kpn_fixed kpn_fixed = {own_channels, own_processes, own_variables, own_regions, '
+               'own_numbers, rings};')
 
     def plan(self) -> Iterator[str]:
         """The plan of the network."""
