@@ -1,6 +1,6 @@
 //! The calls of a book. Each function returns the call's answer as text.
 use crate::words::Call;
-use anyhow::{Result, ensure};
+use anyhow::{Result, bail, ensure};
 use kpn_lang::Program;
 use kpn_net::Network;
 use kpn_run_state::{Book, Claim, View};
@@ -140,8 +140,11 @@ fn write_ends<A: Allocator>(text: &mut String, view: &View<A>) -> Result<()> {
 /// A view: its journals, which are short, and then the other lists.
 fn view_text<A: Allocator>(alloc: Global, view: &View<A>) -> Result<String> {
     let mut text = format!(in alloc; "Ok")?;
-    for journal in view.journals.as_slice() {
-        let items = journal.piece_at(0);
+    for written in view.journals.as_slice() {
+        let items = match written.journal() {
+            Some(journal) => journal.piece_at(0),
+            None => bail!("a journal is not kept"),
+        };
         write!(text, "\n  journal {items:?}")?;
     }
     write_ends(&mut text, view)?;

@@ -26,6 +26,10 @@ enum Call<'a> {
     HasRoom(bool),
     IsFull(bool),
     At(usize, Option<i64>),
+    /// The unread item after so many others.
+    PeekAt(usize, Option<i64>),
+    /// The most items that were ever unread.
+    Most(usize),
     /// How many items were read, and how many are unread.
     Counts(usize, usize),
     Journal(&'a [i64]),
@@ -146,6 +150,8 @@ fn shows(channel: &mut Channel<&LocalHeap>, call: Call<'_>) -> bool {
         Call::HasRoom(wanted) => channel.room() == wanted,
         Call::IsFull(wanted) => channel.is_full() == wanted,
         Call::At(place, wanted) => channel.at(place) == wanted,
+        Call::PeekAt(place, wanted) => channel.peek_at(place) == wanted,
+        Call::Most(wanted) => channel.most() == wanted,
         Call::Counts(read, unread) => {
             channel.read_count() == read
                 && channel.len() == unread
@@ -179,9 +185,14 @@ const FILLS_GROWS_GIVES_AND_RETIRES: Row<'static> = Row {
         Call::Cap(Some(2)),
         Call::Grow(true),
         Call::IsFull(false),
+        Call::PeekAt(1, Some(6)),
+        Call::PeekAt(2, None),
         Call::Get(Some(5)),
+        Call::Most(2),
         Call::Retire,
         Call::Get(None),
+        Call::PeekAt(0, None),
+        Call::Most(2),
         Call::IsRetired,
         Call::Cap(Some(3)),
         Call::At(1, Some(6)),
@@ -335,8 +346,11 @@ fn passes(alloc: Global, items: i64) -> Result<bool, AllocError> {
     }
     let is_forgotten = matches!(channel.copy_journal(alloc), Err(Unread::Forgotten));
     let begins = channel.begins_with(&[0]);
+    let is_small = channel.most() == 1 && channel.places() <= 512;
     channel.retire();
-    Ok(is_so && is_forgotten && !begins && channel.len() == 0)
+    let is_empty = channel.is_empty();
+    let is_past = channel.into_written().journal().is_none();
+    Ok(is_so && is_forgotten && !begins && is_small && is_empty && is_past)
 }
 
 #[test]

@@ -8,7 +8,7 @@ use kpn_net::Network;
 use kpn_pool::{Opened, Shared, gather, work};
 use kpn_pool_desk::{Gate, Go, Job, View, Why, WorkerSeat};
 use kpn_run_state::{Book, Event};
-use std::alloc::{AllocError, Global};
+use std::alloc::{AllocError, Allocator, Global};
 use std::marker::Brand;
 use std::sync::Wait;
 use std::sync::atomic::{AtomicUsize, Ordering};
@@ -99,13 +99,20 @@ fn shows(view: &Option<View>, written: usize) -> bool {
     let Some(view) = view else {
         return false;
     };
-    let journals = view.journals.as_slice();
-    let mut is_so = view.counts.ready == 9 && journals.len() == 9;
-    for (c, journal) in journals.iter().enumerate() {
+    let mut is_so = view.counts.ready == 9 && view.journals.as_slice().len() == 9;
+    for c in 0..9 {
         let items: &[i64] = if c < written { &[7] } else { &[] };
-        is_so = is_so && journal.is(items);
+        is_so = is_so && has_written(view, c, items);
     }
     is_so
+}
+
+/// Whether these are all items that were written on a channel, and they are kept.
+pub fn has_written<A: Allocator>(view: &View<A>, c: usize, items: &[i64]) -> bool {
+    match view.journal(c) {
+        Some(journal) => journal.is(items),
+        None => false,
+    }
 }
 
 /// Whether the first items were put by these processes.

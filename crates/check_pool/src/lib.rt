@@ -21,6 +21,8 @@ mod gates;
 #[cfg(test)]
 mod holding;
 #[cfg(test)]
+mod keeping;
+#[cfg(test)]
 mod locking;
 #[cfg(test)]
 mod looking;

@@ -2,6 +2,7 @@
 ghost use Rattle.std.specs.Prelude.{◌≡◌};
 
 use crate::always::Always;
+use crate::batching::has_written;
 use crate::networks::copying;
 use crate::turns::MOST_TURNS;
 use kpn_net::Network;
@@ -27,8 +28,9 @@ pub fn shows<A: Allocator>(
     let Ok(view) = view else {
         return false;
     };
-    let journals = view.journals.as_slice();
-    journals.len() == 2 && journals[0].is(source) && journals[1].is(sink)
+    view.journals.as_slice().len() == 2
+        && has_written(view, 0, source)
+        && has_written(view, 1, sink)
 }
 
 /// Feeds before anybody works, and closes. Returns whether all is answered as it has to be.

@@ -1,6 +1,6 @@
 //! Runs beside a client that takes, and feeds if nobody else does.
 use crate::abandoning::TestGate;
-use kpn_book::Limits;
+use kpn_book::{Keeping, Limits};
 use kpn_net::Network;
 use kpn_pool::{
     Client, Feeder, Outside, Ran, Shared, close, feed_when_room, run_beside, take_when_there,
@@ -110,7 +110,8 @@ fn is_copied<R: Threads + Wait + Clock + Sync>(
 ) -> Result<bool, AllocError> {
     let client = Takes { sum: 0 };
     let gate = TestGate::open(false);
-    match run_beside(rt, alloc, network, 2, &gate, &ALL, client, feeders) {
+    let keeping = Keeping::All;
+    match run_beside(rt, alloc, network, 2, &gate, &ALL, keeping, client, feeders) {
         Ok(ran) => Ok(has_copied(&ran)),
         Err(fault) => Err(fault),
     }

@@ -3,7 +3,7 @@
 #![tactic(auto)]
 
 use anyhow::{Result, ensure};
-use kpn_book::{Limits, Refused};
+use kpn_book::{Keeping, Limits, Refused};
 use kpn_net::Network;
 use kpn_pool::{
     Awaited, Client, CommitsAll, Feeder, Job, Outside, Ran, Shared, SinkSeat, SourceSeat, Why,
@@ -137,8 +137,8 @@ fn shows<J: Job, R: Wait>(rt: &R, alloc: Global, shared: &Shared<'_, J>, items: 
     let Ok(view) = desk.snapshot(alloc) else {
         return false;
     };
-    let sink = view.journals.as_slice().get(SINK);
-    sink.is_some_and(|journal| journal.len() >= items)
+    view.journal(SINK)
+        .is_some_and(|journal| journal.len() >= items)
 }
 
 /// What a run came to in which each worker ended because nothing more could happen.
@@ -174,7 +174,17 @@ fn serve_network<R: Threads + Wait + Clock + Sync>(
     };
     let feeders = [Counting { bound: 1 }, Counting { bound: 16 }];
     let gate = &CommitsAll;
-    let ran = run_beside(rt, alloc, network, WORKERS, gate, &LIMITS, client, &feeders)?;
+    let ran = run_beside(
+        rt,
+        alloc,
+        network,
+        WORKERS,
+        gate,
+        &LIMITS,
+        Keeping::All,
+        client,
+        &feeders,
+    )?;
     told_of(alloc, &ran)
 }
 

@@ -13,7 +13,7 @@ use crate::stopping::{has_enough, outcome_unless_enough};
 use crate::telling::report_of;
 use kpn_lang::Sequence;
 use kpn_net::Network;
-use kpn_run_state::Book;
+use kpn_run_state::{Book, Keeping, Unread};
 use std::alloc::{AllocError, Global};
 
 /// Runs a network on these lists, one for each source in order of channel number, until there is an outcome under the
@@ -34,7 +34,30 @@ pub fn run_here(
         AreSupplied network.now lists.now (events_of report)) }
     ensures commits { IfOk result (λ report. report.commits ≤ limits.now.commits) }
 {
-    let mut book = Book::new(alloc, network)?;
+    match run_here_keeping(alloc, network, lists, limits, Keeping::All) {
+        Ok(report) => Ok(report),
+        // All is kept, so none of it is unread because it was forgotten.
+        Err(_) => Err(AllocError),
+    }
+}
+
+/// The same run, which keeps what it is told to keep. The error is that memory ran out, or that the items of the sinks
+/// are not kept.
+pub fn run_here_keeping(
+    alloc: Global,
+    network: &Network,
+    lists: &[Sequence<i64>],
+    limits: &Limits,
+    keeping: Keeping,
+) -> Result<Report, Unread>
+    requires { length lists.now ≡ sources network.now }
+    ensures report { IfOk result (λ report. IsReport network.now lists.now limits.now report) }
+    ensures here { IfOk result (λ report. IsReportHere network.now lists.now limits.now report) }
+    ensures supplied { IfOk result (λ report.
+        AreSupplied network.now lists.now (events_of report)) }
+    ensures commits { IfOk result (λ report. report.commits ≤ limits.now.commits) }
+{
+    let mut book = Book::keeping(alloc, network, keeping)?;
     feed_sources(&mut book, network, lists)?;
     let outcome = run(&mut book, limits)?;
     book.known();

@@ -15,7 +15,7 @@ mod stepping;
 mod stopping;
 mod telling;
 
-pub use here::run_here;
+pub use here::{run_here, run_here_keeping};
 pub use kpn_run_history::{Counts, State, Verdict, View};
 pub use kpn_run_state::{Book, Claim, Done, Keeping, Refused, Unread};
 pub use outcome::{Limits, Outcome};

@@ -11,20 +11,18 @@ use crate::report::Report;
 use kpn_lang::Sequence;
 use kpn_net::Network;
 use kpn_run_history::View;
-use kpn_run_state::Book;
-use std::alloc::{AllocError, Global};
+use kpn_run_state::{Book, Unread};
+use std::alloc::Global;
 
 /// The report of a run that has come to this outcome. The error is that memory ran out, or that the book does not keep
-/// the journals.
-pub fn report_of(alloc: Global, book: Book<'_>, outcome: Outcome) -> Result<Report, AllocError>
+/// the items of the sinks.
+pub fn report_of(alloc: Global, book: Book<'_>, outcome: Outcome) -> Result<Report, Unread>
     ensures { IfOk result (λ report. IsWrittenFrom book.entry outcome report) }
 {
     book.known();
     let network = book.network();
     let commits = book.commits();
-    let Ok((view, history)) = book.into_view(alloc) else {
-        return Err(AllocError);
-    };
+    let (view, history) = book.into_view(alloc)?;
     let taken = read_of_sinks(alloc, network, &view)?;
     Ok(Report {
         outcome,
@@ -40,7 +38,7 @@ fn read_of_sinks(
     alloc: Global,
     network: &Network,
     view: &View,
-) -> Result<Sequence<Sequence<i64>>, AllocError>
+) -> Result<Sequence<Sequence<i64>>, Unread>
     requires { (H : List Event) × Legal network.now H × Agrees network.now H view.now }
     ensures { (H : List Event) → Legal network.now H → Agrees network.now H view.now
         → IfOk result (λ taken. taken ≡ read_of_sinks network.now H) }
@@ -49,20 +47,25 @@ fn read_of_sinks(
     'channels: for c in 0..network.channels() {
         if network.is_sink(c) {
             let items = read_of(alloc, view, c)?;
-            taken.push(items)?;
+            match taken.push(items) {
+                Ok(()) => {}
+                Err(_) => return Err(Unread::NoMemory),
+            }
         }
     }
     Ok(Sequence::from_vec(taken))
 }
 
 /// The items that were read of a channel: the first of its journal.
-fn read_of(alloc: Global, view: &View, c: usize) -> Result<Sequence<i64>, AllocError>
+fn read_of(alloc: Global, view: &View, c: usize) -> Result<Sequence<i64>, Unread>
     requires journal { c < length view.now.journals }
     requires read { c < length view.now.read }
     requires within { ReadsWithin view.now c }
     ensures { IfOk result (λ items. items ≡ first_read view.now c) }
 {
-    let journal = &view.journals.as_slice()[c];
+    let Some(journal) = view.journal(c) else {
+        return Err(Unread::Forgotten);
+    };
     let read = view.read.as_slice()[c];
     Ok(Sequence::from_vec(journal.copy_first(alloc, read)?))
 }

@@ -162,10 +162,11 @@ pub all_kept : {A : Type 0} (c : Chunks A) → IsChunks c → c.keeps ≡ true �
 all_kept c is keeps = ap (λ (l : List ℤ). l ++ items_of c) (is.kept keeps)
 
 -- an item that leaves the ring is the next one of the journal
-pub passed : {A : Type 0} (journal : Chunks A) (read : ℕ) (before after : Buffer ℤ) (item : ℤ)
-    → IsLaidOut journal read (Some before) → slice_get before.items 0 ≡ Some item → after.items ≡ drop 1 before.items
-    → IsLaidOut journal (read + 1) (Some after) × (read + 1 < 2 ^ 64)
-passed journal read before after item is given rest =
+pub passed : {A : Type 0} (journal : Chunks A) (read most : ℕ) (before after : Buffer ℤ) (item : ℤ)
+    → IsLaidOut journal read (Some before) most → slice_get before.items 0 ≡ Some item
+    → after.items ≡ drop 1 before.items → after.capacity ≡ before.capacity
+    → IsLaidOut journal (read + 1) (Some after) most × (read + 1 < 2 ^ 64)
+passed journal read most before after item is given rest same =
     let all = all_of journal in
     let some : 0 < length before.items = slice_get_within before.items 0 item given in
     let left : length before.items ≡ length all - read =
@@ -173,7 +174,15 @@ passed journal read before after item is given rest =
     let next : read + 1 ≤ length all = omega (arith, some, left) in
     let unread : after.items ≡ drop (read + 1) all =
     rest ∙ ap (λ (l : List ℤ). drop 1 l) is.unread ∙ drop-drop 1 read all in (
-      record { chunks = is.chunks; place = next; unread = unread },
+      record {
+        chunks = is.chunks;
+        place = next;
+        unread = unread;
+        within = (
+          omega (arith, is.within.0, ap (λ (l : List ℤ). length l) rest, length-drop 1 before.items),
+          omega (arith, is.within.1, same),
+        );
+      },
       omega (arith, next, bounded journal is.chunks),
     )
 

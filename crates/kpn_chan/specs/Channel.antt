@@ -1,7 +1,7 @@
 -- A channel as contracts see it: a journal of every item that was put, of which the first ones were read. No change
 -- fixes whether the next item is reserved: only a put may end a reservation, and the storage decides whether one comes
 -- about. So each change takes, as an argument, whether an item is reserved after it.
-use Rattle.std.specs.Prelude.{ℕ, ◌+◌, ℤ, Bool, true, false, not, ◌&&◌, nat_le, if◌then◌else◌, List, [], ◌∷◌, ◌++◌, length, take, drop, Option, Some, None, slice_get, IsSomeAnd, ◌<◌, ◌≤◌}
+use Rattle.std.specs.Prelude.{ℕ, ◌+◌, ℤ, Bool, true, false, not, ◌&&◌, nat_le, if◌then◌else◌, List, [], ◌∷◌, ◌++◌, length, take, drop, Option, Some, None, slice_get, IsSomeAnd, max, ◌<◌, ◌≤◌}
 use Rattle.kpn_limits.specs.declared.TheConstants.{MAX_CAPACITY}
 
 pub record ChannelState : Type 0 where
@@ -17,6 +17,8 @@ pub record ChannelState : Type 0 where
   pub is_reserved : Bool
   -- whether the journal is kept in memory
   pub is_kept : Bool
+  -- the most items that were ever unread while the reader was there
+  pub most : ℕ
 
 -- the items that were read
 abbrev pub already_read : ChannelState → List ℤ
@@ -39,6 +41,10 @@ is_full c = not c.is_retired && fills (length (unread c)) c.capacity
 abbrev pub next_item : ChannelState → Option ℤ
 next_item c = if c.is_retired then None else slice_get (unread c) 0
 
+-- the item that a read returns after so many others
+abbrev pub next_at : ℕ → ChannelState → Option ℤ
+next_at k c = if c.is_retired then None else slice_get (unread c) k
+
 -- a channel on which nothing has happened yet
 abbrev pub opened : Option ℕ → Bool → ChannelState
 opened capacity reserved =
@@ -49,6 +55,7 @@ opened capacity reserved =
       is_retired = false;
       is_reserved = reserved;
       is_kept = true;
+      most = 0;
     }
 
 -- the same channel, whose journal is kept only if this says so
@@ -63,9 +70,19 @@ kept_journal c = if c.is_kept then c.journal else []
 abbrev pub with_room : ChannelState → ChannelState
 with_room c = record c { is_reserved = true }
 
+-- the most items that were ever unread once one more is put
+abbrev pub most_after_put : ChannelState → ℕ
+most_after_put c = if c.is_retired then c.most else max c.most (length (unread c) + 1)
+
+-- the most items that were ever unread once these are put, of which there is at most one
+abbrev pub most_after : List ℤ → ChannelState → ℕ
+most_after [] c = c.most
+most_after (item ∷ rest) c = most_after_put c
+
 -- the channel after a put
 abbrev pub after_put : ℤ → Bool → ChannelState → ChannelState
-after_put item reserved c = record c { journal = c.journal ++ item ∷ []; is_reserved = reserved }
+after_put item reserved c =
+    record c { journal = c.journal ++ item ∷ []; is_reserved = reserved; most = most_after_put c }
 
 -- the channel after a read that returned this
 abbrev pub after_get : Option ℤ → Bool → ChannelState → ChannelState

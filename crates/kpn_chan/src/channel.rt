@@ -1,11 +1,13 @@
 //! A channel: the journal of all items that were put, in chunks, and a ring of the unread ones, so that a read looks
 //! into no chunk.
-ghost use Rattle.std.specs.Prelude.{◌≡◌, ◌<◌, ◌≤◌, ◌^◌, length, [], ◌↔◌, IsTrue, false, IfErr, true, IsOk, IfOk, is_ok, if◌then◌else◌, slice_get, take, nat_lt};
-ghost use Rattle.kpn_chan.specs.Channel.{unread, is_full, next_item, opened, opened_as, kept_journal, with_room, after_put, after_get, retired, MayGrow, grown, MayGrowTo, grown_to};
+ghost use Rattle.std.specs.Prelude.{◌≡◌, ◌+◌, ◌*◌, ◌<◌, ◌≤◌, ◌^◌, max, length, [], ◌↔◌, IsTrue, false, IfErr, true, IsOk, IfOk, is_ok, if◌then◌else◌, slice_get, take, nat_lt};
+ghost use Rattle.kpn_chan.specs.Channel.{unread, is_full, next_item, next_at, opened, opened_as, kept_journal, with_room, after_put, after_get, retired, MayGrow, grown, MayGrowTo, grown_to};
 ghost use Rattle.kpn_chan.specs.declared.unread.Unread.TheVariants.{Forgotten};
+ghost use Rattle.kpn_chan.specs.declared.channel.TheConstants.{FIRST_PLACES};
+ghost use Rattle.kpn_chan.specs.declared.chunks.TheConstants.{CHUNK};
 
-use crate::chunks::Chunks;
-use crate::journal::Journal;
+use crate::chunks::{CHUNK, Chunks};
+use crate::journal::{Journal, Written};
 use crate::unread::Unread;
 use circular_buffer::HeapCircularBuffer;
 use std::alloc::{AllocError, Allocator, Global};
@@ -22,6 +24,8 @@ pub struct Channel<A: Allocator = Global> {
     ring: Option<HeapCircularBuffer<i64, A>>,
     read: usize,
     capacity: Option<u32>,
+    // the most items that were ever unread while the reader was there
+    most: usize,
 }
 
 /// It is written out, so that a crate that drops a channel proves nothing about what is inside.
@@ -32,6 +36,7 @@ impl<A: Allocator> Drop for Channel<A> {
             ring,
             read: _,
             capacity: _,
+            most: _,
         } = self;
         drop(journal);
         drop(ring);
@@ -54,15 +59,16 @@ impl<A: Allocator> Model for Channel<A> {
       is_retired = is_none c.ring;
       is_reserved = has_room c.journal && has_place c.ring;
       is_kept = c.journal.keeps;
+      most = c.most;
     } };
 
-    ghost invariant = { λ c. IsLaidOut c.journal c.read c.ring };
+    ghost invariant = { λ c. IsLaidOut c.journal c.read c.ring c.most };
 }
 
-impl<A: Allocator + Copy> Channel<A> {
-    /// The most places that a ring begins with, and that of a source has.
-    const FIRST_PLACES: usize = 64;
+/// The most places that a ring begins with, and that of a source has.
+pub const FIRST_PLACES: usize = 64;
 
+impl<A: Allocator + Copy> Channel<A> {
     /// An empty channel of this capacity; a source has none. It keeps the allocator for its items.
     ///
     /// The contract leaves open whether its first item is reserved. The error is that memory ran out.
@@ -76,15 +82,12 @@ impl<A: Allocator + Copy> Channel<A> {
     pub fn keeping(alloc: A, cap: Option<u32>, keeps: bool) -> Result<Self, AllocError>
         ensures { IfOk result (λ channel. channel ≡ opened_as keeps cap channel.is_reserved) }
     {
-        let places = match cap {
-            Some(capacity) => Self::FIRST_PLACES.min(capacity as usize),
-            None => Self::FIRST_PLACES,
-        };
         Ok(Channel {
             journal: Chunks::new(alloc, keeps),
-            ring: Some(HeapCircularBuffer::with_capacity(alloc, places)?),
+            ring: Some(HeapCircularBuffer::with_capacity(alloc, first_places(cap))?),
             read: 0,
             capacity: cap,
+            most: 0,
         })
     }
 
@@ -172,6 +175,7 @@ impl<A: Allocator> Channel<A> {
         // journal might change it.
         if let Some(ring) = &mut self.ring {
             let _is_put = ring.try_push_back(item);
+            self.most = self.most.max(ring.len());
         }
         self.journal.push_reserved(item);
     }
@@ -201,6 +205,17 @@ impl<A: Allocator> Channel<A> {
             return None;
         };
         ring.front().copied()
+    }
+
+    /// The unread item that comes after `k` others, which stays unread. `None` if no more than `k` are unread or the
+    /// channel is retired.
+    pub fn peek_at(&self, k: usize) -> Option<i64>
+        ensures { result ≡ next_at k self.now }
+    {
+        let Some(ring) = &self.ring else {
+            return None;
+        };
+        ring.get(k).copied()
     }
 
     /// How many items are unread, on a retired channel too.
@@ -237,6 +252,25 @@ impl<A: Allocator> Channel<A> {
         ensures { result ≡ self.now.read }
     {
         self.read
+    }
+
+    /// The most items that were ever unread while the reader was there.
+    pub fn most(&self) -> usize
+        ensures { result ≡ self.now.most }
+    {
+        self.most
+    }
+
+    /// For how many items there is memory. If the journal is not kept, these are the places of a chunk, some places to
+    /// begin with, and at most twice as many as items were ever unread.
+    pub fn places(&self) -> usize
+        ensures { self.now.is_kept ≡ false → result ≤ CHUNK + FIRST_PLACES + 2 * self.now.most }
+    {
+        let chunk = self.journal.places();
+        match &self.ring {
+            Some(ring) => chunk.saturating_add(ring.capacity()),
+            None => chunk,
+        }
     }
 
     /// How many unread items fill the channel, or `None` for a source.
@@ -291,7 +325,7 @@ impl<A: Allocator> Channel<A> {
     #[tactic(auto, using(crate::proofs::Places::counted, crate::proofs::Places::all_kept))]
     pub fn copy_journal<B: Allocator>(&self, alloc: B) -> Result<Vec<i64, B>, Unread>
         ensures items { IfOk result (λ items. items.items ≡ self.now.journal) }
-        ensures forgotten { IfErr result (λ why. why ≡ Forgotten → self.now.is_kept ≡ false) }
+        ensures forgotten { IfErr result (λ why. (why ≡ Forgotten) ↔ (self.now.is_kept ≡ false)) }
     {
         if !self.journal.keeps {
             return Err(Unread::Forgotten);
@@ -309,12 +343,33 @@ impl<A: Allocator> Channel<A> {
             ring,
             read: _,
             capacity: _,
+            most: _,
         } = self;
         drop(ring);
         if !journal.keeps {
             journal.last.clear();
         }
         Journal { chunks: journal }
+    }
+
+    /// All items that were ever put, oldest first, moved out of the channel. Of a journal that is not kept only proofs
+    /// know them.
+    #[tactic(auto, using(crate::proofs::Places::counted, crate::proofs::Places::all_kept))]
+    pub fn into_written(self) -> Written<A>
+        ensures { result ≡ self.journal }
+    {
+        let Channel {
+            journal,
+            ring,
+            read: _,
+            capacity: _,
+            most: _,
+        } = self;
+        drop(ring);
+        if journal.keeps {
+            return Written::from(Journal { chunks: journal });
+        }
+        Written::forgotten(journal.into_past())
     }
 
     /// Does nothing. A caller's proof learns from it what holds of every channel: no more items were read than were
@@ -328,6 +383,16 @@ impl<A: Allocator> Channel<A> {
     }
 }
 
+/// How many places a ring begins with.
+fn first_places(cap: Option<u32>) -> usize
+    ensures { result ≤ FIRST_PLACES }
+{
+    match cap {
+        Some(capacity) => FIRST_PLACES.min(capacity as usize),
+        None => FIRST_PLACES,
+    }
+}
+
 /// Makes a free place in a ring that has none: the ring gets twice as many places. The error is that memory ran out.
 #[inline(always)]
 fn reserve_place<A: Allocator + Copy>(
@@ -336,6 +401,8 @@ fn reserve_place<A: Allocator + Copy>(
     ensures items { ring.new.items ≡ ring.old.items }
     ensures place { nat_lt (length ring.new.items) ring.new.capacity ≡ is_ok result }
     ensures already { length ring.old.items < ring.old.capacity → IsOk result }
+    ensures bound { ring.new.capacity
+        ≤ max ring.old.capacity (2 * length ring.old.items + 1) }
 {
     let places = ring.capacity();
     if ring.len() < places {

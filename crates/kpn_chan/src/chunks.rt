@@ -2,6 +2,7 @@
 //! hands what it has to proofs when its chunk is full, and forgets it.
 ghost use Rattle.std.specs.Prelude.{◌≡◌, ◌↔◌, Some, false, OnOk, OnErr, ◌<◌, ◌≤◌, [], ◌∷◌, ◌++◌, length, take, drop, is_ok, IsOk, IfOk, IsTrue, slice_get, vec_len, vec_capacity};
 ghost use Rattle.kpn_chan.specs.Chunks.{items_of, all_of, has_room, IsChunks, IsCounted};
+ghost use Rattle.kpn_chan.specs.declared.chunks.TheConstants.{CHUNK};
 
 use kpn_past::Past;
 use std::alloc::{AllocError, Allocator};
@@ -122,6 +123,23 @@ impl<A: Allocator + Copy> Chunks<A> {
 }
 
 impl<A: Allocator> Chunks<A> {
+    /// What is in memory becomes past, behind what is past already.
+    pub(crate) fn into_past(self) -> Past<i64>
+        requires { self.full.items ≡ [] }
+        ensures { result.items ≡ all_of self }
+    {
+        let Chunks { past, last, .. } = self;
+        past.and_all(&last)
+    }
+
+    /// For how many items there is memory. What is not kept has the places of one chunk at most.
+    pub(crate) fn places(&self) -> usize
+        requires { IsChunks self.now }
+        ensures { self.now.keeps ≡ false → result ≤ CHUNK }
+    {
+        self.full.len() * CHUNK + self.last.capacity()
+    }
+
     /// Whether there is room for one more item behind the last one.
     pub(crate) fn has_room(&self) -> bool
         ensures { result ≡ has_room self.now }

@@ -1,5 +1,5 @@
 //! All items that were ever put on a channel, once they have left it or were copied.
-ghost use Rattle.std.specs.Prelude.{◌≡◌, ◌↔◌, ◌<◌, ◌≤◌, ◌^◌, length, take, drop, IsTrue, IfOk, slice_get};
+ghost use Rattle.std.specs.Prelude.{◌≡◌, ◌↔◌, ◌<◌, ◌≤◌, ◌^◌, length, take, drop, IsTrue, IfOk, IfSome, slice_get};
 ghost use Rattle.std.specs.Cmp.Lexicographic.{pointwise};
 ghost use Rattle.std.specs.Cmp.Rules.{comparing};
 ghost use Rattle.std.specs.Ordering.{int_eq};
@@ -49,6 +49,61 @@ impl<A: Allocator> PartialEq for Journal<A> {
 
 impl<A: Allocator> Eq for Journal<A> {
     ghost laws = { Prim.search (comparing, rules) };
+}
+
+/// All items that were ever put on a channel, as they leave it. Contracts see the list, whether it is kept or not.
+#[derive(Debug)]
+pub struct Written<A: Allocator = Global> {
+    // none if only proofs know the items
+    kept: Option<Journal<A>>,
+    past: Past<i64>,
+}
+
+/// It is written out, so that a crate that drops what was written proves nothing about what is inside.
+impl<A: Allocator> Drop for Written<A> {
+    fn drop(self) {
+        let Written { kept, past } = self;
+        drop(kept);
+        drop(past);
+    }
+}
+
+impl<A: Allocator> Model for Written<A> {
+    ghost use Rattle.std.specs.Prelude.{List, ℤ};
+    ghost use Rattle.std.specs.Option.{unwrap_or};
+
+    ghost Value = { List ℤ };
+
+    ghost view = { λ w. unwrap_or w.kept w.past.items };
+}
+
+impl<A: Allocator> Written<A> {
+    /// What is not kept.
+    pub(crate) fn forgotten(past: Past<i64>) -> Self
+        ensures { result ≡ past.items }
+    {
+        Written { kept: None, past }
+    }
+
+    /// The items, if they are kept.
+    pub fn journal(&self) -> Option<&Journal<A>>
+        ensures { IfSome result (λ journal. journal.now ≡ self.now) }
+    {
+        self.kept.as_ref()
+    }
+}
+
+impl<A: Allocator> From<Journal<A>> for Written<A> {
+    ghost use Rattle.std.specs.Prelude.{◌≡◌};
+
+    ghost from_gives = { λ journal written. written ≡ journal };
+
+    fn from(journal: Journal<A>) -> Written<A> {
+        Written {
+            kept: Some(journal),
+            past: Past::new(),
+        }
+    }
 }
 
 impl<A: Allocator + Copy> Journal<A> {

@@ -9,5 +9,5 @@ pub mod laws;
 mod unread;
 
 pub use channel::Channel;
-pub use journal::Journal;
+pub use journal::{Journal, Written};
 pub use unread::Unread;

@@ -5,12 +5,12 @@ ghost use Rattle.kpn_book.specs.Reports.{IsReport};
 ghost use Rattle.kpn_commands.specs.Limits.{limits_of};
 ghost use Rattle.kpn_commands.specs.Reported.{IsRefusalOfReport};
 
-use kpn_book::{Limits, Report};
+use kpn_book::{Keeping, Limits, Report};
 use kpn_command_base::{Inputs, NamedEnd, Refusal, RunRequest};
 use kpn_lang::Sequence;
 use kpn_limits::MAX_WORKERS;
 use kpn_net::Network;
-use kpn_pool::{RunFault, run};
+use kpn_pool::{RunFault, run_keeping};
 use kpn_pool_desk::CommitsAll;
 use std::alloc::Global;
 use std::sync::Wait;
@@ -39,6 +39,16 @@ pub(crate) fn limits_of(request: &RunRequest<'_>) -> Limits
     }
 }
 
+/// What is kept of a run: all for its trace, or else what its report is made of. A report of workers is checked by what
+/// the sources were fed.
+pub(crate) fn keeping_of(request: &RunRequest<'_>) -> Keeping {
+    match (request.trace, request.workers) {
+        (Some(_), _) => Keeping::All,
+        (None, Some(_)) => Keeping::Ends,
+        (None, None) => Keeping::Sinks,
+    }
+}
+
 /// Runs a network by workers: at least one, and at most `MAX_WORKERS`.
 pub(crate) fn run_by_workers<R: Threads + Wait + Clock + Sync>(
     rt: &R,
@@ -47,13 +57,23 @@ pub(crate) fn run_by_workers<R: Threads + Wait + Clock + Sync>(
     lists: &[Sequence<i64>],
     workers: u32,
     limits: &Limits,
+    keeping: Keeping,
 ) -> Result<Report, Refusal>
     requires { length lists.now ≡ sources network.now }
     ensures report { IfOk result (λ report. IsReport network.now lists.now limits.now report) }
     ensures refused { IfErr result (IsRefusalOfReport (Some workers)) }
 {
     let workers = (workers as usize).clamp(1, MAX_WORKERS);
-    match run(rt, alloc, network, lists, workers, &CommitsAll, limits) {
+    match run_keeping(
+        rt,
+        alloc,
+        network,
+        lists,
+        workers,
+        &CommitsAll,
+        limits,
+        keeping,
+    ) {
         Ok(report) => Ok(report),
         Err(RunFault::Threads) => Err(Refusal::Threads),
         Err(RunFault::NoMemory) => Err(Refusal::NoMemory),

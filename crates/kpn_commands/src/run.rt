@@ -4,8 +4,8 @@ ghost use Rattle.std.specs.Prelude.{◌≡◌, IfOk, IfErr};
 ghost use Rattle.kpn_commands.specs.Run.{IsConcluded, IsRun, IsNoRun};
 
 use crate::files::files_of;
-use crate::reporting::{Reported, limits_of, run_by_workers};
-use kpn_book::run_here;
+use crate::reporting::{Reported, keeping_of, limits_of, run_by_workers};
+use kpn_book::run_here_keeping;
 use kpn_command_base::{
     Conclusion, Refusal, RunInputs, RunRequest, prepare, status_of, text_of_report,
 };
@@ -33,7 +33,8 @@ pub fn run_command<S: Shelf>(
     };
     let limits = limits_of(request);
     let network = inputs.document.network();
-    let report = match run_here(alloc, network, &inputs.given, &limits) {
+    let keeping = keeping_of(request);
+    let report = match run_here_keeping(alloc, network, &inputs.given, &limits, keeping) {
         Ok(report) => report,
         Err(_) => return Err(Refusal::NoMemory),
     };
@@ -66,7 +67,16 @@ pub fn run_command_by_workers<R: Threads + Wait + Clock + Sync, S: Shelf>(
     };
     let limits = limits_of(request);
     let network = inputs.document.network();
-    let report = match run_by_workers(rt, alloc, network, &inputs.given, workers, &limits) {
+    let keeping = keeping_of(request);
+    let report = match run_by_workers(
+        rt,
+        alloc,
+        network,
+        &inputs.given,
+        workers,
+        &limits,
+        keeping,
+    ) {
         Ok(report) => report,
         Err(refusal) => return Err(refusal),
     };

@@ -1,10 +1,11 @@
 -- What the workers did is recorded, one after the other.
-use Rattle.std.proofs.Common.{◌≡◌, ℕ, ◌+◌, ◌<◌, List, [], ◌∷◌, ◌++◌, length, take, get_or, ap, ◌∙◌, arith}
+use Rattle.std.proofs.Common.{◌≡◌, ℕ, ◌+◌, ◌<◌, List, [], ◌∷◌, ◌++◌, length, map, take, get_or, sym, ap, ◌∙◌, arith}
 use Rattle.std.specs.List.{sum_by}
-use Rattle.std.proofs.lemmas.List.{take_more}
+use Rattle.std.proofs.lemmas.List.{take_more, map_more}
 use Rattle.std.proofs.lemmas.List.Sums.{sum_by_push}
 use Rattle.kpn_pool_desk.specs.Seat.{Seat}
 use Rattle.kpn_pool.specs.declared.beside.Worked.{Worked}
+use Rattle.kpn_pool.specs.Causes.{worked_of}
 
 -- one worker more
 pub recorded_more : (seats : List Seat) (records now : List Worked) (i : ℕ) (seat : Seat) (done : Worked)
@@ -19,3 +20,18 @@ recorded_more seats records now i seat done below at so_far pushed same =
     ∙ sum_by_push (λ (s : Seat). s.commits) (take i seats) (get_or seats i seat) in
     let commits = ap (λ (s : Seat). s.commits) at in
     omega arith
+
+-- a record is what its seat says
+record_equal : (done : Worked) (seat : Seat) → done.why ≡ seat.why → done.commits ≡ seat.commits → done ≡ worked_of seat
+record_equal done seat why commits = λ k. record { why = why k; commits = commits k }
+
+-- the same of all that it did
+pub each_more : (seats : List Seat) (records now : List Worked) (i : ℕ) (seat : Seat) (done : Worked)
+    → i < length seats → seat ≡ get_or seats i seat → records ≡ map worked_of (take i seats)
+    → now ≡ records ++ done ∷ [] → done.why ≡ seat.why → done.commits ≡ seat.commits
+    → now ≡ map worked_of (take (i + 1) seats)
+each_more seats records now i seat done below at so_far pushed why commits =
+    let is : done ≡ worked_of seat = record_equal done seat why commits in
+    pushed ∙ ap (λ xs. xs ++ done ∷ []) so_far
+    ∙ ap (λ x. map worked_of (take i seats) ++ x ∷ []) (is ∙ ap worked_of at)
+    ∙ sym (map_more worked_of seats i seat below)

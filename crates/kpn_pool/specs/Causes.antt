@@ -1,11 +1,16 @@
--- Why the workers of a run did not come to its end.
+-- What the workers of a run did, and why they did not come to its end.
 use Rattle.std.specs.Prelude.{Bool, true, false, not, if◌then◌else◌, List, Option, Some, None}
 use Rattle.std.specs.List.{list_any, list_all}
 use Rattle.kpn_pool_desk.specs.declared.seat.Why.{Why}
 use Rattle.kpn_pool_desk.specs.declared.seat.Why.TheVariants as why
+use Rattle.kpn_pool_desk.specs.Seat.{Seat}
 use Rattle.kpn_pool.specs.declared.beside.Worked.{Worked}
 use Rattle.kpn_pool.specs.declared.fault.RunFault.{RunFault}
 use Rattle.kpn_pool.specs.declared.fault.RunFault.TheVariants.{Threads, NoMemory, Abandoned}
+
+-- what a worker did, as its seat has it
+abbrev pub worked_of : Seat → Worked
+worked_of seat = record { why = seat.why; commits = seat.commits }
 
 -- a worker ended since memory ran out at its commit
 abbrev pub is_out_of_memory : Option Why → Bool

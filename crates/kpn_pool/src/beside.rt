@@ -1,8 +1,8 @@
 //! A run whose workers have threads of their own, beside what its caller does: feed, take and look.
-ghost use Rattle.std.specs.Prelude.{◌≡◌, ◌<◌, ◌≤◌, Bool, [], length, IfOk, vec_len, vec_capacity};
+ghost use Rattle.std.specs.Prelude.{◌≡◌, ◌<◌, ◌≤◌, Bool, [], length, map, IfOk, vec_len, vec_capacity};
 ghost use Rattle.std.specs.List.{sum_by};
 ghost use Rattle.kpn_run_state.specs.Kept.{IsBook};
-ghost use Rattle.kpn_pool.specs.Causes.{is_out_of_memory, is_abandoned, ran_out, all_abandoned, cause_of};
+ghost use Rattle.kpn_pool.specs.Causes.{worked_of, is_out_of_memory, is_abandoned, ran_out, all_abandoned, cause_of};
 
 use crate::fault::RunFault;
 use crate::shared::{Opened, Shared, gather};
@@ -11,7 +11,7 @@ use kpn_book::Limits;
 use kpn_limits::MAX_WORKERS;
 use kpn_net::Network;
 use kpn_pool_desk::{EndSeats, Gate, Job, SourceSeat, Why, WorkerSeat};
-use kpn_run_state::Book;
+use kpn_run_state::{Book, Keeping};
 use std::alloc::{AllocError, Global};
 use std::marker::Brand;
 use std::sync::Wait;
@@ -67,7 +67,7 @@ pub struct Ran<'n, C: Drop> {
 ///
 /// The workers end once nothing more can happen, or the client has returned, or there are as many commits as the limit
 /// or up to 127 more. The gate is asked before each commit. A quota of 0 counts as 1. How many items are wanted of each
-/// sink is the matter of the client.
+/// sink is the matter of the client. The run keeps what it is told to keep of what happens.
 ///
 /// If a thread cannot be started, the workers have to end. The error is that memory ran out before a thread was
 /// started.
@@ -78,6 +78,7 @@ pub fn run_beside<'n, R: Threads + Wait + Clock + Sync, G: Gate, C: Client, F: F
     workers: usize,
     gate: &G,
     limits: &Limits,
+    keeping: Keeping,
     client: C,
     feeders: &[F],
 ) -> Result<Ran<'n, C>, AllocError>
@@ -93,7 +94,7 @@ pub fn run_beside<'n, R: Threads + Wait + Clock + Sync, G: Gate, C: Client, F: F
 {
     let blank = Blank::new(workers as u64);
     run_job::<Brand, R, G, C, F>(
-        rt, alloc, blank, network, workers, gate, limits, client, feeders,
+        rt, alloc, blank, network, workers, gate, limits, keeping, client, feeders,
     )
 }
 
@@ -113,6 +114,7 @@ fn run_job<
     workers: usize,
     gate: &G,
     limits: &Limits,
+    keeping: Keeping,
     client: C,
     feeders: &[F],
 ) -> Result<Ran<'n, C>, AllocError>
@@ -133,7 +135,7 @@ fn run_job<
         workers: seats,
         sources,
         sinks,
-    } = Shared::<J>::new(alloc, blank, network, workers, limits.commits)?;
+    } = Shared::<J>::keeping(alloc, blank, network, workers, limits.commits, keeping)?;
     let ends = EndSeats { sources, sinks };
     let quota = limits.quota.max(1);
     let ended = work_side_by_side(
@@ -159,6 +161,7 @@ fn run_job<
 fn record_each<J: Job>(seats: &[WorkerSeat<J>], records: &mut Vec<Worked>)
     requires empty { records.old.items ≡ [] }
     requires room { length seats.now ≤ vec_capacity records.old }
+    ensures each { records.new.items ≡ map worked_of seats.now }
     ensures count { vec_len records.new ≡ length seats.now }
     ensures commits { sum_by (λ worked. worked.commits) records.new.items
         ≡ sum_by (λ seat. seat.commits) seats.now }

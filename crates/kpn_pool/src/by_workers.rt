@@ -7,7 +7,7 @@ use crate::beside::{Ran, run_beside};
 use crate::ending::conclude;
 use crate::fault::RunFault;
 use crate::serving::{Nobody, Serving};
-use kpn_book::{Limits, Report};
+use kpn_book::{Keeping, Limits, Report};
 use kpn_lang::Sequence;
 use kpn_limits::MAX_WORKERS;
 use kpn_net::Network;
@@ -44,9 +44,41 @@ pub fn run<R: Threads + Wait + Clock + Sync, G: Gate>(
     ensures supplied { IfOk result (λ report.
         AreSupplied network.now lists.now (events_of report)) }
 {
+    run_keeping(
+        rt,
+        alloc,
+        network,
+        lists,
+        workers,
+        gate,
+        limits,
+        Keeping::All,
+    )
+}
+
+/// The same run, which keeps what it is told to keep: the items of the sources and of the sinks at least, by which the
+/// report is checked and made.
+pub fn run_keeping<R: Threads + Wait + Clock + Sync, G: Gate>(
+    rt: &R,
+    alloc: Global,
+    network: &Network,
+    lists: &[Sequence<i64>],
+    workers: usize,
+    gate: &G,
+    limits: &Limits,
+    keeping: Keeping,
+) -> Result<Report, RunFault>
+    requires lists { length lists.now ≡ sources network.now }
+    requires workers { (0 < workers) × (workers ≤ MAX_WORKERS) }
+    ensures report { IfOk result (λ report. IsReport network.now lists.now limits.now report) }
+    ensures supplied { IfOk result (λ report.
+        AreSupplied network.now lists.now (events_of report)) }
+{
     let serving = Serving::new(lists, limits.take);
     let nobody: &[Nobody] = &[];
-    let ran = run_beside(rt, alloc, network, workers, gate, limits, serving, nobody)?;
+    let ran = run_beside(
+        rt, alloc, network, workers, gate, limits, keeping, serving, nobody,
+    )?;
     let Ran {
         book,
         client,

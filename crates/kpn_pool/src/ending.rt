@@ -45,7 +45,9 @@ pub(crate) fn conclude(
     book.known();
     let network = book.network();
     let are_closed = are_closed(&book);
-    let report = report_of(alloc, book, outcome)?;
+    let Ok(report) = report_of(alloc, book, outcome) else {
+        return Err(RunFault::NoMemory);
+    };
     let are_fed = were_fed(network, lists, &report.view);
     if !are_fed || !are_closed || served.is_err() || emptied.is_err() {
         return Err(RunFault::Foreign);

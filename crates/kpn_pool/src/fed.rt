@@ -8,18 +8,20 @@ use kpn_net::Network;
 use kpn_run_history::View;
 use kpn_run_state::Book;
 
-/// Whether the journal of each source is its list.
+/// Whether the journal of each source is kept, and is its list.
 pub(crate) fn were_fed(network: &Network, lists: &[Sequence<i64>], view: &View) -> bool
     requires lists { length lists.now ≡ sources network.now }
     requires journals { length view.now.journals ≡ length network.now.channels }
     ensures { let t = network.now in
         IsTrue result → AreFedBelow t lists.now view.now (length t.channels) }
 {
-    let journals = view.journals.as_slice();
     let mut source = 0;
     'channels: for c in 0..network.channels() {
         if network.is_source(c) {
-            if !journals[c].is(lists[source].as_slice()) {
+            let Some(journal) = view.journal(c) else {
+                return false;
+            };
+            if !journal.is(lists[source].as_slice()) {
                 return false;
             }
             source += 1;

@@ -16,7 +16,7 @@ mod threads;
 mod working;
 
 pub use beside::{Client, Feeder, Outside, Ran, Worked, run_beside};
-pub use by_workers::run;
+pub use by_workers::{run, run_keeping};
 pub use fault::RunFault;
 pub use kpn_pool_desk::{
     Awaited, CommitsAll, Desk, EndSeats, Gate, Go, Job, SinkSeat, SnapFault, SourceSeat, Why,

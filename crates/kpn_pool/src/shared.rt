@@ -16,7 +16,7 @@ use kpn_pool_desk::{
     Awaited, Desk, EndSeats, Job, Need, Notices, SinkSeat, SourceSeat, WorkerSeat, Workers,
     end_seats,
 };
-use kpn_run_state::{Book, View};
+use kpn_run_state::{Book, Keeping, View};
 use std::alloc::{AllocError, Allocator, Global};
 use std::sync::ledger::Blank;
 use std::sync::{Condvar, Mutex, MutexGuard, Wait};
@@ -66,9 +66,8 @@ impl<'l, 'n, J: Job, A: Allocator> Look<'l, 'n, J, A> {
 }
 
 impl<'n, J: Job, A: Allocator + Copy> Shared<'n, J, A> {
-    /// Opens a run of a network by some workers, which end once there are `max_commits` commits or up to 127 more.
-    ///
-    /// The error is that memory ran out.
+    /// Opens a run of a network by some workers, which end once there are `max_commits` commits or up to 127 more. All
+    /// that happens is kept. The error is that memory ran out.
     pub fn new(
         alloc: A,
         blank: Blank,
@@ -85,8 +84,29 @@ impl<'n, J: Job, A: Allocator + Copy> Shared<'n, J, A> {
         ensures sinks { IfOk result (λ opened.
             opened.sinks.items ≡ new_ends is_sink network.now) }
     {
+        Shared::keeping(alloc, blank, network, workers, max_commits, Keeping::All)
+    }
+
+    /// The same run, which keeps what it is told to keep of what will happen.
+    pub fn keeping(
+        alloc: A,
+        blank: Blank,
+        network: &'n Network,
+        workers: usize,
+        max_commits: u64,
+        keeping: Keeping,
+    ) -> Result<Opened<'n, J, A>, AllocError>
+        requires ledger { (blank.name ≡ J.name) × (blank.parts ≡ J.parts) }
+        requires network { network.now ≡ J.network }
+        requires workers { (workers ≡ J.parts) × (0 < workers) × (workers ≤ MAX_WORKERS) }
+        ensures workers { IfOk result (λ opened. AreNewSeats workers opened.workers.items) }
+        ensures sources { IfOk result (λ opened.
+            opened.sources.items ≡ new_ends is_source network.now) }
+        ensures sinks { IfOk result (λ opened.
+            opened.sinks.items ≡ new_ends is_sink network.now) }
+    {
         let EndSeats { sources, sinks } = end_seats(alloc, network)?;
-        let (desk, workers) = Desk::with_seats(alloc, blank, network, workers)?;
+        let (desk, workers) = Desk::with_seats(alloc, blank, network, workers, keeping)?;
         Ok(Opened {
             shared: Shared {
                 desk: Mutex::new(desk),

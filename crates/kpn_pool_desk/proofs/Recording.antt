@@ -1,6 +1,6 @@
 -- The items that a seat feeds or takes in one call, and the events that record them in the book.
-use Rattle.std.proofs.Common.{◌≡◌, ℕ, ◌+◌, ◌<◌, true, false, ℤ, pos, List, [], ◌∷◌, ◌++◌, length, map, take, drop, get_or, Option, Some, None, is_some, refl, sym, ap, ◌∙◌, subst, arith, append-nil}
-use Rattle.std.specs.Prelude.{slice_get}
+use Rattle.std.proofs.Common.{◌≡◌, ℕ, zero, suc, ◌+◌, ◌<◌, ◌≤◌, true, false, ℤ, pos, List, [], ◌∷◌, ◌++◌, length, map, take, drop, get_or, Option, Some, None, is_some, refl, sym, ap, ◌∙◌, subst, arith, append-nil}
+use Rattle.std.specs.Prelude.{slice_get, slice_set}
 use Rattle.std.proofs.lemmas.Bool.{false≢true}
 use Rattle.std.proofs.lemmas.List.{append_assoc, map-append}
 use Rattle.std.proofs.lemmas.Option.{slice_get-get_or}
@@ -16,7 +16,7 @@ use Rattle.kpn_run_state.specs.Book.{Book}
 use Rattle.kpn_run_state.specs.Appending.{Appends, AppendsAll, IsGrowthOwed, AllHappen}
 use Rattle.kpn_run_state.specs.Refusals.{Takes}
 use Rattle.kpn_pool_desk.specs.Desk.{Desk}
-use Rattle.kpn_pool_desk.specs.OutsideSeats.{EndSeat, with_item, with_taken, AreRecorded, FeedsUntil, TakesFirst}
+use Rattle.kpn_pool_desk.specs.OutsideSeats.{EndSeat, with_item, with_taken, AreRecorded, FeedsUntil, TakesFirst, TakesAll, TakeInTurn}
 
 -- ---- some items, and then more
 
@@ -200,3 +200,36 @@ took_all r t a b takes none =
     takes.recorded.items
     ∙ ap (λ xs. r.items ++ xs)
     (sym (takes.first ∙ ap (λ xs. takes.recorded.more ++ xs) none ∙ append-nil takes.recorded.more))
+
+-- ---- many seats in turn
+
+-- one seat more has taken all
+turn_next : (i : ℕ) (before seats : List EndSeat) (s d : EndSeat) (b c e : Book) → i < length seats
+    → TakeInTurn i before seats b c → TakesAll (get_or seats i d) s c e
+    → TakeInTurn (suc i) before (slice_set seats i s) b e
+turn_next zero before [] s d b c e below so_far all = absurd (omega (arith, below))
+turn_next zero before (y ∷ ys) s d b c e below so_far all =
+    subst (λ xs. TakeInTurn (suc zero) xs (s ∷ ys) b e) so_far.0
+    (e, subst (λ x. TakesAll y s x e) so_far.1 all, (refl, refl))
+turn_next (suc i) [] seats s d b c e below so_far all = absurd so_far
+turn_next (suc i) (x ∷ xs) [] s d b c e below so_far all = absurd so_far
+turn_next (suc i) (x ∷ xs) (y ∷ ys) s d b c e below so_far all =
+    (so_far.0, so_far.1, turn_next i xs ys s d so_far.0 c e (omega (arith, below)) so_far.2 all)
+
+pub turn_more : (i : ℕ) (before seats : List EndSeat) (s d : EndSeat) (b c e : Book) → i < length seats
+    → TakeInTurn i before seats b c → TakesAll (get_or seats i d) s c e
+    → TakeInTurn (i + 1) before (slice_set seats i s) b e
+turn_more i before seats s d b c e below so_far all =
+    let next : suc i ≡ i + 1 = omega arith in
+    subst (λ n. TakeInTurn n before (slice_set seats i s) b e) next
+    (turn_next i before seats s d b c e below so_far all)
+
+-- no more seats than there are
+pub turned_within : (i : ℕ) (before seats : List EndSeat) (b c : Book) → TakeInTurn i before seats b c
+    → i ≤ length before
+turned_within zero before seats b c so_far = omega arith
+turned_within (suc i) [] seats b c so_far = absurd so_far
+turned_within (suc i) (x ∷ xs) [] b c so_far = absurd so_far
+turned_within (suc i) (x ∷ xs) (y ∷ ys) b c so_far =
+    let rest = turned_within i xs ys so_far.0 c so_far.2 in
+    omega (arith, rest)

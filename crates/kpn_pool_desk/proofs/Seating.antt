@@ -82,7 +82,7 @@ sink_more t before seats i d below so_far sinks sink =
     All-more (λ (e : EndSeat). is_sink (channel_at t e.channel) ≡ true) before i d same.0 sinks
     (subst (λ n. is_sink (channel_at t n) ≡ true) same.1 sink)
 
-same_count : (before seats : List EndSeat) → HaveTaken before seats → length before ≡ length seats
+pub same_count : (before seats : List EndSeat) → HaveTaken before seats → length before ≡ length seats
 same_count [] [] so_far = refl
 same_count [] (t ∷ seats) so_far = absurd so_far
 same_count (b ∷ before) [] so_far = absurd so_far

@@ -14,7 +14,9 @@ use Rattle.kpn_pool_desk.specs.declared.seat.Why.{Why}
 use Rattle.kpn_pool_desk.specs.declared.seat.Why.TheVariants.{Abandoned, NoMemory}
 use Rattle.kpn_pool_desk.specs.declared.gate.Go.{Go}
 use Rattle.kpn_pool_desk.specs.declared.gate.Go.TheVariants.{On, Abandon}
-use Rattle.kpn_pool_desk.specs.Desk.{Desk}
+use Rattle.kpn_pool_desk.specs.declared.phases.Next.{Next}
+use Rattle.kpn_pool_desk.specs.declared.phases.Next.TheVariants as next
+use Rattle.kpn_pool_desk.specs.Desk.{Desk, EndsFor}
 
 -- the process that was claimed last, if one was, with its frame, and the steps from there, if they are made
 pub record Turn : Type 0 where
@@ -128,3 +130,21 @@ pub record GoesAtOnce (may_answer : (worker process : ℕ) → Go → Type 0) (m
   pub made : TurnsAtOnce turns before after
   pub within : before.commits ≤ most → after.commits ≤ most
   pub asked : LetsAll may_answer ⊎ (turns ≡ 0)
+
+-- ---- a worker that is back
+
+-- after a batch was settled, a worker ends if there is a reason for that; else it makes turns at once, and if it ends
+-- then, there is a reason too
+abbrev pub GoesOnAfter : (may_answer : (worker process : ℕ) → Go → Type 0) → (most : ℕ) → Option Why → Next
+    → (between after : Desk) → Type 0
+GoesOnAfter may_answer most (Some why) then between after = (then ≡ next.End why) × (after ≡ between)
+GoesOnAfter may_answer most None then between after =
+    GoesAtOnce may_answer most between.book after.book × EndsFor after most then
+
+-- its batch is settled, and it goes on after that
+pub record ComesBack (may_answer : (worker process : ℕ) → Go → Type 0) (most : ℕ) (b : Batch) (then : Next)
+    (before after : Desk) : Type 0 where
+  pub why : Option Why
+  pub between : Desk
+  pub settles : Settles b why before between
+  pub goes_on : GoesOnAfter may_answer most why then between after

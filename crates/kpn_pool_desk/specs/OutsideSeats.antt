@@ -1,5 +1,5 @@
 -- What a seat that feeds a source, or takes from a sink, knows of its own calls.
-use Rattle.std.specs.Prelude.{◌≡◌, ◌≢◌, ℕ, ℤ, Bool, true, false, List, [], ◌∷◌, ◌++◌, map, take, slice_get, Option, Some, None, IsTrue}
+use Rattle.std.specs.Prelude.{◌≡◌, ◌≢◌, ℕ, zero, suc, ℤ, Bool, true, false, List, [], ◌∷◌, ◌++◌, map, take, slice_get, slice_set, Option, Some, None, IsTrue}
 use Rattle.std.specs.List.{filter, remove, All}
 use Rattle.kpn_lang.specs.Prefix.{IsPrefix}
 use Rattle.kpn_net.specs.declared.tables.ChannelSpec.{ChannelSpec}
@@ -11,6 +11,7 @@ use Rattle.kpn_run_history.specs.declared.event.Event.TheVariants as event
 use Rattle.kpn_run_configuration.specs.Configuration.{channel_in}
 use Rattle.kpn_run_state.specs.Book.{Book}
 use Rattle.kpn_run_state.specs.Appending.{AllHappen}
+use Rattle.kpn_run_state.specs.Refusals.{RefusesTake}
 use Rattle.kpn_pool_desk.specs.declared.outside_seats.SnapFault.{SnapFault}
 use Rattle.kpn_pool_desk.specs.declared.outside_seats.SnapFault.TheVariants as snap_fault
 use Rattle.kpn_pool_desk.specs.declared.outside_seats.SnapFault.TheVariants.{Foreign}
@@ -87,6 +88,31 @@ abbrev pub HaveTaken : (before after : List EndSeat) → Type 0
 HaveTaken [] [] = Unit {0}
 HaveTaken (x ∷ xs) (y ∷ ys) = TakesMore x y × HaveTaken xs ys
 HaveTaken xs ys = ⊥
+
+-- the seat took all that was unread at its sink
+pub record TakesAll (before after : EndSeat) (b b_after : Book) : Type 0 where
+  pub first : TakesFirst before after b b_after
+  pub none_left : unread (channel_in b_after.configuration before.channel) ≡ []
+
+-- so many of these seats, one after the other, took all that was unread at their sinks, and nothing else has happened
+abbrev pub TakeInTurn : (count : ℕ) → (before after : List EndSeat) → Book → Book → Type 0
+TakeInTurn zero before after b b_after = (after ≡ before) × (b_after ≡ b)
+TakeInTurn (suc count) (x ∷ xs) (y ∷ ys) b b_after =
+    (between : Book) × TakesAll x y b between × TakeInTurn count xs ys between b_after
+TakeInTurn (suc count) xs ys b b_after = ⊥
+
+-- so many did, and the take from the next one is refused for this cause, which has taken what it could
+pub record TakeUntil (before after : List EndSeat) (b b_after : Book) (cause : Refused) : Type 0 where
+  pub count : ℕ
+  pub seats : List EndSeat
+  pub between : Book
+  pub turns : TakeInTurn count before seats b between
+  pub seat : EndSeat
+  pub there : slice_get seats count ≡ Some seat
+  pub taken : EndSeat
+  pub first : TakesFirst seat taken between b_after
+  pub refused : RefusesTake seat.channel b_after cause
+  pub after_is : after ≡ slice_set seats count taken
 
 -- each of these seats is that of a sink of the network
 abbrev pub AreSinks : Tables → List EndSeat → Type 0

@@ -1,8 +1,8 @@
 //! The turns that a worker makes between two holds of the lock, in the order of their claims.
 ghost use Rattle.std.specs.Prelude.{◌≡◌, ◌↔◌, ◌+◌, ◌<◌, ◌≤◌, IsTrue, take, length};
 ghost use Rattle.kpn_run_state.specs.Stepping.{ClaimsNobody};
-ghost use Rattle.kpn_pool_desk.specs.Batch.{InTurn, Claims, CommitsOrDrops, PutsBack, Settles, claimed_by, LetsThrough, LetsAll, GoesAtOnce};
-ghost use Rattle.kpn_pool_desk.specs.Desk.{share_in};
+ghost use Rattle.kpn_pool_desk.specs.Batch.{InTurn, Claims, CommitsOrDrops, PutsBack, Settles, claimed_by, LetsThrough, LetsAll, GoesAtOnce, ComesBack};
+ghost use Rattle.kpn_pool_desk.specs.Desk.{share_in, with_book};
 
 use crate::crew::BATCH;
 use crate::desk::Desk;
@@ -77,6 +77,7 @@ impl<'n, J: Job> Batch<'n, J> {
         ensures all { self.new.held < share_in J.parts desk.old.book
             → ClaimsNobody desk.new.book }
         ensures some { IsTrue result ↔ (0 < self.new.held) }
+        ensures same { desk.new ≡ with_book desk.new.book desk.old }
     {
         desk.known();
         let most = desk.share();
@@ -113,6 +114,7 @@ impl<'n, J: Job> Batch<'n, J> {
         // turns that the gate was not asked for are committed only if it lets everything through
         ensures asked { seat.old.commits + self.now.passed < seat.new.commits
             → LetsAll (G.may_answer gate.now) }
+        ensures does { ComesBack (G.may_answer gate.now) most self.now result desk.old desk.new }
     {
         let is_alone = desk.book.commits() == commits;
         desk.crew.come_back(self.held, away);
@@ -188,6 +190,7 @@ fn claim_each<'n, J: Job, A: Allocator>(
 ) -> usize
     requires { most ≤ length turns.old }
     ensures claims { InTurn Claims (take result turns.new) desk.old.book desk.new.book }
+    ensures same { desk.new ≡ with_book desk.new.book desk.old }
     ensures count { result ≤ most }
     ensures all { result < most → ClaimsNobody desk.new.book }
 {

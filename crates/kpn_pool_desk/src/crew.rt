@@ -161,7 +161,9 @@ impl Crew {
 
     /// A worker is back from so many turns, which left the lock free for so long if they were measured; from none if it
     /// comes for the first time.
-    pub(crate) fn come_back(&mut self, turns: usize, away: Option<Duration>) {
+    pub(crate) fn come_back(&mut self, turns: usize, away: Option<Duration>)
+        ensures { self.new.working ≡ self.old.working }
+    {
         if turns == 0 {
             return;
         }

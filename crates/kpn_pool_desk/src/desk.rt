@@ -18,7 +18,7 @@ use crate::outside_seats::SinkSeat;
 use crate::seat::{Why, WorkerSeat};
 use kpn_net::Network;
 use kpn_run_state::laws::{a_quiet_book, growths, journals, the_history};
-use kpn_run_state::{Book, Counts, Done, Event, Refused, View};
+use kpn_run_state::{Book, Counts, Done, Event, Keeping, Refused, View};
 use std::alloc::{AllocError, Allocator, Global};
 use std::marker::Model;
 use std::sync::ledger;
@@ -66,13 +66,14 @@ impl<'n, J: Job, A: Allocator> Model for Desk<'n, J, A> {
 }
 
 impl<'n, J: Job, A: Allocator + Copy> Desk<'n, J, A> {
-    /// The desk of a run in which nothing has happened yet, and a seat for each of its workers, in order of number. The
-    /// error is that memory ran out.
+    /// The desk of a run in which nothing has happened yet, and a seat for each of its workers, in order of number. It
+    /// keeps what it is told to keep of what will happen. The error is that memory ran out.
     pub fn with_seats(
         alloc: A,
         blank: Blank,
         network: &'n Network,
         workers: usize,
+        keeping: Keeping,
     ) -> Result<(Self, Vec<WorkerSeat<J>, A>), AllocError>
         requires ledger { (blank.name ≡ J.name) × (blank.parts ≡ J.parts) }
         requires network { network.now ≡ J.network }
@@ -85,7 +86,7 @@ impl<'n, J: Job, A: Allocator + Copy> Desk<'n, J, A> {
         for number in 0..workers {
             seats.push(WorkerSeat::new(number, shares.split_off(1, 0)))?;
         }
-        let desk = Desk::new(alloc, network, total, workers)?;
+        let desk = Desk::new(alloc, network, total, workers, keeping)?;
         Ok((desk, seats))
     }
 
@@ -95,13 +96,14 @@ impl<'n, J: Job, A: Allocator + Copy> Desk<'n, J, A> {
         network: &'n Network,
         total: ledger::Book<J>,
         workers: usize,
+        keeping: Keeping,
     ) -> Result<Self, AllocError>
         requires network { network.now ≡ J.network }
         requires workers { workers ≡ J.parts }
         requires total { total.total ≡ 0 }
         ensures { IfOk result IsOpened }
     {
-        let book = Book::new(alloc, network)?;
+        let book = Book::keeping(alloc, network, keeping)?;
         Ok(Desk {
             book,
             total,
@@ -193,7 +195,9 @@ impl<'n, J: Job, A: Allocator> Desk<'n, J, A> {
     }
 
     /// Whether all workers have ended.
-    pub(crate) fn has_ended(&self) -> bool {
+    pub(crate) fn has_ended(&self) -> bool
+        ensures { (result ≡ true) → self.now.working ≡ 0 }
+    {
         self.crew.has_ended()
     }
 
@@ -337,6 +341,7 @@ impl<'n, J: Job, A: Allocator> Desk<'n, J, A> {
     /// The book of the run, for the seats of all its workers: its commits are the sum of theirs.
     pub fn into_book(self, workers: Vec<WorkerSeat<J>, A>) -> Book<'n, A>
         requires { (length workers.items ≡ J.parts) × (0 < J.parts) }
+        ensures same { result ≡ self.entry.book }
         ensures network { result.tables ≡ J.network }
         ensures book { IsBook result }
         ensures commits { result.commits ≡ sum_by (λ seat. seat.commits) workers.items }

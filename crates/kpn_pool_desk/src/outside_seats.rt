@@ -1,5 +1,5 @@
 //! The seats of the outside, which feeds sources and takes from sinks.
-ghost use Rattle.std.specs.Prelude.{◌≡◌, ◌≢◌, ◌<◌, ◌≤◌, ℤ, true, [], ◌++◌, length, take, Some, Err, IfOk, IfErr, OnErr, OnOk, IsTrue};
+ghost use Rattle.std.specs.Prelude.{◌≡◌, ◌≢◌, ◌<◌, ◌≤◌, ℤ, true, false, [], ◌++◌, length, take, Some, Err, IfOk, IfErr, OnErr, OnOk, IsTrue};
 ghost use Rattle.kpn_lang.specs.Prefix.{IsPrefix};
 ghost use Rattle.kpn_net.specs.Tables.{channel_at, is_source, is_sink};
 ghost use Rattle.kpn_chan.specs.Channel.{unread};
@@ -11,10 +11,10 @@ ghost use Rattle.kpn_run_state.specs.Refusals.{RefusesFeed, RefusesClose, Refuse
 ghost use Rattle.kpn_pool_desk.specs.Desk.{with_book};
 ghost use Rattle.kpn_run_state.specs.Snapshot.{ShowsARun, shown_on, IsBelowKahn, IsKahnAtRest};
 ghost use Rattle.kpn_run_state.specs.declared.answers.Refused.TheVariants.{Full};
-ghost use Rattle.kpn_pool_desk.specs.declared.crew.Awaited.TheVariants.{There};
+ghost use Rattle.kpn_pool_desk.specs.declared.crew.Awaited.TheVariants.{There, Ended};
 ghost use Rattle.kpn_pool_desk.specs.declared.outside_seats.SnapFault.TheVariants.{Foreign, NoMemory};
 ghost use Rattle.kpn_pool_desk.specs.Waiting.{IsFullSource};
-ghost use Rattle.kpn_pool_desk.specs.OutsideSeats.{with_item, with_taken, HaveTaken, TakesMore, new_end, AreRecorded, FeedsUntil, TakesFirst, MayRefuseFeed, MayRefuseEnd, MayRefuseTake, MayRefuseTakes, MayRefuseSnapshot, HasFed, AreSinks};
+ghost use Rattle.kpn_pool_desk.specs.OutsideSeats.{with_item, with_taken, HaveTaken, TakesMore, new_end, AreRecorded, FeedsUntil, TakesFirst, MayRefuseFeed, MayRefuseEnd, MayRefuseTake, MayRefuseTakes, MayRefuseSnapshot, HasFed, AreSinks, TakeInTurn, TakeUntil};
 
 use crate::crew::Awaited;
 use crate::desk::Desk;
@@ -157,9 +157,14 @@ impl<A: Allocator> SourceSeat<A> {
         ensures before { IsPrefix self.old.items self.new.items }
         ensures none { IfOk result (λ count. (count ≡ 0) → 0 < length items.now
             → desk.old.working ≡ 0) }
+        ensures recorded { AreRecorded AppendsAll event.Feed
+            self.old self.new desk.old.book desk.new.book }
         ensures source { OnOk result (0 < length items.now
             → is_source (channel_at J.network self.old.channel) ≡ true) }
+        ensures desk { desk.new ≡ with_book desk.new.book desk.old }
         ensures refused { IfErr result (λ cause. FeedsUntil items.now self.old self.new (λ item.
+            RefusesFeed self.old.channel item bound desk.new.book cause)) }
+        ensures may_refuse { IfErr result (λ cause. FeedsUntil items.now self.old self.new (λ item.
             MayRefuseFeed (is_source (channel_at J.network self.old.channel)) item cause)) }
         ensures never_full { (item : ℤ) → result ≢ Err (Full item) }
     {
@@ -324,8 +329,15 @@ impl<A: Allocator> SinkSeat<A> {
             ++ unread (channel_in desk.old.book.configuration self.old.channel)) }
         ensures there { IfOk result (λ found. (found ≡ Some There)
             → length self.old.items < length self.new.items) }
+        ensures ended { IfOk result (λ found. (found ≡ Some Ended) → desk.new.working ≡ 0) }
+        ensures none_left { OnOk result
+            (unread (channel_in desk.new.book.configuration self.old.channel) ≡ []) }
+        ensures first { TakesFirst self.old self.new desk.old.book desk.new.book }
         ensures sink { OnOk result (is_sink (channel_at J.network self.old.channel) ≡ true) }
+        ensures desk { desk.new ≡ with_book desk.new.book desk.old }
         ensures refused { IfErr result (λ cause.
+            RefusesTake self.old.channel desk.new.book cause) }
+        ensures may_refuse { IfErr result (λ cause.
             MayRefuseTake (is_sink (channel_at J.network self.old.channel)) cause) }
     {
         let before = self.taken().len();
@@ -364,7 +376,12 @@ pub fn take_from_each<J: Job, A: Allocator, B: Allocator>(
     seats: &mut [SinkSeat<A>],
 ) -> Result<bool, Refused>
     ensures seats { HaveTaken seats.old seats.new }
+    ensures all { OnOk result (TakeInTurn (length seats.old)
+        seats.old seats.new desk.old.book desk.new.book) }
+    ensures ended { IfOk result (λ goes_on. goes_on ≡ false → desk.new.working ≡ 0) }
     ensures sinks { OnOk result (AreSinks J.network seats.old) }
+    ensures refused { IfErr result
+        (TakeUntil seats.old seats.new desk.old.book desk.new.book) }
     ensures may_refuse { IfErr result (MayRefuseTakes J.network seats.old) }
     ensures desk { desk.new ≡ with_book desk.new.book desk.old }
 {

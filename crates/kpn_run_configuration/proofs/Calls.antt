@@ -10,7 +10,7 @@ use Rattle.kpn_net.specs.Waits.{wait_at, IsOwnWait, AreWaits}
 use Rattle.kpn_net.proofs.WaitTables.{waits-set}
 use Rattle.kpn_step.specs.Frame.{Frame, passed}
 use Rattle.kpn_step.specs.Stops.{IsGiven}
-use Rattle.kpn_chan.specs.Channel.{ChannelState, after_put, after_get, retired}
+use Rattle.kpn_chan.specs.Channel.{ChannelState, after_put, after_get, retired, is_full, most_after}
 use Rattle.kpn_run_history.specs.declared.event.How.{How}
 use Rattle.kpn_run_history.specs.declared.event.Event.{Event}
 use Rattle.kpn_run_history.specs.declared.event.Event.TheVariants.{Get, Put, WaitEmpty, WaitFull, Feed, Close, Take, Leave}
@@ -77,6 +77,8 @@ channel_read t e c v r ch writes reads stays cap keep =
       capacity = sym (cap ch.capacity);
       retired = stays_retired ch (takes_reader t c e) stays;
       reserved = λ none is. keep is;
+      most = sym (ap (λ xs. most_after xs ch) writes);
+      kept = refl;
     }
 
 -- a put of the item by an event
@@ -90,6 +92,8 @@ channel_put t e c v r ch writes reads stays cap =
       capacity = sym (cap ch.capacity);
       retired = stays_retired ch (takes_reader t c e) stays;
       reserved = λ none is. absurd (put_is_no_silence v (written_in c e) writes none);
+      most = ap (λ xs. most_after xs ch) (sym writes);
+      kept = refl;
     }
 
 -- ---- frames
@@ -179,14 +183,15 @@ module _ (t : Tables) (s : Configuration) (shape : IsConfiguration t s) where
     module _ (put : ch ≡ after_put v ch.is_reserved (channel_in s c))
         (woke : waits ≡ woken_at (is_wait (Empty c)) s.waits (reader_of t c)) where
       pub Made-put : (p : ℕ) → p < length t.instances → IsFree s p → WritesTo t s p c v → writer_of t c ≡ Process p
+          → is_full (channel_in s c) ≡ false
           → after ≡ record s {
             channels = slice_set s.channels c ch;
             waits = waits;
             frames = slice_set s.frames p (passed (frame_in s p));
           }
           → Made t (Put p c v) s after
-      Made-put p there free writes own is =
-          made_on (Put p c v) c ch (Empty c) (slice_set s.frames p (passed (frame_in s p))) below own
+      Made-put p there free writes own room is =
+          made_on (Put p c v) c ch (Empty c) (slice_set s.frames p (passed (frame_in s p))) below (own, room)
           (subst (λ x. IsChannelAfter t (Put p c v) c (channel_in s c) x) (sym put)
           (channel_put t (Put p c v) c v ch.is_reserved (channel_in s c) (item_here c v) refl
           (keeps_reader t (Put p c v) c (λ r. refl) refl) (λ cap. refl)))
@@ -291,6 +296,8 @@ module _ (t : Tables) (s : Configuration) (shape : IsConfiguration t s) where
             ∙ becomes_retired (channel_in s c) (takes_reader t c (Leave c))
             (ap (takes_end c (Leave c)) sink ∙ eq-eqb c c refl);
         reserved = λ none was. keep was;
+        most = ap (λ x. x.most) left;
+        kept = ap (λ x. x.is_kept) left;
       })
       (λ d differ.
       record {

@@ -241,6 +241,8 @@ module _ (t : Tables) (network : IsNetwork t) (p : ℕ) (how : How) where
                   (ap (λ b. (channel_in s1 d).is_retired || b) (reader_at d at)
                   ∙ or-true (channel_in s1 d).is_retired);
               reserved = λ none was. r.keeps was;
+              most = ap (λ x. x.most) r.is;
+              kept = ap (λ x. x.is_kept) r.is;
             }
         by_test false is =
             let none =

@@ -209,7 +209,7 @@ module _ (t : Tables) (network : IsNetwork t) (s : Configuration) (shape : IsCon
   Made-grown r room waits woke after is n =
       made_on t s shape (Grow p d n) d (grown_to (larger_capacity t (cap_in (capacities s) d)) r (channel_in s d))
       (wait.Full d) s.frames owed_below
-      (limit_in_range t network).0
+      ((limit_in_range t network).0, larger_than)
       (record {
         journal = sym (append-nil (channel_in s d).journal);
         read = sym (add-zero (channel_in s d).read);
@@ -223,6 +223,8 @@ module _ (t : Tables) (network : IsNetwork t) (s : Configuration) (shape : IsCon
             (ap (λ b. (channel_in s d).is_retired || b) (keeps_reader t (Grow p d n) d (λ r. refl) refl)
             ∙ or-false (channel_in s d).is_retired);
         reserved = λ none was. room;
+        most = refl;
+        kept = refl;
       })
       (λ c differ.
       record {
@@ -233,6 +235,14 @@ module _ (t : Tables) (network : IsNetwork t) (s : Configuration) (shape : IsCon
       })
       (λ c. refl) (λ q end. refl) (λ e. absurd cc) (wakes-grow t p d n) refl (λ q is. absurd (false≢true is)) refl
       (λ q. refl) waits woke after is
+    where
+      larger_than : (cap : ℕ) → (channel_in s d).capacity ≡ Some cap → cap ≤ larger_capacity t cap
+      larger_than cap is =
+          let same : cap ≡ cap_in (capacities s) d = let e = sym is ∙ owed_capacity in cc in
+          let some = shape.positive d cap owed_below is in
+          let larger = (larger_capacity_in_range t cap some
+          (subst (λ n. n < t.limit) (sym same) owed.below_limit)).0 in
+          omega (arith, larger)
 
   -- the history gives the same larger capacity
   pub larger_by_history : (H : List Event) → IsRun t H s

@@ -35,6 +35,7 @@ module _ (t : Tables) (s : Configuration) (p : ℕ) (g : Frame) (there : p < len
         waits = shape.waits;
         bounded = shape.bounded;
         positive = shape.positive;
+        within = shape.within;
         fit = at_frame (λ q f. q < length t.instances → IsTrue (fits (program_of t q) f)) (λ below. fit) shape.fit;
         reserved = shape.reserved;
       }

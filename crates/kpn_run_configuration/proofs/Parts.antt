@@ -1,8 +1,9 @@
 -- What an event does to the parts of a configuration: those that it touches, and the others.
-use Rattle.std.proofs.Common.{◌≡◌, ◌≢◌, ℕ, ◌+◌, ◌<◌, Bool, true, false, ◌||◌, ℤ, cond, eqb, eq-eqb, IsTrue, List, [], ◌++◌, length, get_or, set, Option, Some, None, is_some, refl, sym, ap, ◌∙◌, subst, inl, inr, append-nil, add-zero}
+use Rattle.std.proofs.Common.{◌≡◌, ◌≢◌, ℕ, ◌+◌, ◌<◌, ◌≤◌, Bool, true, false, not, ◌&&◌, ◌||◌, ◌∷◌, max, ℤ, cond, eqb, eq-eqb, eqb-true, arith, IsTrue, List, [], ◌++◌, length, get_or, set, Option, Some, None, is_some, refl, sym, ap, ◌∙◌, subst, inl, inr, append-nil, add-zero}
 use Rattle.std.specs.Option.{option_map}
 use Rattle.std.proofs.lemmas.Bool.{cases_eq, ne_eqb, both_ways}
 use Rattle.std.proofs.lemmas.List.{get_or-set_same, get_or-set_other}
+use Rattle.kpn_lang.proofs.Programs.{not_past}
 use Rattle.kpn_net.specs.declared.wait.Wait.{Wait}
 use Rattle.kpn_net.specs.declared.wait.Wait.TheVariants.{Nobody, Empty, Full}
 use Rattle.kpn_net.specs.declared.tables.End.{End}
@@ -12,7 +13,7 @@ use Rattle.kpn_net.proofs.Networks.{larger_capacity_is_some}
 use Rattle.kpn_net.specs.Waits.{wait_at, IsOwnWait, AreWaits}
 use Rattle.kpn_step.specs.Frame.{Frame, fits}
 use Rattle.kpn_step.proofs.Places.{fits-passed, fits-passed_with}
-use Rattle.kpn_chan.specs.Channel.{ChannelState, opened}
+use Rattle.kpn_chan.specs.Channel.{ChannelState, opened, unread, is_full, fills, most_after, most_after_put}
 use Rattle.kpn_run_history.specs.declared.event.Event.{Event}
 use Rattle.kpn_run_history.specs.declared.event.Event.TheVariants.{Get, Put, WaitEmpty, WaitFull, Feed, Close, Take, Leave, Grow}
 use Rattle.kpn_run_history.specs.Talks.{is_of, is_end_of}
@@ -47,6 +48,8 @@ untouched t e d channel u =
       capacity = sym (u.capacity channel.capacity);
       retired = sym (ap (λ b. channel.is_retired || b) u.reader ∙ or-false channel.is_retired);
       reserved = λ none is. is;
+      most = sym (ap (λ xs. most_after xs channel) u.written);
+      kept = refl;
     }
 
 -- an event keeps the reader if it ends no process and is no leave of the channel
@@ -164,13 +167,14 @@ wait_then-close t c q (Full d) = refl
 
 -- ---- a process that waits on a channel as full keeps the item that is reserved there
 
--- only the writer of a channel puts there, only a source is fed, a process that comes to wait as full has an item
--- reserved, and if a channel grows, the limit is not 0
+-- only the writer of a channel puts there, and not if it is full, only a source is fed, a process that comes to wait as
+-- full has an item reserved, and if a channel grows, the limit is not 0 and its capacity becomes no less
 abbrev pub KeepsRoom : Tables → Configuration → Event → Type 0
-KeepsRoom t s (Put p c v) = writer_of t c ≡ end.Process p
+KeepsRoom t s (Put p c v) = (writer_of t c ≡ end.Process p) × (is_full (channel_in s c) ≡ false)
 KeepsRoom t s (Feed c v) = is_source (channel_at t c) ≡ true
 KeepsRoom t s (WaitFull p c) = IsTrue (channel_in s c).is_reserved
-KeepsRoom t s (Grow p c n) = 0 < t.limit
+KeepsRoom t s (Grow p c n) =
+    (0 < t.limit) × ((cap : ℕ) → (channel_in s c).capacity ≡ Some cap → cap ≤ larger_capacity t cap)
 KeepsRoom t s event = Unit {0}
 
 -- an event of another process writes nothing on a channel that a process writes
@@ -178,7 +182,7 @@ written_by_none : (t : Tables) (s : Configuration) (e : Event) → KeepsRoom t s
     → writer_of t c ≡ end.Process p → is_of p e ≡ false → written_in c e ≡ []
 written_by_none t s (Put q d v) keeps p c own other = none_elsewhere d c v (λ same. both_ways (eqb q p) other
     (eq-eqb q p
-    (let clash : end.Process q ≡ end.Process p = sym keeps ∙ ap (λ x. writer_of t x) same ∙ own in cc)))
+    (let clash : end.Process q ≡ end.Process p = sym keeps.0 ∙ ap (λ x. writer_of t x) same ∙ own in cc)))
 written_by_none t s (Feed d v) keeps p c own other = none_elsewhere d c v (no_source t c d p own keeps)
 written_by_none t s event keeps p c own other = refl
 
@@ -240,9 +244,55 @@ positive_then t s (Grow p d m) keeps c before some cap is = by_test (eqb d c) be
     by_test true None some is = absurd cc
     by_test true (Some n) some is =
         let same : larger_capacity t n ≡ cap = cc in
-        subst (λ m. 0 < m) same (larger_capacity_is_some t n keeps (some n refl))
+        subst (λ m. 0 < m) same (larger_capacity_is_some t n keeps.0 (some n refl))
     by_test false o some is = some cap is
 positive_then t s event keeps c before some cap is = some cap is
+
+-- a put on a channel that is not full keeps what was ever unread within the capacity
+most_put : (gone : Bool) (most count cap : ℕ) → (not gone && fills count (Some cap)) ≡ false → most ≤ cap
+    → cond gone most (max most (count + 1)) ≤ cap
+most_put true most count cap room within = within
+most_put false most count cap room within =
+    let below = not_past cap count room in omega (arith, below, within)
+
+within_put : (channel : ChannelState) (cap : ℕ) → is_full channel ≡ false → channel.capacity ≡ Some cap
+    → channel.most ≤ cap → most_after_put channel ≤ cap
+within_put channel cap room is within =
+    most_put channel.is_retired channel.most (length (unread channel)) cap
+    (sym (ap (λ o. not channel.is_retired && fills (length (unread channel)) o) is) ∙ room) within
+
+-- what was ever unread stays within the capacity
+within_then : (t : Tables) (s : Configuration) (e : Event) → KeepsRoom t s e → (c : ℕ) → c < length t.channels
+    → IsConfiguration t s → (cap : ℕ) → capacity_then t c e (channel_in s c).capacity ≡ Some cap
+    → most_after (written_in c e) (channel_in s c) ≤ cap
+within_then t s (Put p d v) keeps c below h cap is = by_test (eqb d c) refl
+  where
+    by_test : (b : Bool) → eqb d c ≡ b → most_after (cond b (v ∷ []) []) (channel_in s c) ≤ cap
+    by_test true same =
+        within_put (channel_in s c) cap (subst (λ x. is_full (channel_in s x) ≡ false) (eqb-true d c same) keeps.1) is
+        (h.within c cap below is)
+    by_test false other = h.within c cap below is
+within_then t s (Feed d v) keeps c below h cap is = by_test (eqb d c) refl
+  where
+    by_test : (b : Bool) → eqb d c ≡ b → most_after (cond b (v ∷ []) []) (channel_in s c) ≤ cap
+    by_test true same =
+        let source = subst (λ x. is_source (channel_at t x) ≡ true) (eqb-true d c same) keeps in
+        let none : true ≡ false = sym (ap is_some is) ∙ h.bounded c below ∙ ap not source in
+        absurd cc
+    by_test false other = h.within c cap below is
+within_then t s (Grow p d n) keeps c below h cap is = by_test (eqb d c) refl (channel_in s c).capacity refl is
+  where
+    by_test : (b : Bool) → eqb d c ≡ b → (o : Option ℕ) → (channel_in s c).capacity ≡ o
+        → cond b (option_map (larger_capacity t) o) o ≡ Some cap → (channel_in s c).most ≤ cap
+    by_test true same None was is = absurd cc
+    by_test true same (Some m) was is =
+        let larger : larger_capacity t m ≡ cap = cc in
+        let within = h.within c m below was in
+        let more : m ≤ larger_capacity t m =
+        keeps.1 m (ap (λ x. (channel_in s x).capacity) (eqb-true d c same) ∙ was) in
+        omega (arith, within, more, larger)
+    by_test false other o was is = h.within c cap below (was ∙ is)
+within_then t s event keeps c below h cap is = h.within c cap below is
 
 fits-read : (t : Tables) (p c : ℕ) (v : ℤ) (f g : Frame) → PassesRead t p c v f g → IsTrue (fits (program_of t p) f)
     → IsTrue (fits (program_of t p) g)
@@ -288,6 +338,10 @@ IsConfiguration-next t e before after h keeps a same waits =
           λ c cap below is.
           positive_then t before e keeps c (channel_in before c).capacity (λ n. h.positive c n below) cap
           (sym (a.channels c below).capacity ∙ is);
+      within =
+          λ c cap below is.
+          subst (λ n. n ≤ cap) (sym (a.channels c below).most)
+          (within_then t before e keeps c below h cap (sym (a.channels c below).capacity ∙ is));
       fit = λ p below. fits-next t e p _ _ (a.frames p below) (h.fit p below);
       reserved =
           λ p c process channel is.

@@ -1,5 +1,5 @@
 -- A reservation changes nothing that a history records.
-use Rattle.std.proofs.Common.{◌≡◌, ℕ, ◌<◌, Bool, true, false, not, cond, IsTrue, List, length, None, is_some, Some, refl, sym, ap, ◌∙◌, subst, inl, inr, length-set}
+use Rattle.std.proofs.Common.{◌≡◌, ℕ, ◌<◌, ◌≤◌, Bool, true, false, not, cond, IsTrue, List, length, None, is_some, Some, refl, sym, ap, ◌∙◌, subst, inl, inr, length-set}
 use Rattle.std.proofs.lemmas.Bool.{cases_eq}
 use Rattle.std.proofs.lemmas.List.{get_or-set_same, get_or-set_other, set-get_or}
 use Rattle.kpn_net.specs.declared.wait.Wait.TheVariants.{Full}
@@ -52,6 +52,10 @@ module _ (s : Configuration) (c : ℕ) (there : c < length s.channels) where
               λ d cap.
               each_channel (λ d channel. d < length t.channels → channel.capacity ≡ Some cap → 0 < cap)
               (λ d. h.positive d cap) (λ q. q) d;
+          within =
+              λ d cap.
+              each_channel (λ d channel. d < length t.channels → channel.capacity ≡ Some cap → channel.most ≤ cap)
+              (λ d. h.within d cap) (λ q. q) d;
           fit = h.fit;
           reserved =
               λ p d process below is.

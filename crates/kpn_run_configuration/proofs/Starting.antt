@@ -1,5 +1,5 @@
 -- At the start: the empty history leads to the configuration in which nothing has happened.
-use Rattle.std.proofs.Common.{◌≡◌, ℕ, ◌+◌, ◌<◌, length-append, Bool, true, false, not, IsTrue, List, [], ◌∷◌, ◌++◌, length, get_or, map, replicate, Option, Some, None, is_some, refl, sym, ap, ◌∙◌, subst, inl, inr, arith}
+use Rattle.std.proofs.Common.{◌≡◌, ℕ, ◌+◌, ◌<◌, ◌≤◌, length-append, Bool, true, false, not, IsTrue, List, [], ◌∷◌, ◌++◌, length, get_or, map, replicate, Option, Some, None, is_some, refl, sym, ap, ◌∙◌, subst, inl, inr, arith}
 use Rattle.std.specs.Option.{unwrap_or, option_map}
 use Rattle.std.proofs.lemmas.Bool.{cases_eq}
 use Rattle.std.proofs.lemmas.List.{length-replicate, get_or-replicate, get_or_append_left, get_or_push, get_or-map, length-map, ext_get_or}
@@ -18,6 +18,8 @@ use Rattle.kpn_net.specs.Waits.{AreWaits}
 use Rattle.kpn_step.proofs.Places.{fits-start}
 use Rattle.kpn_step.proofs.After.{IsAfter-start}
 use Rattle.kpn_chan.specs.Channel.{ChannelState, opened, opened_as}
+use Rattle.kpn_run_history.specs.declared.keeping.Keeping.{Keeping}
+use Rattle.kpn_run_history.specs.Keeping.{keeps_items}
 use Rattle.kpn_run_history.specs.Channels.{reader_lives, lives, after_growths}
 use Rattle.kpn_run_history.proofs.Legality.{Legal-nil}
 use Rattle.kpn_run_configuration.specs.Configuration.{Configuration, channel_in, wait_in, frame_in}
@@ -39,10 +41,10 @@ each_push Q xs ys x d n is len each last k below =
           omega arith in subst (λ y. Q k y) (sym (get_or_append_left xs (x ∷ []) d k (omega arith))) (each k less)
     ])
 
-module _ (keeps : Bool) (t : Tables) (network : IsNetwork t) (s : Configuration)
+module _ (keeping : Keeping) (t : Tables) (network : IsNetwork t) (s : Configuration)
     (channels : length s.channels ≡ length t.channels)
     (opens : (c : ℕ) → c < length t.channels
-    → channel_in s c ≡ opened_as keeps (capacity (channel_at t c)) (channel_in s c).is_reserved)
+    → channel_in s c ≡ opened_as (keeps_items keeping t c) (capacity (channel_at t c)) (channel_in s c).is_reserved)
     (closed : s.closed ≡ replicate (length t.channels) false)
     (waits : s.waits ≡ replicate (length t.instances) Nobody)
     (ends : s.ends ≡ replicate (length t.instances) None)
@@ -107,6 +109,7 @@ module _ (keeps : Bool) (t : Tables) (network : IsNetwork t) (s : Configuration)
             positive =
                 λ c cap below is.
                 (capacity_in_range t network c cap below (sym (ap (λ x. x.capacity) (opens c below)) ∙ is)).positive;
+            within = λ c cap below is. subst (λ x. x.most ≤ cap) (sym (opens c below)) (omega arith);
             fit =
                 λ p below.
                 subst (λ f. IsTrue (fits (program_of t p) f)) (sym (starts p below))
@@ -131,14 +134,14 @@ module _ (keeps : Bool) (t : Tables) (network : IsNetwork t) (s : Configuration)
         }
 
 -- the second list of capacities at the start
-pub mirror_at_start : (keeps : Bool) (t : Tables) (channels : List ChannelState) (caps : List ℕ)
+pub mirror_at_start : (keeping : Keeping) (t : Tables) (channels : List ChannelState) (caps : List ℕ)
     → length channels ≡ length t.channels → length caps ≡ length t.channels
     → ((c : ℕ) → c < length t.channels
     → get_or channels c (opened None false)
-    ≡ opened_as keeps (capacity (channel_at t c)) (get_or channels c (opened None false)).is_reserved)
+    ≡ opened_as (keeps_items keeping t c) (capacity (channel_at t c)) (get_or channels c (opened None false)).is_reserved)
     → ((c : ℕ) → c < length t.channels → get_or caps c 0 ≡ unwrap_or (capacity (channel_at t c)) 0)
     → caps ≡ map (λ x. unwrap_or x.capacity 0) channels
-mirror_at_start keeps t channels caps len count opens each =
+mirror_at_start keeping t channels caps len count opens each =
     let mapped = length-map channels (λ x. unwrap_or x.capacity 0) in
     ext_get_or 0 caps (map (λ x. unwrap_or x.capacity 0) channels) (omega arith)
     (λ c below.

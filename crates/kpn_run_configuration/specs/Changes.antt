@@ -4,7 +4,7 @@ use Rattle.kpn_net.specs.Tables.{Tables, instance_at, program_of}
 use Rattle.kpn_step.specs.declared.stop.Stop.TheVariants.{WantRead, WantWrite}
 use Rattle.kpn_step.specs.Frame.{Frame, passed}
 use Rattle.kpn_step.specs.Stops.{StandsAt, IsGiven}
-use Rattle.kpn_chan.specs.Channel.{ChannelState}
+use Rattle.kpn_chan.specs.Channel.{ChannelState, most_after}
 use Rattle.kpn_run_history.specs.declared.event.How.{How}
 use Rattle.kpn_run_history.specs.declared.event.Event.{Event}
 use Rattle.kpn_run_history.specs.declared.event.Event.TheVariants.{Get, Put, Ended}
@@ -15,13 +15,15 @@ use Rattle.kpn_run_configuration.specs.Configuration.{Configuration, channel_in,
 
 -- a channel after an event: what the event writes is appended to its journal, and what it reads counts as read. A
 -- growth of the channel makes its capacity larger. The channel is retired from then on if the event takes its reader.
--- What was reserved stays so, unless the event is a put
+-- What was reserved stays so, unless the event is a put. What is kept stays so
 pub record IsChannelAfter (t : Tables) (event : Event) (c : ℕ) (before after : ChannelState) : Type 0 where
   pub journal : after.journal ≡ before.journal ++ written_in c event
   pub read : after.read ≡ before.read + length (read_in c event)
   pub capacity : after.capacity ≡ capacity_then t c event before.capacity
   pub retired : after.is_retired ≡ (before.is_retired || takes_reader t c event)
   pub reserved : written_in c event ≡ [] → IsTrue before.is_reserved → IsTrue after.is_reserved
+  pub most : after.most ≡ most_after (written_in c event) before
+  pub kept : after.is_kept ≡ before.is_kept
 
 -- how a process has ended after an event: as before, unless the event is its own end
 abbrev pub end_then : Event → (p : ℕ) → Option How → Option How

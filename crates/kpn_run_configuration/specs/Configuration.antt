@@ -1,6 +1,6 @@
 -- The configuration of a network: the states of its processes and the contents of its channels at one moment of a
 -- run.
-use Rattle.std.specs.Prelude.{◌≡◌, ℕ, ◌<◌, Bool, true, false, not, IsTrue, is_some, List, [], length, map, Option, Some, None, slice_index_or, slice_set}
+use Rattle.std.specs.Prelude.{◌≡◌, ℕ, ◌<◌, ◌≤◌, ℤ, Bool, true, false, not, IsTrue, is_some, List, [], length, map, Option, Some, None, slice_index_or, slice_set}
 use Rattle.std.specs.List.{list_all}
 use Rattle.std.specs.Option.{unwrap_or}
 use Rattle.kpn_net.specs.declared.wait.Wait.{Wait}
@@ -47,6 +47,10 @@ frame_in s p = slice_index_or s.frames p no_frame
 abbrev pub capacities : Configuration → List ℕ
 capacities s = map (λ c. unwrap_or c.capacity 0) s.channels
 
+-- every item that was put on a channel
+abbrev pub all_put : ChannelState → List ℤ
+all_put c = c.journal
+
 -- all items of each channel are kept in memory
 abbrev pub AreKept : Configuration → Type 0
 AreKept s = (c : ℕ) → c < length s.channels → IsTrue (channel_in s c).is_kept
@@ -58,8 +62,9 @@ are_kept channels = list_all (λ channel. channel.is_kept) channels
 -- ---- a configuration of a network
 
 -- it has a channel and a mark for each channel of the network, and a wait, an end and a frame for each process. A
--- source has no capacity; each other channel has one, which is not 0. Each process waits on a channel of its own, and
--- its frame is one of its program. If a process waits on a channel as full, an item is reserved there
+-- source has no capacity; each other channel has one, which is not 0, and no more items were ever unread there while
+-- its reader was there. Each process waits on a channel of its own, and its frame is one of its program. If a process
+-- waits on a channel as full, an item is reserved there
 pub record IsConfiguration (t : Tables) (s : Configuration) : Type 0 where
   pub channels : length s.channels ≡ length t.channels
   pub closed : length s.closed ≡ length t.channels
@@ -68,6 +73,8 @@ pub record IsConfiguration (t : Tables) (s : Configuration) : Type 0 where
   pub waits : AreWaits t s.waits
   pub bounded : (c : ℕ) → c < length t.channels → is_some (channel_in s c).capacity ≡ not (is_source (channel_at t c))
   pub positive : (c cap : ℕ) → c < length t.channels → (channel_in s c).capacity ≡ Some cap → 0 < cap
+  pub within : (c cap : ℕ) → c < length t.channels → (channel_in s c).capacity ≡ Some cap
+      → (channel_in s c).most ≤ cap
   pub fit : (p : ℕ) → p < length t.instances → IsTrue (fits (program_of t p) (frame_in s p))
   pub reserved : (p c : ℕ) → p < length t.instances → c < length t.channels → wait_in s p ≡ Full c
       → IsTrue (channel_in s c).is_reserved

@@ -1,13 +1,13 @@
 //! A configuration as it is stored: the channels, and for each process its wait, its end and its frame.
-ghost use Rattle.std.specs.Prelude.{◌≡◌, ◌<◌, false, List, length, map, IsTrue, IsOk, IfOk, IfErr, is_ok, is_some, if◌then◌else◌};
+ghost use Rattle.std.specs.Prelude.{◌≡◌, ◌↔◌, ◌<◌, false, List, length, map, IsTrue, IsOk, IfOk, IfErr, is_ok, is_some, if◌then◌else◌};
 ghost use Rattle.kpn_chan.specs.Channel.{ChannelState, with_room, next_item, kept_journal};
 ghost use Rattle.kpn_chan.specs.declared.unread.Unread.TheVariants.{Forgotten};
-ghost use Rattle.kpn_run_configuration.specs.Configuration.{channel_in, closed_in, wait_in, end_in, frame_in, with_channel, are_kept, AreKept, IsConfiguration};
+ghost use Rattle.kpn_run_configuration.specs.Configuration.{channel_in, closed_in, wait_in, end_in, frame_in, with_channel, all_put, are_kept, AreKept, IsConfiguration};
 ghost use Rattle.kpn_run_configuration.specs.Run.{IsRun};
 ghost use Rattle.kpn_net.specs.Tables.{Tables};
 ghost use Rattle.kpn_run_history.specs.declared.event.Event.{Event};
 
-use kpn_chan::{Channel, Journal, Unread};
+use kpn_chan::{Channel, Journal, Unread, Written};
 use kpn_lang::Sequence;
 use kpn_net::Wait;
 use kpn_run_history::How;
@@ -104,12 +104,21 @@ impl<A: Allocator> Configuration<A> {
         }
     }
 
+    /// Moves what was written out of the configuration, kept or not, in order of the channels' numbers. The error is
+    /// that memory ran out.
+    pub fn into_written(self, alloc: A) -> Result<Sequence<Written<A>, A>, AllocError>
+        ensures { let s = self in IfOk result (λ written. written ≡ map all_put s.channels) }
+    {
+        let Configuration { channels, .. } = self;
+        moved_written(alloc, channels)
+    }
+
     /// A copy of all items that were ever put on a channel, oldest first.
     pub fn copy_journal<B: Allocator>(&self, alloc: B, c: usize) -> Result<Vec<i64, B>, Unread>
         requires { c < length self.now.channels }
         ensures items { IfOk result (λ items. items.items ≡ (channel_in self.now c).journal) }
-        ensures forgotten { IfErr result (λ why. why ≡ Forgotten
-            → (channel_in self.now c).is_kept ≡ false) }
+        ensures forgotten { IfErr result (λ why.
+            (why ≡ Forgotten) ↔ ((channel_in self.now c).is_kept ≡ false)) }
     {
         self.channels[c].copy_journal(alloc)
     }
@@ -169,6 +178,20 @@ fn moved_journals<A: Allocator>(
         journals.push(channel.into_journal())?;
     }
     Ok(Sequence::from_vec(journals))
+}
+
+/// What was written on these channels, moved out of them. The error is that memory ran out.
+fn moved_written<A: Allocator>(
+    alloc: A,
+    channels: Vec<Channel<A>, A>,
+) -> Result<Sequence<Written<A>, A>, AllocError>
+    ensures { let given = channels.items in IfOk result (λ written. written ≡ map all_put given) }
+{
+    let mut written = Vec::with_capacity(alloc, channels.len())?;
+    'channels: for channel in channels {
+        written.push(channel.into_written())?;
+    }
+    Ok(Sequence::from_vec(written))
 }
 
 /// Whether all items of each of these channels are kept.

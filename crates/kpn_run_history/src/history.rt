@@ -100,7 +100,8 @@ impl<A: Allocator> History<A> {
             return self.events.reserve(n);
         }
         if self.events.capacity() < n {
-            return self.events.reserve(n.max(SHORT));
+            // more than asked for, so that not each call that asks for as much comes here
+            return self.events.reserve(n.saturating_mul(2).max(SHORT));
         }
         forget(&mut self.past, &mut self.newest, &mut self.events);
         Ok(())

@@ -1,8 +1,8 @@
 //! What a run shows at one moment.
-ghost use Rattle.std.specs.Prelude.{◌≡◌, option_copied, slice_get};
+ghost use Rattle.std.specs.Prelude.{◌≡◌, IfSome, Some, slice_get};
 
 use crate::event::How;
-use kpn_chan::Journal;
+use kpn_chan::{Journal, Written};
 use kpn_lang::Sequence;
 use std::alloc::{Allocator, Global};
 
@@ -38,7 +38,7 @@ pub struct Counts {
 #[derive(Drop)]
 pub struct View<A: Allocator = Global> {
     /// All items that were written on the channel, in order.
-    pub journals: Sequence<Journal<A>, A>,
+    pub journals: Sequence<Written<A>, A>,
     /// How many of them were read.
     pub read: Sequence<usize, A>,
     /// How many may be unread; `None` for a source.
@@ -51,11 +51,12 @@ pub struct View<A: Allocator = Global> {
 }
 
 impl<A: Allocator> View<A> {
-    /// All items that were written on a channel, or `None` if no channel has this number.
+    /// All items that were written on a channel. `None` if no channel has this number, or if they are not kept.
     pub fn journal(&self, channel: usize) -> Option<&Journal<A>>
-        ensures { option_copied result ≡ slice_get self.now.journals channel }
+        ensures { IfSome result (λ journal.
+            slice_get self.now.journals channel ≡ Some journal.now) }
     {
-        self.journals.as_slice().get(channel)
+        self.journals.as_slice().get(channel)?.journal()
     }
 
     /// The state of a process, or `None` if no process has this number.

@@ -1,11 +1,11 @@
 -- An item that is reserved on a channel changes nothing of what an event does.
-use Rattle.std.proofs.Common.{◌≡◌, ℕ, ◌+◌, ◌<◌, ◌||◌, IsTrue, List, [], ◌∷◌, ◌++◌, length, refl, sym, ap, ◌∙◌, subst, inl, inr}
+use Rattle.std.proofs.Common.{◌≡◌, ℕ, ◌+◌, ◌<◌, ◌||◌, ℤ, IsTrue, List, [], ◌∷◌, ◌++◌, length, refl, sym, ap, ◌∙◌, subst, inl, inr}
 use Rattle.std.proofs.lemmas.Bool.{cases_eq}
 use Rattle.std.proofs.lemmas.List.{get_or-set_same, get_or-set_other}
 use Rattle.kpn_net.specs.Tables.{Tables}
 use Rattle.kpn_step.specs.declared.stop.Stop.{Stop}
 use Rattle.kpn_step.specs.declared.stop.Stop.TheVariants as stop
-use Rattle.kpn_chan.specs.Channel.{ChannelState, with_room, is_full, next_item, unread}
+use Rattle.kpn_chan.specs.Channel.{ChannelState, with_room, is_full, next_item, unread, most_after}
 use Rattle.kpn_run_history.specs.declared.event.Event.{Event}
 use Rattle.kpn_run_history.specs.Channels.{written_in, read_in}
 use Rattle.kpn_run_history.specs.AfterEvent.{capacity_then, takes_reader}
@@ -20,13 +20,16 @@ use Rattle.kpn_run_state.specs.Open.{reserved_on}
 
 channel_before : (t : Tables) (e : Event) (d : ℕ) (x y after : ChannelState) → x.journal ≡ y.journal → x.read ≡ y.read
     → x.capacity ≡ y.capacity → x.is_retired ≡ y.is_retired → (IsTrue y.is_reserved → IsTrue x.is_reserved)
+    → ((items : List ℤ) → most_after items x ≡ most_after items y) → x.is_kept ≡ y.is_kept
     → IsChannelAfter t e d x after → IsChannelAfter t e d y after
-channel_before t e d x y after journal read capacity retired reserved is = record {
+channel_before t e d x y after journal read capacity retired reserved most kept is = record {
   journal = is.journal ∙ ap (λ z. z ++ written_in d e) journal;
   read = is.read ∙ ap (λ z. z + length (read_in d e)) read;
   capacity = is.capacity ∙ ap (capacity_then t d e) capacity;
   retired = is.retired ∙ ap (λ z. z || takes_reader t d e) retired;
   reserved = λ none some. is.reserved none (reserved some);
+  most = is.most ∙ most (written_in d e);
+  kept = is.kept ∙ kept;
 }
 
 module _ (b : Book) (c : ℕ) (below : c < length b.configuration.channels) where
@@ -48,6 +51,10 @@ module _ (b : Book) (c : ℕ) (below : c < length b.configuration.channels) wher
       ap (λ ch. ch.is_reserved)
       (get_or-set_same b.configuration.channels c (with_room (channel_in b.configuration c)) _ below)
 
+  reserved_most : (items : List ℤ) (ch : ChannelState) → most_after items (with_room ch) ≡ most_after items ch
+  reserved_most [] ch = refl
+  reserved_most (item ∷ rest) ch = refl
+
   stays_reserved : (d : ℕ) → IsTrue (channel_in b.configuration d).is_reserved
       → IsTrue (channel_in (reserved_on c b).configuration d).is_reserved
   stays_reserved d some =
@@ -68,7 +75,9 @@ module _ (b : Book) (c : ℕ) (below : c < length b.configuration.channels) wher
           channel_before b.tables e d (channel_in (reserved_on c b).configuration d) (channel_in b.configuration d)
           (channel_in a.configuration d) (sees_same (λ ch. ch.journal) (λ ch. refl) d)
           (sees_same (λ ch. ch.read) (λ ch. refl) d) (sees_same (λ ch. ch.capacity) (λ ch. refl) d)
-          (sees_same (λ ch. ch.is_retired) (λ ch. refl) d) (stays_reserved d) (is.configuration.channels d there);
+          (sees_same (λ ch. ch.is_retired) (λ ch. refl) d) (stays_reserved d)
+          (λ items. sees_same (most_after items) (reserved_most items) d) (sees_same (λ ch. ch.is_kept) (λ ch. refl) d)
+          (is.configuration.channels d there);
       closed = is.configuration.closed;
       waits = is.configuration.waits;
       ends = is.configuration.ends;

@@ -2,6 +2,7 @@ pub mod Schedule
 pub mod Counting
 pub mod Queue
 pub mod Book
+pub mod Bounded
 pub mod Appending
 pub mod Commits
 pub mod Refusals

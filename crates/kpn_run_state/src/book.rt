@@ -1,16 +1,18 @@
 //! The book as its owner sees it. Each call keeps all that holds of a book.
-ghost use Rattle.std.specs.Prelude.{◌≡◌, ◌↔◌, ◌<◌, ℕ, [], length, is_some, IfOk, IsTrue};
+ghost use Rattle.std.specs.Prelude.{◌≡◌, ◌↔◌, ◌<◌, ◌≤◌, false, ℕ, [], length, is_some, IfOk, IfErr, IsTrue};
 ghost use Rattle.kpn_lang.specs.Prefix.{IsPrefix};
 ghost use Rattle.kpn_net.specs.Tables.{instance_at, program_of};
 ghost use Rattle.kpn_step.specs.Frame.{start_frame};
 ghost use Rattle.kpn_chan.specs.Channel.{next_item, unread};
+ghost use Rattle.kpn_chan.specs.declared.unread.Unread.TheVariants.{Forgotten};
 ghost use Rattle.kpn_run_history.specs.Channels.{read_on, is_closed};
 ghost use Rattle.kpn_run_history.specs.Views.{AreCounts, Agrees};
 ghost use Rattle.kpn_run_history.specs.Ends.{IsVerdict};
-ghost use Rattle.kpn_run_history.specs.Keeping.{keeps_all};
+ghost use Rattle.kpn_run_history.specs.Keeping.{keeps_items};
 ghost use Rattle.kpn_run_configuration.specs.Configuration.{channel_in, frame_in, AreKept};
 ghost use Rattle.kpn_run_state.specs.Schedule.{all_ready};
 ghost use Rattle.kpn_run_state.specs.Kept.{IsBook};
+ghost use Rattle.kpn_run_state.specs.Bounded.{most_places};
 ghost use Rattle.kpn_run_state.specs.Snapshot.{ShowsARun, IsBelowKahn, IsKahnAtRest};
 
 use crate::open_book::OpenBook;
@@ -95,7 +97,7 @@ impl<'n, A: Allocator + Copy> Book<'n, A> {
             ≡ start_frame (program_of t p) (instance_at t p).pars) }
         ensures book { IfOk result (λ book. IsBook book) }
         ensures kept { IfOk result (λ book. (c : ℕ) → c < length book.configuration.channels
-            → (channel_in book.configuration c).is_kept ≡ keeps_all keeping) }
+            → (channel_in book.configuration c).is_kept ≡ keeps_items keeping network.now c) }
     {
         let configuration = Configuration::keeping(alloc, network, keeping)?;
         let schedule = Schedule::new(alloc, network.instances())?;
@@ -182,6 +184,24 @@ impl<'n, A: Allocator> Book<'n, A> {
         self.parts.configuration.channel(c).read_count()
     }
 
+    /// The most items of a channel that were ever unread while its reader was there.
+    pub fn most_unread(&self, c: usize) -> usize
+        requires { c < length self.now.tables.channels }
+        ensures { result ≡ (channel_in self.now.configuration c).most }
+    {
+        self.parts.configuration.channel(c).most()
+    }
+
+    /// For how many items of a channel there is memory. If its items are not kept, their number has a bound that stays
+    /// the same however long the run is: the capacity sets it, or for a source how many items were ever unread.
+    pub fn places(&self, c: usize) -> usize
+        requires { c < length self.now.tables.channels }
+        ensures { let channel = channel_in self.now.configuration c in
+            channel.is_kept ≡ false → result ≤ most_places channel }
+    {
+        self.parts.configuration.channel(c).places()
+    }
+
     /// Whether a channel is a source that was closed.
     pub fn is_closed(&self, c: usize) -> bool
         requires { c < length self.now.tables.channels }
@@ -221,6 +241,8 @@ impl<'n, A: Allocator> Book<'n, A> {
         ensures run { IfOk result (λ view. ShowsARun self.now.tables view) }
         ensures below { IfOk result (λ view. IsBelowKahn self.now.tables view) }
         ensures quiet { IfOk result (λ view. IsKahnAtRest self.now.tables view) }
+        ensures forgotten { IfErr result (λ why.
+            why ≡ Forgotten → ¬ AreKept self.now.configuration) }
     {
         self.known();
         let OpenBook {
@@ -231,15 +253,18 @@ impl<'n, A: Allocator> Book<'n, A> {
         } = &self.parts;
         let channels = network.channels();
         let mut view = view_without_journals(alloc, channels, configuration, schedule)?;
-        view.journals = copied_journals(alloc, channels, configuration)?;
+        match copied_journals(alloc, channels, configuration) {
+            Ok(journals) => view.journals = journals,
+            Err(why) => return Err(why),
+        }
         Ok(view)
     }
 }
 
 impl<'n> Book<'n> {
     /// A view of the run at its end, and its history. They are moved out of the book as far as possible: no journal is
-    /// copied. A journal that is not kept is an error.
-    pub fn into_view(self, alloc: Global) -> Result<(View, History), Unread>
+    /// copied. The error is that memory ran out.
+    pub fn into_view(self, alloc: Global) -> Result<(View, History), AllocError>
         ensures agrees { IfOk result (λ told. Agrees self.entry.tables self.entry.history told.0) }
         ensures states { IfOk result (λ told. told.0.states ≡ self.entry.schedule.states) }
         ensures history { IfOk result (λ told. told.1.events ≡ self.entry.history) }
@@ -252,7 +277,7 @@ impl<'n> Book<'n> {
             &parts.configuration,
             &parts.schedule,
         )?;
-        view.journals = parts.configuration.into_journals(alloc)?;
+        view.journals = parts.configuration.into_written(alloc)?;
         Ok((view, parts.history))
     }
 

@@ -1,11 +1,12 @@
 //! A view of a run at one moment, copied from its configuration and its schedule.
-ghost use Rattle.std.specs.Prelude.{◌≡◌, ◌<◌, ◌∷◌, [], ◌++◌, length, map, IfOk};
+ghost use Rattle.std.specs.Prelude.{◌≡◌, ◌<◌, ◌∷◌, [], ◌++◌, length, map, IfOk, IfErr};
 ghost use Rattle.std.specs.List.{range_with_len};
 ghost use Rattle.kpn_run_history.specs.Views.{AreCounts};
-ghost use Rattle.kpn_run_configuration.specs.Configuration.{channel_in};
+ghost use Rattle.kpn_run_configuration.specs.Configuration.{channel_in, AreKept};
+ghost use Rattle.kpn_chan.specs.declared.unread.Unread.TheVariants.{Forgotten};
 
 use crate::schedule::Schedule;
-use kpn_chan::{Journal, Unread};
+use kpn_chan::{Journal, Unread, Written};
 use kpn_lang::Sequence;
 use kpn_run_configuration::Configuration;
 use kpn_run_history::View;
@@ -70,10 +71,12 @@ pub(crate) fn copied_journals<A: Allocator, B: Allocator + Copy>(
     alloc: B,
     channels: usize,
     configuration: &Configuration<A>,
-) -> Result<Sequence<Journal<B>, B>, Unread>
+) -> Result<Sequence<Written<B>, B>, Unread>
     requires { channels ≡ length configuration.now.channels }
-    ensures { let s = configuration.now in IfOk result (λ journals.
+    ensures journals { let s = configuration.now in IfOk result (λ journals.
         journals ≡ map (λ c. (channel_in s c).journal) (range_with_len 0 channels)) }
+    ensures forgotten { let s = configuration.now in IfErr result (λ why.
+        why ≡ Forgotten → ¬ AreKept s) }
 {
     let mut journals = Sequence::new(alloc);
     'channels: for c in 0..channels {
@@ -87,10 +90,10 @@ pub(crate) fn copied_journals<A: Allocator, B: Allocator + Copy>(
 fn add_journal<B: Allocator + Copy>(
     alloc: B,
     items: Vec<i64, B>,
-    journals: &mut Sequence<Journal<B>, B>,
+    journals: &mut Sequence<Written<B>, B>,
 ) -> Result<(), AllocError>
     ensures { IfOk result (λ _. journals.new ≡ journals.old ++ items.items ∷ []) }
 {
-    journals.push(Journal::from_vec(alloc, items))?;
+    journals.push(Written::from(Journal::from_vec(alloc, items)))?;
     Ok(())
 }

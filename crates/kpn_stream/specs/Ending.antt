@@ -55,11 +55,15 @@ abbrev pub LeavesNothing : Ending → Book → Type 0
 LeavesNothing (SinkFailed c fault) b = Unit {0}
 LeavesNothing ending b = AreTaken b.tables b.history
 
+-- the run has come to no outcome under these limits
+abbrev pub HasNoOutcome : Limits → Book → Type 0
+HasNoOutcome limits b = IsOutcome b.tables b.history b.commits limits None
+
 -- what an ending says of the book
 abbrev pub IsEnding : Limits → Ending → Book → Type 0
 IsEnding limits (Outcome outcome) b = IsOutcome b.tables b.history b.commits limits (Some outcome)
-IsEnding limits Resting b = IsResting b
-IsEnding limits Left b = HasSink b.tables × AreLeft b.tables b.history
+IsEnding limits Resting b = IsResting b × HasNoOutcome limits b
+IsEnding limits Left b = HasSink b.tables × AreLeft b.tables b.history × HasNoOutcome limits b
 IsEnding limits NoMemory b = Unit {0}
 IsEnding limits (SourceFailed c fault) b = Unit {0}
 IsEnding limits (SinkFailed c fault) b = Unit {0}

@@ -4,7 +4,7 @@ ghost use Rattle.kpn_net.specs.Tables.{is_source, is_sink};
 ghost use Rattle.kpn_run_history.specs.Ends.{IsSettled};
 ghost use Rattle.kpn_run_state.specs.Kept.{IsBook};
 ghost use Rattle.kpn_stream.specs.Devices.{Fed, Served, EndsFlushed, Called};
-ghost use Rattle.kpn_stream.specs.Ending.{end_numbers, failed_source, failed_sink, IsEnding, AreTaken, LeavesNothing};
+ghost use Rattle.kpn_stream.specs.Ending.{end_numbers, failed_source, failed_sink, IsEnding, HasNoOutcome, AreTaken, LeavesNothing};
 ghost use Rattle.kpn_stream.specs.Streaming.{GoesOn, MayEndWell, Serves};
 
 use crate::devices::{Sinks, Sources};
@@ -216,6 +216,7 @@ pub(crate) fn ending_of(book: &Book<'_>, limits: &Limits) -> Option<Ending>
     requires { AreTaken book.now.tables book.now.history }
     ensures well { MayEndWell limits.now result book.now }
     ensures none { IfNone result (¬ IsSettled book.now.tables book.now.history) }
+    ensures no_outcome { IfNone result (HasNoOutcome limits.now book.now) }
 {
     match outcome_of(book, limits) {
         Some(outcome) => Some(Ending::Outcome(outcome)),

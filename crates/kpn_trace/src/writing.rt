@@ -1,7 +1,8 @@
 //! Events written as the lines of a trace.
-ghost use Rattle.std.specs.Prelude.{OnOk};
+ghost use Rattle.std.specs.Prelude.{◌≡◌, OnOk, IfErr, false};
 ghost use Rattle.std.specs.Io.KnownBytes.{Appends};
 ghost use Rattle.kpn_trace.specs.TraceText.{head_text, event_text, trace_text};
+ghost use Rattle.kpn_trace.specs.declared.unwritten.Unwritten.TheVariants.{Forgotten};
 
 use crate::head::head;
 use crate::kind::how_word;
@@ -61,9 +62,11 @@ pub fn write_trace<W: Write, A: Allocator>(
     growth: Growth,
     history: &History<A>,
 ) -> Result<(), Unwritten>
-    ensures { OnOk result
+    ensures text { OnOk result
         (Appends (W.contents writer.old) (W.contents writer.new)
         (trace_text Version.Two policy growth history.now.events)) }
+    ensures forgotten { IfErr result (λ why. why ≡ Forgotten
+        → (history.now.is_kept ≡ false) × (writer.new ≡ writer.old)) }
 {
     if !history.is_kept() {
         return Err(Unwritten::Forgotten);

@@ -4,7 +4,7 @@ ghost use Rattle.std.specs.Option.{unwrap_or};
 ghost use Rattle.kpn_net.specs.Tables.{channel_at, instance_at, program_of, capacity};
 ghost use Rattle.kpn_step.specs.Frame.{start_frame};
 ghost use Rattle.kpn_chan.specs.Channel.{opened, opened_as};
-ghost use Rattle.kpn_run_history.specs.Keeping.{keeps_all};
+ghost use Rattle.kpn_run_history.specs.Keeping.{keeps_items};
 ghost use Rattle.kpn_run_configuration.specs.Configuration.{no_frame, frame_in, channel_in, AreKept};
 ghost use Rattle.kpn_run_configuration.specs.Run.{IsRun};
 
@@ -36,10 +36,10 @@ impl<A: Allocator + Copy> Configuration<A> {
             IfOk result (λ made. (p : ℕ) → p < length t.instances
             → frame_in made p ≡ start_frame (program_of t p) (instance_at t p).pars) }
         ensures kept { IfOk result (λ made. (c : ℕ) → c < length made.channels
-            → (channel_in made c).is_kept ≡ keeps_all keeping) }
+            → (channel_in made c).is_kept ≡ keeps_items keeping network.now c) }
     {
         network.known();
-        let channels = channels_at_start(alloc, network, keeping.is_all())?;
+        let channels = channels_at_start(alloc, network, keeping)?;
         let capacities = capacities_at_start(alloc, network)?;
         let closed = none_closed(alloc, network.channels())?;
         let waits = MarkedWaits::new(alloc, network.instances(), network.channels())?;
@@ -59,15 +59,17 @@ impl<A: Allocator + Copy> Configuration<A> {
 fn channels_at_start<A: Allocator + Copy>(
     alloc: A,
     network: &Network,
-    keeps: bool,
+    keeping: Keeping,
 ) -> Result<Vec<Channel<A>, A>, AllocError>
     ensures len { IfOk result (λ channels. length channels.items ≡ length network.now.channels) }
     ensures each { IfOk result (λ channels. (c : ℕ) → c < length network.now.channels
         → (let channel = slice_index_or channels.items c (opened None false) in
-        channel ≡ opened_as keeps (capacity (channel_at network.now c)) channel.is_reserved)) }
+        channel ≡ opened_as (keeps_items keeping network.now c)
+        (capacity (channel_at network.now c)) channel.is_reserved)) }
 {
     let mut channels = Vec::with_capacity(alloc, network.channels())?;
     for c in 0..network.channels() {
+        let keeps = keeping.keeps_items(network, c);
         let channel = Channel::keeping(alloc, network.cap_of(c), keeps)?;
         channels.push(channel)?;
     }

@@ -1,11 +1,13 @@
-//! Who waits at the ends of a channel, and for what.
+//! Who waits at the ends of a channel, and for what; the state of a process, and what a channel has for its reader.
 ghost use Rattle.std.specs.Prelude.{◌≡◌, ◌<◌, is_some, length};
-ghost use Rattle.kpn_chan.specs.Channel.{next_item};
+ghost use Rattle.kpn_chan.specs.Channel.{next_item, next_at};
 ghost use Rattle.kpn_run_configuration.specs.Configuration.{channel_in};
 ghost use Rattle.kpn_run_configuration.specs.Woken.{waiting_reader};
+ghost use Rattle.kpn_run_state.specs.Schedule.{state_at};
 
 use super::Book;
 use kpn_net::{End, Wait};
+use kpn_run_history::State;
 use std::alloc::Allocator;
 
 impl<'n, A: Allocator> Book<'n, A> {
@@ -37,5 +39,21 @@ impl<'n, A: Allocator> Book<'n, A> {
         ensures { result ≡ next_item (channel_in self.now.configuration c) }
     {
         self.parts.configuration.channel(c).peek()
+    }
+
+    /// The item that this sink would give to a take, or this channel to a get, after `k` others. It stays unread.
+    pub fn next_at(&self, c: usize, k: usize) -> Option<i64>
+        requires { c < length self.now.tables.channels }
+        ensures { result ≡ next_at k (channel_in self.now.configuration c) }
+    {
+        self.parts.configuration.channel(c).peek_at(k)
+    }
+
+    /// The state of process `p`.
+    pub fn state(&self, p: usize) -> State
+        requires { p < length self.now.tables.instances }
+        ensures { result ≡ state_at self.now.schedule.states p }
+    {
+        self.parts.schedule.state(p)
     }
 }

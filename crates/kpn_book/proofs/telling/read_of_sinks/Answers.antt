@@ -4,7 +4,7 @@ use Rattle.kpn_net.specs.Tables.{channel_at, is_sink}
 use Rattle.kpn_book.specs.Running.{first_read}
 use Rattle.kpn_book.proofs.Parts.{kept_more, kept_same}
 use Rattle.kpn_book.proofs.Told.{journals_there, reads_there, within, reads_of_sinks}
-use Rattle.kpn_book.proofs.telling.read_of_sinks.Goals.{then-is_sink+in_ok-items+in_ok-push, else-is_sink}
+use Rattle.kpn_book.proofs.telling.read_of_sinks.Goals.{then-is_sink+in_ok-items+in-Ok, else-is_sink}
 use Rattle.kpn_book.proofs.telling.read_of_sinks.Goals as goal
 
 pub read_of-requires-clause-journal : goal.read_of-requires-clause-journal
@@ -25,10 +25,10 @@ read_of-requires-clause-within c =
 pub channels-preserved : goal.channels-preserved
 channels-preserved c =
     elim c.if-is_sink.branch [
-      | then-is_sink+in_ok-items+in_ok-push w ↦
+      | then-is_sink+in_ok-items+in-Ok w ↦
           kept_more (λ d. is_sink (channel_at c.args.network.now d)) (first_read c.args.view.now) c.channels.c
           c.channels.taken.items _ _ c.channels.invariant (sym c.is_sink.ensures ∙ w.if-is_sink.true)
-          (ap (λ v. v.items) w.taken-is ∙ w.in_ok-push.ensures.items) w.in_ok-items.ensures
+          (ap (λ v. v.items) w.taken-is ∙ w.in-Ok.ensures.items) w.in_ok-items.ensures
       | else-is_sink w ↦
           kept_same (λ d. is_sink (channel_at c.args.network.now d)) (first_read c.args.view.now) c.channels.c
           c.channels.taken.items _ c.channels.invariant (sym c.is_sink.ensures ∙ w.if-is_sink.false)

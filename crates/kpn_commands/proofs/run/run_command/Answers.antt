@@ -8,10 +8,10 @@ use Rattle.kpn_commands.proofs.run.run_command.Goals as goal
 pub returns-clause-ok : goal.returns-clause-ok
 returns-clause-ok g c =
     let ran : RanHere c.network-network.result.now c.deref.result.now c.limits_of-limits.result
-    c.in-Ok-run_here.report = record {
-      here = c.in-Ok-run_here.ensures.here;
-      supplied = c.in-Ok-run_here.ensures.supplied;
-      few = c.in-Ok-run_here.ensures.commits;
+    c.in-Ok-run_here_keeping.report = record {
+      here = c.in-Ok-run_here_keeping.ensures.here;
+      supplied = c.in-Ok-run_here_keeping.ensures.supplied;
+      few = c.in-Ok-run_here_keeping.ensures.commits;
     } in
     IfOk-weaker c.conclusion_of.result _ _
     (λ made concluded. record {
@@ -20,10 +20,10 @@ returns-clause-ok g c =
         are_inputs = c.in-Ok.ensures.ok;
         are_sinks = c.in-Ok.ensures.sinks;
         is_report =
-            along (λ t lists limits. IsReport t lists limits c.in-Ok-run_here.report) c.network-network.ensures
-            c.deref.ensures.value c.limits_of-limits.ensures c.in-Ok-run_here.ensures.report;
+            along (λ t lists limits. IsReport t lists limits c.in-Ok-run_here_keeping.report) c.network-network.ensures
+            c.deref.ensures.value c.limits_of-limits.ensures c.in-Ok-run_here_keeping.ensures.report;
         here = λ without.
-            along (λ t lists limits. RanHere t lists limits c.in-Ok-run_here.report) c.network-network.ensures
+            along (λ t lists limits. RanHere t lists limits c.in-Ok-run_here_keeping.report) c.network-network.ensures
             c.deref.ensures.value c.limits_of-limits.ensures ran;
       };
       apart = c.in-Ok.ensures.apart;

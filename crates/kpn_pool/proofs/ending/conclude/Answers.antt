@@ -7,7 +7,7 @@ use Rattle.kpn_pool.proofs.ending.conclude.Goals as goal
 pub were_fed-are_fed-requires-clause-journals : goal.were_fed-are_fed-requires-clause-journals
 were_fed-are_fed-requires-clause-journals c =
     journals_shown c.network-network.result.now c.empty_sinks-emptied.new.book (sym c.network-network.ensures)
-    c.known.ensures c.in-Some.outcome c.in_ok-report.report c.in_ok-report.ensures
+    c.known.ensures c.in-Some.outcome c.in-Ok.report c.in-Ok.ensures
 
 pub returns : goal.returns
 returns c =
@@ -15,7 +15,7 @@ returns c =
     let same : c.empty_sinks-emptied.new.book.tables ≡ t =
     c.empty_sinks-emptied.ensures.tables ∙ ap (λ b. b.tables) c.put_back_held.ensures.alone in
     let network : c.network-network.result.now ≡ t = c.network-network.ensures ∙ same in
-    let report = c.in_ok-report.report in
+    let report = c.in-Ok.report in
     let fed =
     subst (λ (u : Tables). AreFedBelow u c.args.lists.now report.view (length u.channels)) network
     (c.were_fed-are_fed.ensures c.if-not-are_fed.false) in
@@ -25,9 +25,9 @@ returns c =
     record {
       report =
           IsReport-concluded t c.empty_sinks-emptied.new.book same c.known.ensures c.in-Some.outcome report
-          c.in_ok-report.ensures c.args.lists.now fed c.args.limits.now
+          c.in-Ok.ensures c.args.lists.now fed c.args.limits.now
           (c.empty_sinks-emptied.ensures.held ∙ c.put_back_held.ensures.none) c.in-Some.ensures;
       supplied =
           are_supplied t c.empty_sinks-emptied.new.book same c.known.ensures c.in-Some.outcome report
-          c.in_ok-report.ensures c.args.lists.now fed closed;
+          c.in-Ok.ensures c.args.lists.now fed closed;
     }

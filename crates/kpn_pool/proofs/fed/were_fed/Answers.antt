@@ -1,11 +1,12 @@
 use Rattle.std.proofs.Common.{◌≡◌, ◌<◌, true, [], length, get_or, sym, ap, ◌∙◌, arith}
 use Rattle.std.proofs.lemmas.List.{get_or_default}
+use Rattle.std.proofs.lemmas.Option.{get_or_from_slice_get}
 use Rattle.std.proofs.lemmas.List.Sums.{count_by_more_yes, count_by_more_no}
 use Rattle.kpn_net.specs.Tables.{channel_at, is_source}
 use Rattle.kpn_net.specs.Iteration.{given_by}
 use Rattle.kpn_net.proofs.RoundLemmas.{source_below}
 use Rattle.kpn_pool.proofs.Feeding.{fed_skip, fed_more}
-use Rattle.kpn_pool.proofs.fed.were_fed.Goals.{then-is_source+else-not-is, else-is_source}
+use Rattle.kpn_pool.proofs.fed.were_fed.Goals.{then-is_source+in-Some+else-not-is, else-is_source}
 use Rattle.kpn_pool.proofs.fed.were_fed.Goals as goal
 
 pub bounds-lists-source : goal.bounds-lists-source
@@ -25,7 +26,7 @@ channels-preserved c =
     let so_far = c.channels.invariant in
     let there : k < length t.channels = omega (arith, c.channels-c-end.ensures, c.channels-test.true) in
     elim c.if-is_source.branch [
-      | then-is_source+else-not-is w ↦
+      | then-is_source+in-Some+else-not-is w ↦
           let is : is_source (channel_at t k) ≡ true = sym c.is_source.ensures ∙ w.if-is_source.true in
           let below = source_below t k there is in
           let one = count_by_more_yes is_source t.channels k _ there is in
@@ -34,16 +35,11 @@ channels-preserved c =
           w.as_slice.ensures ∙ w.index-lists-source.is
           ∙ get_or_default lists c.channels.source _ [] placed
           ∙ ap (λ n. get_or lists n []) so_far.source in
-          let shown : k < length view.journals = omega (arith, c.requires.journals) in
-          let long = ap length c.as_slice-journals.ensures in
-          let journal =
-          w.index-journals-c.is
-          ∙ get_or_default c.as_slice-journals.result.now k _ [] (omega arith)
-          ∙ ap (λ js. get_or js k []) c.as_slice-journals.ensures in
+          let journal = get_or_from_slice_get view.journals k _ [] w.in-Some.ensures in
           record {
             source = w.source-is ∙ omega (arith, so_far.source);
             so_far =
-                fed_more t lists view k (sym journal ∙ w.is.ensures.0 w.if-not-is.false ∙ list) so_far.so_far;
+                fed_more t lists view k (journal ∙ w.is.ensures.0 w.if-not-is.false ∙ list) so_far.so_far;
           }
       | else-is_source w ↦
           let none = sym c.is_source.ensures ∙ w.if-is_source.false in record {

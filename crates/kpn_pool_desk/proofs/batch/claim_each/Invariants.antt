@@ -1,6 +1,10 @@
-use Rattle.std.proofs.Common.{take}
+use Rattle.std.proofs.Common.{◌≡◌, take}
+use Rattle.kpn_pool_desk.specs.Desk.{with_book}
 use Rattle.kpn_pool_desk.specs.Batch.{Claims, InTurn}
 use Rattle.kpn_pool_desk.proofs.batch.claim_each.Given as goal
 
 abbrev pub invariant-turns : goal.invariant-turns
-invariant-turns g l = InTurn Claims (take l.i l.turns) l.fn.desk.book l.desk.book
+invariant-turns g l = record {
+  claims : InTurn Claims (take l.i l.turns) l.fn.desk.book l.desk.book;
+  same : l.desk ≡ with_book l.desk.book l.fn.desk;
+}

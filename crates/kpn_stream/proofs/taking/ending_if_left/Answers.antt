@@ -21,7 +21,7 @@ returns-in-None-clause-well c =
     record {
       no_sink = refl;
       no_source = refl;
-      ending = ((c.requires.sink, left), taken_if_left c.args.book.now.tables c.args.book.now.history left);
+      ending = ((c.requires.sink, left, c.in-None.ensures), taken_if_left c.args.book.now.tables c.args.book.now.history left);
     }
 
 pub returns-in-None-clause-left : goal.returns-in-None-clause-left

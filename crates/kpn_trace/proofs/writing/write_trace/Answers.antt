@@ -39,8 +39,8 @@ loop-place-preserved g c =
           absurd (cc (found, found_at, w.in_default.is))
     ]
 
-pub returns : goal.returns
-returns g c =
+pub returns-clause-text : goal.returns-clause-text
+returns-clause-text g c =
     let kept : IsTrue c.args.history.now.is_kept = cc (c.is_kept.ensures, c.if-not-is_kept.false) in
     let long = c.len-place-end.ensures kept in
     subst (λ t. Appends (g.W.Write.contents c.args.writer.now) (g.W.Write.contents c.loop-place.writer)

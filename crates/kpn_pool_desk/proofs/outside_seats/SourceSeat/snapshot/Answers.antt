@@ -1,4 +1,4 @@
-use Rattle.std.proofs.Common.{rules, ◌≡◌, ◌∙◌, true, List, ℤ, length, ap, sym, subst, arith}
+use Rattle.std.proofs.Common.{rules, ◌≡◌, ◌∙◌, true, List, ℤ, length, ap, sym, subst, eqb-true}
 use Rattle.std.specs.Bool.{IsTrue}
 use Rattle.std.proofs.lemmas.List.{nil_from_length}
 use Rattle.kpn_lang.specs.Prefix.{IsPrefix}
@@ -23,8 +23,8 @@ returns-clause-fresh g c =
           let begins : IsPrefix seat.items (channel_in b.configuration seat.channel).journal = search rules in
           begins_shown b c.in_ok-snapshot.field-0 c.in_ok-snapshot.ensures.journals seat.channel source seat.items begins
       | else-not-is_empty-via-else-not-is_empty w ↦
-          let zero : length c.fed.result.now ≡ 0 =
-          grind (arith, c.is_empty.ensures, w.if-not-is_empty.false) in
+          let empty : c.is_empty.result ≡ true = search rules in
+          let zero : length c.fed.result.now ≡ 0 = eqb-true _ _ (sym c.is_empty.ensures ∙ empty) in
           let none = nil_from_length seat.items (ap length (sym c.fed.ensures) ∙ zero) in
           subst (λ (l : List ℤ). IsPrefix l shown) (sym none) tt
     ]

@@ -106,7 +106,7 @@ returns g c =
     let made =
     Made-put t s c.requires.shape c.args.c c.args.item ch there c.wake_reader.new.self _ put woke c.args.p
     c.requires.process
-    c.requires.free c.requires.writes own
+    c.requires.free c.requires.writes own c.requires.ready
     (ap
     (λ (x : Configuration).
     record x {

@@ -12,7 +12,7 @@ returns-clause-agrees c =
     let step = c.self.invariant.in_step in
     let long = c.channels-channels.ensures ∙ sym step.run.shape.channels in
     let journals =
-    c.in_ok-view-2.ensures.journals
+    c.in_ok-view-2.ensures
     ∙ by_number (λ (channel : ChannelState). channel.journal) (book_of c.self.inside.parts).configuration
     c.channels-channels.result long in
     subst (λ b. Agrees b.tables b.history (record c.in_ok-view.view { journals = c.in_ok-view-2.field-0 }))

@@ -39,17 +39,24 @@ out_channel-c-requires-clause-port g c =
     omega (arith, below, long)
 
 -- the channel of a write is there
+out_below : (g : given.Over) (c : After-out_channel-c g)
+    → c.out_channel-c.result < length c.args.self.now.network.now.channels
+out_below g c =
+    let t = c.args.self.now.network.now in
+    let outs = (instance_at t c.args.p).outs in
+    out_is_there t c.known.ensures c.args.p c.out_channel-c.result
+    (subst (λ x. Contains outs x) c.out_channel-c.ensures.1
+    (Contains-get_or outs c.in-WantWrite.port 0 c.out_channel-c.ensures.0))
+
 out_there : (g : given.Over) (c : After-out_channel-c g)
     → c.out_channel-c.result < length c.args.self.now.configuration.channels
 out_there g c =
-    let t = c.args.self.now.network.now in
-    let outs = (instance_at t c.args.p).outs in
-    let there =
-    out_is_there t c.known.ensures c.args.p c.out_channel-c.result
-    (subst (λ x. Contains outs x) c.out_channel-c.ensures.1
-    (Contains-get_or outs c.in-WantWrite.port 0 c.out_channel-c.ensures.0)) in
+    let there = out_below g c in
     let long = c.requires.kept.in_step.run.shape.channels in
     omega (arith, there, long)
+
+pub if_sink-requires : goal.if_sink-requires
+if_sink-requires g c = out_below g (goal.at.if_sink-requires g c).After-out_channel-c
 
 pub channel-requires : goal.channel-requires
 channel-requires g c = out_there g (goal.at.channel-requires g c).After-out_channel-c

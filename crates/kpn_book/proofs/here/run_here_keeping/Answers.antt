@@ -4,7 +4,7 @@ use Rattle.kpn_net.specs.Faults.{IsNetwork}
 use Rattle.kpn_net.specs.Iteration.{given_by}
 use Rattle.kpn_book.proofs.Supplying.{IsFedBelow-first, IsLeftToItself-fed}
 use Rattle.kpn_book.proofs.Told.{IsReport-told, AreSupplied-told, IsReportHere-told}
-use Rattle.kpn_book.proofs.here.run_here.Goals as goal
+use Rattle.kpn_book.proofs.here.run_here_keeping.Goals as goal
 
 pub feed_sources-requires-clause-first : goal.feed_sources-requires-clause-first
 feed_sources-requires-clause-first c =
