@@ -13,7 +13,7 @@ HEAD = '''digraph network {
   node [fontname="sans-serif", shape=box];
   edge [fontname="sans-serif", fontsize=11];
 '''
-LEGEND = '  label="green: complete, nothing more is ever put there";\n'
+LEGEND = '  label="green: complete, nothing more is ever put there%s";\n'
 
 
 def replay(network, trace):
@@ -112,6 +112,37 @@ def tabbed(rows):
     return ''.join('\t'.join(map(str, row)) + '\n' for row in rows)
 
 
+# ---- cycles of waiting processes
+
+def awaited(audit, p):
+    """The process that process p waits for, if there is one."""
+    wait = audit.blocked(p)
+    if wait is None:
+        return None
+    why, c = wait
+    return (audit.network.writers if why == 'empty' else audit.network.readers)[c]
+
+
+def way_from(audit, p):
+    """The processes from p on along the waits, without a second visit."""
+    way = []
+    while p is not None and p not in way:
+        way.append(p)
+        p = awaited(audit, p)
+    return way
+
+
+def cycles_of(audit):
+    """The cycles of waiting processes, each from its member of least number on."""
+    ways = (way_from(audit, p) for p in range(len(audit.network.instances)))
+    return [way for way in ways if way[0] == min(way) and awaited(audit, way[-1]) == way[0]]
+
+
+def rings_of(audit):
+    """Those of which each member waits on an empty channel."""
+    return [cycle for cycle in cycles_of(audit) if all(audit.blocked(p)[0] == 'empty' for p in cycle)]
+
+
 def stats_text(network, trace, tsv=None):
     audit, most = replay(network, trace)
     channels, processes = range(len(network.channels)), range(len(network.instances))
@@ -121,17 +152,20 @@ def stats_text(network, trace, tsv=None):
     if tsv:
         return tabbed(of_channels if tsv == 'channels' else of_processes)
     said = ''.join(advice(audit, bounded, free, c) for c in channels)
-    return f'{head(network, trace.history, bounded, free)}\n{aligned(of_channels)}\n{aligned(of_processes)}\n{said}'
+    rings = ''.join(' '.join(['deadlock', *(network.instances[p] for p in ring)]) + '\n' for ring in rings_of(audit))
+    first = head(network, trace.history, bounded, free) + rings
+    return f'{first}\n{aligned(of_channels)}\n{aligned(of_processes)}\n{said}'
 
 
 # ---- the drawing
 
-def box(network, audit, p):
+def box(network, audit, p, members):
     label, style = f'{network.instances[p]}: {network.given[p][0]} {parameters(network, p)}'.rstrip(), ''
     state = standing(audit, p) if audit else ''
     if state:
-        colour = {'done': 'grey'}.get(state, 'yellow' if state.startswith('waits') else 'pink')
-        label, style = fr'{label}\n{state}', f', style=filled, fillcolor=light{colour}'
+        colour = {'done': 'lightgrey'}.get(state, 'lightyellow' if state.startswith('waits') else 'lightpink')
+        colour = 'orange' if p in members else colour
+        label, style = fr'{label}\n{state}', f', style=filled, fillcolor={colour}'
     return f'  p{p} [label="{label}"{style}];\n'
 
 
@@ -141,7 +175,7 @@ def outside(network, c):
     return f'  c{c} [label="{kind}", {shapes[kind]}];\n' if kind in shapes else ''
 
 
-def edge(network, audit, c):
+def edge(network, audit, c, awaited_channels):
     writer, reader = (f'c{c}' if p is None else f'p{p}' for p in (network.writers[c], network.readers[c]))
     first, label, style = network.capacities[c], network.channels[c], ''
     if first is not None:
@@ -150,16 +184,22 @@ def edge(network, audit, c):
         label += fr'\n{len(audit.written[c])} put, {len(audit.unread(c))} unread'
         if audit.capacities[c] != first:
             label, style = f'{label}, grown to {audit.capacities[c]}', ', style=bold'
-        if audit.complete()[c]:
+        if c in awaited_channels:
+            style += ', color=orangered, penwidth=3'
+        elif audit.complete()[c]:
             style += ', color=darkgreen'
     return f'  {writer} -> {reader} [label="{label}"{style}];\n'
 
 
 def drawing(network, trace=None, across=False):
     audit = replay(network, trace)[0] if trace else None
-    boxes = ''.join(box(network, audit, p) for p in range(len(network.instances)))
-    edges = ''.join(outside(network, c) + edge(network, audit, c) for c in range(len(network.channels)))
-    return HEAD % ('TB' if across else 'LR') + boxes + edges + LEGEND * bool(trace) + '}\n'
+    members = {p for cycle in cycles_of(audit) for p in cycle} if trace else set()
+    awaited_channels = {audit.blocked(p)[1] for p in members}
+    boxes = ''.join(box(network, audit, p, members) for p in range(len(network.instances)))
+    edges = ''.join(outside(network, c) + edge(network, audit, c, awaited_channels)
+                    for c in range(len(network.channels)))
+    legend = LEGEND % (r'\norange: processes that wait for each other' * bool(members)) if trace else ''
+    return HEAD % ('TB' if across else 'LR') + boxes + edges + legend + '}\n'
 
 
 # ---- what is said of a legal history that is not exact
@@ -198,13 +238,37 @@ def unread_line(audit, c, complete):
     return f'{name} {held}: its reader {waits}\n'
 
 
+# ---- what is said of rings
+
+def ring_line(audit, ring):
+    names, channels = audit.network.instances, audit.network.channels
+    waits = ', '.join(f'{names[p]} waits on {channels[audit.blocked(p)[1]]} for {names[awaited(audit, p)]}'
+                      for p in ring)
+    who = 'it has' if len(ring) == 1 else 'one of them has'
+    return f'deadlock: {waits}; {who} to write before it reads (a first item before its loop)\n'
+
+
+def deadlock_text(audit):
+    """The rings, what waits behind them, and the sources that have items left because of them."""
+    network, rings = audit.network, rings_of(audit)
+    members = {p for ring in rings for p in ring}
+    held = {p for p in range(len(network.instances)) if members.intersection(way_from(audit, p))}
+    behind = ', '.join(network.instances[p] for p in sorted(held - members))
+    left = ', '.join(f'{network.channels[c]} {len(audit.unread(c))}' for c in network.of_kind('source')
+                     if network.readers[c] in held and audit.unread(c))
+    return (''.join(ring_line(audit, ring) for ring in rings)
+            + (f'waiting behind it: {behind}\n' if behind else '')
+            + (f'items left because of it: {left}\n' if left else ''))
+
+
 def explained(network, trace):
     """What is said of a legal trace."""
     audit = replay(network, trace)[0]
+    said = deadlock_text(audit) + audit.text()
     if audit.is_quiet():
-        return audit.text()
+        return said
     complete = audit.complete()
     more = what_lacks(audit, complete)
     sinks = [sink_line(audit, c, complete[c], more) for c in network.of_kind('sink')]
     full = [unread_line(audit, wait[1], complete) for wait in audit.waits() if wait and wait[0] == 'full']
-    return audit.text() + ''.join(sinks + full)
+    return said + ''.join(sinks + full)

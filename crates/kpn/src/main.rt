@@ -1,30 +1,68 @@
-//! The program `kpn`: the command line over the system's files, its standard input and its two outputs.
+//! The program `kpn`: the command line over the system's files, its standard input and its two outputs. Behind what a
+//! command tells stand words for a person, if they are wanted.
 #![tactic(auto)]
 
-use kpn_cli::command;
+use kpn_cli::{Keeping, WordsWanted, command, tell_words};
 use kpn_command_base::Refusal;
 use kpn_shelf::{FileShelf, Patient, fill_standard, standard_input};
 use std::env;
-use std::io::ErrorKind;
+use std::io::{ErrorKind, Write};
 use std::process::ExitCode;
 use std::rt::Env;
 
+// The option that says when words follow. It stands in front of the command.
+const WORDS: &str = "--words";
+
 fn main(rt: HostRuntime) -> ExitCode {
     fill_standard(&rt);
-    let mut err = Patient::new(&rt, rt.stderr());
-    let status = match words(&rt) {
-        Ok(words) => command(
-            &rt,
-            rt.alloc(),
-            &words,
-            &mut FileShelf::new(&rt),
-            &mut standard_input(&rt, rt.stdin()),
-            &mut Patient::new(&rt, rt.stdout()),
-            &mut err,
-        ),
-        Err(refusal) => refusal.report(&mut err),
+    let mut words = match words(&rt) {
+        Ok(words) => words,
+        Err(refusal) => {
+            return ExitCode::from(refusal.report(&mut Patient::new(&rt, rt.stderr())));
+        }
     };
+    let Some(wanted) = take_wanted(&mut words) else {
+        return ExitCode::from(refuse(&mut Patient::new(&rt, rt.stderr())));
+    };
+    let has_words = wanted.holds(&rt);
+    let mut out = Keeping::new(rt.alloc(), Patient::new(&rt, rt.stdout()), has_words);
+    let mut err = Keeping::new(rt.alloc(), Patient::new(&rt, rt.stderr()), has_words);
+    let status = command(
+        &rt,
+        rt.alloc(),
+        &words,
+        &mut FileShelf::new(&rt),
+        &mut standard_input(&rt, rt.stdin()),
+        &mut out,
+        &mut err,
+    );
+    if has_words {
+        tell_words(&rt, &words, status, &out, &mut err);
+    }
     ExitCode::from(status)
+}
+
+// When words are wanted. If the first two words behind the program's name say it, they are taken out.
+fn take_wanted(words: &mut Vec<String>) -> Option<WordsWanted> {
+    if words.len() < 2 || words[1].as_str() != WORDS {
+        return Some(WordsWanted::Terminal);
+    }
+    if words.len() < 3 {
+        return None;
+    }
+    let wanted = WordsWanted::of_word(words[2].as_str());
+    words.remove(2);
+    words.remove(1);
+    wanted
+}
+
+// Tells how to say when words are wanted, and returns the status.
+fn refuse<E: Write>(err: &mut E) -> u8 {
+    let _ = err.write_all(
+        b"kpn: usage: --words always, never or terminal, in front of the command\n",
+    );
+    let _ = err.flush();
+    2
 }
 
 // The words of the command line, the program's name first.

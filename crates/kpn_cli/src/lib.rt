@@ -2,11 +2,19 @@
 //! writers.
 #![tactic(auto)]
 
+mod advice;
+mod causes;
 mod concluding;
 mod here;
+mod keeping;
+mod named;
 mod program;
 mod usage;
+mod waits;
+mod words;
 
 pub use here::{Progress, answer_here};
+pub use keeping::Keeping;
 pub use kpn_shelf::{FileShelf, Look, MemoryShelf, Ports, Shelf};
 pub use program::command;
+pub use words::{WordsWanted, tell_words};

@@ -1,9 +1,11 @@
 -- What `kpn explain` comes to of a trace, and why it gives no answer. Of the texts about what is wrong the beginning is
 -- fixed here, which names the place; rows show their words.
-use Rattle.std.specs.Prelude.{◌≡◌, ℕ, ◌+◌, nat_eq, if◌then◌else◌, true, List, [], ◌++◌, Ok, codes, ⊤}
+use Rattle.std.specs.Prelude.{◌≡◌, ℕ, ◌+◌, nat_eq, if◌then◌else◌, Bool, true, false, List, [], ◌++◌, Ok, codes, ⊤}
 use Rattle.std.specs.List.{starts_with}
 use Rattle.std.specs.declared.alloc.Global.{Global}
+use Rattle.kpn_net.specs.declared.wait.Wait.{Wait}
 use Rattle.kpn_net.specs.Tables.{Tables}
+use Rattle.kpn_ring.specs.Told.{AreRings, are_some}
 use Rattle.kpn_run_history.specs.declared.stored.Trace.{Trace}
 use Rattle.kpn_trace.specs.declared.fault.TraceFault.{TraceFault}
 use Rattle.kpn_trace.specs.TraceText.{Spells, Refuses}
@@ -29,10 +31,25 @@ use Rattle.kpn_command_explain.specs.Lines.{line_start}
 
 -- ---- the texts
 
+-- a text begins with `deadlock: ` if there is a ring, and else it is empty
+abbrev pub BeginsByRings : (is_there : Bool) → (text : List ℕ) → Type 0
+BeginsByRings true text = (words : List ℕ) × (text ≡ codes "deadlock: " ++ words)
+BeginsByRings false text = text ≡ []
+
+-- a text says whether there are rings of these waits
+abbrev pub TellsRings : Tables → List Wait → (text : List ℕ) → Type 0
+TellsRings t waits text = (told : List (List ℕ)) × AreRings t waits told × BeginsByRings (are_some told) text
+
 -- what the audit says of a legal history, and more behind it only if it is not exact
+abbrev pub IsAuditedText : {A : Type 0} → Document → Audit A → (text : List ℕ) → Type 0
+IsAuditedText d audit text =
+    (rest : List ℕ) × (text ≡ audit_text d.names.channels audit ++ rest) × (audit.exact ≡ true → rest ≡ [])
+
+-- the rings of a legal history, if there are some, and what the audit says of it
 abbrev pub IsLegalText : {A : Type 0} → Document → Audit A → (text : List ℕ) → Type 0
 IsLegalText d audit text =
-    (rest : List ℕ) × (text ≡ audit_text d.names.channels audit ++ rest) × (audit.exact ≡ true → rest ≡ [])
+    (first told : List ℕ) × (text ≡ first ++ told) × TellsRings d.tables audit.waits first
+    × IsAuditedText d audit told
 
 -- the line that ends the first lines of a trace of this beginning
 abbrev pub head_line : (bytes : List ℕ) → ℕ
@@ -55,9 +72,9 @@ ExplainsEvent name bytes trace k text =
 
 -- ---- what the command comes to
 
--- the text and the status for a trace: the lines of the audit if its history is legal, and what a stop means for the
--- items, 0; what stands before the first event that is not legal, 1; or the event that its process did not come to in
--- so many steps, 5
+-- the text and the status for a trace: the rings and the lines of the audit if its history is legal, and what a stop
+-- means for the items, 0; what stands before the first event that is not legal, 1; or the event that its process did
+-- not come to in so many steps, 5
 pub data IsConclusion (d : Document) (name bytes : List ℕ) (trace : Trace Global) (steps : ℕ) (text : List ℕ)
     (status : ℕ) : Type 0 where
   legal : (audit : Audit Global) → IsFoundLegal d.tables trace steps audit

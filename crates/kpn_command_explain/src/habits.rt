@@ -63,6 +63,10 @@ pub(crate) enum Habit {
     NoCapacity,
     /// A number with a point.
     Fraction,
+    /// `^`
+    Power,
+    /// `[` behind a name.
+    Place,
 }
 
 /// The way of writing at the first place of a fault of this kind.
@@ -78,6 +82,9 @@ pub(crate) fn habit_of(
         Case::Misplaced => Ok(habit_at(stand_of(alloc, text, tokens, at)?, last, here)),
         Case::Reserved => Ok(reserved_habit(spot_at(tokens, at), last, here)),
         Case::NoToken if here.starts_with(b".") => point_habit(alloc, text, at),
+        Case::NoToken if here.starts_with(b"^") || here.starts_with(b"[") => {
+            operand_mark_habit(alloc, front(text, at), here)
+        }
         Case::NoToken => byte_habit(alloc, front(text, at), here),
         Case::UnknownVariable => Ok(habit_if(
             is_word(here, b"true") || is_word(here, b"false"),
@@ -243,15 +250,66 @@ fn reserved_habit(spot: Spot, last: &[u8], here: &[u8]) -> Option<Habit> {
     }
 }
 
-// A point: the last token before it may be a number, if one may stand there.
+// A point: the last token before it may be a number, if one may stand there. Behind `for NAME in NUMBER` two of them
+// begin a range.
 fn point_habit(alloc: Global, text: &[u8], at: usize) -> Result<Option<Habit>, AllocError> {
-    let before = match lexemes(alloc, front(text, at)) {
-        Ok(tokens) => start_before(tokens.as_slice(), at),
+    let tokens = match lexemes(alloc, front(text, at)) {
+        Ok(tokens) => tokens,
         Err(LexFault::NoMemory) => return Err(AllocError),
         Err(_) => return Ok(None),
     };
+    let before = start_before(tokens.as_slice(), at);
+    if back(text, at).starts_with(b"..") && begins_for(alloc, text, tokens.as_slice(), before)? {
+        return Ok(Some(Habit::For));
+    }
     let is_number = is_fraction(back(text, before)) && is_taken(alloc, front(text, at), before)?;
     Ok(habit_if(is_number, Habit::Fraction))
+}
+
+// Whether `for NAME in` stands before a token, where a loop may begin.
+fn begins_for(
+    alloc: Global,
+    text: &[u8],
+    tokens: &[Lexeme<'_>],
+    at: usize,
+) -> Result<bool, AllocError> {
+    let within = start_before(tokens, at);
+    let begin = start_before(tokens, start_before(tokens, within));
+    if !is_word(back(text, within), b"in") || !is_word(back(text, begin), b"for") {
+        return Ok(false);
+    }
+    may_stand(alloc, front(text, begin), b"while")
+}
+
+// `^` behind an operand, or `[` behind the name of a variable.
+fn operand_mark_habit(
+    alloc: Global,
+    before: &[u8],
+    here: &[u8],
+) -> Result<Option<Habit>, AllocError> {
+    let is_operand = ends_operand(alloc, before)?;
+    if here.starts_with(b"^") {
+        return Ok(habit_if(is_operand, Habit::Power));
+    }
+    let is_place = is_operand || may_stand(alloc, before, b"=")?;
+    Ok(habit_if(is_place, Habit::Place))
+}
+
+// Whether a text ends with a whole operand: an operator with two sides may follow, or the last token is a name or a
+// number, and an expression between parentheses might stand in its place.
+fn ends_operand(alloc: Global, text: &[u8]) -> Result<bool, AllocError> {
+    if may_stand(alloc, text, b"*")? {
+        return Ok(true);
+    }
+    let last = match lexemes(alloc, text) {
+        Ok(tokens) => start_before(tokens.as_slice(), text.len()),
+        Err(LexFault::NoMemory) => return Err(AllocError),
+        Err(_) => return Ok(false),
+    };
+    if name_at(text, last).is_empty() {
+        return Ok(false);
+    }
+    may_stand(alloc, front(text, last), b"(")
 }
 
 // Another byte than a point with which no token begins, if the mark that the advice names may stand there.

@@ -5,6 +5,7 @@ mod cases;
 mod choices;
 mod concerned;
 mod counts;
+mod deadlock;
 mod description;
 mod excerpt;
 mod excess;

@@ -18,7 +18,8 @@ use std::alloc::Global;
 
 /// What `kpn explain FILE TRACE` comes to. Each process may make `steps` steps before each of its events. It reads the
 /// description first, then the trace. For a trace that is legal, and for one out of steps, it tells what `kpn audit`
-/// tells. If a legal one is not exact, it tells which sinks are complete and why nobody reads where a writer waits.
+/// tells. Of a legal one it tells the rings first, and if it is not exact, also which sinks are complete and why nobody
+/// reads where a writer waits.
 pub fn explain_trace_command<S: Shelf>(
     alloc: Global,
     file: &str,

@@ -4,6 +4,7 @@ ghost use Rattle.std.specs.String.{string_bytes};
 ghost use Rattle.kpn_trace.specs.TraceText.{head_lines};
 ghost use Rattle.kpn_command_explain.specs.TraceAnswers as spec;
 
+use crate::deadlock::deadlock_text;
 use crate::excerpt::{push_excerpt, push_where};
 use crate::lines::line_start;
 use crate::not_exact::push_not_exact;
@@ -15,13 +16,23 @@ use kpn_text::Document;
 use kpn_trace::TraceFault;
 use std::alloc::{AllocError, Global};
 
-/// What the audit says of a legal history, and what a stop means for the items if it is not exact.
+/// The rings of a legal history, what the audit says of it, and what a stop means for the items if it is not exact.
 pub(crate) fn legal_text(
     alloc: Global,
     document: &Document,
     audit: &Audit,
 ) -> Result<Vec<u8>, AllocError>
     ensures { IfOk result (λ text. spec.IsLegalText document.now audit.now text.items) }
+{
+    let told = audited_text(alloc, document, audit)?;
+    let mut text = deadlock_text(alloc, document, audit)?;
+    text.extend_from_slice(&told)?;
+    Ok(text)
+}
+
+// What the audit says, and what a stop means for the items if the history is not exact.
+fn audited_text(alloc: Global, document: &Document, audit: &Audit) -> Result<Vec<u8>, AllocError>
+    ensures { IfOk result (λ text. spec.IsAuditedText document.now audit.now text.items) }
 {
     let rest = not_exact_text(alloc, document, audit)?;
     let mut text = text_of_audit(alloc, document, audit)?;

@@ -198,7 +198,7 @@ end_status ending lost stored is_told over =
     unwrap_or
     (first_of (first_of (ending_fault ending) (lost_fault lost))
     (first_of (trace_fault stored) (summary_fault is_told)))
-    (stream_status over.sinks.items over.states over.outcome)
+    (stream_status over.sinks.items over.states over.rings over.outcome)
 
 -- A stream that has ended: what is told of it, its trace, and the status; or there was no memory for what is told, and
 -- no trace is stored.

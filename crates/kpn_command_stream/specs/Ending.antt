@@ -2,6 +2,8 @@
 use Rattle.std.specs.Prelude.{◌≡◌, Bool, true, false, Option, Some, None}
 use Rattle.kpn_run_history.specs.declared.event.Event.{Event}
 use Rattle.kpn_run_history.specs.declared.event.Event.TheVariants.{Close, Grow}
+use Rattle.kpn_run_history.specs.Waiting.{waits_of}
+use Rattle.kpn_ring.specs.Told.{AreRings}
 use Rattle.kpn_run_state.specs.Book.{Book}
 use Rattle.kpn_book.specs.declared.outcome.Limits.{Limits}
 use Rattle.kpn_book.specs.declared.outcome.Outcome.{Outcome}
@@ -29,10 +31,12 @@ IsOutcomeAt limits ending.Resting before told after =
     AreClosed before after × IsOutcome after.tables after.history after.commits limits told
 IsOutcomeAt limits other before told after = (told ≡ None) × (after ≡ before)
 
--- what is told of a stream: of its sinks before sources are closed that nobody reads, and the rest afterwards
+-- what is told of a stream: of its sinks before sources are closed that nobody reads, and the rest afterwards. Its
+-- rings are those of its history
 pub record IsOver (limits : Limits) (ending : Ending) (b : Book) (over : Over) : Type 0 where
   pub sinks : AreSinkEnds b over.sinks.items
   pub after : Book
   pub outcome : IsOutcomeAt limits ending b over.outcome after
   pub history : over.history.events ≡ after.history
   pub states : over.states ≡ after.schedule.states
+  pub rings : AreRings after.tables (waits_of after.tables after.history) over.rings

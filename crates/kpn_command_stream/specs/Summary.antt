@@ -15,6 +15,7 @@ use Rattle.kpn_run_state.specs.Book.{Book}
 use Rattle.kpn_book.specs.declared.outcome.Outcome.{Outcome}
 use Rattle.kpn_book.specs.declared.outcome.Outcome.TheVariants.{Stopped}
 use Rattle.kpn_command_base.specs.ReportText.{fault_text, wait_text, state_lines, outcome_word, outcome_status}
+use Rattle.kpn_ring.specs.Told.{are_some}
 use Rattle.kpn_stream.specs.Ending.{end_numbers}
 use Rattle.kpn_command_stream.specs.declared.summary.SinkEnd.{SinkEnd}
 
@@ -51,10 +52,11 @@ abbrev pub status_at : Option Outcome → ℕ
 status_at (Some outcome) = outcome_status outcome
 status_at None = outcome_status Stopped
 
--- 8 if a process has faulted; else 0 if each sink is complete or was left; else that of the outcome
-abbrev pub stream_status : List SinkEnd → List State → Option Outcome → ℕ
-stream_status sinks states outcome =
-    if has_fault states then 8 else (if are_done sinks then 0 else status_at outcome)
+-- 8 if a process has faulted; else 9 if there is a ring; else 0 if each sink is complete or was left; else that of the
+-- outcome
+abbrev pub stream_status : List SinkEnd → List State → (rings : List (List ℕ)) → Option Outcome → ℕ
+stream_status sinks states rings outcome =
+    if has_fault states then 8 else (if are_some rings then 9 else (if are_done sinks then 0 else status_at outcome))
 
 -- ---- the text
 
@@ -67,12 +69,24 @@ sink_text name sink =
 abbrev pub sinks_text : (names : List (List ℕ)) → List SinkEnd → List ℕ
 sinks_text names sinks = flat_map (λ sink. sink_text (name_at names sink.channel) sink) sinks
 
+-- the names of processes, with a space before each
+abbrev pub members_text : (names : List (List ℕ)) → List ℕ → List ℕ
+members_text names members = flat_map (λ p. codes " " ++ name_at names p) members
+
+-- `deadlock` and the names of the members
+abbrev pub ring_text : (names : List (List ℕ)) → List ℕ → List ℕ
+ring_text names members = codes "deadlock" ++ members_text names members ++ codes "\n"
+
+abbrev pub rings_text : (names : List (List ℕ)) → (rings : List (List ℕ)) → List ℕ
+rings_text names rings = flat_map (λ members. ring_text names members) rings
+
 abbrev pub outcome_text : Option Outcome → List ℕ
 outcome_text (Some outcome) = outcome_word outcome ++ codes "\n"
 outcome_text None = []
 
--- the sinks, the faults, the waits, and the outcome if there is one, each on a line
-abbrev pub summary_text : Document → List SinkEnd → List State → Option Outcome → List ℕ
-summary_text d sinks states outcome =
+-- the sinks, the faults, the waits, the rings, and the outcome if there is one, each on a line
+abbrev pub summary_text : Document → List SinkEnd → List State → (rings : List (List ℕ)) → Option Outcome → List ℕ
+summary_text d sinks states rings outcome =
     sinks_text d.names.channels sinks ++ state_lines fault_text d.names.instances 0 states
-    ++ state_lines (wait_text d.names.channels) d.names.instances 0 states ++ outcome_text outcome
+    ++ state_lines (wait_text d.names.channels) d.names.instances 0 states ++ rings_text d.names.instances rings
+    ++ outcome_text outcome

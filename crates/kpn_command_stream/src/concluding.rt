@@ -2,6 +2,7 @@
 ghost use Rattle.std.specs.Prelude.{◌≡◌, Bool, Some, unwrap_or, Result as Answer};
 ghost use Rattle.kpn_command_base.specs.declared.refusal.Refusal.{Refusal as Cause};
 ghost use Rattle.kpn_command_stream.specs.Command.{IsConcluded, IsTraceKept, end_status};
+ghost use Rattle.kpn_command_stream.specs.Summary.{stream_status};
 ghost use Rattle.kpn_command_stream.specs.Refusal.{ending_fault, first_of, lost_fault, summary_fault, trace_fault};
 
 use crate::ending::{Over, over_of};
@@ -63,7 +64,16 @@ fn conclude_over<S: Shelf, E: Write>(
     let unstored = report_trace(&stored, err);
     let untold = report_summary(is_told, err);
     let status = first_of(failed, first_of(unstored, untold));
-    status.unwrap_or(stream_status(&over.sinks, over.states.as_slice(), over.outcome))
+    status.unwrap_or(status_of_over(over))
+}
+
+/// The status of what a stream has come to, if nothing has failed.
+fn status_of_over(over: &Over) -> u8
+    ensures { let o = over.now in
+        result ≡ stream_status o.sinks.items o.states o.rings o.outcome }
+{
+    let states = over.states.as_slice();
+    stream_status(&over.sinks, states, over.rings.as_slice(), over.outcome)
 }
 
 /// There was no memory for what is to be told. So there is none for the trace either.
@@ -135,6 +145,7 @@ fn tell<E: Write>(
         document,
         &over.sinks,
         over.states.as_slice(),
+        over.rings.as_slice(),
         over.outcome,
     ) {
         Ok(text) => {

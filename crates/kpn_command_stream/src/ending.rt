@@ -1,10 +1,11 @@
-//! What a stream has come to: its sinks, its outcome, the states of its processes, and its history.
+//! What a stream has come to: its sinks, its outcome, the states of its processes, its rings, and its history.
 ghost use Rattle.std.specs.Prelude.{◌≡◌, IfOk};
 ghost use Rattle.kpn_command_stream.specs.Ending.{AreClosed, IsOutcomeAt, IsOver};
 
 use crate::summary::{SinkEnd, sink_ends};
 use kpn_book::outcome_of;
 use kpn_lang::Sequence;
+use kpn_ring::rings_among;
 use kpn_run_history::{History, State};
 use kpn_run_state::Book;
 use kpn_stream::{Ending, Limits, Outcome, Streamed, end_numbers_of};
@@ -16,6 +17,7 @@ pub(crate) struct Over {
     pub(crate) sinks: Vec<SinkEnd>,
     pub(crate) outcome: Option<Outcome>,
     pub(crate) states: Sequence<State>,
+    pub(crate) rings: Sequence<Sequence<usize>>,
     pub(crate) history: History,
 }
 
@@ -31,11 +33,15 @@ pub(crate) fn over_of(
     let Streamed { ending, mut book } = streamed;
     let sinks = sink_ends(alloc, &book)?;
     let outcome = outcome_at(alloc, ending, &mut book, limits)?;
+    book.known();
+    let network = book.network();
     let (states, history) = book.into_states(alloc)?;
+    let rings = rings_among(alloc, network, states.as_slice())?;
     Ok(Over {
         sinks,
         outcome,
         states,
+        rings,
         history,
     })
 }

@@ -1,13 +1,15 @@
 //! What is told of a stream that has ended, and its status.
-ghost use Rattle.std.specs.Prelude.{◌≡◌, ◌<◌, true, length, IfOk, IsTrue};
+ghost use Rattle.std.specs.Prelude.{◌≡◌, ◌<◌, ◌++◌, true, length, codes, IfOk, IsTrue};
 ghost use Rattle.std.specs.List.{AllZip};
 ghost use Rattle.std.specs.String.{string_bytes};
 ghost use Rattle.kpn_net.specs.Tables.{is_sink};
 ghost use Rattle.kpn_command_base.specs.Added.{Adds};
+ghost use Rattle.kpn_ring.specs.Told.{are_some};
 ghost use Rattle.kpn_stream.specs.Ending.{end_numbers};
-ghost use Rattle.kpn_command_stream.specs.Summary.{IsSinkEnd, AreSinkEnds, are_done, has_fault, is_fault, sink_text, status_at, stream_status, sinks_text, outcome_text, summary_text};
+ghost use Rattle.kpn_command_stream.specs.Summary.{IsSinkEnd, AreSinkEnds, are_done, has_fault, is_fault, members_text, outcome_text, ring_text, rings_text, sink_text, sinks_text, status_at, stream_status, summary_text};
 
 use kpn_command_base::{Pushed, push_faults, push_waits, status_of, word_of};
+use kpn_lang::Sequence;
 use kpn_run_history::{How, State};
 use kpn_run_state::Book;
 use kpn_stream::{Outcome, end_numbers_of};
@@ -49,11 +51,19 @@ fn sink_end(book: &Book<'_>, c: usize) -> SinkEnd
 }
 
 /// The status of a stream no device of which has failed.
-pub(crate) fn stream_status(sinks: &[SinkEnd], states: &[State], outcome: Option<Outcome>) -> u8
-    ensures { result ≡ stream_status sinks.now states.now outcome }
+pub(crate) fn stream_status(
+    sinks: &[SinkEnd],
+    states: &[State],
+    rings: &[Sequence<usize>],
+    outcome: Option<Outcome>,
+) -> u8
+    ensures { result ≡ stream_status sinks.now states.now rings.now outcome }
 {
     if has_fault(states) {
         return 8;
+    }
+    if has_ring(rings) {
+        return 9;
     }
     if are_done(sinks) {
         return 0;
@@ -86,6 +96,13 @@ fn is_fault(state: State) -> bool
     }
 }
 
+/// Whether there is a ring.
+fn has_ring(rings: &[Sequence<usize>]) -> bool
+    ensures { result ≡ are_some rings.now }
+{
+    0 < rings.len()
+}
+
 /// Whether each sink is complete or was left.
 fn are_done(sinks: &[SinkEnd]) -> bool
     ensures { result ≡ are_done sinks.now }
@@ -93,21 +110,23 @@ fn are_done(sinks: &[SinkEnd]) -> bool
     sinks.iter().all(|sink| sink.is_complete || sink.is_left)
 }
 
-/// The sinks, the faults, the waits, and the outcome if there is one.
+/// The sinks, the faults, the waits, the rings, and the outcome if there is one.
 pub(crate) fn summary_of(
     alloc: Global,
     document: &Document,
     sinks: &[SinkEnd],
     states: &[State],
+    rings: &[Sequence<usize>],
     outcome: Option<Outcome>,
 ) -> Result<String, AllocError>
-    ensures { IfOk result (λ text.
-        string_bytes text ≡ summary_text document.now sinks.now states.now outcome) }
+    ensures { IfOk result (λ text. string_bytes text
+        ≡ summary_text document.now sinks.now states.now rings.now outcome) }
 {
     let mut text = String::new(alloc);
     push_sinks(&mut text, document, sinks)?;
     push_faults(&mut text, document, states)?;
     push_waits(&mut text, document, states)?;
+    push_rings(&mut text, document, rings)?;
     push_outcome(&mut text, outcome)?;
     Ok(text)
 }
@@ -131,6 +150,40 @@ fn push_sink(text: &mut String, name: &str, sink: SinkEnd) -> Pushed
     } else {
         write!(text, "sink {name}: {items} items, not complete\n")
     }
+}
+
+/// The line of each ring.
+fn push_rings(text: &mut String, document: &Document, rings: &[Sequence<usize>]) -> Pushed
+    ensures { Adds result text.old text.new (rings_text document.now.names.instances rings.now) }
+{
+    for members in rings {
+        push_ring(text, document, members.as_slice())?;
+    }
+    Ok(())
+}
+
+fn push_ring(text: &mut String, document: &Document, members: &[usize]) -> Pushed
+    ensures { Adds result text.old text.new (ring_text document.now.names.instances members.now) }
+{
+    text.push_str("deadlock")?;
+    push_members(text, document, members)?;
+    text.push_str("\n")
+}
+
+/// The names of processes, with a space before each.
+fn push_members(text: &mut String, document: &Document, members: &[usize]) -> Pushed
+    ensures { Adds result text.old text.new (members_text document.now.names.instances members.now) }
+{
+    for p in members {
+        push_member(text, document.instance_name(*p))?;
+    }
+    Ok(())
+}
+
+fn push_member(text: &mut String, name: &str) -> Pushed
+    ensures { Adds result text.old text.new (codes " " ++ name.now) }
+{
+    write!(text, " {name}")
 }
 
 /// The line of the outcome.

@@ -3,6 +3,7 @@
 ghost use Rattle.std.specs.Prelude.{◌<◌, length};
 
 use crate::found::{Flow, flow_of, state_of};
+use crate::knots::Knots;
 use kpn_audit::Audit;
 use kpn_command_base::{Direction, Pushed, parameters_of};
 use kpn_net::End;
@@ -21,18 +22,44 @@ pub(crate) fn text_of(
     let mut text = String::new(alloc);
     push_head(&mut text, direction)?;
     let network = document.network();
+    let knots = Knots::of(alloc, network, audit)?;
     for p in 0..network.instances() {
-        push_process(alloc, &mut text, document, p, state_of(audit, p))?;
+        let is_knotted = knots.is_member(p);
+        push_process(
+            alloc,
+            &mut text,
+            document,
+            p,
+            state_of(audit, p),
+            is_knotted,
+        )?;
     }
     for c in 0..network.channels() {
         push_outside(&mut text, document, c)?;
-        push_edge(&mut text, document, c, flow_of(network, audit, c))?;
+        let is_knotted = knots.is_awaited(audit, c);
+        push_edge(
+            &mut text,
+            document,
+            c,
+            flow_of(network, audit, c),
+            is_knotted,
+        )?;
     }
-    if audit.is_some() {
-        text.push_str("  label=\"green: complete, nothing more is ever put there\";\n")?;
-    }
+    push_legend(&mut text, audit.is_some(), knots.is_some())?;
     text.push_str("}\n")?;
     Ok(text.into_bytes())
+}
+
+// What the colours mean.
+fn push_legend(text: &mut String, is_audited: bool, is_knotted: bool) -> Pushed {
+    if !is_audited {
+        return Ok(());
+    }
+    text.push_str("  label=\"green: complete, nothing more is ever put there")?;
+    if is_knotted {
+        text.push_str("\\norange: processes that wait for each other")?;
+    }
+    text.push_str("\";\n")
 }
 
 // The lines that hold for the whole drawing.
@@ -47,13 +74,14 @@ fn push_head(text: &mut String, direction: Direction) -> Pushed {
 }
 
 // The line of a process: `INSTANCE: PROCESS`, its parameters, and what it waits for or how it has ended. A box is grey
-// if its process is done, red if it has faulted, and yellow if it waits.
+// if its process is done, red if it has faulted, orange if it waits in a cycle, and yellow if it waits otherwise.
 fn push_process(
     alloc: Global,
     text: &mut String,
     document: &Document,
     p: usize,
     state: State,
+    is_knotted: bool,
 ) -> Pushed
     requires { p < length document.now.tables.instances }
 {
@@ -64,11 +92,11 @@ fn push_process(
     let filling = match state {
         State::WaitsEmpty(c) => {
             write!(text, "\\nwaits {}", document.channel_name(c))?;
-            ", style=filled, fillcolor=lightyellow"
+            waiting(is_knotted)
         }
         State::WaitsFull(c) => {
             write!(text, "\\nwaits {} full", document.channel_name(c))?;
-            ", style=filled, fillcolor=lightyellow"
+            waiting(is_knotted)
         }
         State::Ended(how) => {
             write!(text, "\\n{}", how_word(how))?;
@@ -80,6 +108,15 @@ fn push_process(
         State::Ready | State::Held => "",
     };
     write!(text, "\"{filling}];\n")
+}
+
+// How a box of a process that waits is filled.
+fn waiting(is_knotted: bool) -> &'static str {
+    if is_knotted {
+        ", style=filled, fillcolor=orange"
+    } else {
+        ", style=filled, fillcolor=lightyellow"
+    }
 }
 
 // The ellipse of the outside at a channel, if it is a source or a sink.
@@ -98,8 +135,14 @@ fn push_outside(text: &mut String, document: &Document, c: usize) -> Pushed {
 }
 
 // The edge of a channel from its writer to its reader: its name, its capacity at first, and what went over it. It is
-// bold if the channel has grown, and green if the channel is complete.
-fn push_edge(text: &mut String, document: &Document, c: usize, flow: Option<Flow>) -> Pushed
+// bold if the channel has grown, orange if a cycle waits on it, and else green if it is complete.
+fn push_edge(
+    text: &mut String,
+    document: &Document,
+    c: usize,
+    flow: Option<Flow>,
+    is_knotted: bool,
+) -> Pushed
     requires { c < length document.now.tables.channels }
 {
     let network = document.network();
@@ -112,19 +155,29 @@ fn push_edge(text: &mut String, document: &Document, c: usize, flow: Option<Flow
         write!(text, " ({cap})")?;
     }
     let mut style = "";
+    let mut colour = "";
     if let Some(flow) = flow {
         write!(text, "\\n{} put, {} unread", flow.put, flow.unread)?;
         if let Some(cap) = flow.grown {
             write!(text, ", grown to {cap}")?;
         }
-        style = match (flow.grown, flow.is_complete) {
-            (None, false) => "",
-            (None, true) => ", color=darkgreen",
-            (Some(_), false) => ", style=bold",
-            (Some(_), true) => ", style=bold, color=darkgreen",
-        };
+        if flow.grown.is_some() {
+            style = ", style=bold";
+        }
+        colour = colour_of(flow, is_knotted);
     }
-    write!(text, "\"{style}];\n")
+    write!(text, "\"{style}{colour}];\n")
+}
+
+// The colour of an edge.
+fn colour_of(flow: Flow, is_knotted: bool) -> &'static str {
+    if is_knotted {
+        ", color=orangered, penwidth=3"
+    } else if flow.is_complete {
+        ", color=darkgreen"
+    } else {
+        ""
+    }
 }
 
 // The box or the ellipse at an end of a channel.

@@ -11,6 +11,7 @@ mod drawing;
 mod figures;
 mod found;
 mod frame;
+mod knots;
 mod measured;
 mod picture;
 mod scale;

@@ -10,6 +10,7 @@ use crate::times::Times;
 use kpn_audit::Audit;
 use kpn_command_base::{Pushed, StatsTables, parameters_of};
 use kpn_net::Wait;
+use kpn_ring::rings;
 use kpn_text::Document;
 use kpn_trace::how_word;
 use std::alloc::{AllocError, Global};
@@ -61,6 +62,7 @@ pub(crate) fn text_of(
             push_lengths(&mut text, times)?;
             let shares = times.shares.as_slice();
             push_bound(alloc, &mut text, document, shares, times.bounded.last())?;
+            push_rings(alloc, &mut text, document, audit)?;
             text.push_str("\n")?;
             channel_table(alloc, document, audit, channels, times)?.push_aligned(alloc, &mut text)?;
             text.push_str("\n")?;
@@ -93,6 +95,19 @@ fn push_lengths(text: &mut String, times: &Times) -> Pushed {
     }
     let n = moves as u128 * 100 / length as u128;
     write!(text, "{}.{}{}\n", n / 100, n / 10 % 10, n % 10)
+}
+
+// A line for each ring: `deadlock` and the names of its members.
+fn push_rings(alloc: Global, text: &mut String, document: &Document, audit: &Audit) -> Pushed {
+    let rings = rings(alloc, document.network(), audit.waits.as_slice())?;
+    for members in rings.as_slice() {
+        text.push_str("deadlock")?;
+        for p in members.as_slice() {
+            write!(text, " {}", document.instance_name(*p))?;
+        }
+        text.push_str("\n")?;
+    }
+    Ok(())
 }
 
 // A row for each channel.

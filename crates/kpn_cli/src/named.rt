@@ -1,0 +1,88 @@
+//! The files that a request names.
+
+use kpn_command_base::{RunRequest, StreamRequest};
+use kpn_limits::USUAL_COUNT;
+
+/// What a request names: files that are read and written. `is_items` says that the only one is an item file, and
+/// `has_explained` that the command itself says what is wrong in them.
+#[derive(Clone, Copy)]
+pub(crate) struct Named<'r, 'a> {
+    pub(crate) file: &'a str,
+    pub(crate) sources: &'r [&'a str],
+    pub(crate) sinks: &'r [&'a str],
+    pub(crate) read: Option<&'a str>,
+    pub(crate) stored: Option<&'a str>,
+    pub(crate) steps: u64,
+    pub(crate) is_items: bool,
+    pub(crate) has_explained: bool,
+}
+
+impl<'r, 'a> Named<'r, 'a> {
+    /// A description.
+    pub(crate) fn bare(file: &'a str) -> Named<'r, 'a> {
+        Named {
+            file,
+            sources: &[],
+            sinks: &[],
+            read: None,
+            stored: None,
+            steps: USUAL_COUNT,
+            is_items: false,
+            has_explained: false,
+        }
+    }
+
+    /// An item file.
+    pub(crate) fn of_items(file: &'a str) -> Named<'r, 'a> {
+        Named {
+            is_items: true,
+            ..Named::bare(file)
+        }
+    }
+
+    /// A description, and a trace that is read with at most so many steps before an event.
+    pub(crate) fn traced(file: &'a str, trace: Option<&'a str>, steps: u64) -> Named<'r, 'a> {
+        Named {
+            read: trace,
+            steps,
+            ..Named::bare(file)
+        }
+    }
+
+    /// The same, for a command that says what is wrong there.
+    pub(crate) fn explained(file: &'a str, trace: Option<&'a str>) -> Named<'r, 'a> {
+        Named {
+            read: trace,
+            has_explained: true,
+            ..Named::bare(file)
+        }
+    }
+
+    /// A description, and what is given to sources.
+    pub(crate) fn fed(file: &'a str, sources: &'r [&'a str]) -> Named<'r, 'a> {
+        Named {
+            sources,
+            ..Named::bare(file)
+        }
+    }
+
+    /// What a run reads and stores.
+    pub(crate) fn of_run(run: &'r RunRequest<'a>) -> Named<'r, 'a> {
+        Named {
+            sources: &run.sources,
+            sinks: &run.sinks,
+            stored: run.trace,
+            ..Named::bare(run.file)
+        }
+    }
+
+    /// What a stream reads and stores.
+    pub(crate) fn of_stream(stream: &'r StreamRequest<'a>) -> Named<'r, 'a> {
+        Named {
+            sources: &stream.sources,
+            sinks: &stream.sinks,
+            stored: stream.trace,
+            ..Named::bare(stream.file)
+        }
+    }
+}

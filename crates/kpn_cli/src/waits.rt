@@ -1,0 +1,165 @@
+//! Which processes wait, as the lines of a report say, and what follows from it.
+
+use crate::causes::push;
+use kpn_net::End;
+use kpn_text::Document;
+use std::alloc::{AllocError, Global};
+use std::str;
+
+// A wait of a process on a channel: for room, or else for an item.
+#[derive(Clone, Copy)]
+struct Waiting {
+    channel: usize,
+    is_full: bool,
+}
+
+/// For each process of a network whether it waits, and on what.
+#[derive(Drop)]
+pub(crate) struct Waits {
+    of: Vec<Option<Waiting>>,
+}
+
+/// The waits that the lines `waits INSTANCE CHANNEL` and `waits INSTANCE CHANNEL full` of a text tell.
+pub(crate) fn waits_in(
+    alloc: Global,
+    document: &Document,
+    written: &[u8],
+) -> Result<Waits, AllocError> {
+    let mut of = Vec::new(alloc);
+    for p in 0..document.network().instances() {
+        of.push(wait_of(document, document.instance_name(p), written))?;
+    }
+    Ok(Waits { of })
+}
+
+// The wait that a text tells of a process of this name.
+fn wait_of(document: &Document, name: &str, written: &[u8]) -> Option<Waiting> {
+    let text = str::from_utf8(written).unwrap_or("");
+    for line in text.lines() {
+        if let Some(rest) = line.strip_prefix("waits ") {
+            if let Some((instance, channel)) = rest.split_once(' ') {
+                if instance == name {
+                    return wait_on(document, channel);
+                }
+            }
+        }
+    }
+    None
+}
+
+// The wait on the channel that the end of a line names.
+fn wait_on(document: &Document, words: &str) -> Option<Waiting> {
+    let (name, is_full) = match words.split_once(' ') {
+        Some((name, _)) => (name, true),
+        None => (words, false),
+    };
+    let channel = document.find_channel(name)?;
+    Some(Waiting { channel, is_full })
+}
+
+impl Waits {
+    /// Adds a line for each ring: a cycle of processes that each wait for an item of the next one.
+    pub(crate) fn push_rings(
+        &self,
+        text: &mut Vec<u8>,
+        document: &Document,
+    ) -> Result<(), AllocError> {
+        for start in 0..self.of.len() {
+            if self.begins_ring(document, start) {
+                self.push_ring(text, document, start)?;
+            }
+        }
+        Ok(())
+    }
+
+    // Whether a process stands in a ring, and is the first of it in order of number.
+    fn begins_ring(&self, document: &Document, start: usize) -> bool {
+        let mut at = start;
+        for _turn in 0..self.of.len() {
+            match self.next(document, at) {
+                Some(next) if next == start => return true,
+                Some(next) if next > start => at = next,
+                _ => return false,
+            }
+        }
+        false
+    }
+
+    // The process for whose item a process waits.
+    fn next(&self, document: &Document, p: usize) -> Option<usize> {
+        match self.of.get(p) {
+            Some(Some(wait)) if !wait.is_full => writer(document, wait.channel),
+            _ => None,
+        }
+    }
+
+    // Adds the line of the ring that begins here.
+    fn push_ring(
+        &self,
+        text: &mut Vec<u8>,
+        document: &Document,
+        start: usize,
+    ) -> Result<(), AllocError> {
+        let (mut at, mut before) = (start, "deadlock: ");
+        for _turn in 0..self.of.len() {
+            let (Some(Some(wait)), Some(next)) = (self.of.get(at), self.next(document, at)) else {
+                break;
+            };
+            push(text, before)?;
+            push(text, document.instance_name(at))?;
+            push(text, " waits on ")?;
+            push(text, document.channel_name(wait.channel))?;
+            push(text, " for ")?;
+            push(text, document.instance_name(next))?;
+            before = ", ";
+            at = next;
+            if at == start {
+                break;
+            }
+        }
+        push(text, FIRST_ITEM)
+    }
+
+    /// Whether each sink is complete, if this is who waits at the end of a run: nobody behind it waits for room.
+    pub(crate) fn are_sinks_complete(&self, document: &Document) -> bool {
+        let network = document.network();
+        for channel in 0..network.channels() {
+            if network.is_sink(channel) && !self.is_complete(document, channel) {
+                return false;
+            }
+        }
+        true
+    }
+
+    // Whether nothing more comes on a channel. Behind a ring nothing does.
+    fn is_complete(&self, document: &Document, channel: usize) -> bool {
+        let mut channel = channel;
+        for _turn in 0..self.of.len() {
+            let Some(p) = writer(document, channel) else {
+                return true;
+            };
+            match self.of.get(p) {
+                Some(Some(wait)) if wait.is_full => return false,
+                Some(Some(wait)) => channel = wait.channel,
+                _ => return true,
+            }
+        }
+        true
+    }
+}
+
+const FIRST_ITEM: &str = "\
+; one of them has to write before it reads (a first item before its loop)
+";
+
+// The process that writes a channel.
+fn writer(document: &Document, channel: usize) -> Option<usize> {
+    let network = document.network();
+    if channel >= network.channels() {
+        return None;
+    }
+    match network.writer_of(channel) {
+        End::Process(p) if p < network.instances() => Some(p),
+        _ => None,
+    }
+}

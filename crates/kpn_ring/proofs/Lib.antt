@@ -1,0 +1,6 @@
+pub mod Final
+pub mod Searching
+pub mod Telling
+pub mod Stated
+pub mod Ends
+pub mod Least

@@ -1,0 +1,3 @@
+pub mod Ring
+pub mod Told
+pub mod Among

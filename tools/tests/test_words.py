@@ -1,0 +1,166 @@
+"""The words behind the fixed line: with `--words always`, and on a terminal."""
+import os
+import pathlib
+import pty
+import subprocess
+import tempfile
+import unittest
+
+TOP = pathlib.Path(__file__).resolve().parent.parent.parent
+PROGRAM = os.path.abspath(os.environ.get('KPN_PROGRAM', TOP / 'crates/kpn/out/kpn'))
+COPY = 'process copy(in i; out o) { while 1 { read i x; write o x; } }\n'
+LOOP = COPY + '''process add(in a, b; out o) { while 1 { read a x; read b y; write o (x + y); } }
+process fork(in i; out o, p) { while 1 { read i x; write o x; write p x; } }
+network {
+  source s; channel sums cap 1; channel again cap 1; channel back cap 1; sink z cap 1;
+  sum = add(s, back; sums); both = fork(sums; z, again); loop = copy(again; back);
+}
+'''
+ECHO = COPY + '''process add(in a, b; out o) { while 1 { read a x; read b y; write o (x + y); } }
+process ones(out o) { while 1 { write o 1; } }
+network { source s; channel one cap 1; sink z cap 1; n = ones(; one); sum = add(s, one; z); }
+'''
+
+
+class Words(unittest.TestCase):
+    def setUp(self):
+        folder = tempfile.TemporaryDirectory()
+        self.addCleanup(folder.cleanup)
+        self.folder = pathlib.Path(folder.name)
+        for name, text in (('copy.kpn', COPY + 'network { source s; sink z cap 1; c = copy(s; z); }\n'),
+                           ('wrong.kpn', COPY + 'network { source s; sink z cap 1; c = copi(s; z); }\n'),
+                           ('loop.kpn', LOOP), ('echo.kpn', ECHO), ('items', '1\n2\n3\n'), ('bad', '1\n2x\n')):
+            (self.folder / name).write_text(text)
+
+    def told(self, *words, status, given=''):
+        """What is written on standard error by words that come to this status."""
+        done = subprocess.run([PROGRAM, *words], cwd=self.folder, capture_output=True, text=True, input=given)
+        self.assertEqual(done.returncode, status, done.stderr)
+        return done.stderr
+
+    def behind(self, *words, status, line='', given=''):
+        """The words behind what is told without them, which begins with this line."""
+        bare = self.told('--words', 'never', *words, status=status, given=given)
+        self.assertEqual(bare, self.told(*words, status=status, given=given))
+        self.assertTrue(bare.startswith(line), bare)
+        told = self.told('--words', 'always', *words, status=status, given=given)
+        self.assertEqual(told[:len(bare)], bare)
+        return told[len(bare):]
+
+    def test_a_wrong_description(self):
+        said = self.behind('run', 'wrong.kpn', status=1, line='kpn: 22 UnknownName at')
+        told = subprocess.run([PROGRAM, 'explain', 'wrong.kpn'], cwd=self.folder, capture_output=True, text=True)
+        self.assertEqual(said, told.stdout)
+        self.assertIn('wrong.kpn:2:39: ', said)
+        for command in (['check'], ['print'], ['draw'], ['rounds', '2'], ['stream']):
+            self.assertEqual(self.behind(command[0], 'wrong.kpn', *command[1:], status=1), said)
+        self.assertEqual(self.behind('explain', 'wrong.kpn', status=1), '')
+
+    def test_a_file_that_is_not_there(self):
+        for words, name in ((['none.kpn'], 'none.kpn'), (['copy.kpn', '--source', 's=none'], 'none')):
+            said = self.behind('run', *words, status=1, line='kpn: 26 Read\n')
+            self.assertEqual(said, f"`{name}` can't be read: there is no such file\n")
+        self.assertEqual(self.behind('check', '.', status=1), "`.` can't be read: it is a folder\n")
+        self.assertEqual(self.behind('check', 'items/x', status=1),
+                         "`items/x` can't be read: a part of its path is no folder\n")
+        self.assertEqual(self.behind('audit', 'copy.kpn', 'none', status=1),
+                         "`none` can't be read: there is no such file\n")
+        self.assertEqual(self.behind('explain', 'copy.kpn', 'none', status=1),
+                         "`none` can't be read: there is no such file\n")
+
+    def test_a_wrong_item(self):
+        said = self.behind('run', 'copy.kpn', '--source', 's=items', '--source', 's=bad', status=1)
+        self.assertEqual(said, 'The option of source `s` is given twice.\n')
+        said = self.behind('run', 'copy.kpn', '--source', 's=bad', status=1, line='kpn: 25 BadItem at 2\n')
+        self.assertTrue(said.startswith('bad:2:1: '), said)
+
+    def test_a_wrong_name(self):
+        self.assertEqual(self.behind('run', 'copy.kpn', '--source', 't=items', status=1),
+                         'There is no source `t`. The network has `s`.\n')
+        self.assertEqual(self.behind('run', 'copy.kpn', '--sink', 's=out', status=1),
+                         'There is no sink `s`. The network has `z`.\n')
+
+    def test_an_output_that_can_not_be_written(self):
+        self.assertEqual(self.behind('run', 'copy.kpn', '--trace', 'no/t', status=1, line='kpn: 27 Write\n'),
+                         "`no/t` can't be written: its folder is not there\n")
+
+    def test_a_wrong_trace(self):
+        (self.folder / 'trace').write_text('kpn-trace 2\npolicy cycles grow one\nput 0 1 7\n')
+        said = self.behind('audit', 'copy.kpn', 'trace', status=1)
+        self.assertTrue(said.startswith('trace:3:1: '), said)
+        (self.folder / 'trace').write_text('kpn-trace 2\npolicy all grow one\n')
+        self.assertIn('another `policy`', self.behind('stats', 'copy.kpn', 'trace', status=1))
+
+    def test_a_ring(self):
+        said = self.behind('run', 'loop.kpn', '--source', 's=items', status=0)
+        self.assertTrue(said.startswith('deadlock: sum waits on back for loop, loop waits on again for both, both '
+                                        'waits on sums for sum; one of them has to write before it reads'), said)
+        self.assertEqual(self.behind('run', 'copy.kpn', '--source', 's=items', status=0), '')
+
+    def test_outcomes(self):
+        said = self.behind('run', 'echo.kpn', '--source', 's=items', status=3)
+        self.assertTrue(said.startswith('clogged: ') and 'All sinks are complete' in said, said)
+        self.assertIn('--max-commits', self.behind('run', 'echo.kpn', '--max-commits', '2', status=5))
+        said = self.behind('run', str(TOP / 'examples/clogged.kpn'), status=3)
+        self.assertIn('deadlock: q waits on b for r, r waits on c for q; ', said)
+        self.assertIn('`limit`', self.behind('run', str(TOP / 'examples/jammed.kpn'), status=4))
+        said = self.behind('stream', 'echo.kpn', '--max-commits', '2', status=5, given='1\n')
+        self.assertIn('--max-commits', said)
+
+    def test_a_description_that_can_not_be_read_twice(self):
+        self.assertEqual(self.behind('check', '/dev/stdin', status=1, given='network'), '')
+
+    def test_wrong_words(self):
+        usage = 'kpn: usage: --words always, never or terminal, in front of the command\n'
+        for words in (['--words'], ['--words', 'often', 'check', 'copy.kpn']):
+            self.assertEqual(self.told(*words, status=2), usage)
+        self.assertEqual(self.told('--words', 'never', 'check', 'copy.kpn', status=0), '')
+
+    def test_a_terminal(self):
+        ours, theirs = pty.openpty()
+        self.addCleanup(os.close, ours)
+        for words, has_words in (([], True), (['--words', 'never'], False), (['--words', 'terminal'], True)):
+            done = subprocess.run([PROGRAM, *words, 'check', 'none'], cwd=self.folder, stderr=theirs,
+                                  stdout=subprocess.DEVNULL)
+            self.assertEqual(done.returncode, 1)
+            told = os.read(ours, 4096).decode().replace('\r\n', '\n')
+            said = "`none` can't be read: there is no such file\n"
+            self.assertEqual(told, 'kpn: 26 Read\n' + said * has_words)
+        os.close(theirs)
+
+
+class Habits(unittest.TestCase):
+    """Advice where a text has what other languages have there."""
+
+    def advice(self, statement, rest='network { }'):
+        """The last line of an explanation of a process with this statement."""
+        with tempfile.TemporaryDirectory() as folder:
+            file = pathlib.Path(folder, 'text.kpn')
+            file.write_text(f'process p(in i; out o) {{ while 1 {{ read i x; {statement} }} }} {rest}')
+            done = subprocess.run([PROGRAM, 'explain', file], capture_output=True, text=True)
+        self.assertEqual(done.returncode, 1, done.stdout)
+        return done.stdout.splitlines()[-1]
+
+    def test_powers(self):
+        for text in ('write o (x ^ 3);', 'write o x ^ 3;', 'y = ((x + 1) ^ 2);', 'while x ^ 2 { }'):
+            self.assertEqual(self.advice(text), 'There is no `^`: a power is a product, as in `((x * x) * x)`.', text)
+        for text in ('read i ^;', '^ = 3;', 'y = ^ 3;', 'read ^ x;'):
+            self.assertNotIn('power', self.advice(text), text)
+        self.assertNotIn('power', self.advice('', 'network { source s ^; }'))
+
+    def test_arrays(self):
+        said = 'There are no arrays: give each place a variable of its own, as in `a0 = x;`, or a channel.'
+        for text in ('a[0] = x;', 'y = a[0];', 'write o (x + a[k]);', 'if a[0] { } else { }'):
+            self.assertEqual(self.advice(text), said, text)
+        for text in ('read i[0] x;', '[a] = x;', 'y = [1];'):
+            self.assertNotIn('arrays', self.advice(text), text)
+
+    def test_ranges_and_points(self):
+        for text in ('for k in 0..3 { }', 'for k in 10..n { }'):
+            self.assertEqual(self.advice(text), 'There is no `for`: use `while`, and count in a variable.', text)
+        self.assertIn('Numbers are whole', self.advice('y = 2.5;'))
+        self.assertNotIn('for', self.advice('y = for k in 0..3;'))
+
+
+if __name__ == '__main__':
+    unittest.main()
