@@ -80,6 +80,39 @@ static void moves() {
   IS(done.fed == 0 && done.commits == 0 && done.served == 2 && !places[0].has_item);
 }
 
+static void tells() {
+  IS(kpn::explain(mean).empty() && kpn::explain("network {\n  x }") == "21 Grammar at byte 14, line 2, column 5");
+  IS(kpn::explain("network { sink b cap 1; }") == "13 NoWriter at channel 0");
+  IS(kpn::fault_name(KPN_NO_TRACE) == "NoTrace" && kpn::fault_name(25).empty() && kpn::fault_name(99).empty());
+  kpn::session one(mean, kpn::keeping::nothing);
+  const auto s = one.channel("s"), m = one.channel("m");
+  IS(one.count().processes == 1 && one.count().channels == 2);
+  IS(one.channel_name(s) == "s" && one.channel_name(m) == "m" && one.process_name(0) == "r");
+  IS(words_of([&] { one.channel_name(2); }) == "64 NoChannel");
+  IS(words_of([&] { one.process_name(1); }) == "67 NoProcess");
+  one.feed(s, items{3, 5, 10});
+  one.step();
+  auto told = one.channel_state(s);
+  IS(told.writer == KPN_CALLER && told.reader == 0 && told.got == 2 && told.unread == 1);
+  IS(!told.is_closed && !told.is_left);
+  told = one.channel_state(m);
+  IS(told.writer == 0 && told.reader == KPN_CALLER && told.got == 0 && told.unread == 1);
+  IS(one.process_states()[0].state == KPN_STATE_WAITS_FULL && one.process_states()[0].channel == m);
+  std::array<std::int64_t, 2> seen{7, 7};
+  IS(one.look(s, seen) == 1 && seen[0] == 10 && seen[1] == 7 && one.look(m, seen) == 1 && seen[0] == 3);
+  IS(words_of([&] { one.look(2, seen); }) == "64 NoChannel");
+  one.close_source(s);
+  one.leave_sink(m);
+  one.leave_sink(m);
+  IS(one.step() > 0 && one.channel_state(s).is_closed && one.channel_state(m).is_left);
+  IS(one.process_states()[0].state == KPN_STATE_WAITS_EMPTY && one.process_states()[0].channel == s && one.look(m, seen) == 0);
+  IS(one.channel_state(s).got == 3 && one.channel_state(m).unread == 3 && one.verdict() == KPN_ENDED);
+  std::int64_t room[1];
+  IS(words_of([&] { one.take(m, room); }) == "46 SinkLeft");
+  IS(words_of([&] { one.leave_sink(s); }) == "43 NoSuchEnd");
+  IS(words_of([&] { one.trace(); }) == "66 NoTrace");
+}
+
 static void owners() {
   kpn::session one(mean), two(mean);
   one.feed(one.channel("s"), 5);
@@ -95,6 +128,7 @@ int main() {
   texts();
   calls();
   moves();
+  tells();
   owners();
   std::puts("wrapper: as by hand");
   return 0;

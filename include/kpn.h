@@ -7,16 +7,24 @@
    What there is
 
      kpn_check     says whether a text describes a network
+     kpn_explain   why it does not, in words; kpn_fault_name has the name of a fault
      kpn_run       runs a network on whole lists: the items of all sinks, the outcome and the trace from one call
      kpn_open      opens a session: a run that you feed, step and take from, in your own loop
+     kpn_open_forgetting    opens a session without a trace, whose memory does not grow with time
      kpn_channel   the number of a channel
      kpn_feed      feeds items to a source; any number may wait there
      kpn_close_source    says that nothing more comes to a source
      kpn_step      lets processes go on, for so many commits or until none is ready
      kpn_take      takes what came to a sink
+     kpn_leave_sink    says that nobody takes from a sink any more
      kpn_move      feeds, steps and takes in one call: the fastest way in lock step with a simulator
      kpn_is_complete     whether nothing more ever comes to a channel
      kpn_verdict   how the run has come to a stop, if it has
+     kpn_count     how many processes and channels there are, with the numbers from 0 on
+     kpn_channel_name, kpn_process_name    the name that the description gives to one
+     kpn_tell_processes    the state of each process: whether it is ready, for which channel it waits, how it ended
+     kpn_tell_channel    what is at the ends of a channel, how many items were got and how many are unread
+     kpn_look      the unread items of a channel, which stay there
      kpn_trace     what has happened so far, as the text that `kpn audit` reads
      kpn_free      frees a session
 
@@ -61,11 +69,14 @@ enum {
   KPN_NO_MEMORY = 42,      /* no memory */
   KPN_NO_SUCH_END = 43,    /* no source, or no sink, has this number */
   KPN_SOURCE_CLOSED = 44,
+  KPN_SINK_LEFT = 46,
   KPN_LISTS = 60,          /* not one length for each source, or the lengths do not sum up to the items */
   KPN_TOO_SMALL = 61,      /* a buffer is too small */
   KPN_NO_SESSION = 62,     /* the session was not opened, or was freed */
   KPN_NULL = 63,           /* a pointer is null */
-  KPN_NO_CHANNEL = 64      /* no channel has this name or number */
+  KPN_NO_CHANNEL = 64,     /* no channel has this name or number */
+  KPN_NO_TRACE = 66,       /* the session keeps no trace */
+  KPN_NO_PROCESS = 67      /* no process has this number */
 };
 
 typedef struct {
@@ -73,10 +84,18 @@ typedef struct {
   size_t place;
 } kpn_place;
 
+/* The name of a fault, as the program and docs/ERRORS.md have it, or an empty text. It lasts, and ends with a 0. */
+const char *kpn_fault_name(uint32_t fault);
+
 /* ---- descriptions */
 
 /* Reads a description. If it is none, the place says where. */
 uint32_t kpn_check(const char *text, size_t length, kpn_place *place);
+
+/* Writes in words why a text is no description: the fault, its name, and where it is, as
+   `22 UnknownName at byte 145, line 7, column 12` or `13 NoWriter at channel 0`. It tells their length, also if there
+   is no room for them: 0 if the text is a description. Lines and columns count from 1, all else from 0. */
+uint32_t kpn_explain(const char *text, size_t length, char *words, size_t room, size_t *count);
 
 /* ---- a run on whole lists */
 
@@ -127,6 +146,10 @@ typedef struct {
 } kpn_session;
 
 uint32_t kpn_open(const char *text, size_t length, kpn_session *session, kpn_place *place);
+
+/* Opens a session that keeps nothing of what has happened: it has no trace (KPN_NO_TRACE). All else is as in other
+   sessions. Its memory grows with what is unread, and not with time. */
+uint32_t kpn_open_forgetting(const char *text, size_t length, kpn_session *session, kpn_place *place);
 uint32_t kpn_channel(kpn_session *session, const char *name, size_t length, size_t *channel);
 
 /* Feeds items, and tells how many: all of them, unless it returns a fault. A source that was closed is one, also if
@@ -139,6 +162,10 @@ uint32_t kpn_step(kpn_session *session, uint64_t most, uint64_t *commits);
 
 /* Takes as many items as there are and as there is room for, and tells how many. */
 uint32_t kpn_take(kpn_session *session, size_t sink, int64_t *items, size_t room, size_t *taken);
+
+/* Leaves a sink: nothing is taken from it any more, and no process waits because it is full. What is unread there stays
+   unread. A second call changes nothing. */
+uint32_t kpn_leave_sink(kpn_session *session, size_t sink);
 
 /* An item for a source. */
 typedef struct {
@@ -167,6 +194,54 @@ uint32_t kpn_is_complete(kpn_session *session, size_t channel, bool *complete);
 
 /* 0 if the run has not come to a stop, or KPN_ENDED, KPN_CLOGGED or KPN_JAMMED. */
 uint32_t kpn_verdict(kpn_session *session, uint32_t *verdict);
+
+typedef struct {
+  size_t processes;
+  size_t channels;
+} kpn_counts;
+
+/* The processes of a session are the instances of its network, in the order in which a description has them. */
+uint32_t kpn_count(kpn_session *session, kpn_counts *counts);
+
+/* Writes a name, and tells its length, also if there is no room for it. No name has more than 32 bytes. */
+uint32_t kpn_channel_name(kpn_session *session, size_t channel, char *name, size_t room, size_t *length);
+uint32_t kpn_process_name(kpn_session *session, size_t process, char *name, size_t room, size_t *length);
+
+/* The states of a process. 3 to 5: it has ended, at the end of its body or by a fault. */
+enum {
+  KPN_STATE_READY = 0,
+  KPN_STATE_WAITS_EMPTY = 1,    /* until an item is put on its channel */
+  KPN_STATE_WAITS_FULL = 2,     /* until an item is got from its channel, or nobody reads that any more */
+  KPN_STATE_DONE = 3,
+  KPN_STATE_OVERFLOW = 4,       /* a value was outside of -2^63 to 2^63 - 1 */
+  KPN_STATE_ZERO_DIVISOR = 5
+};
+
+typedef struct {
+  uint32_t state;
+  size_t channel; /* on which it waits; else 0 */
+} kpn_process_state;
+
+/* Writes the state of each process in order, and tells how many there are, also if there is no room for them. */
+uint32_t kpn_tell_processes(kpn_session *session, kpn_process_state *states, size_t room, size_t *count);
+
+/* In place of a process: your program, which writes a source or reads a sink. */
+#define KPN_CALLER SIZE_MAX
+
+typedef struct {
+  size_t writer;  /* the process that writes it, or KPN_CALLER */
+  size_t reader;  /* the process that reads it, or KPN_CALLER */
+  size_t got;     /* how many items its reader has got so far. So `got + unread` were put */
+  size_t unread;  /* how many were put and not got */
+  bool is_closed; /* whether it is a source that was closed */
+  bool is_left;   /* whether its reader has ended, or it is a sink that was left */
+} kpn_channel_state;
+
+uint32_t kpn_tell_channel(kpn_session *session, size_t channel, kpn_channel_state *state);
+
+/* Copies the unread items of a channel, oldest first, as many as there is room for, and tells how many. They stay unread.
+   Where nobody reads any more there are none. */
+uint32_t kpn_look(kpn_session *session, size_t channel, int64_t *items, size_t room, size_t *count);
 
 /* Writes the trace, and tells its length, also if there is no room for it. */
 uint32_t kpn_trace(kpn_session *session, char *text, size_t room, size_t *length);

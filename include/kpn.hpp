@@ -40,20 +40,8 @@ class span {
   std::size_t size_ = 0;
 };
 
-/* The name of a fault, as in `kpn explain` and in docs/ERRORS.md, or an empty text. */
-inline std::string_view fault_name(std::uint32_t number) noexcept {
-  constexpr std::pair<std::uint32_t, std::string_view> names[] = {
-      {1, "TooMany"},      {2, "NoSuchBlock"},   {3, "BlockOrder"},   {4, "NoSuchVar"},   {5, "NoSuchPort"},
-      {6, "TooDeep"},      {7, "NoMemory"},      {10, "TooMany"},     {11, "NoSuchProgram"}, {12, "PortCount"},
-      {13, "NoWriter"},    {14, "TwoWriters"},   {15, "NoReader"},    {16, "TwoReaders"}, {17, "Capacity"},
-      {18, "NoMemory"},    {19, "NoSuchChannel"}, {20, "Token"},      {21, "Grammar"},    {22, "UnknownName"},
-      {23, "DoubleName"},  {24, "TooLong"},      {28, "NoMemory"},    {42, "NoMemory"},   {43, "NoSuchEnd"},
-      {44, "SourceClosed"}, {46, "SinkLeft"},    {60, "Lists"},       {61, "TooSmall"},   {62, "NoSession"},
-      {63, "Null"},        {64, "NoChannel"}};
-  for (const auto &[known, name] : names)
-    if (known == number) return name;
-  return {};
-}
+/* The name of a fault, as the program and docs/ERRORS.md have it, or an empty text. */
+inline std::string_view fault_name(std::uint32_t number) noexcept { return kpn_fault_name(number); }
 
 /* Why a call has failed. Its words are those of the program's error lines: `22 UnknownName at 145`. */
 class error : public std::runtime_error {
@@ -89,6 +77,27 @@ inline void check(std::string_view text) {
   kpn_place place;
   const auto fault = kpn_check(text.data(), text.size(), &place);
   check_fault(fault, place);
+}
+
+/* Asks twice: how long a text is, and for the text. */
+template <class Call>
+std::string told_text(Call call) {
+  std::string text;
+  std::size_t length = 0;
+  auto fault = call(nullptr, std::size_t{0}, &length);
+  if (fault == KPN_TOO_SMALL) {
+    text.resize(length);
+    fault = call(text.data(), text.size(), &length);
+  }
+  check_fault(fault);
+  return text;
+}
+
+/* Why a text describes no network, in words, or an empty text if it describes one. */
+inline std::string explain(std::string_view text) {
+  return told_text([&](char *words, std::size_t room, std::size_t *count) {
+    return kpn_explain(text.data(), text.size(), words, room, count);
+  });
 }
 
 /* What a run has come to: the items of each sink, in order of channel number, and the trace. */
@@ -132,12 +141,16 @@ inline ran run(std::string_view text, const std::vector<std::vector<std::int64_t
   return made;
 }
 
+/* What a session keeps of what has happened: all, for its trace, or nothing. */
+enum class keeping { all, nothing };
+
 /* A run that you feed, step and take from. */
 class session {
  public:
-  explicit session(std::string_view text) {
+  explicit session(std::string_view text, keeping keeps = keeping::all) {
     kpn_place place;
-    const auto fault = kpn_open(text.data(), text.size(), &session_, &place);
+    const auto open = keeps == keeping::all ? kpn_open : kpn_open_forgetting;
+    const auto fault = open(text.data(), text.size(), &session_, &place);
     check_fault(fault, place);
   }
   session(session &&other) noexcept : session_(std::exchange(other.session_, kpn_session{nullptr})) {}
@@ -182,6 +195,9 @@ class session {
     return taken;
   }
 
+  /* Leaves a sink: nothing is taken from it any more, and it is never full. */
+  void leave_sink(std::size_t sink) { check_fault(kpn_leave_sink(&session_, sink)); }
+
   /* Feeds, steps and takes in one call. */
   kpn_amounts move(span<const kpn_item> items, span<kpn_wanted> places, std::uint64_t most = UINT64_MAX) {
     kpn_amounts done;
@@ -204,16 +220,47 @@ class session {
     return told;
   }
 
+  /* How many processes and channels there are. */
+  kpn_counts count() {
+    kpn_counts counts;
+    check_fault(kpn_count(&session_, &counts));
+    return counts;
+  }
+  std::string channel_name(std::size_t channel) {
+    return told_text([&](char *name, std::size_t room, std::size_t *length) {
+      return kpn_channel_name(&session_, channel, name, room, length);
+    });
+  }
+  std::string process_name(std::size_t process) {
+    return told_text([&](char *name, std::size_t room, std::size_t *length) {
+      return kpn_process_name(&session_, process, name, room, length);
+    });
+  }
+  kpn_channel_state channel_state(std::size_t channel) {
+    kpn_channel_state state;
+    check_fault(kpn_tell_channel(&session_, channel, &state));
+    return state;
+  }
+
+  /* The state of each process, in order of number. */
+  std::vector<kpn_process_state> process_states() {
+    std::vector<kpn_process_state> states(count().processes);
+    std::size_t told;
+    check_fault(kpn_tell_processes(&session_, states.data(), states.size(), &told));
+    return states;
+  }
+
+  /* Copies unread items of a channel, as many as there is room for, and returns how many. They stay unread. */
+  std::size_t look(std::size_t channel, span<std::int64_t> room) {
+    std::size_t shown;
+    check_fault(kpn_look(&session_, channel, room.data(), room.size(), &shown));
+    return shown;
+  }
+
   std::string trace() {
-    std::string text;
-    std::size_t length;
-    auto fault = kpn_trace(&session_, nullptr, 0, &length);
-    if (fault == KPN_TOO_SMALL) {
-      text.resize(length);
-      fault = kpn_trace(&session_, text.data(), text.size(), &length);
-    }
-    check_fault(fault);
-    return text;
+    return told_text([&](char *text, std::size_t room, std::size_t *length) {
+      return kpn_trace(&session_, text, room, length);
+    });
   }
 
  private:

@@ -102,12 +102,14 @@ TYPES = {
     '&mut bool': ['bool *'], '&Limits': ['const kpn_limits *'], '&mut Ran': ['kpn_ran *'],
     '&[Item]': ['const kpn_item *', 'size_t '], '&mut [Wanted]': ['kpn_wanted *', 'size_t '],
     '&mut Amounts': ['kpn_amounts *'], '&mut Place': ['kpn_place *'], 'Held': ['kpn_session '],
-    '&mut Held': ['kpn_session *'],
+    '&mut Held': ['kpn_session *'], '&mut Counts': ['kpn_counts *'], '&mut ChannelState': ['kpn_channel_state *'],
+    '&mut [ProcessState]': ['kpn_process_state *', 'size_t '],
 }
 FIELDS = {'u32': 'uint32_t', 'i64': 'int64_t', 'u64': 'uint64_t', 'usize': 'size_t', 'bool': 'bool',
           '*mut u8': 'void *'}
 STRUCTS = {'Limits': 'kpn_limits', 'Ran': 'kpn_ran', 'Place': 'kpn_place', 'Held': 'kpn_session', 'Item': 'kpn_item',
-           'Wanted': 'kpn_wanted', 'Amounts': 'kpn_amounts'}
+           'Wanted': 'kpn_wanted', 'Amounts': 'kpn_amounts', 'Counts': 'kpn_counts',
+           'ChannelState': 'kpn_channel_state', 'ProcessState': 'kpn_process_state'}
 
 
 def exports(text):
@@ -129,6 +131,26 @@ def declared(text):
     return found
 
 
+# Reasons of a book that no session has: nobody else holds a process, and a source has no bound.
+NEVER = {40, 41, 45}
+
+
+def fault_names():
+    """The names of the faults that a call returns, by the definitions of `kpn_c` and by the headers."""
+    faults, words = (TOP / f'crates/kpn_c/specs/{it}.antt' for it in ('Faults', 'Explaining'))
+    number = re.compile(r'\b(program|net|text)\.(\w+)[^=\n]*= (?:fault_at |fault_alone )?(\d+)')
+    numbers = {(kind, variant): int(it) for kind, variant, it in number.findall(faults.read_text())}
+    named = re.findall(r'\b(?:of_)?(program|net|text)\.(\w+).*= codes "(\w+)"', words.read_text())
+    found = {numbers[kind, variant]: name for kind, variant, name in named if (kind, variant) in numbers}
+    same('the faults of descriptions have names', set(numbers.values()), set(found))
+    refused = re.findall(r'refused\.(\w+).*= (\d+)', faults.read_text())
+    found.update({int(it): name for name, it in refused if int(it) not in NEVER})
+    headers = [TOP / 'include/kpn.h', TOP / 'python/kpn/native/runtime/kpn_native.h']
+    declared = re.findall(r'\bKPN_(\w+) = (\d+)', ''.join(it.read_text() for it in headers))
+    found.update({int(it): name.title().replace('_', '') for name, it in declared if int(it) >= 60})
+    return found
+
+
 def check_headers():
     """The header declares what c/kpn.c defines, and that declares the exports as they are."""
     rattle = ''.join(it.read_text() for it in sorted((TOP / 'crates/kpn_c/src').glob('*.rt')))
@@ -139,6 +161,8 @@ def check_headers():
              for end, text in ((';', header), (r' \{', guards))]
     same('prototypes', *pairs)
     same('a guard for each', {f'kpn_c_{it[4:]}' for it in pairs[0]}, set(exports(rattle)))
+    same('names of faults', fault_names(), {int(number): name for number, name in
+                                            re.findall(r'\[(\d+)\] = "(\w+)"', guards)})
     for name, other in STRUCTS.items():
         head = rf'#\[repr\(C\)\]\n#\[derive\([\w, ]+\)\]\npub struct {name} {{(.*?)\n}}'
         body = re.search(head, rattle, re.S).group(1)
@@ -449,21 +473,44 @@ class Tests:
                 sys.exit(f'refused at {number}: {codes}\n{got[1]}')
         print(f'refused memory: {counts}')
 
+    def made(self, name, *more):
+        """A driver in C that is no part of the comparison with others."""
+        call('cc', *STRICT, *more, '-o', self.room / name, TOP / f'c/{name}.c', self.folder / 'libkpn.a')
+        return self.room / name
+
+    def words_of(self, chance):
+        """The words of a random network for a driver that finds its ends by name."""
+        text = random_networks.network(chance)[0].encode()
+        (self.room / 'net').write_bytes(text)
+        return ['net', *(','.join(declared_as(kind, text)) or '-' for kind in (b'source', b'sink')), 12]
+
+    def told(self, chance, networks=60):
+        """What sessions tell, under sanitizers and under valgrind."""
+        tells = [self.made('tells', '-fsanitize=address,undefined', '-g')]
+        for k in range(networks):
+            words = self.words_of(chance)
+            wanted = self.answer(tells, words)
+            same(f'tells: {wanted[1]}', 0, wanted[0])
+        tells = [self.made('tells')]
+        for k in range(networks // 6):
+            words = self.words_of(chance)
+            grind = ['valgrind', '--quiet', '--error-exitcode=9', '--leak-check=full']
+            same('valgrind', self.answer(tells, words), self.answer([*grind, *tells], words))
+        print(f'tells: {networks} networks under sanitizers, {networks // 6} under valgrind')
+
     def moves_refused(self, chance, networks=3, most=400):
-        """A driver of kpn_move goes on where a refusal has stopped it, and prints the same."""
-        call('cc', *STRICT, '-o', self.room / 'moves', TOP / 'c/moves.c', self.folder / 'libkpn.a')
-        for _ in range(networks):
-            text = random_networks.network(chance)[0].encode()
-            (self.room / 'net').write_bytes(text)
-            ends = [','.join(declared_as(kind, text)) or '-' for kind in (b'source', b'sink')]
-            wanted = self.answer([self.room / 'moves'], ['net', *ends, 12])
-            for number in range(1, most):
-                more = {**os.environ, 'LD_PRELOAD': str(self.room / 'refuse.so'), 'FIRST': str(number),
-                        'LAST': str(number)}
-                got = self.answer([self.room / 'moves'], ['net', *ends, 12], env=more)
-                if got[0] != 2:
-                    same(f'moves, refused at {number}', wanted, got)
-        print(f'moves: {networks} networks, each of {most} requests refused in turn, print the same')
+        """Drivers that go on where a refusal has stopped them print the same."""
+        for driver in (self.made('moves'), self.made('tells')):
+            for _ in range(networks):
+                words = self.words_of(chance)
+                wanted = self.answer([driver], words)
+                for number in range(1, most):
+                    more = {**os.environ, 'LD_PRELOAD': str(self.room / 'refuse.so'), 'FIRST': str(number),
+                            'LAST': str(number)}
+                    got = self.answer([driver], words, env=more)
+                    if got[0] != 2:
+                        same(f'{driver.name}, refused at {number}', wanted, got)
+        print(f'moves, tells: {networks} networks, each of {most} requests refused in turn, print the same')
 
     def wrapper(self):
         """kpn.hpp by the compilers that are there, under sanitizers, and the examples."""
@@ -477,6 +524,17 @@ class Tests:
         for name, last in (('plant', 'step 200'), ('tanks', '299 ')):
             call('cc', *STRICT, '-o', self.room / name, TOP / f'examples/c/{name}.c', self.folder / 'libkpn.a')
             same(name, True, self.answer([self.room / name], [])[1].splitlines()[-1].startswith(last))
+
+    def forever(self, steps=500_000):
+        """A session that forgets takes no more memory with time, and one that keeps does."""
+        call('cc', *STRICT, '-o', self.room / 'forever', TOP / 'c/forever.c', self.folder / 'libkpn.a')
+        sizes = {}
+        for words in ([steps], [steps, 'keep']):
+            status, said, *_ = self.answer([self.room / 'forever'], words)
+            same('forever', 0, status)
+            sizes[len(words)] = [int(it.split()[2]) for it in said.splitlines()]
+        same('keeping takes memory', True, sizes[2][-1] > 2 * sizes[2][0])
+        print(f'{steps:,} steps that are forgotten: {sizes[1][-1]:,} KiB; that are kept: {sizes[2][-1]:,} KiB')
 
     def million(self):
         """A million items through a session, beside the program, in processor time."""
@@ -523,8 +581,10 @@ def main():
             tests.random(asked.networks, chance)
             tests.under_tools(chance)
             tests.refused(*[it.encode() if isinstance(it, str) else it for it in random_networks.network(chance)])
+            tests.told(chance)
             tests.moves_refused(chance)
             tests.wrapper()
+            tests.forever()
             tests.million()
 
 

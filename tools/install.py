@@ -150,7 +150,7 @@ def add_library(tree: Tree, library: pathlib.Path, version: str) -> None:
     tree.copy(library / 'libkpn.a', 'lib/libkpn.a')
     tree.copy(library / clib.SHARED, f'lib/{clib.SHARED}')
     tree.links['lib/libkpn.so'] = clib.SHARED
-    tree.copy(TOP / 'include/kpn.h', 'include/kpn.h')
+    tree.copy(TOP / 'include', 'include')
     tree.files['lib/pkgconfig/kpn.pc'] = PKG_CONFIG.format(version=version).encode()
 
 

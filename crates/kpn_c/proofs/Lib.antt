@@ -4,3 +4,4 @@ pub mod OneMore
 pub mod Networks
 pub mod SessionLemmas
 pub mod OneWanted
+pub mod Shown

@@ -1,5 +1,5 @@
 -- A book is attached to the network of its session, and detached again.
-use Rattle.std.proofs.Common.{◌≡◌, refl, sym, ap, ◌∙◌, subst}
+use Rattle.std.proofs.Common.{◌≡◌, Bool, refl, sym, ap, ◌∙◌, subst}
 use Rattle.kpn_text.specs.Document.{Document}
 use Rattle.kpn_run_state.specs.declared.detached.Detached.{Detached}
 use Rattle.kpn_run_state.specs.Book.{Book}
@@ -21,15 +21,16 @@ module _ (d : Document) (before : Detached) (opened last : Book) (after : Detach
   detached_is = ap (λ t. book_on t after) (sym tables_are) ∙ same
 
   -- what holds of the two books holds of those of the session
-  pub of_session : (session : Session) → session_of d before ≡ session → (R : Book → Book → Type 0) → R opened last
-      → R session.book (book_on d.tables after)
+  pub of_session : {keeps : Bool} (session : Session) → session_of d before keeps ≡ session
+      → (R : Book → Book → Type 0) → R opened last → R session.book (book_on d.tables after)
   of_session session view R holds =
       subst (λ s. R s.book (book_on d.tables after)) view
       (subst (λ b. R b (book_on d.tables after)) is (subst (R opened) (sym detached_is) holds))
 
 -- nothing has happened in between
-pub session_same : (d : Document) (before : Detached) (opened : Book) (after : Detached)
+pub session_same : {keeps : Bool} (d : Document) (before : Detached) (opened : Book) (after : Detached)
     → opened ≡ book_on d.tables before → book_on opened.tables after ≡ opened
-    → (session : Session) → session_of d before ≡ session → session_of d after ≡ session
-session_same d before opened after is same session view =
-    ap (λ b. record { document = d; book = b }) (detached_is d before opened opened after is refl same ∙ is) ∙ view
+    → (session : Session) → session_of d before keeps ≡ session → session_of d after keeps ≡ session
+session_same {keeps} d before opened after is same session view =
+    ap (λ b. record { document = d; book = b; keeps = keeps })
+    (detached_is d before opened opened after is refl same ∙ is) ∙ view

@@ -25,6 +25,7 @@ feeds_all_unless (Some cause) source items count before after =
 -- the first items, as many as are told, were fed to a source, and then the feed ended as is told
 pub record FeedsEach (source : ℕ) (items : List ℤ) (fed : Fed) (before after : Book) : Type 0 where
   pub feeds : AllHappen (map (event.Feed source) (take fed.count items)) before after
+  pub within : fed.count ≤ length items
   pub ends : feeds_all_unless fed.cause source items fed.count before after
 
 -- ---- stepping
@@ -64,6 +65,7 @@ pub record TakesEach (sink : ℕ) (taken : Taken) (room kept : List ℤ) (before
   pub takes : AllHappen (map (event.Take sink) (take taken.count kept)) before after
   pub rest : drop taken.count kept ≡ drop taken.count room
   pub long : length kept ≡ length room
+  pub within : taken.count ≤ length room
   pub ends : takes_all_unless taken.cause sink (length room) taken.count before after
 
 -- ---- complete channels

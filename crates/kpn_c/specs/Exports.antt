@@ -1,11 +1,11 @@
 -- What an export of a session tells C, by the number that it returns, and the session that it hands back.
 use Rattle.std.specs.Str.{IsUtf8}
-use Rattle.std.specs.Prelude.{◌≡◌, ◌⊎◌, ℕ, Bool, true, false, if◌then◌else◌, ℤ, List, length, Option, Some, None}
+use Rattle.std.specs.Prelude.{◌≡◌, ◌⊎◌, ℕ, Bool, true, false, if◌then◌else◌, ℤ, List, length, map, Option, Some, None}
 use Rattle.kpn_run_history.specs.declared.state.Verdict.{Verdict}
 use Rattle.kpn_run_history.specs.declared.state.Verdict.TheVariants.{Ended, Clogged, Jammed}
 use Rattle.kpn_run_history.specs.Ends.{IsVerdict}
 use Rattle.kpn_run_state.specs.declared.answers.Refused.{Refused}
-use Rattle.kpn_run_state.specs.Refusals.{Closes, RefusesClose}
+use Rattle.kpn_run_state.specs.Refusals.{Closes, RefusesClose, Leaves, RefusesLeave}
 use Rattle.kpn_c.specs.Faults.{number_of_refusal}
 use Rattle.kpn_c.specs.Calls.{FeedsEach, StepsEach, TakesEach, TellsComplete}
 use Rattle.kpn_c.specs.declared.moving.Item.{Item}
@@ -14,6 +14,11 @@ use Rattle.kpn_c.specs.declared.moving.Moved.{Moved}
 use Rattle.kpn_c.specs.declared.sessions.Amounts.{Amounts}
 use Rattle.kpn_c.specs.Moving.{Moves, code_of_moved}
 use Rattle.kpn_c.specs.Session.{Session}
+use Rattle.kpn_c.specs.declared.ends.Counts.{Counts as Numbers}
+use Rattle.kpn_c.specs.declared.ends.ChannelState.{ChannelState}
+use Rattle.kpn_c.specs.Telling.{TellsState, counts_of}
+use Rattle.kpn_c.specs.declared.processes.ProcessState.{ProcessState}
+use Rattle.kpn_c.specs.States.{state_as}
 use Rattle.kpn_run_history.specs.declared.stored.Version.TheVariants.{Two}
 use Rattle.kpn_book.specs.RunHere.{IsFirst}
 use Rattle.kpn_trace.specs.TraceText.{trace_text}
@@ -22,11 +27,11 @@ use Rattle.kpn_text.specs.declared.fault.TextFault.{TextFault}
 use Rattle.kpn_text.specs.Spells.{Spells}
 use Rattle.kpn_text.specs.Phases.{Refuses}
 use Rattle.kpn_c.specs.Faults.{fault_of_text}
-use Rattle.kpn_c.specs.Slices.{PutsIfFits}
+use Rattle.kpn_c.specs.Slices.{Puts}
 use Rattle.kpn_c.specs.Texts.{IsText}
 use Rattle.kpn_c.specs.declared.codes.Place.{Place}
 use Rattle.kpn_c.specs.declared.slot.Slot.{Slot}
-use Rattle.kpn_c.specs.Sessions.{holding}
+use Rattle.kpn_c.specs.Sessions.{Keeps, holding}
 
 -- the session that was handed in leads to the one that is handed back
 abbrev pub Leads : (Session → Session → Type 0) → (before after : Option Slot) → Type 0
@@ -46,6 +51,7 @@ code_of_verdict (Some Jammed) = 3
 -- so many items were fed to a source, and the number says why no more
 pub record Feeds (source : ℕ) (items : List ℤ) (code count : ℕ) (before after : Session) : Type 0 where
   pub document : after.document ≡ before.document
+  pub keeps : after.keeps ≡ before.keeps
   pub cause : Option Refused
   pub number : code ≡ code_of_cause cause
   pub feeds : FeedsEach source items (record { count = count; cause = cause }) before.book after.book
@@ -53,6 +59,7 @@ pub record Feeds (source : ℕ) (items : List ℤ) (code count : ℕ) (before af
 -- so many items were taken from a sink, and the number says why no more
 pub record Takes (sink : ℕ) (room kept : List ℤ) (code count : ℕ) (before after : Session) : Type 0 where
   pub document : after.document ≡ before.document
+  pub keeps : after.keeps ≡ before.keeps
   pub cause : Option Refused
   pub number : code ≡ code_of_cause cause
   pub takes : TakesEach sink (record { count = count; cause = cause }) room kept before.book after.book
@@ -60,6 +67,7 @@ pub record Takes (sink : ℕ) (room kept : List ℤ) (code count : ℕ) (before 
 -- so many commits were made, and the number says whether memory ran out
 pub record Steps (most code commits : ℕ) (before after : Session) : Type 0 where
   pub document : after.document ≡ before.document
+  pub keeps : after.keeps ≡ before.keeps
   pub is_refused : Bool
   pub number : code ≡ (if is_refused then 42 else 0)
   pub steps : StepsEach 1000 most (record { commits = commits; is_refused = is_refused }) before.book after.book
@@ -73,6 +81,7 @@ amounts_of moved =
 pub record MovesItems (items : List Item) (most code : ℕ) (told : Amounts) (asked kept : List Wanted)
     (before after : Session) : Type 0 where
   pub document : after.document ≡ before.document
+  pub keeps : after.keeps ≡ before.keeps
   pub moved : Moved
   pub number : code ≡ code_of_moved moved
   pub amounts : told ≡ amounts_of moved
@@ -81,12 +90,42 @@ pub record MovesItems (items : List Item) (most code : ℕ) (told : Amounts) (as
 -- a source was closed, or the number says why not
 pub record ClosesSource (source code : ℕ) (before after : Session) : Type 0 where
   pub document : after.document ≡ before.document
+  pub keeps : after.keeps ≡ before.keeps
   pub closes : ((code ≡ 0) × Closes source before.book after.book)
       ⊎ ((cause : Refused) × (code ≡ number_of_refusal cause) × RefusesClose source before.book cause
       × (after.book ≡ before.book))
 
+-- a sink was left, or the number says why not
+pub record LeavesSink (sink code : ℕ) (before after : Session) : Type 0 where
+  pub document : after.document ≡ before.document
+  pub keeps : after.keeps ≡ before.keeps
+  pub leaves : ((code ≡ 0) × Leaves sink before.book after.book)
+      ⊎ ((cause : Refused) × (code ≡ number_of_refusal cause) × RefusesLeave sink before.book cause
+      × (after.book ≡ before.book))
+
+-- ---- what is told
+
+-- this holds of the session, and nothing changes
+pub record Asks (Told : Session → Type 0) (before after : Session) : Type 0 where
+  pub same : after ≡ before
+  pub told : Told before
+
+-- how many processes and channels there are
+abbrev pub Counts : (code : ℕ) → Numbers → Session → Type 0
+Counts code told s = (code ≡ 0) × (told ≡ counts_of s.document.tables)
+
+-- the state of a channel is told, or that there is none with this number
+abbrev pub TellsChannel : (channel code : ℕ) → ChannelState → Session → Type 0
+TellsChannel channel code told s =
+    ((code ≡ 0) × TellsState channel (Some told) s.book) ⊎ ((code ≡ 64) × TellsState channel None s.book)
+
+-- the states of all processes are put to the front of a slice if they fit
+abbrev pub TellsProcesses : (code told : ℕ) → (room kept : List ProcessState) → Session → Type 0
+TellsProcesses code told room kept s = Puts (map state_as s.book.schedule.states) code told room kept
+
 -- the verdict is told, and nothing changes
-pub record TellsVerdict (told : ℕ) (before after : Session) : Type 0 where
+pub record TellsVerdict (code told : ℕ) (before after : Session) : Type 0 where
+  pub succeeds : code ≡ 0
   pub same : after ≡ before
   pub verdict : Option Verdict
   pub is : IsVerdict before.book.tables before.book.history verdict
@@ -104,18 +143,17 @@ pub record FindsChannel (name : List ℕ) (code number : ℕ) (before after : Se
   pub finds : IsUtf8 name
       → ((code ≡ 0) × (number_of before.document.names.channels name ≡ Some number))
       ⊎ ((code ≡ 64) × (number_of before.document.names.channels name ≡ None))
+  pub nameless : ¬ IsUtf8 name → code ≡ 64
 
--- the text of the trace is put to the front of a slice if it fits, and its length is told
-pub record PutsTrace (code told : ℕ) (room kept : List ℕ) (s : Session) : Type 0 where
-  pub text : List ℕ
-  pub is : text ≡ trace_text Two s.book.tables.policy s.book.tables.growth s.book.history
-  pub long : told ≡ length text
-  pub puts : ((code ≡ 0) × PutsIfFits true text room kept) ⊎ ((code ≡ 61) × PutsIfFits false text room kept)
+-- the text of the trace
+abbrev pub trace_of : Session → List ℕ
+trace_of s = trace_text Two s.book.tables.policy s.book.tables.growth s.book.history
 
--- the trace is told, or memory ran out, and nothing changes
-pub record TellsTrace (code told : ℕ) (room kept : List ℕ) (before after : Session) : Type 0 where
-  pub same : after ≡ before
-  pub tells : PutsTrace code told room kept before ⊎ ((code ≡ 42) × (kept ≡ room))
+-- the trace is put to the front of a slice, or memory ran out, or the session keeps none
+abbrev pub TellsTrace : (code told : ℕ) → (room kept : List ℕ) → Session → Type 0
+TellsTrace code told room kept s =
+    ((s.keeps ≡ true) × (Puts (trace_of s) code told room kept ⊎ ((code ≡ 42) × (kept ≡ room))))
+    ⊎ ((s.keeps ≡ false) × (code ≡ 66) × (kept ≡ room))
 
 -- ---- texts
 
@@ -135,15 +173,18 @@ pub record TellsFault (text : List ℕ) (code : ℕ) (place : Place) : Type 0 wh
 abbrev pub Checks : (text : List ℕ) → (code : ℕ) → Place → Type 0
 Checks text code place = ((code ≡ 0) × IsText text) ⊎ TellsFault text code place
 
--- a session of the network that the text describes, where nothing has happened
-pub record IsOpened (text : List ℕ) (slot : Option Slot) : Type 0 where
+-- a session of the network that the text describes, where nothing has happened, and which keeps all of what will, or
+-- nothing
+pub record IsOpened (keeps : Bool) (text : List ℕ) (slot : Option Slot) : Type 0 where
   pub session : Session
   pub held : slot ≡ holding session
   pub spelled : Spells text session.document
   pub first : IsFirst session.document.tables session.book
+  pub keeps_so : session.keeps ≡ keeps
+  pub kept : Keeps keeps session.book
 
 -- such a session is handed out, or what was there stays, and the fault is told or memory ran out
-abbrev pub Opens : (text : List ℕ) → (code : ℕ) → Place → (before after : Option Slot) → Type 0
-Opens text code place before after =
-    ((code ≡ 0) × IsOpened text after)
+abbrev pub Opens : (keeps : Bool) → (text : List ℕ) → (code : ℕ) → Place → (before after : Option Slot) → Type 0
+Opens keeps text code place before after =
+    ((code ≡ 0) × IsOpened keeps text after)
     ⊎ ((after ≡ before) × (TellsFault text code place ⊎ (code ≡ 42)))

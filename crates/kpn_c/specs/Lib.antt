@@ -10,3 +10,6 @@ pub mod Running
 pub mod Slices
 pub mod Texts
 pub mod Moving
+pub mod Telling
+pub mod Explaining
+pub mod States

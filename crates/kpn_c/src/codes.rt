@@ -18,6 +18,10 @@ pub(crate) const TOO_SMALL: u32 = 61;
 
 pub(crate) const NO_CHANNEL: u32 = 64;
 
+pub(crate) const NO_TRACE: u32 = 66;
+
+pub(crate) const NO_PROCESS: u32 = 67;
+
 /// The place of a fault, as C has it.
 #[repr(C)]
 #[derive(Clone, Copy)]

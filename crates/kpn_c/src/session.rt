@@ -1,26 +1,37 @@
 //! A run that its owner feeds, steps and takes from.
-ghost use Rattle.std.specs.Prelude.{◌≡◌, ◌<◌, ◌↔◌, length, IsTrue, IfOk, IfErr, OnOk};
+ghost use Rattle.std.specs.Prelude.{◌≡◌, ℕ, ◌<◌, ◌↔◌, length, map, IsTrue, IfOk, IfErr, OnOk, None};
 ghost use Rattle.std.specs.Str.{IsUtf8};
 ghost use Rattle.kpn_text_names.specs.Names.{number_of};
 ghost use Rattle.kpn_run_history.specs.Ends.{IsVerdict};
+ghost use Rattle.kpn_net.specs.Tables.{Tables};
+ghost use Rattle.kpn_run_history.specs.Keeping.{keeps_items};
 ghost use Rattle.kpn_run_history.specs.declared.stored.Version.TheVariants.{Two};
 ghost use Rattle.kpn_trace.specs.TraceText.{trace_text};
 ghost use Rattle.kpn_text.specs.Spells.{Spells};
 ghost use Rattle.kpn_text.specs.Phases.{Refuses};
 ghost use Rattle.kpn_run_state.specs.Kept.{IsBook};
 ghost use Rattle.kpn_run_state.specs.Detached.{book_on};
-ghost use Rattle.kpn_run_state.specs.Refusals.{Closes, RefusesClose};
+ghost use Rattle.kpn_run_state.specs.Refusals.{Closes, RefusesClose, Leaves, RefusesLeave};
 ghost use Rattle.kpn_book.specs.RunHere.{IsFirst};
 ghost use Rattle.kpn_c.specs.Calls.{FeedsEach, StepsEach, TakesEach, TellsComplete};
 ghost use Rattle.kpn_c.specs.Moving.{Moves};
+ghost use Rattle.kpn_c.specs.Sessions.{Keeps};
+ghost use Rattle.kpn_c.specs.Slices.{Puts};
+ghost use Rattle.kpn_c.specs.States.{state_as, LooksInto};
+ghost use Rattle.kpn_c.specs.Telling.{TellsState, PutsChannelName, PutsProcessName, counts_of};
 
+use crate::codes::{NO_CHANNEL, NO_PROCESS};
+use crate::ends::{ChannelState, Counts, channel_state};
 use crate::feeding::{Fed, feed_each};
+use crate::looking::look;
 use crate::moving::{Item, Moved, Wanted, move_items};
+use crate::processes::{ProcessState, put_states};
+use crate::slices::put_text;
 use crate::stepping::{Stepped, step_each};
 use crate::taking::{Taken, take_each};
 use crate::telling::trace_of;
 use kpn_net::Network;
-use kpn_run_state::{Book, Detached, Refused, Verdict};
+use kpn_run_state::{Book, Detached, Keeping, Refused, Verdict};
 use kpn_text::{Document, TextFault, read_network};
 use std::alloc::{AllocError, Global};
 use std::marker::Model;
@@ -35,6 +46,7 @@ const QUOTA: u32 = 1_000;
 pub struct Session {
     document: Box<Document>,
     detached: Detached,
+    keeps: bool,
 }
 
 impl Model for Session {
@@ -48,22 +60,29 @@ impl Model for Session {
 
     ghost coded = { Prim.hlevel (codes, parts_code) };
 
-    ghost view = { λ s. session_of s.document.value s.detached };
+    ghost view = { λ s. session_of s.document.value s.detached s.keeps };
 
     ghost invariant = { λ s. IsBook (book_on s.document.value.tables s.detached) };
 }
 
 impl Session {
-    /// Opens a session: nothing has happened, and each process is at the start of its program.
-    pub fn open(alloc: Global, text: &[u8]) -> Result<Session, TextFault>
+    /// Opens a session: nothing has happened, and each process is at the start of its program. It keeps all that will
+    /// happen, or nothing.
+    pub fn open(alloc: Global, text: &[u8], keeps: bool) -> Result<Session, TextFault>
         ensures spelled { IfOk result (λ session. Spells text.now session.document) }
         ensures first { IfOk result (λ session. IsFirst session.document.tables session.book) }
+        ensures keeps { IfOk result (λ session. session.keeps ≡ keeps) }
+        ensures kept { IfOk result (λ session. Keeps keeps session.book) }
         ensures fault { IfErr result (Refuses text.now) }
     {
         let document = read_network(alloc, text)?;
-        let detached = first_book(alloc, document.network())?;
+        let detached = first_book(alloc, document.network(), keeps)?;
         match Box::new(alloc, document) {
-            Ok(document) => Ok(Session { document, detached }),
+            Ok(document) => Ok(Session {
+                document,
+                detached,
+                keeps,
+            }),
             Err(_) => Err(TextFault::NoMemory),
         }
     }
@@ -78,66 +97,152 @@ impl Session {
     /// Feeds items to a source, on which any number may be unread.
     pub fn feed(self, source: usize, items: &[i64]) -> (Session, Fed)
         ensures document { result.0.document ≡ self.document }
+        ensures keeps { result.0.keeps ≡ self.keeps }
         ensures fed { FeedsEach source items.now result.1 self.book result.0.book }
     {
-        let Session { document, detached } = self;
+        let Session {
+            document,
+            detached,
+            keeps,
+        } = self;
         let mut book = attached(&document, detached);
         let fed = feed_each(&mut book, source, items);
         let detached = book.detach();
-        (Session { document, detached }, fed)
+        (
+            Session {
+                document,
+                detached,
+                keeps,
+            },
+            fed,
+        )
     }
 
     /// Closes a source. A second call changes nothing.
     pub fn close_source(self, source: usize) -> (Session, Result<(), Refused>)
         ensures document { result.0.document ≡ self.document }
+        ensures keeps { result.0.keeps ≡ self.keeps }
         ensures closed { OnOk result.1 (Closes source self.book result.0.book) }
         ensures refused { IfErr result.1 (λ cause. RefusesClose source self.book cause) }
         ensures as_before { IfErr result.1 (λ _. result.0.book ≡ self.book) }
     {
-        let Session { document, detached } = self;
+        let Session {
+            document,
+            detached,
+            keeps,
+        } = self;
         let mut book = attached(&document, detached);
         let closed = book.close_source(source);
         let detached = book.detach();
-        (Session { document, detached }, closed)
+        (
+            Session {
+                document,
+                detached,
+                keeps,
+            },
+            closed,
+        )
+    }
+
+    /// Leaves a sink: it is never full then, and nothing is taken from it any more. A second call changes nothing.
+    pub fn leave_sink(self, sink: usize) -> (Session, Result<(), Refused>)
+        ensures document { result.0.document ≡ self.document }
+        ensures keeps { result.0.keeps ≡ self.keeps }
+        ensures left { OnOk result.1 (Leaves sink self.book result.0.book) }
+        ensures refused { IfErr result.1 (λ cause. RefusesLeave sink self.book cause) }
+        ensures as_before { IfErr result.1 (λ _. result.0.book ≡ self.book) }
+    {
+        let Session {
+            document,
+            detached,
+            keeps,
+        } = self;
+        let mut book = attached(&document, detached);
+        let left = book.leave_sink(sink);
+        let detached = book.detach();
+        (
+            Session {
+                document,
+                detached,
+                keeps,
+            },
+            left,
+        )
     }
 
     /// Makes turns of processes: `most` commits, or fewer if no process is ready. If memory runs out, the process of
     /// the next turn has made its steps and is ready again, and nothing else has happened.
     pub fn step(self, most: u64) -> (Session, Stepped)
         ensures document { result.0.document ≡ self.document }
+        ensures keeps { result.0.keeps ≡ self.keeps }
         ensures stepped { StepsEach QUOTA most result.1 self.book result.0.book }
     {
-        let Session { document, detached } = self;
+        let Session {
+            document,
+            detached,
+            keeps,
+        } = self;
         let mut book = attached(&document, detached);
         let stepped = step_each(&mut book, QUOTA, most);
         let detached = book.detach();
-        (Session { document, detached }, stepped)
+        (
+            Session {
+                document,
+                detached,
+                keeps,
+            },
+            stepped,
+        )
     }
 
     /// Takes items from a sink, until there is no more room for them or nothing is unread.
     pub fn take(self, sink: usize, room: &mut [i64]) -> (Session, Taken)
         ensures document { result.0.document ≡ self.document }
+        ensures keeps { result.0.keeps ≡ self.keeps }
         ensures taken { TakesEach sink result.1 room.old room.new self.book result.0.book }
     {
-        let Session { document, detached } = self;
+        let Session {
+            document,
+            detached,
+            keeps,
+        } = self;
         let mut book = attached(&document, detached);
         let taken = take_each(&mut book, sink, room);
         let detached = book.detach();
-        (Session { document, detached }, taken)
+        (
+            Session {
+                document,
+                detached,
+                keeps,
+            },
+            taken,
+        )
     }
 
     /// Feeds items, makes turns and takes what is wanted, as the calls above do one after the other. What is refused
     /// ends the call, and what was done before stays.
     pub fn move_items(self, items: &[Item], most: u64, places: &mut [Wanted]) -> (Session, Moved)
         ensures document { result.0.document ≡ self.document }
+        ensures keeps { result.0.keeps ≡ self.keeps }
         ensures moved { Moves items.now QUOTA most result.1 places.old places.new
             self.book result.0.book }
     {
-        let Session { document, detached } = self;
+        let Session {
+            document,
+            detached,
+            keeps,
+        } = self;
         let mut book = attached(&document, detached);
         let moved = move_items(&mut book, items, QUOTA, most, places);
         let detached = book.detach();
-        (Session { document, detached }, moved)
+        (
+            Session {
+                document,
+                detached,
+                keeps,
+            },
+            moved,
+        )
     }
 
     /// Whether a channel is complete: nothing more is ever put there. `None` if no channel has this number.
@@ -145,11 +250,22 @@ impl Session {
         ensures same { result.0 ≡ self }
         ensures complete { TellsComplete channel result.1 self.book }
     {
-        let Session { document, detached } = self;
+        let Session {
+            document,
+            detached,
+            keeps,
+        } = self;
         let book = attached(&document, detached);
         let told = is_complete(&book, channel);
         let detached = book.detach();
-        (Session { document, detached }, told)
+        (
+            Session {
+                document,
+                detached,
+                keeps,
+            },
+            told,
+        )
     }
 
     /// How the run has come to a stop, if it has.
@@ -157,11 +273,135 @@ impl Session {
         ensures same { result.0 ≡ self }
         ensures verdict { let b = self.book in IsVerdict b.tables b.history result.1 }
     {
-        let Session { document, detached } = self;
+        let Session {
+            document,
+            detached,
+            keeps,
+        } = self;
         let book = attached(&document, detached);
         let verdict = book.verdict();
         let detached = book.detach();
-        (Session { document, detached }, verdict)
+        (
+            Session {
+                document,
+                detached,
+                keeps,
+            },
+            verdict,
+        )
+    }
+
+    /// The state of a channel. `None` if no channel has this number.
+    pub fn channel_state(self, channel: usize) -> (Session, Option<ChannelState>)
+        ensures same { result.0 ≡ self }
+        ensures told { TellsState channel result.1 self.book }
+    {
+        let Session {
+            document,
+            detached,
+            keeps,
+        } = self;
+        let book = attached(&document, detached);
+        let told = channel_state(&book, channel);
+        let detached = book.detach();
+        (
+            Session {
+                document,
+                detached,
+                keeps,
+            },
+            told,
+        )
+    }
+
+    /// Puts the states of all processes to the front of a slice if they fit there, and tells how many they are.
+    pub fn put_states(self, room: &mut [ProcessState], count: &mut usize) -> (Session, u32)
+        ensures same { result.0 ≡ self }
+        ensures told { Puts (map state_as self.book.schedule.states) result.1
+            count.new room.old room.new }
+    {
+        let Session {
+            document,
+            detached,
+            keeps,
+        } = self;
+        let book = attached(&document, detached);
+        let told = put_states(&book, room, count);
+        let detached = book.detach();
+        (
+            Session {
+                document,
+                detached,
+                keeps,
+            },
+            told,
+        )
+    }
+
+    /// Copies the unread items of a channel to the front of a slice, as many as there is room for, and returns how
+    /// many. They stay unread. `None` if no channel has this number.
+    pub fn look(self, channel: usize, room: &mut [i64]) -> (Session, Option<usize>)
+        ensures same { result.0 ≡ self }
+        ensures told { LooksInto channel result.1 room.old room.new self.book }
+    {
+        let Session {
+            document,
+            detached,
+            keeps,
+        } = self;
+        let book = attached(&document, detached);
+        let told = look(&book, channel, room);
+        let detached = book.detach();
+        (
+            Session {
+                document,
+                detached,
+                keeps,
+            },
+            told,
+        )
+    }
+
+    /// Whether it keeps what has happened.
+    pub fn keeps(&self) -> bool
+        ensures { result ≡ self.now.keeps }
+    {
+        self.keeps
+    }
+
+    /// How many processes and channels there are.
+    pub fn counts(&self) -> Counts
+        ensures { result ≡ counts_of self.now.document.tables }
+    {
+        let network = self.document.network();
+        Counts {
+            processes: network.instances(),
+            channels: network.channels(),
+        }
+    }
+
+    /// Puts the name of a channel to the front of a slice if it fits there, and tells its length.
+    pub fn put_channel_name(&self, channel: usize, room: &mut [u8], length: &mut usize) -> u32
+        ensures { PutsChannelName channel result length.new room.old room.new self.now }
+    {
+        if self.document.network().channels() <= channel {
+            return NO_CHANNEL;
+        }
+        put_text(room, length, self.document.channel_name(channel).as_bytes())
+    }
+
+    /// Puts the name of a process to the front of a slice if it fits there, and tells its length.
+    pub fn put_process_name(&self, process: usize, room: &mut [u8], length: &mut usize) -> u32
+        ensures { PutsProcessName process result length.new room.old room.new self.now }
+    {
+        if self.document.network().instances() <= process {
+            return NO_PROCESS;
+        }
+        put_text(
+            room,
+            length,
+            self.document.instance_name(process).as_bytes(),
+        )
     }
 
     /// The text of the trace so far. The error is that memory ran out.
@@ -170,17 +410,29 @@ impl Session {
         ensures trace { let b = self.book in IfOk result.1 (λ text.
             text.items ≡ trace_text Two b.tables.policy b.tables.growth b.history) }
     {
-        let Session { document, detached } = self;
+        let Session {
+            document,
+            detached,
+            keeps,
+        } = self;
         let book = attached(&document, detached);
         let text = trace_of(alloc, book.network(), book.history());
         let detached = book.detach();
-        (Session { document, detached }, text)
+        (
+            Session {
+                document,
+                detached,
+                keeps,
+            },
+            text,
+        )
     }
 
     /// The number of the channel with this name, or `None` if there is none.
     pub fn find_channel(&self, name: &[u8]) -> Option<usize>
-        ensures { IsUtf8 name.now
+        ensures found { IsUtf8 name.now
             → result ≡ number_of self.now.document.names.channels name.now }
+        ensures nameless { ¬ IsUtf8 name.now → result ≡ None }
     {
         match str::from_utf8(name) {
             Ok(name) => self.document.find_channel(name),
@@ -197,12 +449,24 @@ fn attached(document: &Box<Document>, detached: Detached) -> Book<'_>
     Book::attach(document.network(), detached)
 }
 
-/// A book at its start.
-fn first_book(alloc: Global, network: &Network) -> Result<Detached, AllocError>
-    ensures { IfOk result (λ detached. IsFirst network.now (book_on network.now detached)) }
+/// A book at its start, which keeps all or nothing.
+fn first_book(alloc: Global, network: &Network, keeps: bool) -> Result<Detached, AllocError>
+    ensures first { IfOk result (λ detached. IsFirst network.now (book_on network.now detached)) }
+    ensures kept { IfOk result (λ detached. Keeps keeps (book_on network.now detached)) }
 {
-    let book = Book::new(alloc, network)?;
+    let book = Book::keeping(alloc, network, keeping_of(keeps))?;
     Ok(book.detach())
+}
+
+/// What a session keeps: all or nothing.
+fn keeping_of(keeps: bool) -> Keeping
+    ensures { (t : Tables) (c : ℕ) → keeps_items result t c ≡ keeps }
+{
+    if keeps {
+        Keeping::All
+    } else {
+        Keeping::Nothing
+    }
 }
 
 fn is_complete(book: &Book<'_>, channel: usize) -> Option<bool>

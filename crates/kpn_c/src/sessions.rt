@@ -1,24 +1,44 @@
 //! Sessions, which C keeps. Each call gets a session and hands it back.
+ghost use Rattle.std.specs.Prelude.{true, false};
 ghost use Rattle.kpn_c.specs.Sessions.{IsOpen};
-ghost use Rattle.kpn_c.specs.Exports.{Leads, Feeds, Takes, Steps, MovesItems, ClosesSource, TellsVerdict, TellsIfComplete, FindsChannel, TellsTrace, Opens};
+ghost use Rattle.kpn_c.specs.Exports.{Leads, Asks, Feeds, Takes, Steps, MovesItems, ClosesSource, LeavesSink, TellsVerdict, TellsIfComplete, TellsTrace, Opens};
 
 use crate::codes::{
-    NO_CHANNEL, NO_MEMORY, OK, Place, TOO_SMALL, code_of_cause, code_of_verdict, tell,
+    NO_CHANNEL, NO_MEMORY, NO_TRACE, OK, Place, code_of_cause, code_of_verdict, tell,
 };
 use crate::fault::{fault_of, number_of};
 use crate::held::Held;
 use crate::moving::{Item, Wanted, code_of_moved};
 use crate::session::Session;
-use crate::slices::put_bytes;
+use crate::slices::put_text;
 use crate::slot::{free, kept, put_back, taken};
 use std::alloc::Global;
 
-/// Opens a session of the network that a text describes, or leaves `back` as it was.
+/// Opens a session of the network that a text describes, or leaves `back` as it was. It keeps all that happens.
 #[unsafe(no_mangle)]
 pub extern "C" fn kpn_c_open(alloc: Global, text: &[u8], back: &mut Held, place: &mut Place) -> u32
-    ensures { Opens text.now result place.new back.old.slot back.new.slot }
+    ensures { Opens true text.now result place.new back.old.slot back.new.slot }
 {
-    match Session::open(alloc, text) {
+    opened(alloc, text, true, back, place)
+}
+
+/// Opens such a session that keeps nothing of what happens.
+#[unsafe(no_mangle)]
+pub extern "C" fn kpn_c_open_forgetting(
+    alloc: Global,
+    text: &[u8],
+    back: &mut Held,
+    place: &mut Place,
+) -> u32
+    ensures { Opens false text.now result place.new back.old.slot back.new.slot }
+{
+    opened(alloc, text, false, back, place)
+}
+
+fn opened(alloc: Global, text: &[u8], keeps: bool, back: &mut Held, place: &mut Place) -> u32
+    ensures { Opens keeps text.now result place.new back.old.slot back.new.slot }
+{
+    match Session::open(alloc, text, keeps) {
         Ok(session) => match kept(alloc, session) {
             Some(held) => {
                 *back = held;
@@ -36,29 +56,6 @@ pub extern "C" fn kpn_c_free(held: Held)
     requires { IsOpen held.slot }
 {
     free(held);
-}
-
-/// Finds the number of a channel.
-#[unsafe(no_mangle)]
-pub extern "C" fn kpn_c_channel(
-    held: Held,
-    name: &[u8],
-    back: &mut Held,
-    channel: &mut usize,
-) -> u32
-    requires { IsOpen held.slot }
-    ensures { Leads (FindsChannel name.now result channel.new) held.slot back.new.slot }
-{
-    let (boxed, session) = taken(held);
-    let found = session.find_channel(name);
-    *back = put_back(boxed, session);
-    match found {
-        Some(number) => {
-            *channel = number;
-            OK
-        }
-        None => NO_CHANNEL,
-    }
 }
 
 /// Feeds items to a source.
@@ -90,6 +87,21 @@ pub extern "C" fn kpn_c_close_source(held: Held, source: usize, back: &mut Held)
     let (session, closed) = session.close_source(source);
     *back = put_back(boxed, session);
     match closed {
+        Ok(()) => OK,
+        Err(cause) => number_of(cause),
+    }
+}
+
+/// Leaves a sink.
+#[unsafe(no_mangle)]
+pub extern "C" fn kpn_c_leave_sink(held: Held, sink: usize, back: &mut Held) -> u32
+    requires { IsOpen held.slot }
+    ensures { Leads (LeavesSink sink result) held.slot back.new.slot }
+{
+    let (boxed, session) = taken(held);
+    let (session, left) = session.leave_sink(sink);
+    *back = put_back(boxed, session);
+    match left {
         Ok(()) => OK,
         Err(cause) => number_of(cause),
     }
@@ -188,7 +200,7 @@ pub extern "C" fn kpn_c_is_complete(
 #[unsafe(no_mangle)]
 pub extern "C" fn kpn_c_verdict(held: Held, back: &mut Held, verdict: &mut u32) -> u32
     requires { IsOpen held.slot }
-    ensures { Leads (TellsVerdict verdict.new) held.slot back.new.slot }
+    ensures { Leads (TellsVerdict result verdict.new) held.slot back.new.slot }
 {
     let (boxed, session) = taken(held);
     let (session, told) = session.verdict();
@@ -207,18 +219,17 @@ pub extern "C" fn kpn_c_trace(
     length: &mut usize,
 ) -> u32
     requires { IsOpen held.slot }
-    ensures { Leads (TellsTrace result length.new room.old room.new) held.slot back.new.slot }
+    ensures { Leads (Asks (TellsTrace result length.new room.old room.new)) held.slot back.new.slot }
 {
     let (boxed, session) = taken(held);
+    if !session.keeps() {
+        *back = put_back(boxed, session);
+        return NO_TRACE;
+    }
     let (session, told) = session.trace(alloc);
     *back = put_back(boxed, session);
-    let Ok(text) = told else {
-        return NO_MEMORY;
-    };
-    *length = text.len();
-    if put_bytes(room, text.as_slice()) {
-        OK
-    } else {
-        TOO_SMALL
+    match told {
+        Ok(text) => put_text(room, length, text.as_slice()),
+        Err(_) => NO_MEMORY,
     }
 }

@@ -1,6 +1,8 @@
 //! What is told goes to the front of a slice, if it fits there.
 
-ghost use Rattle.kpn_c.specs.Slices.{PutsIfFits};
+ghost use Rattle.kpn_c.specs.Slices.{PutsIfFits, Puts};
+
+use crate::codes::{OK, TOO_SMALL};
 
 /// Puts bytes to the front of a slice, and returns whether they fit. If they don't, the slice is as before.
 pub fn put_bytes(room: &mut [u8], bytes: &[u8]) -> bool
@@ -33,4 +35,13 @@ pub fn put_lengths(room: &mut [usize], lengths: &[usize]) -> bool
     }
     room[..lengths.len()].copy_from_slice(lengths);
     true
+}
+
+/// Puts a text to the front of a slice if it fits there, and tells its length. It returns the number that says whether
+/// it fits.
+pub fn put_text(room: &mut [u8], length: &mut usize, text: &[u8]) -> u32
+    ensures { Puts text.now result length.new room.old room.new }
+{
+    *length = text.len();
+    if put_bytes(room, text) { OK } else { TOO_SMALL }
 }
