@@ -78,17 +78,21 @@ def by_c(folder, items):
     return array.array('q', done.stdout).tolist()
 
 
-def main():
-    runs = measure.asked(__doc__, {}, {'runs': 5}).runs
+def items():
+    """The sound: a tone, hum and noise."""
     noise = random.Random(3)
-    items = [round(9_000 * math.sin(2 * math.pi * 440 * n / FS) + 4_000 * math.sin(2 * math.pi * 50 * n / FS))
-             + noise.randint(-2_000, 2_000) for n in range(FS * SECONDS)]
+    return [round(9_000 * math.sin(2 * math.pi * 440 * n / FS) + 4_000 * math.sin(2 * math.pi * 50 * n / FS))
+            + noise.randint(-2_000, 2_000) for n in range(FS * SECONDS)]
+
+
+def main():
+    runs, given = measure.asked(__doc__, {}, {'runs': 5}).runs, items()
     with tempfile.TemporaryDirectory(prefix='kpn-') as folder:
         program = network().compile(cache=folder)
-        ways = {'net.run': lambda: network().run(items).check()['y'], 'compiled': lambda: program.run(items)['y'],
-                'NumPy and Python' if numpy else 'plain Python': lambda: by_python(items),
-                'C': lambda: by_c(folder, items)}
-        wanted = by_c(folder, items)
+        ways = {'net.run': lambda: network().run(given).check()['y'], 'compiled': lambda: program.run(given)['y'],
+                'NumPy and Python' if numpy else 'plain Python': lambda: by_python(given),
+                'C': lambda: by_c(folder, given)}
+        wanted = by_c(folder, given)
         for who, call in ways.items():
             best = math.inf
             for _ in range(runs):

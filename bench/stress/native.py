@@ -1,19 +1,26 @@
 #!/usr/bin/env python3
 """Random networks as compiled programs, beside `kpn run` and judged by `kpn audit`.
 
-usage: bench/stress/native.py [NETWORKS [SEED]] [--faults] [--processes N] [--seconds N] [--schedules NAME..]
+usage: bench/stress/native.py [NETWORKS [SEED]] [--kind KIND] [--processes N] [--seconds N] [--schedules NAME..]
+                              [--runtime COMPILER]
 
-KPN_PROGRAM names the program `kpn`, and CC and CFLAGS the compiler. Each network is compiled under both schedules. The
-one of `kpn run` has to give the same report, status, trace and files byte for byte. The usual one has to give the same
-report if `kpn run` comes to an end, and its trace has to be legal. It ends with 1 at the first difference, and prints
-the network. With `--faults` the networks fuse, and have faults and long loops within their periods. It is no part of
-the gate, but python/tests/test_native.py runs a part of it.
+KPN_PROGRAM names the program `kpn`, and CC and CFLAGS the compiler. Each network is compiled under all schedules. The
+one of `kpn run` has to give the same report, status, trace and files byte for byte. The others have to give the same
+report if `kpn run` comes to an end, and their traces have to be legal. It ends with 1 at the first difference, and
+prints the network. The networks of `--kind faults` fuse, and have faults and long loops within their periods; those of
+`--kind small` have vectors. It is no part of the gate, but python/tests/test_native.py runs a part of it.
+
+Most of the time goes to the compiler. `--runtime` names another one for the runtime, so that tcc makes the rest of
+each program in some milliseconds:
+
+    CC=tcc CFLAGS='-w -include bench/stress/overflow.h' bench/stress/native.py 1000 --runtime 'gcc -O2'
 """
 import argparse
 import collections
 import concurrent.futures
 import pathlib
 import random
+import shlex
 import subprocess
 import sys
 import tempfile
@@ -28,6 +35,8 @@ from kpn.program import find_program  # noqa: E402
 # the most commits of a run of `kpn`
 COMMITS = 30_000
 ENDS = (0, 3, 4)
+# What the C of a network defines.
+PLAN = 'const struct kpn_plan kpn_plan'
 
 
 class Difference(Exception):
@@ -40,11 +49,10 @@ def call(words, folder, **more):
 
 
 class Trial:
-    """A network in a folder, as programs, with options that vary."""
+    """A network in a folder, as a program with the network under each schedule, and options that vary."""
 
     def __init__(self, folder, text, lists, runtime, seconds=None, schedules=command.SCHEDULES):
         self.folder, self.program, self.seconds = pathlib.Path(folder), find_program(), seconds
-        self.schedules = schedules
         (self.folder / 'net').write_text(text)
         canonical, status, told = call([self.program, 'print', 'net'], folder)
         if status:
@@ -54,51 +62,80 @@ class Trial:
         for name, numbers in lists.items():
             (self.folder / f'{name}.in').write_text(''.join(f'{it}\n' for it in numbers))
             self.words += ['--source', f'{name}={name}.in']
-        for schedule in schedules:
-            c = command.c_of(canonical.decode(), schedule)
-            if command.build(c, self.program, str(self.folder / schedule), runtime):
-                raise Difference(f'{schedule}: the compiler refuses the C')
+        # two schedules make the same C of a network without regions
+        made = {command.c_of(canonical.decode(), schedule): schedule for schedule in schedules}
+        self.schedules = list(made.values())
+        self.compile(list(made), runtime)
 
-    def run(self, name, words, options, has_trace=True):
-        """A run with all its outputs: report, status, and the files by name."""
-        outputs = [f'--sink={sink}={name}.{sink}' for sink in self.sinks] + ['--trace', f'{name}.trace'] * has_trace
-        out, status, told = call([*words, *self.words, *options, *outputs], self.folder, timeout=self.seconds)
+    def compile(self, texts, runtime):
+        """Makes one program of all schedules, which makes many runs: to start programs takes most of the time."""
+        for number, c in enumerate(texts):
+            (self.folder / f'{number}.c').write_text(c.replace(PLAN, f'{PLAN}_{number}'))
+        plans = ''.join(f'plan({number}) ' for number in range(len(texts)))
+        (self.folder / 'plans.h').write_text(plans)
+        words = [*command.compiler(), '-I.', *(f'{number}.c' for number in range(len(texts))),
+                 str(TOP / 'bench/stress/native_runs.c'), *runtime, '-o', 'runs']
+        if subprocess.run(words, cwd=self.folder, check=False).returncode:
+            raise Difference('the compiler refuses the C')
+
+    def outputs(self, name, has_trace):
+        """The words for what a run stores."""
+        return [f'--sink={sink}={name}.{sink}' for sink in self.sinks] + ['--trace', f'{name}.trace'] * has_trace
+
+    def found(self, name, out, status, told):
+        """What came of a run: report, status, and the files by name."""
         if status not in (0, 3, 4, 5):
-            raise Difference(f'{name} {options}: status {status}, {told.decode()}')
+            raise Difference(f'{name}: status {status}, {told.decode()}')
         return out, status, {sink: (self.folder / f'{name}.{sink}').read_bytes() for sink in self.sinks}
+
+    def run_all(self, jobs):
+        """Runs the program: a schedule with words for each name; gives what came of each."""
+        lines = [' '.join(map(str, [self.schedules.index(schedule), name, 'run', *self.words, *words]))
+                 for name, (schedule, words) in jobs.items()]
+        (self.folder / 'jobs').write_text('\n'.join(lines) + '\n')
+        _, status, told = call(['./runs'], self.folder, timeout=self.seconds)
+        statuses = (self.folder / 'statuses').read_text().split()
+        if status or len(statuses) != len(jobs):
+            raise Difference(f'{lines[min(len(statuses), len(lines) - 1)]}: status {status}, {told.decode()}')
+        return {name: self.found(name, (self.folder / f'{name}.report').read_bytes(), int(each),
+                                 (self.folder / f'{name}.told').read_bytes()) for name, each in zip(jobs, statuses)}
 
     def trace(self, name):
         return (self.folder / f'{name}.trace').read_bytes()
 
     def judge(self, options):
-        """Compares one run of each program; gives the outcome of `kpn run`."""
+        """Compares the runs under each schedule; gives the outcome of `kpn run`."""
         limited = [*options, '--max-commits', COMMITS]
-        wanted = self.run('kpn', [self.program, 'run', 'net'], limited)
+        words = [self.program, 'run', 'net', *self.words, *limited, *self.outputs('kpn', True)]
+        wanted = self.found('kpn', *call(words, self.folder, timeout=self.seconds))
         is_over = wanted[1] in ENDS
-        for schedule in self.schedules:
-            if schedule == 'kpn':
-                found = self.run('same', [self.folder / 'kpn', 'run'], limited)
-                if found != wanted or self.trace('same') != self.trace('kpn'):
-                    raise Difference(f'schedule kpn {options}: {found} {wanted}')
-                continue
-            for has_trace in (True, False):
-                found = self.run(schedule, [self.folder / schedule, 'run'], options if is_over else limited, has_trace)
-                if is_over and found != wanted:
-                    raise Difference(f'schedule {schedule} {options}: {found} {wanted}')
-            self.audit(schedule, options, found[0])
+        # of what has no end only the trace is judged
+        cut = options if is_over else [*options, '--max-commits', COMMITS // 10]
+        jobs = {f'{schedule}-{"traced" if has_trace else "plain"}':
+                (schedule, [*(limited if schedule == 'kpn' else cut), *self.outputs(
+                    f'{schedule}-{"traced" if has_trace else "plain"}', has_trace)])
+                for schedule in self.schedules for has_trace in (True, False) if has_trace or schedule != 'kpn'}
+        for name, found in self.run_all(jobs).items():
+            is_same = name.startswith('kpn')
+            if (is_over or is_same) and found != wanted:
+                raise Difference(f'schedule {name} {options}: {found} {wanted}')
+            if is_same and self.trace(name) != self.trace('kpn'):
+                raise Difference(f'schedule {name} {options}: the traces differ')
+            if name.endswith('traced') and not is_same:
+                self.audit(name, options, found[0])
         return wanted[0].splitlines()[-1].decode()
 
-    def audit(self, schedule, options, report):
-        told = call([self.program, 'audit', 'net', f'{schedule}.trace', '--steps', '1000000000'], self.folder)[0]
+    def audit(self, name, options, report):
+        told = call([self.program, 'audit', 'net', f'{name}.trace', '--steps', '1000000000'], self.folder)[0]
         is_exact = told.startswith(b'legal\nexact yes')
         if not told.startswith(b'legal') or (report.endswith(b'ended\n') and not is_exact):
-            raise Difference(f'schedule {schedule} {options}: {told[:200]}')
+            raise Difference(f'schedule {name} {options}: {told[:200]}')
 
 
-def try_network(seed, runtime, seconds, schedules, are_faulty):
+def try_network(seed, runtime, seconds, schedules, kind):
     """One network by its number, with and without --take; gives the outcomes."""
     chosen = random.Random(seed)
-    text, lists = native_networks.network(chosen, are_faulty)
+    text, lists = native_networks.network(chosen, kind)
     with tempfile.TemporaryDirectory(prefix='kpn-') as folder:
         try:
             trial = Trial(folder, text, lists, runtime, seconds, schedules)
@@ -107,13 +144,14 @@ def try_network(seed, runtime, seconds, schedules, are_faulty):
             return f'network {seed}: {found}\n{text}{lists}'
 
 
-def try_networks(count, first, processes, seconds=None, schedules=command.SCHEDULES, are_faulty=False):
-    """So many networks; gives how many runs came to each outcome, or the first difference."""
+def try_networks(count, first, processes, seconds=None, schedules=command.SCHEDULES, kind='', compiler=()):
+    """So many networks, with the runtime by this compiler; gives how many runs came to each outcome, or the first
+    difference."""
     counts = collections.Counter()
     with tempfile.TemporaryDirectory(prefix='kpn-') as folder, \
             concurrent.futures.ProcessPoolExecutor(processes) as pool:
-        runtime = command.compile_runtime(folder)
-        left = [pool.submit(try_network, seed, runtime, seconds, schedules, are_faulty)
+        runtime = command.compile_runtime(folder, compiler)
+        left = [pool.submit(try_network, seed, runtime, seconds, schedules, kind)
                 for seed in range(first, first + count)]
         for number, future in enumerate(left):
             found = future.result()
@@ -130,12 +168,15 @@ def main():
     parser = argparse.ArgumentParser(description=__doc__.split('\n')[0])
     parser.add_argument('networks', nargs='?', type=int, default=100)
     parser.add_argument('seed', nargs='?', type=int, default=1)
-    parser.add_argument('--faults', action='store_true', help='networks that fuse, with a fault in a period')
+    parser.add_argument('--kind', choices=native_networks.KINDS, default='', help='networks that fuse, with a fault in '
+                        'a period, or whose periods have small items')
     parser.add_argument('--processes', type=int, default=2)
     parser.add_argument('--seconds', type=int, default=120, help='the most that a run may take')
     parser.add_argument('--schedules', nargs='+', choices=command.SCHEDULES, default=command.SCHEDULES)
+    parser.add_argument('--runtime', type=shlex.split, default=[], help='the compiler of the runtime, with its flags')
     given = parser.parse_args()
-    found = try_networks(given.networks, given.seed, given.processes, given.seconds, given.schedules, given.faults)
+    found = try_networks(given.networks, given.seed, given.processes, given.seconds, given.schedules, given.kind,
+                         given.runtime)
     if isinstance(found, str):
         print(found)
         return 1

@@ -75,6 +75,7 @@ static uint32_t run(kpn_session *session, struct end *ends, size_t count) {
       has_moved = (ends[k].name[0] == '+' ? feed : take)(session, &ends[k]) || has_moved;
     }
     check(kpn_step(session, STEP, &commits), "step");
+    has_moved = has_moved || commits > 0;
     check(kpn_verdict(session, &verdict), "verdict");
   }
   return verdict;

@@ -58,7 +58,8 @@ def try_network(text, lists, by=()):
         c = command.c_of(canonical, command.SCHEDULES[0], fixed=ALL_ITEMS if ' policy all;' in text else ITEMS)
         harness = str(TOP / 'bench/stress/native_fixed.c')
         link = [*command.compiler(), harness, 'net.a', '-o', 'prog']
-        if command.build_library(c, f'{folder}/net.a', True) or subprocess.run(link, cwd=folder, check=False).returncode:
+        failed = command.build_library(c, f'{folder}/net.a', True)
+        if failed or subprocess.run(link, cwd=folder, check=False).returncode:
             raise Difference('the compiler refuses the C')
         words = [*by, './prog', *(f'+{name}' for name in lists), *(f'-{sink}' for sink in sinks)]
         given = ''.join(' '.join(map(str, items)) + '\n' for items in lists.values())
@@ -81,7 +82,7 @@ def main():
     given = parser.parse_args()
     counts = collections.Counter()
     for seed in range(given.seed, given.seed + given.networks):
-        text, lists = native_networks.network(random.Random(seed), seed % 2 == 0)
+        text, lists = native_networks.network(random.Random(seed), '' if seed % 2 else 'faults')
         try:
             counts[try_network(with_limit(text), lists, given.by.split())] += 1
         except (Difference, subprocess.TimeoutExpired) as found:

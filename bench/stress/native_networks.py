@@ -223,10 +223,62 @@ class Faulty(Signal):
         return f'n = 0; {super().loop(["n = (n + 1);", *lap])}'
 
 
-def network(random, are_faulty=False):
+class Small(Signal):
+    """Signal processes of which mostly no value depends on itself: delays, and sums, products and quotients by numbers.
+    Most items have 16 bits, and most channels room for many."""
+
+    def channel(self, kind='channel'):
+        name = super().channel(kind)
+        if kind != 'source' and self.random.random() < 0.8:
+            self.lines[-1] = f'{kind} {name} cap {self.random.choice((32, 64))};'
+        return name
+
+    def statements(self, port, is_read):
+        random = self.random
+        if is_read:
+            yield from random.choice((['k = y;', 'y = x;'], ['k = y;', 'y = x;'], [f'k = {self.value()};', 'y = x;']))
+            yield f'read {port} x;'
+        else:
+            yield f'write {port} {self.value()};'
+
+    def loop(self, lap):
+        """Without the state that each lap of a signal process changes, or with one that is no sum."""
+        last = self.random.choice(([], [], [], ['state = x;'], ['state = 5;'], ['state = (y - x);'], lap[-1:]))
+        return f'while 1 {{ {" ".join([*lap[:-1], *last])} }}'
+
+    def value(self):
+        """An expression whose values become large seldom."""
+        random = self.random
+        known = ('x', 'y', 'y', 'k', 'k', 'state', 'h')
+        left, right = random.choice(known), random.choice((*known, '0', '3', '300'))
+        kind = random.random()
+        if kind < 0.5:
+            return random.choice((left, f'({left} {random.choice("+-")} {right})'))
+        if kind < 0.7:
+            return f'({left} {random.choice("/%")} {random.choice((1, 2, 7, 1000, 32768, 99999))})'
+        if kind < 0.8:
+            return f'(({left} * {right}) / {random.choice((1, 32768, 99999))})'
+        compared = f'({left} {random.choice(MARKS[5:11])} {right})'
+        return random.choice((compared, f'-({left} + {right})', f'!({left} % 7)'))
+
+    def network(self):
+        random = self.random
+        text, lists = super().network()
+        for name in lists:
+            lists[name] = [random.randrange(-99, 100) for _ in range(random.randrange(600))]
+            for _ in range(random.choice((0, 0, 0, 1, 3)) if lists[name] else 0):
+                place = random.randrange(len(lists[name]))
+                lists[name][place] = random.choice((-2**15, 2**15 - 1, 2**15, -2**15 - 1, 2**31, 2**62, -2**63))
+        return text, lists
+
+
+KINDS = {'faults': Faulty, 'small': Small}
+
+
+def network(random, kind=''):
     """The text of a network, and a list of items for each of its sources by name."""
-    if are_faulty:
-        return Faulty(random).network()
+    if kind:
+        return KINDS[kind](random).network()
     kind = random.random()
     if kind < 0.25:
         return mixed_network(random)

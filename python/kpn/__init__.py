@@ -6,14 +6,18 @@ of what the text of the network means.
 """
 from . import parts
 from .compiled import Compiled
-from .errors import KpnError, Place
+from .errors import Deadlock, GrowthWarning, KpnError, Place
 from .fixed import Q, Range
 from .live import Live
 from .network import Network
 from .process import Process, Stream
 from .program import find_program
-from .running import Result, Stats, Wait, run
+from .rates import Rate
+from .room import least_capacities
+from .result import Result, Stats, Wait
+from .running import run
 from .trace import Event, Trace, read_trace
 
-__all__ = ['Compiled', 'Event', 'KpnError', 'Live', 'Network', 'Place', 'Process', 'Q', 'Range', 'Result',
-           'Stats', 'Stream', 'Trace', 'Wait', 'find_program', 'parts', 'read_trace', 'run']
+__all__ = ['Compiled', 'Deadlock', 'Event', 'GrowthWarning', 'KpnError', 'Live', 'Network', 'Place', 'Process', 'Q',
+           'Range', 'Rate', 'Result', 'Stats', 'Stream', 'Trace', 'Wait', 'find_program', 'least_capacities', 'parts',
+           'read_trace', 'run']

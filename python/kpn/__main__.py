@@ -1,4 +1,5 @@
-"""`python -m kpn`: lists and shows the parts, runs the gallery, writes its texts, and makes a page of a run."""
+"""`python -m kpn`: lists and shows the parts, runs the gallery, writes its texts, makes a page of a run, and prints a
+description with the capacities that a run of it advises."""
 from __future__ import annotations
 
 import argparse
@@ -8,9 +9,10 @@ import sys
 import time
 from typing import List, Optional
 
-from . import KpnError, parts, view
+from . import KpnError, Network, parts, view
 from .gallery import GALLERY, stored_text
 from .parts import shown
+from .result import advice_in
 
 
 def first_line(thing: object) -> str:
@@ -22,7 +24,7 @@ def list_all() -> int:
     """Writes what parts and what networks there are."""
     print('Parts, in kpn.parts (python -m kpn parts NAME tells more):')
     for name in parts.__all__:
-        print(f'  {name:18} {first_line(getattr(parts, name))}')
+        print(f'  {shown.head_of(name)}\n      {first_line(getattr(parts, name))}')
     print('\nNetworks of the gallery (python -m kpn gallery [NAME ..] runs them):')
     for name, module in GALLERY.items():
         print(f'  {name:18} {first_line(module)}')
@@ -67,6 +69,14 @@ def write_page(file: str, trace: str, steps: Optional[int]) -> int:
     return 0
 
 
+def print_tuned(file: str, trace: str, steps: Optional[int]) -> int:
+    """Writes a description with the capacities that `kpn stats` advises after this run."""
+    advice = advice_in(view.stats_of(file, trace, steps))
+    text = pathlib.Path(file).read_bytes().decode('utf-8', 'replace')
+    print(Network.from_text(text).tuned(advice), end='')
+    return 0
+
+
 def main(words: Optional[List[str]] = None) -> int:
     """Does what the words ask, and gives the status."""
     try:
@@ -98,6 +108,10 @@ def run_command(words: Optional[List[str]]) -> int:
     command.add_argument('file', metavar='FILE', help='the description')
     command.add_argument('trace', metavar='TRACE', help='what `kpn run --trace` has stored')
     command.add_argument('--steps', type=int, metavar='N', help='most steps of a process before an event')
+    command = commands.add_parser('print', help='write a description with the capacities that a run of it advises')
+    command.add_argument('file', metavar='FILE', help='the description')
+    command.add_argument('--capacities', required=True, metavar='TRACE', help='what `kpn run --trace` has stored')
+    command.add_argument('--steps', type=int, metavar='N', help='most steps of a process before an event')
     given = parser.parse_args(words)
     if given.command == 'store':
         return store(given.folder)
@@ -105,6 +119,8 @@ def run_command(words: Optional[List[str]]) -> int:
         return show_parts(given.names, given.html)
     if given.command == 'view':
         return write_page(given.file, given.trace, given.steps)
+    if given.command == 'print':
+        return print_tuned(given.file, given.capacities, given.steps)
     if given.command == 'gallery':
         unknown = [name for name in given.names if name not in GALLERY]
         if unknown:

@@ -1,17 +1,20 @@
 """Networks compiled to programs by `kpn.native`, and kept in a folder for later calls."""
 from __future__ import annotations
 
+import functools
 import hashlib
 import os
 import pathlib
 import subprocess
 import tempfile
-from typing import TYPE_CHECKING, Any, Union
+from typing import TYPE_CHECKING, Any, Callable, Optional, Union
 
 from . import running
-from .errors import KpnError
+from .errors import LARGEST, KpnError, whole
 from .native import command
-from .program import Program, answer, find_program
+from .native.loaded import Loaded
+from .program import Program, answer, find_program, words_of
+from .result import Result
 
 if TYPE_CHECKING:
     from .network import Network
@@ -23,23 +26,48 @@ Cache = Union[None, str, 'os.PathLike[str]']
 class Compiled:
     """A network as a program of which nothing is proved. `run` gives what `net.run` gives, in less time.
 
-    With `certify=True` the proved `kpn` judges the events of the run, and a run that it does not confirm is an error.
+    A run goes on in this process, and reads arrays of 64 bits where they lie; the sinks of NumPy arrays are arrays of
+    the memory that the run has filled. With a trace, a timeout, a file of items or to be judged it is a process of its
+    own. Each `certify_each`-th run is judged as by `certify=True`, if that is not 0.
     """
 
-    def __init__(self, net: Network, path: str, program: Program = None):
-        self.net, self.path, self._program = net, path, program
+    def __init__(self, net: Network, path: str, c: Callable[[], str], program: Program = None, certify_each: int = 0):
+        self.net, self.path, self.certify_each, self.runs = net, path, whole('`certify_each`', certify_each), 0
+        self._layout, self._c, self._program = net.layout(), c, program
+        self._loaded: Optional[Loaded] = None
 
     def __repr__(self) -> str:
         return f'<Compiled {self.path}>'
 
-    def run(self, inputs: running.Inputs = None, *, certify: bool = False, **options: Any) -> running.Result:
-        """Runs the program on these items; the options are those of `net.run`, without workers. Without `max_commits`
-        a run has no limit."""
-        words = ['run', *(['--certify'] if certify else [])]
-        return running.run(self.net, inputs, runner=(self.path, words), program=self._program, **options)
+    def run(self, inputs: running.Inputs = None, *, certify: bool = False, **options: Any) -> Result:
+        """Runs the network on these items; the options are those of `net.run`, without workers. Without `max_commits`
+        a run has no limit.
+
+        With `certify=True` the proved `kpn` judges the events of the run. `result.certified` says what it found, and
+        KpnError that it does not confirm the run.
+        """
+        self.runs += 1
+        is_judged = certify or bool(self.certify_each and self.runs % self.certify_each == 0)
+        given = running.by_name(self._layout, inputs)
+        is_own = is_judged or set(options) - {'take', 'max_commits'} or any(isinstance(it, os.PathLike)
+                                                                            for it in given.values())
+        if is_own:
+            words = ['run', *(['--certify'] if is_judged else [])]
+            return running.run(self.net, given, runner=(self.path, words), program=self._program, **options)
+        words_of(**options)
+        return self._shared().run(given, options.get('take') or 0, options.get('max_commits') or LARGEST)
+
+    def _shared(self) -> Loaded:
+        """The network as a shared object, which is made beside the program once it is asked for."""
+        if self._loaded is None:
+            path = pathlib.Path(f'{self.path}.so')
+            if not path.exists():
+                build(self._c(), None, path)
+            self._loaded = Loaded(str(path), self._layout)
+        return self._loaded
 
 
-def compile_network(net: Network, *, schedule: str = command.SCHEDULES[0], cache: Cache = None,
+def compile_network(net: Network, *, schedule: str = command.SCHEDULES[0], cache: Cache = None, certify_each: int = 0,
                     program: Program = None) -> Compiled:
     """Compiles a network, unless the cache has the program of the same text, generator and compiler."""
     net.check_limits()
@@ -50,18 +78,19 @@ def compile_network(net: Network, *, schedule: str = command.SCHEDULES[0], cache
         raise net.layout().error(program) or error from None
     folder = pathlib.Path(cache) if cache else default_cache()
     folder.mkdir(parents=True, exist_ok=True)
-    found = folder / key_of(canonical, schedule, path)
+    found, c = folder / key_of(canonical, schedule, path), functools.partial(command.c_of, canonical, schedule)
     if not found.exists():
-        build(command.c_of(canonical, schedule), path, found)
-    return Compiled(net, str(found), program)
+        build(c(), path, found)
+    return Compiled(net, str(found), c, program, certify_each)
 
 
-def build(text: str, program: str, path: pathlib.Path) -> None:
-    """Compiles C beside the place of the program, and puts the program there once it is whole."""
+def build(text: str, program: Optional[str], path: pathlib.Path) -> None:
+    """Compiles C beside the place of the program, and puts the program there once it is whole; without the path of
+    `kpn` a shared object."""
     with tempfile.TemporaryDirectory(prefix='kpn-', dir=path.parent) as folder:
         made = os.path.join(folder, 'program')
         try:
-            status = command.build(text, program, made)
+            status = command.build(text, program, made) if program else command.build_shared(text, made)
         except FileNotFoundError as error:
             raise KpnError(f'there is no C compiler `{error.filename}`: install one, or name it by CC') from None
         if status:

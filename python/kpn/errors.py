@@ -1,8 +1,11 @@
-"""The one error of the package, how it shows a place, and how a number of a call is looked at."""
+"""The errors of the package, how they show a place, and how a number of a call is looked at."""
 from __future__ import annotations
 
 import operator
-from typing import Any, NamedTuple, Optional, Tuple
+from typing import TYPE_CHECKING, Any, List, NamedTuple, Optional, Tuple
+
+if TYPE_CHECKING:
+    from .result import Wait
 
 LARGEST = 2**63 - 1
 # The most seconds of a timeout, some 30 years.
@@ -31,6 +34,24 @@ class KpnError(Exception):
         super().__init__(message)
         self.place = place
         self.error = error
+
+
+class Deadlock(KpnError):
+    """A run in which processes wait for one another for ever, each for an item that the next one has to write.
+
+    `rings` is the list of these rings, each a list of a `Wait` for each of its processes.
+    """
+
+    def __init__(self, message: str, rings: List[List[Wait]]):
+        super().__init__(message)
+        self.rings = rings
+
+    def __reduce__(self) -> Tuple[Any, ...]:
+        return type(self), (str(self), self.rings)
+
+
+class GrowthWarning(UserWarning):
+    """A channel holds ever more items the longer the run goes on, since its ends have unequal rates."""
 
 
 def whole(what: str, given: Any, least: int = 0, most: int = LARGEST) -> int:

@@ -20,8 +20,9 @@ from typing import TYPE_CHECKING, Callable, Deque, Dict, Iterable, Iterator, Lis
 from typing import TypeVar, Union, cast
 
 from .errors import KpnError, seconds, whole
-from .program import Program, environment, find_program
-from .running import Report, Result, lines_of, refusal, report_of, words_of
+from .program import Program, environment, find_program, words_of
+from .result import Report, Result, report_of
+from .running import lines_of, refusal
 
 if TYPE_CHECKING:
     from .network import Layout
@@ -32,8 +33,8 @@ CHUNK, PIECES = 65_536, 64
 LONGEST_POLL = 3_600_000.0
 # How long a program takes that has closed its pipes and is about to end, in seconds.
 MOMENT = 0.001
-# The statuses of a stream that was not cut short.
-STATUSES = (0, 3, 4, 5, 8)
+# The statuses of a stream that was not cut short; 9 is that of a deadlock.
+STATUSES = (0, 3, 4, 5, 8, 9)
 # The ends of pipes that are open here. A forked process closes its copies, which would keep the pipes open.
 ENDS: weakref.WeakSet[io.FileIO] = weakref.WeakSet()
 
@@ -228,7 +229,7 @@ class Live:
     def __init__(self, layout: Layout, *, take: Optional[int] = None, max_commits: Optional[int] = None,
                  timeout: Optional[float] = None, program: Program = None):
         self._layout, self._timeout, self._program = layout, seconds(timeout), program
-        self._words = words_of(take=take, max_commits=max_commits)
+        self._words, self._most = words_of(take=take, max_commits=max_commits), max_commits
         self._sources: Dict[str, Source] = {}
         self._sinks: Dict[str, Sink] = {}
         self._process: Optional[subprocess.Popen[bytes]] = None
@@ -344,7 +345,7 @@ class Live:
             # Nobody has the items that came to a sink after it was left.
             complete = {name: report.sinks[name] == (it.came, True) for name, it in sinks}
             return Result(self._layout, report, {name: it.unread(it.came) for name, it in sinks}, self._program,
-                          complete, [name for name, it in sinks if it.is_left])
+                          complete, [name for name, it in sinks if it.is_left], self._most)
 
     @contextlib.contextmanager
     def _used(self) -> Iterator[None]:

@@ -3,6 +3,7 @@ from __future__ import annotations
 
 import collections
 import contextlib
+import copy
 from typing import Any, Dict, Iterable, Iterator, List, Mapping, NamedTuple, Optional, Sequence, SupportsIndex, Tuple
 from typing import Union
 
@@ -12,6 +13,8 @@ from .language import LARGEST_CAPACITY, LONGEST_NAME, LONGEST_TEXT, Description,
 from .live import Live
 from .process import MOST_PORTS, Capacities, Instance, Outputs, Process, Stream, forking
 from .program import Program, answer, as_bytes, draw_svg, explain
+from .rates import Rate, rates_of
+from .result import Result
 
 ADVICE = {
     'NoWriter': 'Nothing flows into this stream: `connect` it to what shall flow there, or make it by `net.source`.',
@@ -40,8 +43,8 @@ class Names:
 
 
 class Layout(NamedTuple):
-    """The text of a network and the names in it. `begins` has where its processes begin, and `writers` the instance
-    that writes each channel."""
+    """The text of a network and the names in it. `begins` has where its processes begin, `writers` and `readers` the
+    instance at each end of a channel, and `processes` the process of each instance."""
 
     text: str
     begins: List[Tuple[int, Process]]
@@ -50,6 +53,8 @@ class Layout(NamedTuple):
     sources: List[str]
     sinks: List[str]
     writers: Dict[str, str]
+    readers: Dict[str, str]
+    processes: Dict[str, Process]
 
     def error(self, program: Program = None, timeout: Optional[float] = None) -> Optional[KpnError]:
         """What `kpn explain` says of the text, with places and advice in terms of what the user wrote."""
@@ -338,7 +343,9 @@ class Network:
         of_kind = {kind: [names[it] for it in self._channels if it.kind == kind] for kind in ('source', 'sink')}
         return Layout(text, begins, [names[it] for it in self._instances], [names[it] for it in self._channels],
                       of_kind['source'], of_kind['sink'],
-                      {names[it]: names[it.writer] for it in self._channels if it.writer})
+                      {names[it]: names[it.writer] for it in self._channels if it.writer},
+                      {names[it]: names[it.reader] for it in self._channels if it.reader},
+                      {names[it]: it.process for it in self._instances})
 
     def _lines(self, names: Mapping[Union[Instance, Stream], str], called: Mapping[Process, str]) -> Iterator[str]:
         """The lines of the network itself, behind its processes."""
@@ -396,9 +403,37 @@ class Network:
         except KpnError:
             return None
 
-    def run(self, inputs: running.Inputs = None, **options: Any) -> running.Result:
+    def run(self, inputs: running.Inputs = None, **options: Any) -> Result:
         """Runs the network on these items of its sources. It gives a `Result` and raises what `kpn.run` does."""
         return running.run(self, inputs, **options)
+
+    def tuned(self, given: Union[Result, Mapping[str, int]]) -> Network:
+        """A copy of the network with the capacities that `kpn stats` advises after this run, which has a trace.
+
+        In place of a result it takes a dict of capacities by the names of channels, as `kpn.least_capacities` gives.
+        What is above the limit is cut to it. Raises KpnError for a result of another network, or without a trace, and
+        for a channel that is not there or is a source.
+        """
+        if isinstance(given, Result) and given.layout.channels != self.layout().channels:
+            raise KpnError('the result is of another network')
+        wanted = given.advice if isinstance(given, Result) else given
+        made = copy.deepcopy(self)
+        channels = {made.name_of(it): it for it in made._channels if it.kind != 'source'}
+        for name, cap in wanted.items():
+            if name not in channels:
+                raise KpnError(f'there is no channel `{name}` with a capacity: there are {", ".join(channels)}')
+            channels[name].given_cap = made._capacity(min(whole('the capacity', cap, 1), self.limit))
+        made._layout = None
+        return made
+
+    def rates(self, result: Result) -> List[Rate]:
+        """A `Rate` for each channel: how many items its ends put and got in this run, which has a trace.
+
+        Raises KpnError for a result of another network, or without a trace.
+        """
+        if result.layout.channels != self.layout().channels:
+            raise KpnError('the result is of another network')
+        return rates_of(result)
 
     def compile(self, **options: Any) -> compiled.Compiled:
         """Compiles the network to a program, as `kpn.compiled.compile_network(net, ..)` does."""

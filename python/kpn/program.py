@@ -8,9 +8,9 @@ import shutil
 import subprocess
 import sys
 import tempfile
-from typing import Callable, Dict, Mapping, NoReturn, Optional, Sequence, Union
+from typing import Callable, Dict, List, Mapping, NoReturn, Optional, Sequence, Union
 
-from .errors import KpnError, Spot
+from .errors import KpnError, Spot, whole
 
 # The path of the program `kpn`; None stands for the one that is found.
 Program = Union[None, str, 'os.PathLike[str]']
@@ -23,6 +23,8 @@ DRAWING = 60
 TUNABLES = 'glibc.malloc.hugetlb=1:glibc.malloc.mmap_threshold=4194304'
 # The name under which a text is explained, and the first line of an explanation.
 NAME = 'text.kpn'
+# The options that are numbers from 1 on, and the largest ones.
+MOST = {'take': 10**9, 'workers': 16, 'max_commits': 10**9, 'from': 10**9, 'to': 10**9}
 EXPLANATION = re.compile(re.escape(NAME) + r":(\d+):(\d+): (.*?(?: \[(.*)\])?)$")
 ERROR = re.compile(r'kpn: ((\d+) \w+(?: at \d+)?)$', re.M)
 
@@ -68,6 +70,12 @@ def call(words: Sequence[str], program: Program = None, folder: Optional[str] = 
         raise KpnError(f'`kpn {words[0]}` had not ended after {timeout} seconds') from None
     except OSError as error:
         raise KpnError(f'{error.filename or path} does not run: {error.strerror}') from None
+
+
+def words_of(**options: Optional[int]) -> List[str]:
+    """The words of a command line for the options that are given."""
+    given = {name: whole(f'`{name}`', value, 1, MOST[name]) for name, value in options.items() if value is not None}
+    return [word for name, value in given.items() for word in (f'--{name.replace("_", "-")}', str(value))]
 
 
 def answer(command: str, text: str, *words: str, program: Program = None) -> str:

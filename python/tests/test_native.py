@@ -1,9 +1,13 @@
 """Compiled networks beside `kpn`: the examples, random networks, wrong bodies, words, streams, sessions."""
+import array
+import contextlib
 import ctypes
+import importlib
 import os
 import pathlib
 import random
 import resource
+import select
 import shutil
 import subprocess
 import sys
@@ -20,6 +24,7 @@ import native  # noqa: E402
 import native_fixed  # noqa: E402
 from kpn.native import command  # noqa: E402
 from native_networks import MARKS  # noqa: E402
+from test_applications import module_of  # noqa: E402
 
 NETWORKS, PROCESSES = 12, 2
 # Wrong bodies: a file of the package, a text that stands there once, what stands there instead, and the kind of
@@ -33,10 +38,31 @@ WRONG = {
     'room for one more': ('network.h', 'channel->room - (channel->put', 'channel->room + 1 - (channel->put'),
     'two places of a channel inside are one': ('region_text.py', '_{count - first}', '_0'),
     'a period with a fault is kept': ('region_text.py', "yield '    break;'",
-                                      "yield from [*self.keeping(), '    break;']", '--faults'),
+                                      "yield from [*self.keeping(), '    break;']", 'faults'),
+    'items are small without a look': ('vectors.c', 'return all < 65536;', 'return true;', 'small'),
+    'a value comes a period too late': ('vectors.py', 'ago + 1, (*path', 'ago + 2, (*path', 'small'),
+    'no period comes before vectors': ('region_text.py', 'first = {self.vectors.depth}', 'first = 0', 'small'),
     'the events of a dropped period are kept': ('network.h', 'kpn_history_cut(network->history, mark);',
-                                                '(void)mark;', '--faults'),
+                                                '(void)mark;', 'faults'),
 }
+
+
+class Item(ctypes.Structure):
+    """`kpn_item` of kpn.h."""
+
+    _fields_ = [('channel', ctypes.c_size_t), ('item', ctypes.c_int64)]
+
+
+class Wanted(ctypes.Structure):
+    """`kpn_wanted`."""
+
+    _fields_ = [('channel', ctypes.c_size_t), ('item', ctypes.c_int64), ('has_item', ctypes.c_bool)]
+
+
+class Amounts(ctypes.Structure):
+    """`kpn_amounts`."""
+
+    _fields_ = [('fed', ctypes.c_size_t), ('commits', ctypes.c_uint64), ('served', ctypes.c_size_t)]
 
 
 def compiled(text, folder, *options):
@@ -76,6 +102,15 @@ class Equal(WithFolder):
                 for options in ([], ['--take', '6']):
                     trial.judge(options)
 
+    def test_applications(self):
+        runtime = command.compile_runtime(str(self.folder))
+        for path, words, count in (('audio/chain', [2], 300), ('fm/receiver', [], 240), ('jpeg/encode', [16, 8], 128)):
+            net, chosen = module_of(path).build(*words), random.Random(path)
+            lists = {name: [chosen.randrange(256) for _ in range(count)] for name in net.layout().sources}
+            with self.subTest(path=path), tempfile.TemporaryDirectory(prefix='kpn-') as folder:
+                trial = native.Trial(folder, str(net), lists, runtime)
+                self.assertEqual([trial.judge(options) for options in ([], ['--take', '6'])], ['ended', 'enough'])
+
     def test_operators(self):
         """Each operator on operands at the edges; a process faults, or its sink gives the value."""
         runtime, edges = command.compile_runtime(str(self.folder)), (-2**63, -2**63 + 1, -1, 0, 1, 2**63 - 1)
@@ -105,7 +140,8 @@ class Equal(WithFolder):
                 text = edited.read_text()
                 self.assertEqual(text.count(old), 1, name)
                 edited.write_text(text.replace(old, new))
-                words = ['50', '1', *kind, '--seconds', '20', '--processes', str(PROCESSES), '--schedules', 'fuse']
+                words = ['50', '1', '--seconds', '20', '--processes', str(PROCESSES), '--schedules', 'fuse']
+                words += ['--kind', *kind] if kind else []
                 done = subprocess.run([sys.executable, TOP / 'bench/stress/native.py', *words],
                                       capture_output=True, text=True, env=environment(package))
                 self.assertEqual(done.returncode, 1, f'{name}: {done.stdout}{done.stderr}')
@@ -269,6 +305,20 @@ class Streams(WithFolder):
                 self.assertEqual(got, wanted)
             self.assertEqual(child.communicate()[0], b'2\n2\n1\n1\n1\n1\n1\n1\n')
 
+    def test_beside_a_process_that_never_rests(self):
+        text = 'process spin(out o) { x = 1; while x { x = ((x % 7) + 1); } write o x; }\n' \
+               'process copy(in i; out o) { while 1 { read i x; write o x; } }\n' \
+               'network { source i; sink o cap 1; sink p cap 1; s = spin(; p); k = copy(i; o); }\n'
+        self.assertEqual(compiled(text, self.folder).returncode, 0)
+        with subprocess.Popen(['./prog', 'stream', '--quiet', '--sink', 'o=-', '--sink', 'p=out'], cwd=self.folder,
+                              stdin=subprocess.PIPE, stdout=subprocess.PIPE, bufsize=0) as child:
+            self.addCleanup(child.kill)
+            for line in (b'4\n', b'-5\n', b'6\n'):
+                child.stdin.write(line)
+                ready, _, _ = select.select([child.stdout], [], [], 60)
+                self.assertEqual(child.stdout.read(len(line)) if ready else b'', line)
+            child.kill()
+
     def test_reader_has_gone(self):
         self.assertEqual(compiled(Words.DOUBLE, self.folder).returncode, 0)
         done = subprocess.run('yes 1 | ./prog stream --trace trace | head -n 3; exit ${PIPESTATUS[1]}', shell=True,
@@ -353,6 +403,23 @@ class Sessions(WithFolder):
         self.assertTrue(self.call(PROGRAM, 'audit', 'net.kpn', 'trace')[1].startswith('legal\n'))
         self.assertEqual((self.ask('free'), self.ask('free')), (0, 62))
 
+    def test_moved(self):
+        """What a call of kpn_move does is what the calls for its parts do."""
+        a, b, o, p = (self.channel(name) for name in 'abop')
+        amounts, most, wanted = Amounts(), ctypes.c_uint64(10000), (Wanted * 3)(Wanted(p), Wanted(o), Wanted(p))
+        for of_a, of_b, sum_of_o in ((4, 5, 4), (6, 7, 11)):
+            items = (Item * 2)(Item(a, of_a), Item(b, of_b))
+            self.assertEqual(self.ask('move', items, ctypes.c_size_t(2), most, wanted, ctypes.c_size_t(3),
+                                      ctypes.byref(amounts)), 0)
+            self.assertEqual((amounts.fed, amounts.served, amounts.commits > 0), (2, 3, True))
+            self.assertEqual([it.item if it.has_item else None for it in wanted], [of_a, sum_of_o, None])
+        bad = (Item * 2)(Item(a, 1), Item(o, 1))
+        self.assertEqual(self.ask('move', bad, ctypes.c_size_t(2), most, wanted, ctypes.c_size_t(3),
+                                  ctypes.byref(amounts)), 43)
+        self.assertEqual((amounts.fed, amounts.commits, amounts.served), (1, 0, 0))
+        self.assertEqual(self.ask('move', None, ctypes.c_size_t(1), most, None, ctypes.c_size_t(0),
+                                  ctypes.byref(amounts)), 63)
+
     def test_faults(self):
         none, number = ctypes.byref(ctypes.c_size_t()), ctypes.c_size_t
         self.assertEqual(self.ask('feed', number(4), b'', number(0), none), 43)
@@ -366,6 +433,10 @@ class Sessions(WithFolder):
             other = ctypes.c_void_p()
             self.assertEqual(self.ask('open', text, number(len(text)), ctypes.byref(other), self.place,
                                       has_session=False), answer)
+        self.assertEqual(self.ask('free'), 0)
+        words = None, number(0), ctypes.byref(self.session), self.place
+        self.assertEqual(self.ask('open_forgetting', *words, has_session=False), 0)
+        self.assertEqual((self.ask('keep_trace'), self.ask('trace', b'', number(0), none)), (66, 66))
         self.assertEqual(self.ask('free'), 0)
 
 
@@ -405,6 +476,32 @@ class Fixed(WithFolder):
 
 @unittest.skipUnless(shutil.which('cc'), 'there is no C compiler')
 class Compiles(WithFolder):
+    def test_arrays(self):
+        """Runs in this process read arrays where they lie, and have the results of `net.run`."""
+        net = kpn.Network()
+        net.sink('y', kpn.parts.fir(net.source('x'), [1, 4, 6, 4, 1]))
+        program, given = net.compile(cache=self.folder), list(range(-20, 5000))
+        kinds = [given, array.array('q', given)]
+        with contextlib.suppress(ImportError):
+            numpy = importlib.import_module('numpy')
+            kinds += [numpy.array(given), numpy.repeat(given, 2)[::2], numpy.array(given, numpy.int16)]
+        for items in kinds:
+            for options in ({}, {'take': 7}):
+                wanted, found = net.run(items, **options), program.run(items, **options)
+                self.assertIs(type(found['y']), type(wanted['y']))
+                self.assertEqual((list(found['y']), found.outcome, found.waits, found.complete),
+                                 (list(wanted['y']), wanted.outcome, wanted.waits, wanted.complete))
+        self.assertEqual(program.run([2**62] * 9).faults, {'fir': 'overflow'})
+        for bad, error in (([0.5], TypeError), ([2**63], kpn.KpnError), ({'z': []}, kpn.KpnError)):
+            self.assertRaises(error, program.run, bad)
+
+    def test_each_nth_run_is_judged(self):
+        net = kpn.Network()
+        net.sink('y', net.source('x'))
+        program = net.compile(cache=self.folder, certify_each=3)
+        self.assertEqual([program.run([1, 2]).certified for _ in range(6)], [None, None, 'legal, exact'] * 2)
+        self.assertEqual(program.run([1, 2], certify=True, take=1).certified, 'legal, not exact')
+
     def test_from_python(self):
         net = kpn.Network()
         net.sink('y', kpn.parts.fir(net.source('x'), [1, 4, 6, 4, 1]))

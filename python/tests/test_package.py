@@ -92,7 +92,7 @@ class Command(unittest.TestCase):
         status, text = said()
         self.assertEqual(status, 0)
         for name in (*parts.__all__, *gallery.GALLERY):
-            self.assertIn(f'\n  {name} ', text)
+            self.assertRegex(text, rf'\n  {name}\b')
 
     def test_it_runs_the_gallery(self):
         status, text = said('gallery', 'fir', 'matrix', '--samples', '99')
@@ -120,6 +120,18 @@ class Command(unittest.TestCase):
                                   stderr=subprocess.PIPE, text=True)
             self.assertEqual((done.returncode, done.stderr), (141, ''))
         os.close(ours)
+
+    def test_it_prints_with_the_advised_capacities(self):
+        two = TOP / 'examples/two.kpn'
+        with tempfile.TemporaryDirectory() as folder:
+            trace = str(pathlib.Path(folder, 'two.trace'))
+            net = kpn.Network.from_text(two.read_text())
+            net.run(trace=trace)
+            status, text = said('print', str(two), '--capacities', trace)
+            self.assertEqual((status, text), (0, str(net).replace('channel a cap 1', 'channel a cap 2')))
+            with contextlib.redirect_stderr(io.StringIO()) as told:
+                self.assertEqual(said('print', str(TOP / 'examples/copy.kpn'), '--capacities', trace), (1, ''))
+            self.assertIn('two.trace: illegal at', told.getvalue())
 
     def test_a_folder_that_is_not_there(self):
         with contextlib.redirect_stderr(io.StringIO()) as told:

@@ -62,6 +62,7 @@ class Inputs(unittest.TestCase):
             path.write_text('1\n2x\n')
             self.refused('items:2:1', net, {'x': path})
             self.refused('26 Read', net, {'x': pathlib.Path(folder, 'none')})
+            self.refused("none` can't be read: there is no such file", net, {'x': pathlib.Path(folder, 'none')})
 
     def refused(self, words, net, *args, error=kpn.KpnError, **named):
         with self.assertRaises(error) as caught:

@@ -19,9 +19,11 @@ RUNTIME = pathlib.Path(__file__).resolve().parent / 'runtime'
 # Of the runtime, and of kpn.h.
 HEADERS = (RUNTIME, RUNTIME.parents[3] / 'include')
 # What a library has of the runtime, and what one with static memory has; a program has neither session.
-LIBRARY = ('history.c', 'network.c', 'regions.c', 'rings.c', 'session.c', 'session_memory.c')
+LIBRARY = ('history.c', 'network.c', 'regions.c', 'rings.c', 'session.c', 'session_memory.c', 'vectors.c')
 FIXED = ('fixed.c', 'network.c', 'regions.c', 'session.c')
 SESSION = ('fixed.c', 'session.c', 'session_memory.c')
+# What a shared object has beside the runtime of a program.
+SHARED = 'arrays.c'
 # The schedules, from the usual one to that of `kpn run`.
 SCHEDULES = ('fuse', 'batch', 'kpn')
 # The status if the C compiler fails, as that of the launcher if a build fails.
@@ -42,25 +44,26 @@ def c_of(canonical: str, schedule: str, given: bytes = b'', fixed: int = 0) -> s
     return '\n'.join(NetworkText(canonical, given, description, schedule, fixed).lines()) + '\n'
 
 
-def compiler() -> List[str]:
-    """The C compiler with its flags: CC and CFLAGS, or else `cc` with the usual ones."""
+def compiler(words: Sequence[str] = ()) -> List[str]:
+    """The C compiler with its flags: these words, or else CC and CFLAGS, or else `cc` with the usual flags."""
     flags = os.environ.get('CFLAGS')
-    return [*shlex.split(os.environ.get('CC', 'cc')), *(FLAGS if flags is None else shlex.split(flags)),
-            *(f'-I{folder}' for folder in HEADERS)]
+    usual = [*shlex.split(os.environ.get('CC', 'cc')), *(FLAGS if flags is None else shlex.split(flags))]
+    return [*(words or usual), *(f'-I{folder}' for folder in HEADERS)]
 
 
-def compile_runtime(folder: str) -> List[str]:
-    """Compiles the runtime, and gives its object files: for callers that compile many networks."""
+def compile_runtime(folder: str, words: Sequence[str] = ()) -> List[str]:
+    """Compiles the runtime, by a compiler of its own if there are words for it, and gives its object files: for callers
+    that compile many networks."""
     objects = []
     for source in runtime_sources():
         objects.append(str(pathlib.Path(folder, f'{source.stem}.o')))
-        subprocess.run([*compiler(), '-c', str(source), '-o', objects[-1]], check=True)
+        subprocess.run([*compiler(words), '-c', str(source), '-o', objects[-1]], check=True)
     return objects
 
 
 def runtime_sources() -> List[pathlib.Path]:
     """The C files of the runtime of a program."""
-    return sorted(it for it in RUNTIME.glob('*.c') if it.name not in SESSION)
+    return sorted(it for it in RUNTIME.glob('*.c') if it.name not in (*SESSION, SHARED))
 
 
 def build(text: str, program: str, out: str, runtime: Sequence[str] = ()) -> int:
@@ -71,6 +74,15 @@ def build(text: str, program: str, out: str, runtime: Sequence[str] = ()) -> int
         source.write_text(text + MAIN.format(program=escaped))
         words = [*compiler(), str(source), *(runtime or map(str, runtime_sources())), '-o', out]
         return subprocess.run(words, check=False).returncode
+
+
+def build_shared(text: str, out: str) -> int:
+    """Compiles the C of a network to a shared object that runs on arrays; gives the status of the compiler."""
+    with tempfile.TemporaryDirectory(prefix='kpn-') as folder:
+        source = pathlib.Path(folder, 'network_of.c')
+        source.write_text(text)
+        words = [*compiler(), '-shared', '-fPIC', str(source), *map(str, runtime_sources()), str(RUNTIME / SHARED)]
+        return subprocess.run([*words, '-o', out], check=False).returncode
 
 
 def build_library(text: str, out: str, is_fixed: bool = False) -> int:

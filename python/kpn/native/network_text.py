@@ -27,7 +27,7 @@ class NetworkText:
         finder = Finder(description, self.rows)
         found = list(finder.regions()) if schedule == 'fuse' else []
         self.heads = {self.of_instance[p]: finder.loops[p].head for region in found for p in region.laps}
-        self.regions = [RegionText(number, region, finder, self.starts, self.numbers)
+        self.regions = [RegionText(number, region, finder, self.starts, self.numbers, fixed == 0)
                         for number, region in enumerate(found)]
 
     def kind_of(self, entry: Entry) -> Kind:
@@ -116,8 +116,8 @@ class NetworkText:
             yield f'    "{line}\\n"'
         yield '    "";'
         yield 'static const char given[] ='
-        for line in self.given.splitlines(keepends=True):
-            yield f'    "{quoted(line)}"'
+        for part in self.given.splitlines(keepends=True):
+            yield f'    "{quoted(part)}"'
         yield '    "";'
         yield 'const struct kpn_plan kpn_plan = {'
         tables = (('channels', len(self.numbers)), ('processes', len(description.instances)),

@@ -10,36 +10,41 @@ from typing import Dict, Iterator, List, Tuple
 from .c_text import Values
 from .paths import Assign, Leave, Read, Rows, Test, Write
 from .regions import Finder, Region, variables_of
+from .vectors import State, vectors_of
 
 
 class RegionText:
     """The function and the tables of a region."""
 
-    def __init__(self, number: int, region: Region, finder: Finder, starts: List[int], channels: Dict[str, int]):
+    def __init__(self, number: int, region: Region, finder: Finder, starts: List[int], channels: Dict[str, int],
+                 may_have_vectors: bool = True):
         self.number, self.region, self.finder, self.starts, self.channels = number, region, finder, starts, channels
         self.live: Dict[int, List[str]] = {}
         self.assigned: Dict[int, List[str]] = {}
+        self.numbers: Dict[int, Dict[str, int]] = {}
         self.constants: Dict[int, Dict[str, str]] = {}
         for p in region.laps:
             self.live[p], self.assigned[p] = variables_of(self.rows(p), finder.loops[p])
-            self.constants[p] = self.constants_of(p)
+            self.numbers[p] = self.numbers_of(p)
+            self.constants[p] = {name: f'INT64_C({value})' for name, value in self.numbers[p].items()}
             self.live[p] = [name for name in self.live[p] if name not in self.constants[p]]
         self.put_count = dict.fromkeys(region.inside, 0)
         self.got_count = {c: 0 for c in (*region.inside, *region.gets, *region.puts)}
         self.body: List[str] = []
         for p, lap, place in region.order:
             self.body += self.row(p, lap, place)
+        self.vectors = vectors_of(self) if may_have_vectors else None
 
     def rows(self, p: int) -> Rows:
         """The rows of a member."""
         return self.finder.rows[self.finder.entries[p].process]
 
-    def constants_of(self, p: int) -> Dict[str, str]:
+    def numbers_of(self, p: int) -> Dict[str, int]:
         """The parameters that a member never sets."""
         rows, entry = self.rows(p), self.finder.entries[p]
         changed = {row.target for row in rows.rows if isinstance(row, (Assign, Read))}
         values = zip(rows.process.pars, entry.values)
-        return {name: f'INT64_C({value})' for name, value in values if name not in changed}
+        return {name: value for name, value in values if name not in changed}
 
     def carried(self) -> Iterator[Tuple[int, str]]:
         """The variables that one period leaves to the next."""
@@ -112,11 +117,14 @@ class RegionText:
         head = f'region_{self.number}(struct kpn_network *network, unsigned self'
         names = ', '.join(self.finder.names[p] for p in self.region.laps)
         yield f'/* {names} */'
+        if self.vectors:
+            yield from self.vectors.lines(f'vectors_{self.number}')
         yield f'KPN_INLINE enum kpn_stop any_{head}, const bool is_traced) {{'
         yield from self.beginning()
         yield '  while (made < periods) {'
         yield from self.period()
         yield '  }'
+        yield from self.behind_vectors()
         yield from self.ending()
         yield '}'
         for word, value in (('plain', 'false'), ('traced', 'true')):
@@ -139,6 +147,7 @@ class RegionText:
                 yield f'  size_t at_{number} = c_{number}->{side};'
                 yield f'  periods = kpn_periods(periods, {call}(c_{number}), {count});'
         yield '  if (periods == 0) return KPN_EMPTY;'
+        yield from self.before_vectors()
         for c, count in self.region.inside.items():
             number = self.channels[c]
             if count:
@@ -150,6 +159,58 @@ class RegionText:
                 word = 'k' if name in self.assigned[p] else 'm'
                 yield f'  int64_t {word}{p}_{name} = kept[{self.place_of(p, name)}];'
         yield '  (void)kept; (void)fuel; (void)mark; (void)is_traced;'
+
+    def before_vectors(self) -> Iterator[str]:
+        """Copies what is got if it is small. Then only the first periods are made one by one, or all for a trace."""
+        if not self.vectors:
+            return
+        for c in (*self.region.gets, *self.region.puts):
+            yield f'  int32_t {"x" if c in self.region.gets else "y"}_{self.channels[c]}[KPN_MOST_ITEMS];'
+        yield f'  const size_t whole = periods, first = {self.vectors.depth};'
+        yield '  bool is_small = whole >= first + KPN_LEAST_VECTORS;'
+        for c, count in self.region.gets.items():
+            n = self.channels[c]
+            yield f'  is_small = is_small && kpn_copy_small(x_{n}, ring_{n}, at_{n}, mask_{n}, whole * {count});'
+        for p, name in self.vectors.held():
+            yield f'  const int32_t h{p}_{name} = (int32_t)kept[{self.place_of(p, name)}];'
+            yield f'  is_small = is_small && (uint64_t)kept[{self.place_of(p, name)}] + 32768 < 65536;'
+        yield '  if (is_small && !is_traced) periods = first;'
+
+    def behind_vectors(self) -> Iterator[str]:
+        """The other periods at once; for a trace what they would have given is compared."""
+        if not self.vectors:
+            return
+        arrays = ''.join([*(f', x_{self.channels[c]}' for c in self.region.gets),
+                          *(f', y_{self.channels[c]}' for c in self.region.puts),
+                          *(f', h{p}_{name}' for p, name in self.vectors.held())])
+        yield '  if (is_small && made == periods) {'
+        yield '    const size_t last = whole - 1;'
+        yield f'    vectors_{self.number}(first, whole{arrays});'
+        body, left = self.vectors.behind()
+        yield from (f'    {line}' for line in body)
+        yield '    (void)last;'
+        yield '    if (is_traced) {'
+        for c, count in self.region.puts.items():
+            n = self.channels[c]
+            yield f'      if (!kpn_are_same(y_{n}, ring_{n}, at_{n} - whole * {count}, mask_{n}, first * {count}, ' \
+                  f'whole * {count})) network->has_differed = true;'
+        yield from (f'      if ({self.kept(state)} != {name}) network->has_differed = true;'
+                    for state, name in left.items())
+        yield '    } else {'
+        for c, count in self.region.puts.items():
+            n = self.channels[c]
+            yield f'      kpn_widen(y_{n}, ring_{n}, at_{n} - first * {count}, mask_{n}, first * {count}, ' \
+                  f'whole * {count});'
+        yield from (f'      at_{self.channels[c]} += (whole - first) * {count};'
+                    for c, count in (*self.region.gets.items(), *self.region.puts.items()))
+        yield from (f'      {self.kept(state)} = {name};' for state, name in left.items())
+        yield '      made = whole;'
+        yield '    }'
+        yield '  }'
+
+    def kept(self, state: State) -> str:
+        """The local of what a period leaves to the next."""
+        return f'k{state[0]}_{state[1]}' if isinstance(state[0], int) else f'first_{self.channels[state[0]]}_{state[1]}'
 
     def place_of(self, p: int, name: str) -> int:
         """Where a variable is among those of the network."""

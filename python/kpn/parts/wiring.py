@@ -1,7 +1,7 @@
 """Parts that bring items to other places or in another number, and do not compute with them."""
 from __future__ import annotations
 
-from typing import TYPE_CHECKING, Optional, Sequence, Tuple, cast
+from typing import TYPE_CHECKING, List, Optional, Sequence, Tuple, Union, cast
 
 from ..errors import KpnError, whole
 from ..process import MOST_PORTS, Process, Stream, forking
@@ -195,12 +195,15 @@ def deal(stream: Stream, n: int) -> Tuple[Stream, ...]:
     return tuple(parts[it % first][it // first] for it in range(n))
 
 
-def merge(streams: Sequence[Stream]) -> Stream:
-    """Takes an item of each stream by turns, from the first one on.
+def merge(*given: Union[Stream, Sequence[Stream]]) -> Stream:
+    """Takes an item of each stream by turns, from the first one on: `merge(x, y)` or `merge([x, y])`.
 
     Rates: as many out as there are streams, for one item of each. Faults: none. It ends with the first stream that has
     no item at its turn. The number of streams is 1 to 16, or a product of such numbers.
     """
+    streams: List[Stream] = []
+    for it in given:
+        streams += [it] if isinstance(it, Stream) else it
     first = largest_divisor(len(streams)) if streams else 0
     need(first > 1 or len(streams) == 1,
          f'a merge of {len(streams)} streams: the number has to be a product of numbers up to {MOST_PORTS}')

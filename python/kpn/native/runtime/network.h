@@ -21,11 +21,19 @@
 #define KPN_INLINE static inline __attribute__((unused))
 #endif
 
+/* For loops without checks: gcc makes no vectors of them under -O2. */
+#if defined(__OPTIMIZE__) && defined(__GNUC__) && !defined(__clang__)
+#define KPN_VECTORS __attribute__((optimize("O3"), noinline))
+#else
+#define KPN_VECTORS __attribute__((noinline))
+#endif
+
 enum {
   KPN_MOST_CHANNELS = 1024,
   KPN_OUTSIDE = 0xffff,   /* in place of a process: the writer of a source, the reader of a sink */
   KPN_FUEL = 16384,       /* the most turns of loops in a turn of a process */
   KPN_MOST_ITEMS = 4096,  /* the most items that a turn of a process gets from a channel, or puts there */
+  KPN_LEAST_VECTORS = 16, /* the least periods of a loop without checks */
   KPN_LATE = 1024         /* after so many turns waits become events, also while a process is ready */
 };
 
@@ -146,6 +154,7 @@ struct kpn_network {
   void *owner;
   struct kpn_run_history *history; /* null without a trace */
   bool lacks_memory;
+  bool has_differed;           /* a loop without checks has given other items than the periods one by one */
 };
 
 /* ---- what a turn needs */
@@ -249,6 +258,14 @@ void kpn_park(struct kpn_network *network, unsigned process);
 void kpn_region_turn(struct kpn_network *network, unsigned region);
 void kpn_wake_region(struct kpn_network *network, unsigned region);
 void kpn_end_region(struct kpn_network *network, unsigned region);
+
+/* ---- loops without checks. The items of a ring from a position on, as numbers of 32 bits; false if one has more than
+   16 bits. And what they have put, from a place in the array up to another one, in a ring whose position is that of the
+   array's first item. */
+
+bool kpn_copy_small(int32_t *to, const int64_t *ring, size_t at, size_t mask, size_t count);
+void kpn_widen(const int32_t *from, int64_t *ring, size_t at, size_t mask, size_t first, size_t end);
+bool kpn_are_same(const int32_t *from, const int64_t *ring, size_t at, size_t mask, size_t first, size_t end);
 
 /* ---- what the owner of a network calls. A bool that is false says that memory was refused. */
 

@@ -9,6 +9,9 @@
 /* The statuses beside those of outcomes. */
 enum { KPN_REFUSED = 1, KPN_USAGE = 2, KPN_LACKS_MEMORY = 6, KPN_FAULTED = 8, KPN_NOT_CERTIFIED = 9 };
 
+/* What is told of a run with a trace whose loops without checks give other items. */
+#define KPN_DIFFERED "not certified: two ways of the program give other items; please report the network and its input"
+
 /* A word NAME=FILE. */
 struct kpn_end {
   const char *name, *file;
@@ -61,6 +64,15 @@ int kpn_refuse(int status, const char *format, ...) __attribute__((format(printf
 int kpn_main(const struct kpn_plan *plan, const char *program, int count, char **words);
 int kpn_commands(struct kpn_run *run);
 int kpn_command_stream(struct kpn_run *run);
+
+/* Begins a run on the lists of the sources, which stay where they are; false says that memory was refused. */
+bool kpn_begin_run(struct kpn_run *run);
+
+/* Runs on until so many commits were made in all. Gives the outcome; KPN_GOING if memory was refused. */
+unsigned kpn_run_on(struct kpn_run *run, uint64_t most);
+
+/* Frees what lies between the sources and the sinks. */
+void kpn_end_run(struct kpn_run *run);
 
 /* Writes the report of a run. */
 bool kpn_report(const struct kpn_run *run, kpn_writer *writer, void *to);

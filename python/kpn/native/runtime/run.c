@@ -105,28 +105,49 @@ static void feed(struct kpn_run *run) {
   }
 }
 
-static void go(struct kpn_run *run) {
+bool kpn_begin_run(struct kpn_run *run) {
   struct kpn_network *network = &run->network;
-  uint64_t usual = network->plan->is_one_talk ? MOST_COMMITS : UINT64_MAX;
-  uint64_t most = run->words.has_most_commits ? run->words.most_commits : usual;
+  network->owner = run;
+  network->taker = take;
+  kpn_begin(network);
+  for (size_t c = 0; c < network->plan->channel_count; c++) {
+    run->sinks_short += network->plan->channels[c].kind == KPN_SINK;
+  }
+  network->lacks_memory = !kpn_reserve_all(network, false);
+  if (!network->lacks_memory) {
+    feed(run);
+  }
+  return !network->lacks_memory;
+}
+
+unsigned kpn_run_on(struct kpn_run *run, uint64_t most) {
+  struct kpn_network *network = &run->network;
   while (!network->lacks_memory) {
     if (has_enough(run)) {
-      run->outcome = KPN_ENOUGH;
-      return;
+      return KPN_ENOUGH;
     }
     if (!network->ready_count) {
       kpn_write_waits(network);
     }
-    run->outcome = kpn_verdict_of(network);
-    if (run->outcome != KPN_GOING) {
-      return;
+    unsigned verdict = kpn_verdict_of(network);
+    if (verdict != KPN_GOING) {
+      return verdict;
     }
     if (network->commits >= most) {
-      run->outcome = KPN_STOPPED;
-      return;
+      return KPN_STOPPED;
     }
     kpn_go_once(network);
   }
+  return KPN_GOING;
+}
+
+void kpn_end_run(struct kpn_run *run) {
+  for (size_t c = 0; c < run->network.plan->channel_count; c++) {
+    if (run->network.plan->channels[c].kind == KPN_SOURCE) {
+      run->network.channels[c].ring = NULL;
+    }
+  }
+  kpn_drop_rings(&run->network);
 }
 
 static bool store_items(struct kpn_file *file, const struct kpn_text_items *list) {
@@ -164,6 +185,9 @@ static bool write_out(void *to, const char *text, size_t length) {
 
 static int answer(struct kpn_run *run) {
   static const int statuses[] = {[KPN_CLOGGED] = 3, [KPN_JAMMED] = 4, [KPN_STOPPED] = 5};
+  if (run->network.has_differed) {
+    return kpn_refuse(KPN_NOT_CERTIFIED, KPN_DIFFERED);
+  }
   int status = run->words.is_certified ? kpn_certify(run) : 0, out = STDOUT_FILENO;
   if (status == 0 && run->words.is_checked) {
     status = kpn_compare_runs(run);
@@ -179,28 +203,14 @@ static int answer(struct kpn_run *run) {
 
 /* The run itself, once its inputs are there and its outputs ready. */
 static int run_network(struct kpn_run *run) {
-  struct kpn_network *network = &run->network;
-  const struct kpn_plan *plan = network->plan;
-  network->owner = run;
-  network->taker = take;
   run->history.most = run->words.events ? run->words.events : UINT64_MAX;
-  network->history = run->words.trace || run->words.is_certified ? &run->history : NULL;
-  kpn_begin(network);
-  for (size_t c = 0; c < plan->channel_count; c++) {
-    run->sinks_short += plan->channels[c].kind == KPN_SINK;
+  run->network.history = run->words.trace || run->words.is_certified ? &run->history : NULL;
+  uint64_t usual = run->network.plan->is_one_talk ? MOST_COMMITS : UINT64_MAX;
+  if (kpn_begin_run(run)) {
+    run->outcome = kpn_run_on(run, run->words.has_most_commits ? run->words.most_commits : usual);
   }
-  network->lacks_memory = !kpn_reserve_all(network, false);
-  if (!network->lacks_memory) {
-    feed(run);
-    go(run);
-  }
-  int status = network->lacks_memory ? kpn_refuse(KPN_LACKS_MEMORY, "42 NoMemory") : answer(run);
-  for (size_t c = 0; c < plan->channel_count; c++) {
-    if (plan->channels[c].kind == KPN_SOURCE) {
-      network->channels[c].ring = NULL;
-    }
-  }
-  kpn_drop_rings(network);
+  int status = run->network.lacks_memory ? kpn_refuse(KPN_LACKS_MEMORY, "42 NoMemory") : answer(run);
+  kpn_end_run(run);
   return status;
 }
 

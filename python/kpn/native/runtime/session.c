@@ -20,13 +20,18 @@ static uint32_t answer(struct kpn_own_session *session) {
   return has_lacked ? KPN_NO_MEMORY : KPN_OK;
 }
 
+static bool is_text(const char *text, size_t length, const char *other, size_t other_length) {
+  return length == other_length && memcmp(text, other, length) == 0;
+}
+
 uint32_t kpn_open(const char *text, size_t length, kpn_session *session, kpn_place *place) {
   if (LACKS(text, length) || !session || !place) return KPN_NULL;
   *place = (kpn_place){false, 0};
   session->at = NULL;
-  bool is_canonical = length == strlen(kpn_plan.text) && memcmp(text, kpn_plan.text, length) == 0;
-  bool is_given = length == kpn_plan.given_length && memcmp(text, kpn_plan.given, length) == 0;
-  if (length > 0 && !is_canonical && !is_given) return KPN_OTHER_TEXT;
+  if (length > 0 && !is_text(text, length, kpn_plan.text, strlen(kpn_plan.text)) &&
+      !is_text(text, length, kpn_plan.given, kpn_plan.given_length)) {
+    return KPN_OTHER_TEXT;
+  }
   struct kpn_own_session *made = kpn_make_session();
   if (!made) return KPN_NO_MEMORY;
   session->at = made;
@@ -36,6 +41,13 @@ uint32_t kpn_open(const char *text, size_t length, kpn_session *session, kpn_pla
     return KPN_NO_MEMORY;
   }
   return KPN_OK;
+}
+
+/* Nobody may ask for its trace. */
+uint32_t kpn_open_forgetting(const char *text, size_t length, kpn_session *session, kpn_place *place) {
+  uint32_t fault = kpn_open(text, length, session, place);
+  if (fault == KPN_OK) ((struct kpn_own_session *)session->at)->has_begun = true;
+  return fault;
 }
 
 uint32_t kpn_channel(kpn_session *session, const char *name, size_t length, size_t *channel) {
@@ -108,6 +120,26 @@ uint32_t kpn_take(kpn_session *session, size_t sink, int64_t *items, size_t room
     kpn_taken(network, (unsigned)sink);
   }
   return answer(session->at);
+}
+
+uint32_t kpn_move(kpn_session *session, const kpn_item *items, size_t count, uint64_t most, kpn_wanted *places,
+                  size_t place_count, kpn_amounts *amounts) {
+  if (!session || LACKS(items, count) || LACKS(places, place_count) || !amounts) return KPN_NULL;
+  *amounts = (kpn_amounts){0};
+  if (!session->at) return KPN_NO_SESSION;
+  size_t moved;
+  uint32_t fault = KPN_OK;
+  for (size_t k = 0; k < count && !fault; k++) {
+    fault = kpn_feed(session, items[k].channel, &items[k].item, 1, &moved);
+    amounts->fed += moved;
+  }
+  fault = fault ? fault : kpn_step(session, most, &amounts->commits);
+  for (size_t k = 0; k < place_count && !fault; k++) {
+    fault = kpn_take(session, places[k].channel, &places[k].item, 1, &moved);
+    places[k].has_item = moved > 0;
+    amounts->served += !fault;
+  }
+  return fault;
 }
 
 uint32_t kpn_is_complete(kpn_session *session, size_t channel, bool *complete) {

@@ -52,7 +52,7 @@ uint32_t kpn_trace(kpn_session *session, char *text, size_t room, size_t *length
   const struct kpn_own_session *own = session->at;
   const struct kpn_plan *plan = own->network.plan;
   struct room counted = {NULL, 0}, written = {text, 0};
-  if (!own->network.history) return KPN_NO_TRACE;
+  if (!own->network.history || own->network.has_differed) return KPN_NO_TRACE;
   if (own->has_lost_events) return KPN_NO_MEMORY;
   kpn_history_write(&own->history, plan->is_policy_all, plan->is_growth_double, write_to, &counted);
   *length = counted.length;

@@ -11,8 +11,8 @@
 #include "devices.h"
 
 /* So many commits are made until the inputs are looked at again, also while processes are ready; and so many at the end
-   of an input that is wrong. */
-enum { SLICE = 65536, LAST_SLICE = 16 * SLICE };
+   of an input that is wrong. A process that never talks makes as many in some milliseconds. */
+enum { SLICE = 4096, LAST_SLICE = 1048576 };
 
 struct stream {
   struct kpn_run *run;
@@ -291,13 +291,17 @@ static bool is_over(struct stream *stream, uint64_t most) {
   return run->outcome != KPN_GOING;
 }
 
-/* Goes on until there is an outcome, or a device has failed or gone. What came before a wrong item is computed. */
+/* Goes on until there is an outcome, or a device has failed or gone. What came before a wrong item is computed. Where
+   processes never rest, what has come goes out behind each slice. */
 static void go(struct stream *stream) {
   struct kpn_network *network = &stream->run->network;
   uint64_t most = stream->run->words.has_most_commits ? stream->run->words.most_commits : UINT64_MAX;
   while (look_at_outputs(stream) && !network->lacks_memory) {
     uint64_t slice = network->commits + SLICE;
     kpn_go(network, slice < most ? slice : most);
+    if (network->ready_count) {
+      flush_all(stream);
+    }
     if (is_over(stream, most)) {
       return;
     }
@@ -355,6 +359,9 @@ static int conclude(struct stream *stream) {
 
 static int store_trace(struct kpn_run *run) {
   const struct kpn_plan *plan = run->network.plan;
+  if (run->network.has_differed) {
+    return kpn_refuse(KPN_NOT_CERTIFIED, KPN_DIFFERED);
+  }
   if (run->trace.name && !(kpn_history_write(&run->history, plan->is_policy_all, plan->is_growth_double,
                                              kpn_file_write, &run->trace) && kpn_file_store(&run->trace))) {
     return kpn_refuse(KPN_REFUSED, "27 Write");

@@ -1,0 +1,93 @@
+"""How many items the ends of channels put and get, and which channels hold ever more of them."""
+from __future__ import annotations
+
+import itertools
+from typing import TYPE_CHECKING, Dict, List, NamedTuple, Optional
+
+if TYPE_CHECKING:
+    from .network import Layout
+    from .result import Result
+
+# A channel with fewer items left is not looked at.
+LEAST_LEFT = 16
+ENDS = ('done', 'overflow', 'zero-divisor')
+
+
+class Rate(NamedTuple):
+    """How many items the writer of a channel put and its reader got; None stands for the outside.
+
+    `left` items are unread at the end. `grows` says that there were ever more of them, and that the reader goes on: a
+    longer run leaves more.
+    """
+
+    channel: str
+    writer: Optional[str]
+    reader: Optional[str]
+    put: int
+    got: int
+    left: int
+    grows: bool
+
+
+def rates_of(result: Result) -> List[Rate]:
+    """A `Rate` for each channel of a run with a trace."""
+    layout, growing = result.layout, growing_of(result)
+    return [Rate(name, layout.writers.get(name), layout.readers.get(name), int(row['put']), int(row['read']),
+                 int(row['left']), name in growing)
+            for name, row in ((str(row['channel']), row) for row in result.stats.channels)]
+
+
+def growing_of(result: Result) -> List[str]:
+    """The channels between processes on which the unread items pile up through the whole run.
+
+    At the end nearly as many are unread as ever, and in the first half of the gets and puts there were far fewer. The
+    items of a delay and those of a block, which come and go, are none of these.
+    """
+    stats, layout = result.stats, result.layout
+    ended = {row['process'] for row in stats.processes if row['end'] in ENDS}
+    left = {str(row['channel']): int(row['left']) for row in stats.channels
+            if int(row['left']) >= LEAST_LEFT and 4 * int(row['left']) >= 3 * int(row['most'])
+            and row['channel'] in layout.writers and layout.readers.get(str(row['channel']), '') not in ended | {''}}
+    if not left:
+        return []
+    moves = sum(int(row['gets']) + int(row['puts']) for row in stats.processes)
+    before = most_unread(result, list(left), moves // 2)
+    return [name for name in left if 4 * before[name] <= 3 * left[name]]
+
+
+def most_unread(result: Result, channels: List[str], moves: int) -> Dict[str, int]:
+    """The most items that lay unread on these channels during so many of the first gets and puts."""
+    layout, steps = result.layout, {}
+    for name in channels:
+        for kind, end, change in (('put', layout.writers, 1), ('get', layout.readers, -1)):
+            head = f'{kind} {layout.instances.index(end[name])} {layout.channels.index(name)}'
+            steps[head.encode()] = name, change
+    unread, most = dict.fromkeys(channels, 0), dict.fromkeys(channels, 0)
+    with open(result.trace().path, 'rb') as lines:
+        for line in itertools.islice((it for it in lines if it.startswith((b'get ', b'put '))), moves):
+            name, change = steps.get(line.rpartition(b' ')[0], ('', 0))
+            if name:
+                unread[name] += change
+                most[name] = max(most[name], unread[name])
+    return most
+
+
+def may_grow(layout: Layout, policy: str) -> bool:
+    """Whether a channel could grow at all: there is a cycle, whichever way its channels lead, or `policy all`."""
+    if policy == 'all':
+        return True
+    root = {name: name for name in layout.instances}
+
+    def root_of(name: str) -> str:
+        while root[name] != name:
+            root[name] = root[root[name]]
+            name = root[name]
+        return name
+
+    for channel in layout.channels:
+        if channel in layout.writers and channel in layout.readers:
+            one, other = root_of(layout.writers[channel]), root_of(layout.readers[channel])
+            if one == other:
+                return True
+            root[one] = other
+    return False

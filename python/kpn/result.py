@@ -1,0 +1,357 @@
+"""What came of a run."""
+from __future__ import annotations
+
+import collections.abc
+import os
+import pathlib
+import re
+import shutil
+import tempfile
+import warnings
+import weakref
+from typing import TYPE_CHECKING, Any, Dict, Iterator, List, Mapping, NamedTuple, Optional, Sequence, Tuple, Union
+
+from .errors import GrowthWarning, KpnError
+from .program import Program, call, failure, words_of
+from .rates import Rate, rates_of
+from .rings import deadlock_of, rings_of
+from .trace import Trace
+from .view import page, stats_of
+
+if TYPE_CHECKING:
+    from .network import Layout
+
+TEXT, TRACE = 'net.kpn', 'run.trace'
+# The statuses of a run that came to an outcome.
+STATUSES = (0, 3, 4, 5)
+# A second run that looks for channels that grow makes so many commits and takes so many seconds at most.
+COMMITS_OF_LOOK, TIME_OF_LOOK = 100_000, 10
+# What such runs have found, by the texts of the networks, and the most of them that are kept.
+LOOKS: Dict[str, List[Rate]] = {}
+MOST_LOOKS = 100
+# The lines that are read of the report of `kpn run` and of the summary of `kpn stream`.
+LINE = re.compile(r'fault (\w+) (overflow|zero-divisor)|waits (\w+) (\w+)( full)?'
+                  r'|sink (\w+): (\d+) items, (not )?complete|(ended|enough|clogged|jammed|stopped)')
+# The lines that are read of `kpn stats` and of `kpn timeline`.
+ADVICE = re.compile(r'(\w+): (?:cap )?(\d+)\b')
+LENGTH = re.compile(r'length (\d+) ticks')
+PUT = re.compile(r'"ts":(\d+),"dur":1,"name":"put (\w+)"')
+
+
+class Wait(NamedTuple):
+    """An instance that waits on a channel: for room if the channel is full, and else for an item."""
+
+    instance: str
+    channel: str
+    is_full: bool
+
+
+class Stats(NamedTuple):
+    """The tables of `kpn stats`: a row for each channel and for each process, by the names of the columns."""
+
+    channels: List[Dict[str, Union[int, str]]]
+    processes: List[Dict[str, Union[int, str]]]
+
+
+class Report(NamedTuple):
+    """What the program tells of a run; of a stream also how many items each sink gave, and whether it is complete."""
+
+    outcome: Optional[str]
+    faults: Dict[str, str]
+    waits: List[Wait]
+    sinks: Dict[str, Tuple[int, bool]]
+
+
+class Look(NamedTuple):
+    """What a second run takes, which looks for channels that grow: the first lines of each source, and options."""
+
+    lines: Dict[str, bytes]
+    take: Optional[int]
+
+
+class Folder:
+    """A folder of the system's temporary ones, which goes when nobody has this. A pickle has its files."""
+
+    def __init__(self, files: Mapping[str, bytes]):
+        self.path = tempfile.mkdtemp(prefix='kpn-')
+        weakref.finalize(self, remove, self.path, os.getpid())
+        for name, data in files.items():
+            pathlib.Path(self.path, name).write_bytes(data)
+
+    def __deepcopy__(self, memo: Any) -> Folder:
+        return self
+
+    def __reduce__(self) -> Tuple[Any, ...]:
+        return Folder, ({file.name: file.read_bytes() for file in pathlib.Path(self.path).iterdir()},)
+
+
+def remove(folder: str, owner: int) -> None:
+    """Removes a folder, but not from a process that was forked from the one with this number."""
+    if os.getpid() == owner:
+        shutil.rmtree(folder, ignore_errors=True)
+
+
+class Result(collections.abc.Mapping):  # type: ignore[type-arg]
+    """What came of a run. `result["y"]` has the items that the sink `y` gave, a list or an array, whatever the outcome.
+
+    `outcome` is `ended`, `enough`, `clogged`, `jammed` or `stopped`; of a live run whose sinks were all left before
+    there was one it is None. `faults` is a dict of the instances that a fault ended, with `overflow` or `zero-divisor`,
+    and `waits` a list of a `Wait` for each one that waits; of `run` both are empty under `enough` and `stopped`.
+    `check()` raises an error if an item may lack. What is made of the trace needs a run with `trace=True`, and raises
+    KpnError without one. A sink that is not there raises KeyError. A copy or a pickle has all of it, the trace too.
+    `certified` is what `kpn audit` has found of a compiled run, such as `legal, exact`, and None if it was not asked.
+    """
+
+    def __init__(self, layout: Layout, report: Report, sinks: Dict[str, Any], program: Program = None,
+                 complete: Optional[Dict[str, bool]] = None, left: Sequence[str] = (), most: Optional[int] = None):
+        self._layout, self._sinks, self._program = layout, sinks, program
+        self.outcome, self.faults, self.waits = report.outcome, report.faults, report.waits
+        self.certified: Optional[str] = None
+        # Of a live run, which sinks are complete, and which were left.
+        self._told, self._left = complete, left
+        # The most commits that it may make.
+        self._most = most
+        self._folder: Optional[Folder] = None
+        self._trace: Optional[str] = None
+        self._tables: Optional[Dict[str, Any]] = None
+        self._look: Optional[Look] = None
+
+    @property
+    def layout(self) -> Layout:
+        """The text of the network that ran, and the names in it."""
+        return self._layout
+
+    def __getitem__(self, sink: str) -> Any:
+        if sink not in self._sinks:
+            raise KeyError(f'the network has no sink `{sink}`: it has {", ".join(self._sinks) or "none"}')
+        return self._sinks[sink]
+
+    def __iter__(self) -> Iterator[str]:
+        return iter(self._sinks)
+
+    def __len__(self) -> int:
+        return len(self._sinks)
+
+    def __repr__(self) -> str:
+        counts = ', '.join(f'{len(items)} items of {name}' for name, items in self._sinks.items())
+        return f'<Result {self.outcome}: {counts}>'
+
+    @property
+    def complete(self) -> Dict[str, Optional[bool]]:
+        """For each sink whether it has all items that the network means for this input; None if that is not known.
+
+        It is known under `ended`, `clogged` and `jammed`, of a run with a trace, and of a live run.
+        """
+        if self._told is not None:
+            return {**self._told}
+        if self.outcome in ('enough', 'stopped'):
+            if not self._trace:
+                return dict.fromkeys(self._sinks)
+            rows = {row['channel']: row['complete'] == 'yes' for row in self.stats.channels}
+            return {name: rows[name] for name in self._sinks}
+        return {name: self._is_complete(name) for name in self._sinks}
+
+    def _is_complete(self, channel: str) -> bool:
+        """Whether nothing more comes on a channel at any capacities: no process behind it waits for room."""
+        waits, seen = {it.instance: it for it in self.waits}, set()
+        while channel in self._layout.writers and channel not in seen:
+            seen.add(channel)
+            wait = waits.get(self._layout.writers[channel])
+            if wait is None or wait.is_full:
+                return wait is None
+            channel = wait.channel
+        return True
+
+    @property
+    def deadlock(self) -> List[List[Wait]]:
+        """The rings: cycles of processes that each wait for an item of the next one, and never get it.
+
+        Each is a list of a `Wait` for each of its processes. Of `run` there is none under `enough` and `stopped`
+        without a trace.
+        """
+        waits = self.waits
+        if self._trace and self.outcome in ('enough', 'stopped'):
+            ends = [(str(row['process']), str(row['end']).split()) for row in self.stats.processes]
+            waits = [Wait(name, end[1], len(end) > 2) for name, end in ends if end[0] == 'waits']
+        return rings_of(waits, self._layout)
+
+    def check(self) -> Result:
+        """This result, if no process faulted and each sink has all its items or as many as `take` says.
+
+        Raises KpnError that says what lacks if not, and `kpn.Deadlock` if there is a ring. Warns by a
+        `kpn.GrowthWarning` of each channel that grows with the length of the run. Without a trace it finds those by a
+        second, short run on the first 1,000 items of each source.
+        """
+        reasons = self._reasons()
+        if self.outcome != 'enough' and self.deadlock:
+            raise deadlock_of(self.deadlock, self._layout, reasons)
+        if reasons:
+            raise KpnError(reasons)
+        for it in (it for it in self._rates() if it.grows):
+            how = '' if self._trace else ', in a short run on the first items'
+            warnings.warn(f'the channel `{it.channel}` grows with the length of the run: `{it.writer}` put {it.put} '
+                          f'items on it, and `{it.reader}` got {it.got}{how}. Give its ends the same rate',
+                          GrowthWarning, stacklevel=2)
+        return self
+
+    def _rates(self) -> List[Rate]:
+        """How many items the ends of each channel put and got, in this run or in a short one like it."""
+        if self._trace:
+            return rates_of(self)
+        text = self._layout.text
+        if self._look and text not in LOOKS:
+            if len(LOOKS) >= MOST_LOOKS:
+                LOOKS.clear()
+            LOOKS[text] = look(self._layout, self._look, self._program)
+        return LOOKS.get(text, [])
+
+    def _reasons(self) -> str:
+        """What is wrong: faults, sinks that may lack items, and who waits for room; nothing if all is right."""
+        reasons = [f'`{name}` ended by a fault: {fault}' for name, fault in self.faults.items()]
+        reasons += [f'the sink `{name}` is {"not" if known is False else "perhaps not"} complete'
+                    for name, known in self.complete.items()
+                    if not known and (self.outcome != 'enough' or name in self._left)]
+        if not reasons:
+            return ''
+        how = f'the run has {self.outcome}' if self.outcome else 'all sinks were left before the run had an outcome'
+        if self.outcome == 'stopped' and self._most:
+            how += f' at `max_commits`, {self._most}'
+        waits = [f'`{it.instance}` waits on the full channel `{it.channel}`' for it in self.waits if it.is_full]
+        return '; '.join([how, *reasons, *waits])
+
+    def trace(self) -> Trace:
+        """The events of the run, with names: a `Trace` to loop over."""
+        return Trace(self._traced()[1], self._layout.instances, self._layout.channels, keeper=self)
+
+    @property
+    def stats(self) -> Stats:
+        """What the run did on each channel and in each process, by `kpn stats`: two lists of a dict for each row."""
+        tables = [self._told_stats()[table] for table in Stats._fields]
+        return Stats(*([dict(zip(table['columns'], row)) for row in table['rows']] for table in tables))
+
+    @property
+    def ticks(self) -> int:
+        """The length of the run in ticks, if each get and put takes one."""
+        found = LENGTH.match(self._told_stats()['head'][0])
+        if not found:
+            raise KpnError('`kpn stats` has told no length')
+        return int(found[1])
+
+    @property
+    def advice(self) -> Dict[str, int]:
+        """The capacity that `kpn stats` advises for each channel but the sources."""
+        return advice_in(self._told_stats())
+
+    @property
+    def ticks_per_item(self) -> Dict[str, Optional[float]]:
+        """How many ticks an item takes at each sink in the steady state: the mean over the second half of its items.
+
+        It is None for a sink with fewer than two items.
+        """
+        times: Dict[str, List[int]] = {name: [] for name in self._sinks}
+        for found in PUT.finditer(self.timeline()):
+            if found[2] in times:
+                times[found[2]].append(int(found[1]))
+        halves = {name: found[(len(found) - 1) // 2:] for name, found in times.items()}
+        return {name: (half[-1] - half[0]) / (len(half) - 1) if len(half) > 1 else None
+                for name, half in halves.items()}
+
+    def _told_stats(self) -> Dict[str, Any]:
+        """What `kpn stats` writes, read back."""
+        if self._tables is None:
+            folder, trace = self._traced()
+            self._tables = stats_of(os.path.join(folder, TEXT), os.path.join(folder, trace), program=self._program)
+        return self._tables
+
+    def explain(self) -> str:
+        """A text of `kpn explain`: which sinks are complete, and what to do about those that are not."""
+        return self._ask('explain')
+
+    def dot(self) -> str:
+        """The network after its run, by `kpn draw`: a text in the language of Graphviz."""
+        return self._ask('draw')
+
+    def timeline(self) -> str:
+        """The run in ticks, by `kpn timeline`: a text in the Trace Event Format, which Perfetto opens."""
+        return self._ask('timeline')
+
+    def svg(self, first: Optional[int] = None, last: Optional[int] = None) -> str:
+        """The run in ticks as a picture in SVG, by `kpn timeline --svg`; of a long run from a first to a last tick.
+
+        Raises KpnError if the picture would have more than 2,000 ticks, or gets, puts and waits.
+        """
+        return self._ask('timeline', '--svg', *words_of(**{'from': first, 'to': last}))
+
+    def view(self) -> str:
+        """A page of HTML that shows the run: the network, the run in time, items and tables. Store it in a file."""
+        folder, trace = self._traced()
+        return page(os.path.join(folder, TEXT), trace, program=self._program, title='a run')
+
+    def _repr_svg_(self) -> Optional[str]:
+        """The picture that a notebook shows, if there is a trace and it is not too long."""
+        try:
+            return self.svg() if self._trace else None
+        except KpnError:
+            return None
+
+    def _traced(self) -> Tuple[str, str]:
+        """The folder with the text, and the file of the trace."""
+        if not self._folder or not self._trace:
+            raise KpnError('the run has no trace: give `trace=True` to `run`')
+        return self._folder.path, os.path.join(self._folder.path, self._trace)
+
+    def _ask(self, command: str, *words: str) -> str:
+        """What a command says of the network and the trace."""
+        folder, trace = self._traced()
+        done = call([command, TEXT, trace, *words], self._program, folder)
+        if done.returncode:
+            raise failure(done)
+        return done.stdout
+
+    def keep(self, folder: Folder, trace: str) -> None:
+        """Keeps the folder with the text, and the file of the trace, if it is not there."""
+        self._folder, self._trace = folder, trace
+
+    def keep_look(self, wanted: Look) -> None:
+        """Keeps what a look for channels that grow takes."""
+        self._look = wanted
+
+
+def look(layout: Layout, wanted: Look, program: Program) -> List[Rate]:
+    """How many items the ends of each channel put and got in a short run; nothing if it can't be told."""
+    folder = Folder({TEXT: layout.text.encode(), **{f'{name}.source': it for name, it in wanted.lines.items()}})
+    words = words_of(take=wanted.take, max_commits=COMMITS_OF_LOOK)
+    for name in wanted.lines:
+        words += ['--source', f'{name}={name}.source']
+    try:
+        done = call(['run', TEXT, '--trace', TRACE, *words], program, folder.path, TIME_OF_LOOK)
+        result = Result(layout, report_of(done.stdout), {}, program)
+        result.keep(folder, TRACE)
+        return rates_of(result) if done.returncode in STATUSES else []
+    except KpnError:
+        return []
+
+
+def advice_in(stats: Mapping[str, Any]) -> Dict[str, int]:
+    """The capacities that `kpn stats` advises, from what it writes, read back."""
+    found = [ADVICE.match(line) for line in stats['advice']]
+    return {it[1]: int(it[2]) for it in found if it}
+
+
+def report_of(told: str) -> Report:
+    """What the program has told of a run. Lines of other forms say nothing of it."""
+    report = Report(None, {}, [], {})
+    for line in told.splitlines():
+        found = LINE.fullmatch(line)
+        if not found:
+            continue
+        faulty, fault, waiting, channel, full, sink, count, lacks, outcome = found.groups()
+        if fault:
+            report.faults[faulty] = fault
+        elif waiting:
+            report.waits.append(Wait(waiting, channel, bool(full)))
+        elif sink:
+            report.sinks[sink] = int(count), not lacks
+        else:
+            report = report._replace(outcome=outcome)
+    return report
