@@ -20,25 +20,25 @@ DOCUMENTS = [TOP / 'README.md', *sorted((TOP / 'docs').glob('*.md')),
 LONG = 25
 # The most words of each document, and of all.
 BUDGETS = {
-    'README.md': 1_910,
-    'docs/ARCHITECTURE.md': 3_150,
-    'docs/COMPILED.md': 1_670,
-    'docs/DECISIONS.md': 3_130,
-    'docs/DEFINITIONS.md': 2_420,
+    'README.md': 1_940,
+    'docs/ARCHITECTURE.md': 3_140,
+    'docs/COMPILED.md': 1_690,
+    'docs/DECISIONS.md': 2_810,
+    'docs/DEFINITIONS.md': 2_410,
     'docs/ERRORS.md': 1_170,
-    'docs/GUARANTEES.md': 6_070,
-    'docs/GUIDE.md': 1_000,
+    'docs/GUARANTEES.md': 6_250,
+    'docs/GUIDE.md': 1_020,
     'docs/LANGUAGE.md': 1_510,
-    'docs/LIBRARY.md': 2_230,
-    'docs/PROVING.md': 3_040,
-    'docs/RUNS.md': 2_080,
-    'docs/STREAMS.md': 1_110,
-    'docs/TRACES.md': 840,
-    'docs/VIEWS.md': 1_980,
+    'docs/LIBRARY.md': 2_210,
+    'docs/PROVING.md': 2_790,
+    'docs/RUNS.md': 2_020,
+    'docs/STREAMS.md': 1_140,
+    'docs/TRACES.md': 850,
+    'docs/VIEWS.md': 2_050,
     'python/README.md': 960,
-    'bench/RESULTS.md': 2_450,
+    'bench/RESULTS.md': 2_370,
 }
-BUDGET = 36_640
+BUDGET = 36_000
 POINT = re.compile(r'\s*(?:[-*+]|\d+\.)\s+')
 END = re.compile(r'(?<=[.!?])["\')*]*\s+(?=["\'(*]*[A-Z0-9`])')
 WORD = re.compile(r"[^\s]*\w[^\s]*")
