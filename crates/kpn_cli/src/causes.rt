@@ -44,67 +44,9 @@ pub(crate) fn push_causes<R: Files, S: Shelf>(
     shelf: &S,
     rt: &R,
 ) -> Result<(), AllocError> {
-    match request {
-        Request::Alone(_) | Request::Help(_) => Ok(()),
-        Request::Check(file) | Request::Print(file) => {
-            push_cause(text, alloc, Named::bare(file), shelf, rt)
-        }
-        Request::ExplainItems(file) => push_cause(text, alloc, Named::of_items(file), shelf, rt),
-        Request::Explain { file, trace, .. } => {
-            push_cause(text, alloc, Named::explained(file, *trace), shelf, rt)
-        }
-        Request::Draw { file, trace, .. } => {
-            push_cause(
-                text,
-                alloc,
-                Named::traced(file, *trace, USUAL_COUNT),
-                shelf,
-                rt,
-            )
-        }
-        Request::Audit { file, trace, steps } | Request::Timeline { file, trace, steps } => {
-            push_cause(
-                text,
-                alloc,
-                Named::traced(file, Some(trace), *steps),
-                shelf,
-                rt,
-            )
-        }
-        Request::Stats {
-            file,
-            trace,
-            steps,
-            ..
-        }
-        | Request::Picture {
-            file,
-            trace,
-            steps,
-            ..
-        } => push_cause(
-            text,
-            alloc,
-            Named::traced(file, Some(trace), *steps),
-            shelf,
-            rt,
-        ),
-        Request::Rounds { file, sources, .. } => {
-            push_cause(text, alloc, Named::fed(file, sources), shelf, rt)
-        }
-        Request::Run(run) => push_cause(text, alloc, Named::of_run(run), shelf, rt),
-        Request::Stream(stream) => push_cause(text, alloc, Named::of_stream(stream), shelf, rt),
-    }
-}
-
-// The same of what a request names.
-fn push_cause<R: Files, S: Shelf>(
-    text: &mut Vec<u8>,
-    alloc: Global,
-    named: Named<'_, '_>,
-    shelf: &S,
-    rt: &R,
-) -> Result<(), AllocError> {
+    let Some(named) = Named::of(request) else {
+        return Ok(());
+    };
     if push_unread(text, rt, named.file)? || !is_plain(rt, named.file) || named.is_items {
         return Ok(());
     }

@@ -1,6 +1,7 @@
 //! The files that a request names.
 
 use kpn_command_base::{RunRequest, StreamRequest};
+use kpn_command_line::Request;
 use kpn_limits::USUAL_COUNT;
 
 /// What a request names: files that are read and written. `is_items` says that the only one is an item file, and
@@ -18,6 +19,38 @@ pub(crate) struct Named<'r, 'a> {
 }
 
 impl<'r, 'a> Named<'r, 'a> {
+    /// What a request names, or `None` if it names no file.
+    pub(crate) fn of(request: &'r Request<'a>) -> Option<Named<'r, 'a>> {
+        match request {
+            Request::Alone(_) => None,
+            Request::Help(_) => None,
+            Request::Check(file) => Some(Named::bare(file)),
+            Request::Print(file) => Some(Named::bare(file)),
+            Request::ExplainItems(file) => Some(Named::of_items(file)),
+            Request::Explain { file, trace, .. } => Some(Named::explained(file, *trace)),
+            Request::Draw { file, trace, .. } => Some(Named::traced(file, *trace, USUAL_COUNT)),
+            Request::Audit { file, trace, steps } => Some(Named::traced(file, Some(trace), *steps)),
+            Request::Timeline { file, trace, steps } => {
+                Some(Named::traced(file, Some(trace), *steps))
+            }
+            Request::Stats {
+                file,
+                trace,
+                steps,
+                ..
+            } => { Some(Named::traced(file, Some(trace), *steps)) }
+            Request::Picture {
+                file,
+                trace,
+                steps,
+                ..
+            } => { Some(Named::traced(file, Some(trace), *steps)) }
+            Request::Rounds { file, sources, .. } => Some(Named::fed(file, sources)),
+            Request::Run(run) => Some(Named::of_run(run)),
+            Request::Stream(stream) => Some(Named::of_stream(stream)),
+        }
+    }
+
     /// A description.
     pub(crate) fn bare(file: &'a str) -> Named<'r, 'a> {
         Named {
