@@ -1,16 +1,22 @@
 //! How far the commits of a run by workers pass their limit, and of which of them the gate is asked.
+ghost use Rattle.std.specs.Prelude.{◌≡◌};
+
 use crate::abandoning::TestGate;
 use crate::holding::Held;
 use kpn_book::{Limits, Outcome, Report};
 use kpn_limits::MAX_WORKERS;
 use kpn_net::Network;
 use kpn_pool::{RunFault, run};
+use kpn_pool_desk::{Batch, Desk, Job};
+use kpn_run_state::Keeping;
 use kpn_text::read_network;
 use std::alloc::{AllocError, Global};
+use std::marker::Brand;
 use std::sync::Wait;
+use std::sync::ledger::Blank;
 use std::test::Fail;
 use std::thread::Threads;
-use std::time::Clock;
+use std::time::{Clock, Duration};
 
 /// A description of so many processes that step for ever.
 fn spinners(alloc: Global, processes: usize) -> Result<String, AllocError> {
@@ -101,26 +107,56 @@ network {
   held = spin(;); spin = spin(;); put = put(b; a); copy = copy(a; b);
 }";
 
-/// For how many of the commits of the ring the gate is not asked.
-fn unasked<R: Threads + Wait + Clock + Sync>(
-    rt: &R,
+/// How many commits a worker of a network makes beside ten batches, whose turns leave the lock free for so long.
+fn beside_batches<J: Job>(
     alloc: Global,
-    says_so: bool,
-) -> Result<u64, Fail> {
-    let gate = TestGate::open(says_so);
-    let commits = commits_of(rt, alloc, RING, 1, &gate, &limits_of(2_000, 10))?.unwrap_or(0);
-    Ok(commits.abs_diff(gate.calls()))
+    blank: Blank,
+    network: &Network,
+    gate: &TestGate,
+    away: Duration,
+) -> Result<u64, AllocError>
+    requires ledger { (blank.name ≡ J.name) × (blank.parts ≡ J.parts) }
+    requires network { network.now ≡ J.network }
+    requires one { J.parts ≡ 1 }
+{
+    let (mut desk, mut seats) = Desk::<J>::with_seats(alloc, blank, network, 1, Keeping::Nothing)?;
+    let Some(mut seat) = seats.pop() else {
+        return Ok(0);
+    };
+    let mut batch = Batch::new();
+    let mut turns: u64 = 0;
+    'batches: for _batch in 0..10 {
+        if batch.claim(&mut desk) {
+            batch.step(gate, 0, 10);
+            turns = turns.saturating_add(batch.len() as u64);
+            let _ = batch.come_back(&mut desk, gate, &mut seat, 0, Some(away), 10, u64::MAX);
+        }
+    }
+    Ok(seat.commits().saturating_sub(turns))
 }
 
-/// A gate is asked for each commit, unless it says that it lets all through. Then there are turns at once.
+/// The same of the ring, with a gate that says that it lets all through, or does not.
+fn unasked(alloc: Global, says_so: bool, away: Duration) -> Result<u64, Fail> {
+    let gate = TestGate::open(says_so);
+    let document = read_network(alloc, RING.as_bytes())?;
+    let made = beside_batches::<Brand>(alloc, Blank::new(1), document.network(), &gate, away);
+    drop(document);
+    Ok(made?)
+}
+
+/// A gate is asked for each commit, unless it says that it lets all through and turns are short. Then there are turns
+/// in a row.
 #[test]
 fn a_gate_is_asked_unless_it_lets_all_through(rt: HostRuntime) -> Result<(), Fail> {
-    assert_eq!(rt; unasked(&rt, rt.alloc(), false)?, 0);
-    assert!(rt; unasked(&rt, rt.alloc(), true)? > 200);
+    let short = Duration::from_nanos(100);
+    let long = Duration::from_micros(100);
+    assert_eq!(rt; unasked(rt.alloc(), false, short)?, 0);
+    assert_eq!(rt; unasked(rt.alloc(), true, long)?, 0);
+    assert!(rt; unasked(rt.alloc(), true, short)? > 2_000);
     Ok(())
 }
 
-/// A process that the gate holds does not stop the others, which make turns at once too.
+/// A process that the gate holds does not stop the others, which make turns in a row too.
 #[test]
 fn others_go_on_while_one_is_held(rt: HostRuntime) -> Result<(), Fail> {
     let held = Held {

@@ -74,7 +74,7 @@ pub fn run_keeping<R: Threads + Wait + Clock + Sync, G: Gate>(
     ensures supplied { IfOk result (λ report.
         AreSupplied network.now lists.now (events_of report)) }
 {
-    let serving = Serving::new(lists, limits.take);
+    let serving = Serving::new(lists, limits.take, gate.lets_all());
     let nobody: &[Nobody] = &[];
     let ran = run_beside(
         rt, alloc, network, workers, gate, limits, keeping, serving, nobody,

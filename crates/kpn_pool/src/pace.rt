@@ -50,6 +50,12 @@ impl Pace {
         }
     }
 
+    /// The worker makes turns in a row, so this hold is not measured. The next turn is, since a row takes long.
+    pub(crate) fn make_row(&mut self) {
+        self.held = None;
+        self.turns = 0;
+    }
+
     /// The worker waits, so this hold is not measured.
     pub(crate) fn wait(&mut self) {
         self.held = None;

@@ -24,8 +24,12 @@ use std::time::{Clock, Duration, Instant};
 
 mod holds;
 
-// so many tries to take the lock take some microseconds
+// So many tries to take the lock take some microseconds.
 const TRIES: u32 = 400;
+
+// Those outside try for longer than a worker that makes turns in a row has the lock, and so get it when it is free for a
+// moment.
+const TRIES_OUTSIDE: u32 = 16_000;
 
 // For how many microseconds somebody looks on: some times as long as it takes to sleep and to be woken.
 const MOMENT: u64 = 20;
@@ -124,8 +128,13 @@ impl<'n, J: Job, A: Allocator + Copy> Shared<'n, J, A> {
 impl<'n, J: Job, A: Allocator> Shared<'n, J, A> {
     /// The workers end.
     pub fn halt<R: Wait>(&self, rt: &R) {
-        self.desk.lock(rt).halt();
+        self.lock(rt).halt();
         self.changed.notify_all();
+    }
+
+    /// From now on workers that make turns in a row take what comes to the sinks, as `Desk::let_workers_take` says.
+    pub(crate) fn let_workers_take<R: Wait>(&self, rt: &R, wanted: Option<u64>) {
+        self.lock(rt).let_workers_take(wanted);
     }
 
     /// A look at the desk, once nobody else has it.
@@ -146,22 +155,35 @@ impl<'n, J: Job, A: Allocator> Shared<'n, J, A> {
         ensures quiet { IfOk result (λ found.
             IfSome found (λ view. IsKahnAtRest J.network view)) }
     {
-        let Some(desk) = self.desk.try_lock() else {
+        let Some(desk) = self.try_lock(TRIES_OUTSIDE) else {
             return Ok(None);
         };
         let view = desk.snapshot(alloc)?;
         Ok(Some(view))
     }
 
-    /// The desk, once nobody else has it. Others have it often and for a short time, so this tries for a while before
-    /// it sleeps.
+    /// The desk, once nobody else has it, for a call of the outside.
     pub(crate) fn lock<R: Wait>(&self, rt: &R) -> MutexGuard<'_, Desk<'n, J, A>> {
-        for _ in 0..TRIES {
+        self.lock_after(rt, TRIES_OUTSIDE)
+    }
+
+    /// The desk, once nobody else has it. Others have it often and for a short time, so this tries so often before it
+    /// sleeps.
+    fn lock_after<R: Wait>(&self, rt: &R, tries: u32) -> MutexGuard<'_, Desk<'n, J, A>> {
+        match self.try_lock(tries) {
+            Some(desk) => desk,
+            None => self.desk.lock(rt),
+        }
+    }
+
+    /// The desk, if nobody else has it at one of so many tries.
+    fn try_lock(&self, tries: u32) -> Option<MutexGuard<'_, Desk<'n, J, A>>> {
+        for _ in 0..tries {
             if let Some(desk) = self.desk.try_lock() {
-                return desk;
+                return Some(desk);
             }
         }
-        self.desk.lock(rt)
+        None
     }
 
     /// The desk, once there is something to do there or the moment is over: to take from these sinks, or, if there are
@@ -172,11 +194,11 @@ impl<'n, J: Job, A: Allocator> Shared<'n, J, A> {
         seats: Option<&[SinkSeat<B>]>,
     ) -> MutexGuard<'_, Desk<'n, J, A>> {
         let Ok(begun) = Instant::now(rt) else {
-            return self.lock(rt);
+            return self.lock_after(rt, TRIES);
         };
         for _ in rt.forever() {
             if begun.elapsed(rt).unwrap_or(Duration::MAX) > Duration::from_micros(MOMENT) {
-                return self.lock(rt);
+                return self.lock_after(rt, TRIES);
             }
             if let Some(desk) = self.desk.try_lock() {
                 if desk.has_work(seats, self.max_commits) {

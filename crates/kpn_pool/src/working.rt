@@ -34,7 +34,7 @@ pub fn work<'n, J: Job, A: Allocator + Copy, G: Gate, R: Wait + Clock>(
     let mut pace = Pace::new();
     let mut batch = Batch::new();
     for _ in rt.forever() {
-        if !shared.go_on(rt, gate, &mut seat, &mut pace, &mut batch) {
+        if !shared.go_on(rt, gate, &mut seat, quota, &mut pace, &mut batch) {
             return seat;
         }
         batch.step(gate, seat.number(), quota);

@@ -12,8 +12,8 @@ use Rattle.kpn_pool_desk.specs.declared.turn.Stepped.{Stepped}
 use Rattle.kpn_pool_desk.specs.Desk.{Desk}
 use Rattle.kpn_pool_desk.specs.declared.gate.Go.{Go}
 use Rattle.kpn_pool_desk.specs.declared.gate.Go.TheVariants.{On, Abandon}
-use Rattle.kpn_pool_desk.specs.Batch.{Turn, Batch, IsTurnOf, made_of, steps_of, CommitsOrDrops, PutsBack, InTurn, IsEnd, Settles, claimed_by, LetsThrough, LetsAll, TurnsAtOnce, GoesAtOnce}
-use Rattle.kpn_run_state.specs.AtOnce.{CommitsAtOnce}
+use Rattle.kpn_pool_desk.specs.Batch.{Turn, Batch, IsTurnOf, made_of, steps_of, CommitsOrDrops, PutsBack, InTurn, IsEnd, Settles, claimed_by}
+use Rattle.kpn_pool_desk.specs.Gate.{LetsThrough}
 
 -- ---- one turn more
 
@@ -103,33 +103,6 @@ settled b why before between after end turns committed same commits back book en
       subst (λ x. InTurn PutsBack (take (b.held - committed) (drop committed b.turns)) between.book x) (sym book)
       (subst (λ xs. InTurn PutsBack (take (b.held - committed) (drop committed xs)) between.book after.book) same back);
   end = ends;
-}
-
--- ---- turns at once
-
-pub one_more_at_once : (n : ℕ) (before between after : Book) → TurnsAtOnce n before between
-    → CommitsAtOnce between after → TurnsAtOnce (n + 1) before after
-one_more_at_once n before between after so_far made =
-    let next : suc n ≡ n + 1 = omega arith in
-    subst (λ k. TurnsAtOnce k before after) next (between, so_far, made)
-
-pub none_at_once : (may : (worker process : ℕ) → Go → Type 0) (most : ℕ) (b : Book) → GoesAtOnce may most b b
-none_at_once may most b = record {
-  turns = 0;
-  few = omega arith;
-  made = refl;
-  within = λ below. below;
-  asked = inr refl;
-}
-
-pub some_at_once : (may : (worker process : ℕ) → Go → Type 0) (most n : ℕ) (before after : Book) → LetsAll may → n ≤ 8
-    → TurnsAtOnce n before after → (before.commits ≤ most → after.commits ≤ most) → GoesAtOnce may most before after
-some_at_once may most n before after all few made within = record {
-  turns = n;
-  few = few;
-  made = made;
-  within = within;
-  asked = inl all;
 }
 
 -- ---- the steps of a turn

@@ -8,15 +8,14 @@ use Rattle.kpn_run_configuration.specs.Configuration.{frame_in}
 use Rattle.kpn_run_state.specs.declared.answers.Done.{Done}
 use Rattle.kpn_run_state.specs.Book.{Book, IsHeld, IsClaimed, put_back}
 use Rattle.kpn_run_state.specs.Commits.{IsOwnAdvance, Commits}
-use Rattle.kpn_run_state.specs.AtOnce.{CommitsAtOnce}
 use Rattle.kpn_pool_desk.specs.declared.turn.Stepped.{Stepped}
 use Rattle.kpn_pool_desk.specs.declared.seat.Why.{Why}
 use Rattle.kpn_pool_desk.specs.declared.seat.Why.TheVariants.{Abandoned, NoMemory}
 use Rattle.kpn_pool_desk.specs.declared.gate.Go.{Go}
-use Rattle.kpn_pool_desk.specs.declared.gate.Go.TheVariants.{On, Abandon}
 use Rattle.kpn_pool_desk.specs.declared.phases.Next.{Next}
 use Rattle.kpn_pool_desk.specs.declared.phases.Next.TheVariants as next
 use Rattle.kpn_pool_desk.specs.Desk.{Desk, EndsFor}
+use Rattle.kpn_pool_desk.specs.Rows.{GoesInRows}
 
 -- the process that was claimed last, if one was, with its frame, and the steps from there, if they are made
 pub record Turn : Type 0 where
@@ -81,19 +80,6 @@ PutsBack turn before after =
     (IsHeld before turn.process × (after ≡ put_back turn.process before))
     ⊎ ((¬ IsHeld before turn.process) × (after ≡ before))
 
--- ---- the gate
-
--- the gate, which may answer so, has let the first ones of the processes through; if more are held, it made the worker
--- end at the next one
-pub record LetsThrough (may_answer : (process : ℕ) → Go → Type 0) (passed held : ℕ) (processes : List ℕ) : Type 0
-  where
-    pub through : (i p : ℕ) → i < passed → slice_get processes i ≡ Some p → may_answer p On
-    pub next : (p : ℕ) → passed < held → slice_get processes passed ≡ Some p → may_answer p Abandon
-
--- the gate, which may answer so, lets everything through
-abbrev pub LetsAll : (may_answer : (worker process : ℕ) → Go → Type 0) → Type 0
-LetsAll may_answer = (worker process : ℕ) (go : Go) → may_answer worker process go → go ≡ On
-
 -- ---- one turn after the other
 
 abbrev pub InTurn : (Turn → Book → Book → Type 0) → List Turn → Book → Book → Type 0
@@ -116,35 +102,20 @@ pub record Settles (b : Batch) (why : Option Why) (before after : Desk) : Type 0
   pub back : InTurn PutsBack (take (b.held - committed) (drop committed b.turns)) between after.book
   pub end : IsEnd committed b after why
 
--- ---- turns at once
-
--- so many turns at once, one after the other
-abbrev pub TurnsAtOnce : ℕ → (before after : Book) → Type 0
-TurnsAtOnce zero before after = after ≡ before
-TurnsAtOnce (suc n) before after = (between : Book) × TurnsAtOnce n before between × CommitsAtOnce between after
-
--- at most eight turns at once, which lead past no limit of commits, and none if the gate does not let everything through
-pub record GoesAtOnce (may_answer : (worker process : ℕ) → Go → Type 0) (most : ℕ) (before after : Book) : Type 0 where
-  pub turns : ℕ
-  pub few : turns ≤ 8
-  pub made : TurnsAtOnce turns before after
-  pub within : before.commits ≤ most → after.commits ≤ most
-  pub asked : LetsAll may_answer ⊎ (turns ≡ 0)
-
 -- ---- a worker that is back
 
--- after a batch was settled, a worker ends if there is a reason for that; else it makes turns at once, and if it ends
+-- after a batch was settled, a worker ends if there is a reason for that; else it makes turns in a row, and if it ends
 -- then, there is a reason too
-abbrev pub GoesOnAfter : (may_answer : (worker process : ℕ) → Go → Type 0) → (most : ℕ) → Option Why → Next
+abbrev pub GoesOnAfter : (may_answer : (worker process : ℕ) → Go → Type 0) → (quota most : ℕ) → Option Why → Next
     → (between after : Desk) → Type 0
-GoesOnAfter may_answer most (Some why) then between after = (then ≡ next.End why) × (after ≡ between)
-GoesOnAfter may_answer most None then between after =
-    GoesAtOnce may_answer most between.book after.book × EndsFor after most then
+GoesOnAfter may_answer quota most (Some why) then between after = (then ≡ next.End why) × (after ≡ between)
+GoesOnAfter may_answer quota most None then between after =
+    GoesInRows may_answer quota most between after × EndsFor after most then
 
 -- its batch is settled, and it goes on after that
-pub record ComesBack (may_answer : (worker process : ℕ) → Go → Type 0) (most : ℕ) (b : Batch) (then : Next)
+pub record ComesBack (may_answer : (worker process : ℕ) → Go → Type 0) (quota most : ℕ) (b : Batch) (then : Next)
     (before after : Desk) : Type 0 where
   pub why : Option Why
   pub between : Desk
   pub settles : Settles b why before between
-  pub goes_on : GoesOnAfter may_answer most why then between after
+  pub goes_on : GoesOnAfter may_answer quota most why then between after

@@ -8,17 +8,20 @@ use Rattle.kpn_run_state.specs.Book.{Book}
 use Rattle.kpn_run_state.specs.Kept.{IsBook}
 use Rattle.kpn_pool_desk.specs.declared.phases.Next.{Next}
 use Rattle.kpn_pool_desk.specs.declared.phases.Next.TheVariants as next
+use Rattle.kpn_pool_desk.specs.declared.rows.Takers.{Takers}
+use Rattle.kpn_pool_desk.specs.declared.rows.Takers.TheVariants.{Seats}
 use Rattle.kpn_pool_desk.specs.declared.seat.Why.{Why}
 use Rattle.kpn_pool_desk.specs.declared.seat.Why.TheVariants.{Halted, Settled, Limit}
 
 -- the book of the run, the total of the ledger in which commits are counted, the mark that the workers have to end, how
--- many workers there are, and how many of them have not ended
+-- many workers there are, how many of them have not ended, and who takes what comes to the sinks
 pub record Desk : Type 0 where
   pub book : Book
   pub total : ℕ
   pub halts : Bool
   pub workers : ℕ
   pub working : ℕ
+  pub takers : Takers
 
 -- a desk of the run of a network by so many workers: the book is one of this network, and the total is the number of
 -- its commits
@@ -33,6 +36,7 @@ pub record IsOpened (d : Desk) : Type 0 where
   pub nothing : d.book.history ≡ []
   pub on : d.halts ≡ false
   pub all : d.working ≡ d.workers
+  pub takers : d.takers ≡ Seats
 
 -- ---- what a worker claims
 
@@ -57,6 +61,14 @@ with_book book d = record d { book = book }
 -- the book becomes this one with one commit more
 abbrev pub with_commit : Book → Desk → Desk
 with_commit book d = record d { book = book; total = d.total + 1 }
+
+-- the book becomes this one, with so many commits in all
+abbrev pub with_total : Book → (total : ℕ) → Desk → Desk
+with_total book total d = record d { book = book; total = total }
+
+-- these take what comes to the sinks
+abbrev pub taken_by : Takers → Desk → Desk
+taken_by takers d = record d { takers = takers }
 
 -- the workers have to end
 abbrev pub halted : Desk → Desk

@@ -1,4 +1,6 @@
+pub mod Gate
 pub mod Desk
+pub mod Rows
 pub mod Seat
 pub mod Invariant
 pub mod OutsideSeats

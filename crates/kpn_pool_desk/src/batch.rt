@@ -1,7 +1,8 @@
 //! The turns that a worker makes between two holds of the lock, in the order of their claims.
 ghost use Rattle.std.specs.Prelude.{◌≡◌, ◌↔◌, ◌+◌, ◌<◌, ◌≤◌, IsTrue, take, length};
 ghost use Rattle.kpn_run_state.specs.Stepping.{ClaimsNobody};
-ghost use Rattle.kpn_pool_desk.specs.Batch.{InTurn, Claims, CommitsOrDrops, PutsBack, Settles, claimed_by, LetsThrough, LetsAll, GoesAtOnce, ComesBack};
+ghost use Rattle.kpn_pool_desk.specs.Batch.{InTurn, Claims, CommitsOrDrops, PutsBack, Settles, claimed_by, ComesBack};
+ghost use Rattle.kpn_pool_desk.specs.Gate.{LetsThrough, LetsAll};
 ghost use Rattle.kpn_pool_desk.specs.Desk.{share_in, with_book};
 
 use crate::crew::BATCH;
@@ -9,6 +10,7 @@ use crate::desk::Desk;
 use crate::gate::{Gate, Go};
 use crate::job::Job;
 use crate::phases::Next;
+use crate::rows::go_in_rows;
 use crate::seat::{Why, WorkerSeat};
 use crate::turn::Turn;
 use arrayvec::ArrayVec;
@@ -98,7 +100,7 @@ impl<'n, J: Job> Batch<'n, J> {
     }
 
     /// A worker is back from these turns, which began after so many commits and left the lock free for so long, if that
-    /// was measured. It commits their steps, and then makes turns at once. Returns what it does next, if `most` commits
+    /// was measured. It commits their steps, and then makes turns in a row. Returns what it does next, if `most` commits
     /// are allowed.
     pub fn come_back<A: Allocator + Copy, G: Gate>(
         &self,
@@ -107,6 +109,7 @@ impl<'n, J: Job> Batch<'n, J> {
         seat: &mut WorkerSeat<J>,
         commits: u64,
         away: Option<Duration>,
+        quota: u32,
         most: u64,
     ) -> Next
         ensures number { seat.new.number ≡ seat.old.number }
@@ -114,14 +117,14 @@ impl<'n, J: Job> Batch<'n, J> {
         // turns that the gate was not asked for are committed only if it lets everything through
         ensures asked { seat.old.commits + self.now.passed < seat.new.commits
             → LetsAll (G.may_answer gate.now) }
-        ensures does { ComesBack (G.may_answer gate.now) most self.now result desk.old desk.new }
+        ensures does { ComesBack (G.may_answer gate.now) quota most self.now result desk.old desk.new }
     {
         let is_alone = desk.book.commits() == commits;
         desk.crew.come_back(self.held, away);
         if let Some(why) = self.settle(desk, seat) {
             return Next::End(why);
         }
-        go_at_once(gate, desk, seat, most);
+        go_in_rows(gate, desk, seat, quota, most);
         desk.next(most, is_alone, true)
     }
 
@@ -148,37 +151,6 @@ impl<'n, J: Job> Batch<'n, J> {
             return Some(Why::Abandoned);
         }
         None
-    }
-}
-
-/// Commits the first processes of the queue where they stand, one after the other, as long as each stands at a read or
-/// at a write of a number or a variable, and the commits are below this number: at most 8, and none if the gate is to
-/// be asked for each.
-fn go_at_once<J: Job, A: Allocator + Copy, G: Gate>(
-    gate: &G,
-    desk: &mut Desk<'_, J, A>,
-    seat: &mut WorkerSeat<J>,
-    most: u64,
-)
-    ensures goes { GoesAtOnce (G.may_answer gate.now) most desk.old.book desk.new.book }
-    ensures number { seat.new.number ≡ seat.old.number }
-    ensures counted { seat.old.commits ≤ seat.new.commits }
-    ensures asked { seat.old.commits < seat.new.commits → LetsAll (G.may_answer gate.now) }
-{
-    if !gate.lets_all() {
-        return;
-    }
-    if desk.has_to_end() {
-        return;
-    }
-    'turns: for _turn in 0..BATCH {
-        if desk.book.commits() >= most {
-            return;
-        }
-        if !seat.commit_at_once(desk) {
-            return;
-        }
-        desk.note_at_once();
     }
 }
 

@@ -13,6 +13,8 @@
 //! A worker joins if a process is ready and fewer workers are busy than pays. It joins in any case if it has waited in
 //! vain: nobody has committed since it left the lock, so the gate or long turns hold those that are busy.
 //!
+//! If no more than one worker pays, that one makes turns in a row while it has the lock.
+//!
 //! **No notification is lost.** A worker is counted as one that rests, or as one that was notified, under the lock. A
 //! `Condvar` that is notified once the lock is free wakes a worker that began to rest before that. So each one that is
 //! counted as notified comes.
@@ -46,8 +48,7 @@ const LONGEST: u32 = 16_000;
 // A turn is one part of so many in the mean: so the mean follows within some hundred turns.
 const WEIGHT: u32 = 8;
 
-// A worker claims no more processes in one hold, and makes no more turns at once: so many pay for the lock, and others
-// find enough that are ready.
+// A worker claims no more processes in one hold: so many pay for the lock, and others find enough that are ready.
 pub(crate) const BATCH: usize = 8;
 
 // For how many milliseconds the one that keeps watch rests: so seldom does it cost nothing, and two such rests, after
@@ -56,6 +57,10 @@ const WATCH: u64 = 40;
 
 // For how many milliseconds the others rest. They are notified when they are needed.
 const REST: u64 = 1_000;
+
+// So many times a worker that is back makes no row, until the outside has come that was called. It then has the lock
+// for some microseconds, and others may take it in between. To wake up takes some 50 microseconds.
+const YIELDS: u32 = 64;
 
 /// What somebody outside waits for.
 #[derive(Clone, Copy)]
@@ -101,6 +106,8 @@ pub(crate) struct Crew {
     awaits_room: bool,
     // the next one that lets the lock go is to call the outside
     owes_call: bool,
+    // the outside was called and has not come: so many times more, a worker that is back makes no row before it
+    yields: u32,
 }
 
 /// How many processes one of so many workers claims if so many are ready: its part of them, but no more than a batch.
@@ -110,11 +117,14 @@ pub(crate) fn share(workers: usize, ready: usize) -> usize
     ready.div_ceil(workers.max(1)).min(BATCH)
 }
 
-/// The mean of nanoseconds, with so many turns more, which took this time together.
+/// The mean of nanoseconds, with so many turns more, which took this time together. A mean of 0 is of none.
 fn mean_with(mean: u32, taken: Duration, turns: usize, longest: u32) -> u32
     requires { 0 < turns }
 {
     let nanos = u32::try_from(taken.as_nanos() / turns as u128).unwrap_or(longest);
+    if mean == 0 {
+        return nanos.min(longest);
+    }
     (mean - mean / WEIGHT).saturating_add(nanos.min(longest) / WEIGHT)
 }
 
@@ -152,6 +162,12 @@ impl Crew {
         (self.away / self.hold.max(1)) as usize + 1
     }
 
+    /// Whether a worker that is back makes turns in a row while it has the lock: they are too short to pay for it, and
+    /// the outside does not wait for the lock. Before turns were measured it makes none.
+    pub(crate) fn makes_rows(&self) -> bool {
+        self.away > 0 && self.paying() == 1 && self.yields == 0
+    }
+
     /// A worker is busy from now on.
     pub(crate) fn join(&mut self)
         ensures { self.new.working ≡ self.old.working }
@@ -167,6 +183,7 @@ impl Crew {
         if turns == 0 {
             return;
         }
+        self.yields = self.yields.saturating_sub(1);
         self.busy = self.busy.saturating_sub(1);
         if let Some(away) = away {
             self.away = mean_with(self.away, away, turns, LONGEST);
@@ -238,6 +255,9 @@ impl Crew {
     pub(crate) fn notify(&mut self, ready: usize, is_call: bool) -> bool
         ensures { self.new.working ≡ self.old.working }
     {
+        if is_call {
+            self.yields = 0;
+        }
         let are_more = ready > mem::replace(&mut self.left, ready);
         let coming = self.looking.saturating_add(self.notified);
         let awake = self.busy.saturating_add(coming);
@@ -287,13 +307,20 @@ impl Crew {
         self.owes_call = true;
     }
 
+    /// Whether the outside is to be called once the lock is let go.
+    pub(crate) fn is_to_call(&self) -> bool {
+        self.owes_call && self.is_awaited
+    }
+
     /// The lock is let go. Returns whether the outside is to be called: there is something for it, and somebody sleeps
     /// there. All that sleep there then wake, so nobody is awaited any more.
     pub(crate) fn call(&mut self) -> bool
         ensures { self.new.working ≡ self.old.working }
     {
-        let calls = mem::replace(&mut self.owes_call, false) && self.is_awaited;
+        let calls = self.is_to_call();
+        self.owes_call = false;
         if calls {
+            self.yields = YIELDS;
             self.is_awaited = false;
             self.awaits_item = false;
             self.awaits_room = false;

@@ -15,6 +15,7 @@ ghost use Rattle.kpn_pool_desk.specs.Invariant.{AreBelowLeast, AreReadThenQueued
 use crate::crew::{Awaited, Crew, Need, share};
 use crate::job::Job;
 use crate::outside_seats::SinkSeat;
+use crate::rows::Takers;
 use crate::seat::{Why, WorkerSeat};
 use kpn_net::Network;
 use kpn_run_state::laws::{a_quiet_book, growths, journals, the_history};
@@ -34,6 +35,7 @@ pub struct Desk<'n, J: Job, A: Allocator = Global> {
     pub(crate) total: ledger::Book<J>,
     halts: bool,
     workers: usize,
+    pub(crate) takers: Takers,
     // no contract sees which workers step and which rest, only how many have not ended
     pub(crate) crew: Crew,
 }
@@ -53,6 +55,7 @@ impl<'n, J: Job, A: Allocator> Model for Desk<'n, J, A> {
       halts = d.halts;
       workers = d.workers;
       working = d.crew.working;
+      takers = d.takers;
     } };
 
     ghost invariant = { λ d.
@@ -62,6 +65,7 @@ impl<'n, J: Job, A: Allocator> Model for Desk<'n, J, A> {
           halts = d.halts;
           workers = d.workers;
           working = d.crew.working;
+          takers = d.takers;
         }) };
 }
 
@@ -109,6 +113,7 @@ impl<'n, J: Job, A: Allocator + Copy> Desk<'n, J, A> {
             total,
             halts: false,
             workers,
+            takers: Takers::Seats,
             crew: Crew::new(workers),
             _gap: [0; 8],
         })
@@ -317,11 +322,20 @@ impl<'n, J: Job, A: Allocator> Desk<'n, J, A> {
         }
     }
 
-    /// Notes the same after a turn at once, which is a get or a put if it is no wait.
-    pub(crate) fn note_at_once(&mut self)
+    /// Notes the same of a put on this sink.
+    pub(crate) fn note_put(&mut self, sink: usize)
         ensures { self.new ≡ self.old }
     {
-        if self.has_served() {
+        if self.is_filled(sink, self.crew.awaits_item()) {
+            self.crew.owe_call();
+        }
+    }
+
+    /// Notes the same of turns in a row, which may have read from a source. If there is enough, the outside is called.
+    pub(crate) fn note_rows(&mut self)
+        ensures { self.new ≡ self.old }
+    {
+        if self.crew.awaits_room() || self.have_taken_enough() {
             self.crew.owe_call();
         }
     }

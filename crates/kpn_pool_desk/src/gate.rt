@@ -15,7 +15,7 @@ pub enum Go {
 /// Is asked after the steps of a process and before they are committed, while nobody holds the lock on its behalf.
 pub trait Gate: Sync {
     ghost use Rattle.std.specs.Prelude.{ℕ, ◌≡◌, true};
-    ghost use Rattle.kpn_pool_desk.specs.Batch.{LetsAll};
+    ghost use Rattle.kpn_pool_desk.specs.Gate.{LetsAll};
     ghost use Rattle.kpn_pool_desk.specs.declared.gate.Go.{Go};
 
     /// What it may answer when it is asked for this worker and this process; by default either.

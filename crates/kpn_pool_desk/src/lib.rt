@@ -11,6 +11,7 @@ mod job;
 mod opening;
 mod outside_seats;
 mod phases;
+mod rows;
 mod seat;
 mod turn;
 
@@ -23,4 +24,5 @@ pub use kpn_run_state::{Refused, View};
 pub use opening::{EndSeats, end_seats};
 pub use outside_seats::{SinkSeat, SnapFault, SourceSeat, take_from_each};
 pub use phases::{Next, Notices, Stay, Workers};
+pub use rows::Takers;
 pub use seat::{Why, WorkerSeat};

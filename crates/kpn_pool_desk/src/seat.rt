@@ -1,11 +1,11 @@
 //! The seat of a worker: what it knows of its own work.
-ghost use Rattle.std.specs.Prelude.{◌≡◌, ◌+◌, ◌<◌, ◌^◌, true, false, IfOk, IfErr, OnErr, OnOk, Some, None};
+ghost use Rattle.std.specs.Prelude.{◌≡◌, ◌+◌, ◌-◌, ◌<◌, ◌≤◌, ◌^◌, max, IfOk, IfErr, OnErr, OnOk, Some, None};
 ghost use Rattle.kpn_net.specs.Tables.{program_of};
 ghost use Rattle.kpn_step.specs.Stops.{IsAdvance, IsAtPort, advanced_of};
-ghost use Rattle.kpn_run_state.specs.AtOnce.{CommitsAtOnce};
 ghost use Rattle.kpn_run_state.specs.Commits.{Commits};
 ghost use Rattle.kpn_run_state.specs.Refusals.{RefusesCommit};
-ghost use Rattle.kpn_pool_desk.specs.Desk.{with_commit, without_worker};
+ghost use Rattle.kpn_pool_desk.specs.Desk.{with_commit, with_total, without_worker};
+ghost use Rattle.kpn_pool_desk.specs.Rows.{MakesRow};
 ghost use Rattle.kpn_pool_desk.specs.Seat.{new_seat, ended, with_commits};
 
 use crate::desk::Desk;
@@ -118,35 +118,43 @@ impl<J: Job> WorkerSeat<J> {
         what_a_commit_does();
         let done = desk.book.commit_own(p, from, to, made)?;
         desk.book.known();
-        self.count(&mut desk.total);
+        self.count(&mut desk.total, 1);
         Ok(done)
     }
 
-    /// Commits the first process of the queue where it stands, if it stands at a read or at a write of a number or a
-    /// variable. Returns whether it did. If memory is refused, nothing changes: the commit of its next turn says so.
-    pub(crate) fn commit_at_once<A: Allocator + Copy>(&mut self, desk: &mut Desk<'_, J, A>) -> bool
-        ensures made { (result ≡ true) → CommitsAtOnce desk.old.book desk.new.book
-            × (desk.new ≡ with_commit desk.new.book desk.old)
-            × (self.new ≡ with_commits (self.old.commits + 1) self.old) }
-        ensures none { (result ≡ false) → (self.new ≡ self.old) × (desk.new ≡ desk.old) }
+    /// Makes turns in a row, until one has put an item on a sink, no process is ready or memory is refused, and as long
+    /// as the commits are below this number. Returns that sink. If memory is refused, the commit of a next turn says so.
+    pub(crate) fn make_row<A: Allocator + Copy>(
+        &mut self,
+        desk: &mut Desk<'_, J, A>,
+        quota: u32,
+        limit: u64,
+    ) -> Option<usize>
+        ensures made { MakesRow quota result desk.old.book desk.new.book }
+        ensures within { desk.new.book.commits ≤ max desk.old.book.commits limit }
+        ensures same { desk.new ≡ with_total desk.new.book desk.new.total desk.old }
+        ensures share { self.new ≡ with_commits
+            (self.old.commits + (desk.new.book.commits - desk.old.book.commits)) self.old }
     {
-        let Ok(true) = desk.book.commit_at_once() else {
-            return false;
-        };
+        desk.known();
+        let before = desk.book.commits();
+        let held = desk.book.counts().held as u64;
+        let most = limit.saturating_sub(before).min(u64::MAX - before - held);
+        let sink = desk.book.run_on(quota, most);
         desk.book.known();
-        self.count(&mut desk.total);
-        true
+        self.count(&mut desk.total, desk.book.commits() - before);
+        sink.unwrap_or(None)
     }
 
-    /// Counts a commit, in the ledger and here.
-    fn count(&mut self, total: &mut ledger::Book<J>)
-        requires { total.old.total + 1 < 2 ^ 64 }
-        ensures total { total.new.total ≡ total.old.total + 1 }
-        ensures share { self.new ≡ with_commits (self.old.commits + 1) self.old }
+    /// Counts so many commits, in the ledger and here.
+    fn count(&mut self, total: &mut ledger::Book<J>, commits: u64)
+        requires { total.old.total + commits < 2 ^ 64 }
+        ensures total { total.new.total ≡ total.old.total + commits }
+        ensures share { self.new ≡ with_commits (self.old.commits + commits) self.old }
     {
         total.audit(&mut self.share);
-        total.add(&mut self.share, 1);
-        self.commits += 1;
+        total.add(&mut self.share, commits);
+        self.commits += commits;
     }
 
     /// The share of the ledger that the worker has.

@@ -1,24 +1,29 @@
 //! The holds of a worker: each time it has the lock it commits what it has stepped, and claims the next processes or
 //! waits. It notifies others once the lock is free.
 ghost use Rattle.std.specs.Prelude.{◌≡◌, ◌+◌, ◌<◌, ◌≤◌, false, IfNone, IsSome};
-ghost use Rattle.kpn_pool_desk.specs.Batch.{LetsAll};
+ghost use Rattle.kpn_pool_desk.specs.Gate.{LetsAll};
 ghost use Rattle.kpn_pool_desk.specs.Seat.{ended};
 
-use super::Shared;
+use super::{Shared, TRIES};
 use crate::pace::Pace;
 use kpn_pool_desk::{Batch, Desk, Gate, Job, Next, Stay, Why, WorkerSeat};
 use std::alloc::{Allocator, Global};
 use std::sync::{MutexGuard, Wait};
-use std::time::{Clock, Duration};
+use std::time::{Clock, Duration, Instant};
+
+// For how many microseconds a worker makes turns in a row before it lets the lock go, for which the outside may have to
+// wait.
+const HOLD: u64 = 100;
 
 impl<'n, J: Job, A: Allocator> Shared<'n, J, A> {
-    /// Commits the batch of a worker, which becomes that of the next processes, and makes turns at once in between.
+    /// Commits the batch of a worker, which becomes that of the next processes, and makes turns in a row in between.
     /// Returns whether there are such processes: if not, the worker ends.
     pub(crate) fn go_on<G: Gate, R: Wait + Clock>(
         &self,
         rt: &R,
         gate: &G,
         seat: &mut WorkerSeat<J>,
+        quota: u32,
         pace: &mut Pace,
         batch: &mut Batch<'n, J>,
     ) -> bool
@@ -33,9 +38,22 @@ impl<'n, J: Job, A: Allocator> Shared<'n, J, A> {
     {
         let away = pace.time(rt);
         let turns = batch.len();
-        let mut desk = self.lock(rt);
+        let mut desk = self.lock_after(rt, TRIES);
         pace.hold(rt);
-        let next = batch.come_back(&mut desk, gate, seat, pace.commits, away, self.max_commits);
+        let before = seat.commits();
+        let mut next = batch.come_back(
+            &mut desk,
+            gate,
+            seat,
+            pace.commits,
+            away,
+            quota,
+            self.max_commits,
+        );
+        if seat.commits() - before > turns as u64 {
+            pace.make_row();
+            next = self.go_on_in_rows(rt, gate, seat, quota, &mut desk, next);
+        }
         let Some(mut desk) = self.wait_for_work(rt, seat, pace, desk, next) else {
             return false;
         };
@@ -48,6 +66,40 @@ impl<'n, J: Job, A: Allocator> Shared<'n, J, A> {
         self.let_go(desk, notices);
         pace.begin(rt, commits);
         true
+    }
+
+    /// A worker that makes turns in a row goes on with them for a tenth of a millisecond. Returns what it does then.
+    fn go_on_in_rows<G: Gate, R: Wait + Clock>(
+        &self,
+        rt: &R,
+        gate: &G,
+        seat: &mut WorkerSeat<J>,
+        quota: u32,
+        desk: &mut Desk<'n, J, A>,
+        next: Next,
+    ) -> Next
+    where
+        A: Copy,
+        ensures number { seat.new.number ≡ seat.old.number }
+        ensures commits { seat.old.commits ≤ seat.new.commits }
+        ensures asked { seat.old.commits < seat.new.commits → LetsAll (G.may_answer gate.now) }
+    {
+        let Ok(begun) = Instant::now(rt) else {
+            return next;
+        };
+        let mut next = next;
+        for _ in rt.forever() {
+            let is_over = begun.elapsed(rt).unwrap_or(Duration::MAX) > Duration::from_micros(HOLD);
+            if is_over || !matches!(next, Next::Claim) {
+                return next;
+            }
+            let before = seat.commits();
+            next = desk.go_on(gate, seat, quota, self.max_commits);
+            if seat.commits() == before {
+                return next;
+            }
+        }
+        unreachable!()
     }
 
     /// Does what a worker does next until it is to claim processes. `None` if there is a reason to end before that.
