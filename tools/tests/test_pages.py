@@ -19,7 +19,7 @@ PROGRAM = pathlib.Path(os.environ.get('KPN_PROGRAM', pages.PROVED))
 COMMANDS = re.findall(r'^  (\w+)  ', pages.said(PROGRAM, '--help'), re.M)
 # Beginnings of lines, and what a shell has to offer for the last word.
 OFFERED = {'st': {'stream', 'stats'}, 'stats --tsv ': {'channels', 'processes'}, 'alone ': {'copy', 'double', 'sum'},
-           'stream --format s': {'s16le', 's32le', 's64le'}, 'help a': {'alone', 'audit'}}
+           'stream --format s': {'s8', 's16le', 's24le', 's32le', 's64le'}, 'help a': {'alone', 'audit'}}
 # The most seconds that zsh may take to offer something.
 PATIENCE = 20
 

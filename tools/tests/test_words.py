@@ -1,4 +1,5 @@
 """The words behind the fixed line: with `--words always`, and on a terminal."""
+import contextlib
 import os
 import pathlib
 import pty
@@ -74,6 +75,19 @@ class Words(unittest.TestCase):
         said = self.behind('run', 'copy.kpn', '--source', 's=bad', status=1, line='kpn: 25 BadItem at 2\n')
         self.assertTrue(said.startswith('bad:2:1: '), said)
 
+    def test_samples_that_are_read_as_lines(self):
+        (self.folder / 'samples').write_bytes(bytes([0, 0, 44, 1, 212, 254, 5, 0]))
+        asked = ' has bytes that no item has. These look like samples: --format s=s16le?\n'
+        line = 'sink z: 0 items, not complete\nwaits c s\nkpn: 25 BadItem at 1\n'
+        self.assertEqual(self.behind('stream', 'copy.kpn', '--source', 's=samples', status=1, line=line),
+                         '`samples`' + asked)
+        with open(self.folder / 'samples') as samples:
+            told = subprocess.run([PROGRAM, '--words', 'always', 'stream', 'copy.kpn'], cwd=self.folder,
+                                  capture_output=True, text=True, stdin=samples).stderr
+        self.assertTrue(told.endswith('at --source s=-\nStandard input' + asked), told)
+        words = ['--source', 's=samples', '--format', 's=s16le', '--format', 'z=u8', '--quiet']
+        self.assertEqual(self.behind('stream', 'copy.kpn', *words, status=1, line='kpn: 54 NoSample of 300\n'), '')
+
     def test_a_wrong_name(self):
         self.assertEqual(self.behind('run', 'copy.kpn', '--source', 't=items', status=1),
                          'There is no source `t`. The network has `s`.\n')
@@ -116,17 +130,26 @@ class Words(unittest.TestCase):
             self.assertEqual(self.told(*words, status=2), usage)
         self.assertEqual(self.told('--words', 'never', 'check', 'copy.kpn', status=0), '')
 
-    def test_a_terminal(self):
+    def told_on_a_terminal(self, *words, status):
+        """The same, if standard error is a terminal."""
         ours, theirs = pty.openpty()
-        self.addCleanup(os.close, ours)
+        done = subprocess.run([PROGRAM, *words], cwd=self.folder, stderr=theirs, stdout=subprocess.DEVNULL)
+        os.close(theirs)
+        self.assertEqual(done.returncode, status)
+        told = b''
+        with contextlib.suppress(OSError):
+            while piece := os.read(ours, 4096):
+                told += piece
+        os.close(ours)
+        return told.decode().replace('\r\n', '\n')
+
+    def test_a_terminal(self):
         for words, has_words in (([], True), (['--words', 'never'], False), (['--words', 'terminal'], True)):
-            done = subprocess.run([PROGRAM, *words, 'check', 'none'], cwd=self.folder, stderr=theirs,
-                                  stdout=subprocess.DEVNULL)
-            self.assertEqual(done.returncode, 1)
-            told = os.read(ours, 4096).decode().replace('\r\n', '\n')
+            told = self.told_on_a_terminal(*words, 'check', 'none', status=1)
             said = "`none` can't be read: there is no such file\n"
             self.assertEqual(told, 'kpn: 26 Read\n' + said * has_words)
-        os.close(theirs)
+        told = self.told_on_a_terminal('run', 'loop.kpn', '--source', 's=items', status=0)
+        self.assertTrue(told.startswith('deadlock: sum waits on back for loop, '), told)
 
 
 class Habits(unittest.TestCase):

@@ -1,6 +1,7 @@
 //! Why a file of a request was refused: its name and the reason, and the words of `kpn explain`.
 
 use crate::named::Named;
+use crate::samples::push_samples;
 use kpn_command_base::{Conclusion, Ends, Refusal, load_document};
 use kpn_command_explain::{explain_command, explain_items_command, explain_trace_command};
 use kpn_command_line::Request;
@@ -47,7 +48,7 @@ pub(crate) fn push_causes<R: Files, S: Shelf>(
     let Some(named) = Named::of(request) else {
         return Ok(());
     };
-    if push_unread(text, rt, named.file)? || !is_plain(rt, named.file) || named.is_items {
+    if push_unread(text, rt, named.file, MOST)? || !is_plain(rt, named.file) || named.is_items {
         return Ok(());
     }
     if !named.has_explained && push_told(text, explain_command(alloc, named.file, shelf))? {
@@ -58,7 +59,8 @@ pub(crate) fn push_causes<R: Files, S: Shelf>(
     };
     if push_wrong_name(text, &document, Ends::Sources, named.sources)?
         || push_wrong_name(text, &document, Ends::Sinks, named.sinks)?
-        || push_wrong_items(text, alloc, named.sources, shelf, rt)?
+        || push_looks(text, alloc, &document, &named, shelf, rt)?
+        || push_wrong_items(text, alloc, &named, shelf, rt)?
         || push_wrong_trace(text, alloc, &named, shelf, rt)?
     {
         return Ok(());
@@ -81,13 +83,21 @@ fn push_told(text: &mut Vec<u8>, answer: Result<Conclusion, Refusal>) -> Result<
     }
 }
 
+// So many bytes a file that is read whole may have.
+const MOST: u64 = MAX_INPUT_BYTES as u64;
+
 const OTHER_RULES: &str = "\
 The trace is of a network with another `policy` or `grow`. Give it the description that ran.
 ";
 
-// Adds the name of a file that can't be read, and the reason. It returns whether it did.
-fn push_unread<R: Files>(text: &mut Vec<u8>, rt: &R, file: &str) -> Result<bool, AllocError> {
-    let Some(reason) = unread(rt, file) else {
+// Adds the name of a file that can't be read, and the reason: it may have so many bytes. It returns whether it did.
+fn push_unread<R: Files>(
+    text: &mut Vec<u8>,
+    rt: &R,
+    file: &str,
+    most: u64,
+) -> Result<bool, AllocError> {
+    let Some(reason) = unread(rt, file, most) else {
         return Ok(false);
     };
     push_name(text, "", file, " can't be read: ")?;
@@ -96,14 +106,12 @@ fn push_unread<R: Files>(text: &mut Vec<u8>, rt: &R, file: &str) -> Result<bool,
     Ok(true)
 }
 
-// Why a file can't be read.
-fn unread<R: Files>(rt: &R, file: &str) -> Option<&'static str> {
+// Why a file can't be read that may have so many bytes.
+fn unread<R: Files>(rt: &R, file: &str, most: u64) -> Option<&'static str> {
     match fs::metadata(rt, file) {
         Ok(found) if found.is_dir() => Some("it is a folder"),
         Ok(found) if !found.is_file() => None,
-        Ok(found) if found.len() > MAX_INPUT_BYTES as u64 => {
-            Some("it has more than 268,435,456 bytes")
-        }
+        Ok(found) if found.len() > most => Some("it has more than 268,435,456 bytes"),
         Ok(_) => match fs::open(rt, file) {
             Ok(_) => None,
             Err(error) => Some(reason_of(error.kind())),
@@ -157,7 +165,7 @@ fn push_wrong_name(
 }
 
 // The name that an option gives a file.
-fn name_in<'a>(option: &&'a str) -> &'a str {
+pub(crate) fn name_in<'a>(option: &&'a str) -> &'a str {
     match option.split_once('=') {
         Some((name, _)) => name,
         None => option,
@@ -165,7 +173,7 @@ fn name_in<'a>(option: &&'a str) -> &'a str {
 }
 
 // The file behind the name in an option.
-fn file_in<'a>(option: &&'a str) -> &'a str {
+pub(crate) fn file_in<'a>(option: &&'a str) -> &'a str {
     match option.split_once('=') {
         Some((_, file)) => file,
         None => "",
@@ -209,20 +217,44 @@ fn push_ends(
     push(text, ".\n")
 }
 
+// Adds that a source of a stream looks like samples, if one is read as lines and does.
+fn push_looks<R: Files, S: Shelf>(
+    text: &mut Vec<u8>,
+    alloc: Global,
+    document: &Document,
+    named: &Named<'_, '_>,
+    shelf: &S,
+    rt: &R,
+) -> Result<bool, AllocError> {
+    match named.stream {
+        Some(stream) => push_samples(text, alloc, document, stream, shelf, rt),
+        None => Ok(false),
+    }
+}
+
 // Adds what is wrong with the first file of items that is wrong.
 fn push_wrong_items<R: Files, S: Shelf>(
     text: &mut Vec<u8>,
     alloc: Global,
-    options: &[&str],
+    named: &Named<'_, '_>,
     shelf: &S,
     rt: &R,
 ) -> Result<bool, AllocError> {
-    for option in options {
+    // A stream reads on as long as bytes come.
+    let most = if named.stream.is_some() {
+        u64::MAX
+    } else {
+        MOST
+    };
+    for option in named.sources {
         let file = file_in(option);
-        if file != "-" && push_unread(text, rt, file)? {
+        if file != "-" && push_unread(text, rt, file, most)? {
             return Ok(true);
         }
-        if is_plain(rt, file) && push_told(text, explain_items_command(alloc, file, shelf))? {
+        if named.has_lines(name_in(option))
+            && is_plain(rt, file)
+            && push_told(text, explain_items_command(alloc, file, shelf))?
+        {
             return Ok(true);
         }
     }
@@ -240,7 +272,7 @@ fn push_wrong_trace<R: Files, S: Shelf>(
     let Some(trace) = named.read else {
         return Ok(false);
     };
-    if push_unread(text, rt, trace)? {
+    if push_unread(text, rt, trace, MOST)? {
         return Ok(true);
     }
     if named.has_explained || !is_plain(rt, trace) {

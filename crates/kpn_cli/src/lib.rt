@@ -9,6 +9,7 @@ mod here;
 mod keeping;
 mod named;
 mod program;
+mod samples;
 mod usage;
 mod waits;
 mod words;

@@ -2,10 +2,11 @@
 
 use kpn_command_base::{RunRequest, StreamRequest};
 use kpn_command_line::Request;
+use kpn_command_stream::has_lines;
 use kpn_limits::USUAL_COUNT;
 
 /// What a request names: files that are read and written. `is_items` says that the only one is an item file, and
-/// `has_explained` that the command itself says what is wrong in them.
+/// `has_explained` that the command itself says what is wrong in them. A stream may have samples.
 #[derive(Clone, Copy)]
 pub(crate) struct Named<'r, 'a> {
     pub(crate) file: &'a str,
@@ -16,6 +17,7 @@ pub(crate) struct Named<'r, 'a> {
     pub(crate) steps: u64,
     pub(crate) is_items: bool,
     pub(crate) has_explained: bool,
+    pub(crate) stream: Option<&'r StreamRequest<'a>>,
 }
 
 impl<'r, 'a> Named<'r, 'a> {
@@ -62,6 +64,7 @@ impl<'r, 'a> Named<'r, 'a> {
             steps: USUAL_COUNT,
             is_items: false,
             has_explained: false,
+            stream: None,
         }
     }
 
@@ -115,7 +118,16 @@ impl<'r, 'a> Named<'r, 'a> {
             sources: &stream.sources,
             sinks: &stream.sinks,
             stored: stream.trace,
+            stream: Some(stream),
             ..Named::bare(stream.file)
+        }
+    }
+
+    /// Whether the source of this name has lines.
+    pub(crate) fn has_lines(&self, name: &str) -> bool {
+        match self.stream {
+            Some(stream) => has_lines(&stream.formats, name),
+            None => true,
         }
     }
 }

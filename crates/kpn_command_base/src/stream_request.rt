@@ -2,19 +2,6 @@
 
 use std::marker::Model;
 
-/// How items are written in the inputs and outputs of a stream.
-#[derive(Clone, Copy, PartialEq, Eq)]
-pub enum ItemFormat {
-    /// Item files: one item in each line.
-    Lines,
-    /// Samples of 16 bits, the lowest byte first.
-    S16,
-    /// Samples of 32 bits, the lowest byte first.
-    S32,
-    /// Samples of 64 bits, the lowest byte first.
-    S64,
-}
-
 /// What `kpn stream` is asked for. Contracts see the bytes of its words.
 #[derive(Drop)]
 pub struct StreamRequest<'a> {
@@ -24,8 +11,10 @@ pub struct StreamRequest<'a> {
     pub sources: Vec<&'a str>,
     /// The words behind the `--sink` options.
     pub sinks: Vec<&'a str>,
-    /// How the items are written.
-    pub format: ItemFormat,
+    /// The words behind the `--format` options.
+    pub formats: Vec<&'a str>,
+    /// Whether a sink gets the nearest item that fits its format for one that does not.
+    pub clips: bool,
     /// The most commits, if there is a limit.
     pub commits: Option<u64>,
     /// How many items the stream wants of each sink.
@@ -34,6 +23,8 @@ pub struct StreamRequest<'a> {
     pub trace: Option<&'a str>,
     /// Whether nothing is told of the end.
     pub quiet: bool,
+    /// Whether tables of the channels and the processes are told at the end.
+    pub stats: bool,
 }
 
 impl<'a> Model for StreamRequest<'a> {
@@ -46,10 +37,12 @@ impl<'a> Model for StreamRequest<'a> {
       file = r.file.now;
       sources = map (λ word. word.now) r.sources.items;
       sinks = map (λ word. word.now) r.sinks.items;
-      format = r.format;
+      formats = map (λ word. word.now) r.formats.items;
+      clips = r.clips;
       commits = r.commits;
       take = r.take;
       trace = option_map (λ name. name.now) r.trace;
       quiet = r.quiet;
+      stats = r.stats;
     } };
 }

@@ -11,12 +11,12 @@ use Rattle.clap.specs.Faults.{fault_of}
 use Rattle.clap.specs.Walk.{Row}
 use Rattle.clap.specs.declared.error.kind.ErrorKind.TheVariants.{DisplayHelp, DisplayVersion}
 use Rattle.kpn_command_line.specs.declared.request.Request.{Request}
-use Rattle.kpn_command_line.specs.declared.request.Request.TheVariants.{Explain, ExplainItems, Rounds, Stream, Stats, Help}
+use Rattle.kpn_command_line.specs.declared.request.Request.TheVariants.{Explain, ExplainItems, Rounds, Stats, Help}
 use Rattle.kpn_command_line.specs.declared.request.WordsFault.{WordsFault}
 use Rattle.kpn_command_line.specs.declared.request.WordsFault.TheVariants.{Usage, NoMemory}
 use Rattle.kpn_command_line.specs.CommandLine.{all_words, command_line}
-use Rattle.kpn_command_line.specs.Asked.{AnswersTo, AsksForHelp, IsAsked, IsNoneOf, IsNoFormat, IsNoTable, IsOf, IsRefused, IsUsageIf}
-use Rattle.kpn_command_line.specs.Asked.{Names, Gives, command_of, text_for, number_for, format_for, is_set}
+use Rattle.kpn_command_line.specs.Asked.{AnswersTo, AsksForHelp, IsAsked, IsNoneOf, IsNoTable, IsOf, IsRefused, IsUsageIf}
+use Rattle.kpn_command_line.specs.Asked.{Names, Gives, command_of, text_for, number_for, is_set}
 
 differ : (a b : List ℕ) → bytes_eq a a ≡ true → bytes_eq a b ≡ false → b ≡ a → ⊥
 differ a b same other e = true≢false (sym same ∙ (ap (bytes_eq a) (sym e) ∙ other))
@@ -95,10 +95,6 @@ module _ (given : List Row) where
       → IsOf (codes "stats") given request → ⊥
   no_table none (Stats file trace steps tables) is = none tables is.1.3
   no_table none other is = differ (codes "stats") (command_of other) refl refl is.0
-
-  pub no_format : IsNoFormat (format_for given) → (request : Request) → IsOf (codes "stream") given request → ⊥
-  no_format none (Stream stream) is = none stream.format is.1.3
-  no_format none other is = differ (codes "stream") (command_of other) refl refl is.0
 
   pub no_items_with_trace : (it : List ℕ) → is_set (codes "ITEMS") given ≡ true
       → text_for (codes "TRACE") given ≡ Some it → (request : Request) → IsOf (codes "explain") given request → ⊥

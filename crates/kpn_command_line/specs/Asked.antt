@@ -19,8 +19,6 @@ use Rattle.kpn_command_base.specs.declared.direction.Direction.{Direction}
 use Rattle.kpn_command_base.specs.declared.direction.Direction.TheVariants.{LeftToRight, TopToBottom}
 use Rattle.kpn_command_base.specs.declared.tables.StatsTables.{StatsTables}
 use Rattle.kpn_command_base.specs.declared.tables.StatsTables.TheVariants.{People, Channels, Processes}
-use Rattle.kpn_command_base.specs.declared.stream_request.ItemFormat.{ItemFormat}
-use Rattle.kpn_command_base.specs.declared.stream_request.ItemFormat.TheVariants.{Lines, S16, S32, S64}
 use Rattle.kpn_command_line.specs.declared.request.Request.{Request}
 use Rattle.kpn_command_line.specs.declared.request.Request.TheVariants.{Alone, Check, Explain, ExplainItems}
 use Rattle.kpn_command_line.specs.declared.request.Request.TheVariants.{Print, Draw, Rounds, Run, Stream}
@@ -75,17 +73,6 @@ abbrev pub table_name : StatsTables → Option (List ℕ)
 table_name People = None
 table_name Channels = Some (codes "channels")
 table_name Processes = Some (codes "processes")
-
--- the word that names a format
-abbrev pub format_name : ItemFormat → List ℕ
-format_name Lines = codes "lines"
-format_name S16 = codes "s16le"
-format_name S32 = codes "s32le"
-format_name S64 = codes "s64le"
-
--- the word for the format: `lines` without `--format`
-abbrev pub format_for : (given : List Row) → List ℕ
-format_for given = unwrap_or (text_for (codes "FORMAT") given) (codes "lines")
 
 -- a drawing from top to bottom
 abbrev pub is_across : Direction → Bool
@@ -142,9 +129,11 @@ Gives given (Run run) =
     × (number_for 32 (codes "WORKERS") given ≡ run.workers)
 Gives given (Stream stream) =
     (text_for (codes "FILE") given ≡ Some stream.file) × (texts_for (codes "SOURCE") given ≡ stream.sources)
-    × (texts_for (codes "SINK") given ≡ stream.sinks) × (format_for given ≡ format_name stream.format)
+    × (texts_for (codes "SINK") given ≡ stream.sinks) × (texts_for (codes "FORMAT") given ≡ stream.formats)
+    × (is_set (codes "CLIP") given ≡ stream.clips)
     × (number_for 64 (codes "MAX_COMMITS") given ≡ stream.commits) × (number_for 64 (codes "K") given ≡ stream.take)
     × (text_for (codes "TRACE") given ≡ stream.trace) × (is_set (codes "QUIET") given ≡ stream.quiet)
+    × (is_set (codes "STATS") given ≡ stream.stats)
 Gives given (Audit file trace steps) =
     (text_for (codes "FILE") given ≡ Some file.now) × (text_for (codes "TRACE") given ≡ Some trace.now)
     × (steps_for given ≡ steps)
@@ -225,7 +214,3 @@ IsRefusalOfKind kind NoMemory = ⊤
 -- this text names no table
 abbrev pub IsNoTable : Option (List ℕ) → Type 0
 IsNoTable text = (tables : StatsTables) → text ≡ table_name tables → ⊥
-
--- this word names no format
-abbrev pub IsNoFormat : (name : List ℕ) → Type 0
-IsNoFormat name = (format : ItemFormat) → name ≡ format_name format → ⊥

@@ -79,11 +79,18 @@ from_option = count (codes "FROM") (codes "from")
 abbrev pub to_option : Rule
 to_option = count (codes "TO") (codes "to")
 
+-- the user may repeat it
 abbrev pub format_option : Rule
-format_option = option (codes "FORMAT") (codes "format")
+format_option = record (option (codes "FORMAT") (codes "format")) { action = Some Append }
+
+abbrev pub clip_flag : Rule
+clip_flag = flag (codes "CLIP") (codes "clip")
 
 abbrev pub quiet_flag : Rule
 quiet_flag = flag (codes "QUIET") (codes "quiet")
+
+abbrev pub stats_flag : Rule
+stats_flag = flag (codes "STATS") (codes "stats")
 
 abbrev pub across_flag : Rule
 across_flag = flag (codes "ACROSS") (codes "across")
@@ -119,8 +126,8 @@ run_words =
 abbrev pub stream_words : App
 stream_words =
     command (codes "stream")
-    (file_word ∷ source_option ∷ sink_option ∷ format_option ∷ take_option ∷ commits_option ∷ trace_option
-    ∷ quiet_flag ∷ [])
+    (file_word ∷ source_option ∷ sink_option ∷ format_option ∷ clip_flag ∷ take_option ∷ commits_option ∷ trace_option
+    ∷ quiet_flag ∷ stats_flag ∷ [])
 
 abbrev pub audit_words : App
 audit_words = command (codes "audit") (file_word ∷ trace_word ∷ steps_option ∷ [])
@@ -178,4 +185,4 @@ timeline_inputs = command (codes "timeline") (file_word ∷ trace_word ∷ steps
 
 -- the words of `stream` for the network, its sources and sinks, and how the items are written
 abbrev pub stream_ends : App
-stream_ends = command (codes "stream") (file_word ∷ source_option ∷ sink_option ∷ format_option ∷ [])
+stream_ends = command (codes "stream") (file_word ∷ source_option ∷ sink_option ∷ format_option ∷ clip_flag ∷ [])

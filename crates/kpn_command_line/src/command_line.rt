@@ -9,7 +9,7 @@ ghost use Rattle.kpn_command_line.specs.CommandLine.{explain_words, print_words,
 ghost use Rattle.kpn_command_line.specs.CommandLine.{stream_words, audit_words, stats_words, timeline_words};
 ghost use Rattle.kpn_command_line.specs.CommandLine.{file_word, rounds_word, source_option, sink_option};
 ghost use Rattle.kpn_command_line.specs.CommandLine.{workers_option, steps_option, items_flag, quiet_flag, svg_flag};
-ghost use Rattle.kpn_command_line.specs.CommandLine.{format_option, from_option, to_option, trace_word};
+ghost use Rattle.kpn_command_line.specs.CommandLine.{format_option, from_option, stats_flag, to_option, trace_word};
 ghost use Rattle.kpn_command_line.specs.CommandLine.{run_inputs, stream_ends, timeline_inputs, bare_command_line, flag};
 ghost use Rattle.kpn_command_line.specs.CommandLine.{across_flag};
 
@@ -54,7 +54,11 @@ pub(crate) const TO: &str = "TO";
 
 pub(crate) const FORMAT: &str = "FORMAT";
 
+pub(crate) const CLIP: &str = "CLIP";
+
 pub(crate) const QUIET: &str = "QUIET";
+
+pub(crate) const STATS: &str = "STATS";
 
 pub(crate) const ACROSS: &str = "ACROSS";
 
@@ -108,6 +112,9 @@ fn and<'a>(
 
 // What help says below the commands.
 const STATUSES: &str = "\
+`kpn --words always|never|terminal COMMAND` says when words for a person follow what is told, as which
+file it is about and what to do: always, never, or on a terminal, as without it.
+
 Statuses: 0 for success, 1 for a refused input or a device that fails, 2 for words that are not
 understood, 6 for want of memory; explain, draw, run, stream, audit, stats and timeline have more. If an
 input is refused, one line on standard error says why. If the words are not understood, standard error
@@ -293,7 +300,7 @@ can't be stored, no report is written, and the files before it stay.
 
 With --workers the processes are stepped side by side. What is then written of `ended` and `enough`
 is the same for any number of them. Four workers are faster than one thread if processes compute for
-a microsecond or longer between two reads or writes.
+a microsecond or longer between two reads or writes, and else about as fast.
 
 The file of a source has an item on each line: an optional `-` and 1 to 19 digits.
 
@@ -338,20 +345,29 @@ IN and OUT are files, pipes or devices, and `-` is standard input or output. The
 out, and is standard input then; the only sink may be left out, and is standard output. Every other
 source and sink has to be named.
 
---format lines, the usual one, has an item on each line: an optional `-` and 1 to 19 digits. s16le, s32le
-and s64le are samples of 16, 32 and 64 bits, the lowest byte first, for all sources and sinks.
+--format FORMAT is for all sources and sinks, --format NAME=FORMAT for one of them. lines, the usual one,
+has an item on each line: an optional `-` and 1 to 19 digits. u8 has a byte for an item, of 0 to 255. s8,
+s16le, s24le, s32le and s64le have samples of 8 to 64 bits in two's complement, the lowest byte first.
+f32le has floats of 32 bits: the item n is n / 32768, rounded to the nearest, and to the even one of two;
+what is no number, infinite or 2^48 and more is a bad item. An item of a sink that does not fit its format
+ends the stream; with --clip the nearest one that fits is written.
 
 A bad item, or a read or write that fails, ends the run. All that was computed before is written, and
 standard error names the source or sink. A sink whose reader has gone is left. At the end standard error
 says of each sink how many items it has and whether these are complete, which processes have faulted or
-wait, and the outcome as `kpn run` does.
+wait, a line `deadlock` for each ring of processes that each wait for an item of the next one, and the
+outcome as `kpn run` does.
+
+With --stats two tables follow: of each channel how many items were put on it, were read and are unread,
+and the most while the reader was there; of each process how it ended or what it waits for. They need no
+trace, and --quiet keeps them.
 
 Only what is unread is kept in memory. With --trace all events and items are: a million items through
 ten processes take some 600 MB. The trace is stored at the end.
 
-Statuses: 0 if no process faulted and each sink is complete, was left, or has the K items of --take; 8
-if a process faulted; 3 for clogged, 4 for jammed and 5 for stopped if a sink is not complete; 1 for a
-refused input or a device that fails, 2 for words that are not understood, 6 for want of memory.";
+Statuses: 8 if a process faulted; else 9 if there is a ring; else 0 if each sink is complete, was left, or
+has the K items of --take; else 3 for clogged, 4 for jammed and 5 for stopped; 1 for a refused input or a
+device that fails, 2 for words that are not understood, 6 for want of memory.";
 
 // The words of `kpn stream`.
 fn stream_words<'a>(alloc: Global) -> Result<Command<'a>, AllocError>
@@ -361,14 +377,25 @@ fn stream_words<'a>(alloc: Global) -> Result<Command<'a>, AllocError>
     let commits = "Stops after N commits: 1 to 1000000000; a stream has no limit without it";
     let trace =
         "Stores all events in the file OUT at the end; it is no input and no output of the stream";
-    let quiet = "Says nothing of the end on standard error, but for what is wrong";
+    let quiet =
+        "Says nothing of the end on standard error, but for what is wrong and what --stats asks for";
     let words = and(stream_ends(alloc), count(alloc, TAKE, "take", "K", take));
     let words = and(
         words,
         count(alloc, MAX_COMMITS, "max-commits", "N", commits),
     );
     let words = and(words, option(alloc, TRACE, "trace", "OUT", trace));
-    and(words, flag(alloc, QUIET, "quiet", quiet))
+    let words = and(words, flag(alloc, QUIET, "quiet", quiet));
+    and(words, stats_word(alloc))
+}
+
+// The `--format` options of `kpn stream`.
+fn format_word<'a>(alloc: Global) -> Arg<'a>
+    ensures { IsArg format_option result }
+{
+    let help =
+        "How items are written, or by NAME=FORMAT those of an end: lines, u8, s8, s16le, s24le, s32le, s64le or f32le";
+    option(alloc, FORMAT, "format", "FORMAT", help).action(ArgAction::Append)
 }
 
 // The words of `kpn stream` for the network, its sources and sinks, and how the items are written.
@@ -379,11 +406,12 @@ fn stream_ends<'a>(alloc: Global) -> Result<Command<'a>, AllocError>
     let source =
         "Reads the items of a source from IN, or from standard input for `-`; may be repeated";
     let sink = "Writes the items of a sink to OUT, or to standard output for `-`; may be repeated";
-    let format = "How all items are written: lines, s16le, s32le or s64le; lines without it";
+    let clip = "Writes for an item that does not fit its format the nearest one that does";
     let words = command(alloc, "stream", about, STREAM_HELP).arg(file_word(alloc));
     let words = and(words, source_word(alloc, "NAME=IN", source));
     let words = and(words, sink_word(alloc, sink));
-    and(words, option(alloc, FORMAT, "format", "FORMAT", format))
+    let words = and(words, format_word(alloc));
+    and(words, flag(alloc, CLIP, "clip", clip))
 }
 
 const AUDIT_HELP: &str = "\
@@ -509,6 +537,15 @@ fn items_word<'a>(alloc: Global) -> Arg<'a>
 {
     let help = "Reads FILE as a file of items, as sources have; then there is no TRACE";
     flag(alloc, ITEMS, "items", help)
+}
+
+// The `--stats` flag.
+fn stats_word<'a>(alloc: Global) -> Arg<'a>
+    ensures { IsArg stats_flag result }
+{
+    let help =
+        "Tells at the end what each channel did, and how each process ended or what it waits for";
+    flag(alloc, STATS, "stats", help)
 }
 
 // The `--svg` flag.

@@ -5,18 +5,18 @@ ghost use Rattle.clap.specs.Words.{kind_of, fault_of, found_of, rows_of, subcomm
 ghost use Rattle.clap.specs.Words.{subcommand_rows_of};
 ghost use Rattle.kpn_command_line.specs.CommandLine.{command_line};
 ghost use Rattle.kpn_command_line.specs.Asked.{IsAsked, IsRefused, IsHelpOfKind, IsRefusalOfKind};
-ghost use Rattle.kpn_command_line.specs.Asked.{AnswersTo, IsUsageIf, IsNoTable, IsNoFormat, Names, rows_in};
+ghost use Rattle.kpn_command_line.specs.Asked.{AnswersTo, IsUsageIf, IsNoTable, Names, rows_in};
 ghost use Rattle.kpn_command_line.specs.Asked.{text_for, texts_for, number_for, is_set, table_name};
-ghost use Rattle.kpn_command_line.specs.Asked.{format_for, format_name, is_across};
+ghost use Rattle.kpn_command_line.specs.Asked.{is_across};
 
 use crate::command_line::{
-    ACROSS, FILE, FORMAT, FROM, ITEMS, MAX_COMMITS, NAME, QUIET, ROUNDS, SINK, SOURCE, STEPS, SVG,
-    TABLE, TAKE, TO, TRACE, WORKERS, program,
+    ACROSS, CLIP, FILE, FORMAT, FROM, ITEMS, MAX_COMMITS, NAME, QUIET, ROUNDS, SINK, SOURCE, STATS,
+    STEPS, SVG, TABLE, TAKE, TO, TRACE, WORKERS, program,
 };
 use crate::request::{Request, WordsFault};
 use clap::error::ErrorKind;
 use clap::{ArgMatches, Command, Error};
-use kpn_command_base::{Direction, ItemFormat, RunRequest, StatsTables, StreamRequest};
+use kpn_command_base::{Direction, RunRequest, StatsTables, StreamRequest};
 use kpn_limits::{MAX_COUNT, USUAL_COUNT};
 use std::alloc::{AllocError, Global};
 
@@ -187,37 +187,14 @@ fn stream_request<'a>(
         file: required(program, stream, FILE)?,
         sources: texts_of(alloc, stream, SOURCE)?,
         sinks: texts_of(alloc, stream, SINK)?,
-        format: format_of(program, stream)?,
+        formats: texts_of(alloc, stream, FORMAT)?,
+        clips: is_set(stream, CLIP),
         commits: count_of(stream, MAX_COMMITS),
         take: count_of(stream, TAKE),
         trace: text_of(stream, TRACE),
         quiet: is_set(stream, QUIET),
+        stats: is_set(stream, STATS),
     }))
-}
-
-// The format that the words ask for.
-fn format_of<'a>(
-    program: &mut Command<'a>,
-    stream: &ArgMatches<'a>,
-) -> Result<ItemFormat, WordsFault>
-    ensures { MatchResult result
-        (λ format. format_for (rows_in stream.now) ≡ format_name format)
-        (IsUsageIf (IsNoFormat (format_for (rows_in stream.now)))) }
-{
-    let Some(format) = text_of(stream, FORMAT) else {
-        return Ok(ItemFormat::Lines);
-    };
-    match format {
-        "lines" => Ok(ItemFormat::Lines),
-        "s16le" => Ok(ItemFormat::S16),
-        "s32le" => Ok(ItemFormat::S32),
-        "s64le" => Ok(ItemFormat::S64),
-        _ => Err(unclear(
-            program,
-            ErrorKind::InvalidValue,
-            "--format takes lines, s16le, s32le or s64le",
-        )),
-    }
 }
 
 // What the words ask of `kpn stats`.

@@ -9,8 +9,7 @@ use Rattle.kpn_stream_devices.specs.declared.inputs.Inputs.{Inputs}
 use Rattle.kpn_stream_devices.specs.declared.outputs.Outputs.{Outputs}
 use Rattle.kpn_stream_devices.specs.Inputs.{InputsGive, InputsLook, by_input, by_none, at_input, at_none}
 use Rattle.kpn_stream_devices.specs.Outputs as outputs
-use Rattle.kpn_stream_devices.specs.Outputs.{OutputRel, OutputsDo, OutputsTake, OutputsFlush}
-use Rattle.kpn_command_base.specs.declared.stream_request.ItemFormat.{ItemFormat}
+use Rattle.kpn_stream_devices.specs.Outputs.{OutputRel, OutputsDo}
 use Rattle.kpn_command_stream.specs.Command as command
 use Rattle.kpn_net.specs.Tables.{Tables}
 use Rattle.kpn_run_state.specs.Book.{Book}
@@ -75,7 +74,7 @@ module _ {K N : Type 0} (takes : K → ℕ → ℤ → Result (Unit {0}) SinkFau
 pub inputs_same : {I F : Type 0} (remaining : I → Option (List ℕ)) (in_file : F → Option (List ℕ)) (before : Inputs I F)
     (c : ℕ) (answer : Result (Option ℤ) SourceFault) (after : Inputs I F)
     → InputsGive remaining in_file before c answer after → after.standard.ghost_name ≡ before.standard.ghost_name
-inputs_same remaining in_file before c answer after (by_input i input read found at gives each format ghost lent) =
+inputs_same remaining in_file before c answer after (by_input i input read found at gives each ghost lent) =
     ghost
 inputs_same remaining in_file before c answer after (by_none found is same) =
     ap (λ (x : Inputs _ _). x.standard.ghost_name) same
@@ -83,14 +82,14 @@ inputs_same remaining in_file before c answer after (by_none found is same) =
 pub looks_same : {I F : Type 0} (remaining : I → Option (List ℕ)) (in_file : F → Option (List ℕ)) (before : Inputs I F)
     (c : ℕ) (after : Inputs I F) → InputsLook remaining in_file before c after
     → after.standard.ghost_name ≡ before.standard.ghost_name
-looks_same remaining in_file before c after (at_input i input read found at looks each format ghost lent) = ghost
+looks_same remaining in_file before c after (at_input i input read found at looks each ghost lent) = ghost
 looks_same remaining in_file before c after (at_none found same) = ap (λ (x : Inputs _ _). x.standard.ghost_name) same
 
-pub outputs_same : {O G : Type 0} (Does : ItemFormat → OutputRel O G) (before : Outputs O G) (c : ℕ)
+pub outputs_same : {O G : Type 0} (Does : OutputRel O G) (before : Outputs O G) (c : ℕ)
     (answer : Result (Unit {0}) SinkFault) (after : Outputs O G) → OutputsDo Does before c answer after
     → after.standard.ghost_name ≡ before.standard.ghost_name
 outputs_same Does before c answer after
-    (outputs.by_output i output written found at channel only does each format ghost lent) =
+    (outputs.by_output i output written found at channel format only does each ghost lent) =
     ghost
 outputs_same Does before c answer after (outputs.by_none found is same) =
     ap (λ (x : Outputs _ _). x.standard.ghost_name) same

@@ -1,3 +1,4 @@
 pub mod Listing
 pub mod Keeping
 pub mod Ringed
+pub mod Counted

@@ -1,5 +1,5 @@
 -- Lists of places and of sinks, one more at a time.
-use Rattle.std.proofs.Common.{◌≡◌, ℕ, zero, suc, ◌+◌, ◌<◌, ◌≤◌, List, [], ◌∷◌, ◌++◌, map, take, length, get_or, slice_set, All, length-append, take_all, le_refl, Some, Result, Ok, Err, sym, ap, ◌∙◌, subst, arith, inl, inr, Option, None}
+use Rattle.std.proofs.Common.{◌≡◌, ℕ, Bool, zero, suc, ◌+◌, ◌<◌, ◌≤◌, List, [], ◌∷◌, ◌++◌, map, take, length, get_or, slice_set, All, length-append, take_all, le_refl, Some, Result, Ok, Err, sym, ap, ◌∙◌, subst, arith, inl, inr, Option, None}
 use Rattle.std.specs.List.{AllZip}
 use Rattle.std.proofs.lemmas.Bool.{cases_lt}
 use Rattle.std.proofs.lemmas.List.{map-append, take_more, take_more_set, get_or_append_left}
@@ -17,14 +17,14 @@ use Rattle.kpn_command_stream.specs.declared.places.Place.{Place}
 use Rattle.kpn_command_stream.specs.declared.running.Lost.{Lost}
 use Rattle.kpn_stream_devices.specs.declared.outputs.Output.{Output}
 use Rattle.kpn_command_stream.specs.Command.{HandedOn, IsOutputFor, IsOutputOf, KeepsName, one_more, losses}
-use Rattle.kpn_command_stream.specs.Places.{name_for, ArePlaced, AllPlaced, ArePlaces}
+use Rattle.kpn_command_stream.specs.Places.{name_for, HasFormat, ArePlaced, AllPlaced, ArePlaces}
 
 -- one place more
-pub placed_more : (named : List NamedEnd) (ends : List ℕ) (number : ℕ) (places : List Place) (place : Place)
-    → ArePlaced named ends number places → number < length ends → place.channel ≡ get_or ends number place.channel
-    → name_for named number (length ends) ≡ Some place.name.now
-    → ArePlaced named ends (number + 1) (places ++ place ∷ [])
-placed_more named ends number places place placed below at name = record {
+pub placed_more : (d : Document) (named : List NamedEnd) (words : List (List ℕ)) (ends : List ℕ) (number : ℕ)
+    (places : List Place) (place : Place) → ArePlaced d named words ends number places → number < length ends
+    → place.channel ≡ get_or ends number place.channel → name_for named number (length ends) ≡ Some place.name.now
+    → HasFormat d words place → ArePlaced d named words ends (number + 1) (places ++ place ∷ [])
+placed_more d named words ends number places place placed below at name format = record {
   channels =
       map-append (λ (p : Place). p.channel) places (place ∷ [])
       ∙ ap (λ cs. cs ++ place.channel ∷ []) placed.channels
@@ -40,14 +40,15 @@ placed_more named ends number places place placed below at name = record {
         ∙ ap (λ (p : Place). Some p.name.now)
         (sym (ap (λ (n : ℕ). get_or (places ++ place ∷ []) n other) last ∙ get_or-append_seam places place [] other))
   ];
+  formats = All-push (HasFormat d words) places place placed.formats format;
 }
 
 -- all places go by what the options name
-pub all_placed : (ends : Ends) (d : Document) (names files : List (List ℕ)) (named : List NamedEnd)
+pub all_placed : (ends : Ends) (d : Document) (names files words : List (List ℕ)) (named : List NamedEnd)
     (places : List Place) → ends_named ends d names ≡ Ok (map (λ end. end.number) named)
-    → map (λ end. end.file.now) named ≡ files → AllPlaced named (end_numbers (is_end ends) d.tables) places
-    → ArePlaces ends d names files places
-all_placed ends d names files named places numbers given placed =
+    → map (λ end. end.file.now) named ≡ files → AllPlaced d named words (end_numbers (is_end ends) d.tables) places
+    → ArePlaces ends d names files words places
+all_placed ends d names files words named places numbers given placed =
     let all = end_numbers (is_end ends) d.tables in
     record {
       named = named;
@@ -56,6 +57,7 @@ all_placed ends d names files named places numbers given placed =
       channels = placed.channels ∙ take_all (length all) all (le_refl (length all));
       each = λ number place below.
           ap (λ (n : ℕ). name_for named number n) placed.count ∙ placed.each number place below;
+      formats = placed.formats;
     }
 
 -- one item more has what it needs
@@ -67,12 +69,13 @@ zipped_more R xs ys i x y so_far below at is =
     (AllZip-push R (take i xs) ys x y so_far is)
 
 -- places go by the names and the files of options
-pub placed_by : (ends : Ends) (d : Document) (names others files others_files : List (List ℕ)) (places : List Place)
-    → names ≡ others → files ≡ others_files → ArePlaces ends d names files places
-    → ArePlaces ends d others others_files places
-placed_by ends d names others files others_files places same same_files are =
-    subst (λ ns. ArePlaces ends d ns others_files places) same
-    (subst (λ fs. ArePlaces ends d names fs places) same_files are)
+pub placed_by : (ends : Ends) (d : Document) (names others files others_files words others_words : List (List ℕ))
+    (places : List Place) → names ≡ others → files ≡ others_files → words ≡ others_words
+    → ArePlaces ends d names files words places → ArePlaces ends d others others_files others_words places
+placed_by ends d names others files others_files words others_words places same same_files same_words are =
+    subst (λ ns. ArePlaces ends d ns others_files others_words places) same
+    (subst (λ fs. ArePlaces ends d names fs others_words places) same_files
+    (subst (λ ws. ArePlaces ends d names files ws places) same_words are))
 
 -- ---- outputs
 
@@ -87,11 +90,12 @@ zipped_set R (x ∷ xs) (z ∷ ys) (suc i) d y are below same =
     (are.0, zipped_set R xs ys i d y are.1 (omega arith) same)
 
 -- an output whose file keeps its name stays one for its place
-pub still_for : {G : Type 0} (goes_to : G → List ℕ) (place : Place) (old new : Output G) → new.channel ≡ old.channel
-    → new.bytes ≡ old.bytes → KeepsName goes_to old.file new.file → IsOutputFor goes_to place old
-    → IsOutputFor goes_to place new
-still_for {G} goes_to place old new channel bytes name is = record {
+pub still_for : {G : Type 0} (goes_to : G → List ℕ) (clips : Bool) (place : Place) (old new : Output G)
+    → new.channel ≡ old.channel → new.format ≡ old.format → new.bytes ≡ old.bytes
+    → KeepsName goes_to old.file new.file → IsOutputFor goes_to clips place old → IsOutputFor goes_to clips place new
+still_for {G} goes_to clips place old new channel format bytes name is = record {
   channel = channel ∙ is.channel;
+  format = format ∙ is.format;
   file = named old.file new.file name is.file;
   bytes = ap (λ v. v.items) bytes ∙ is.bytes;
 }

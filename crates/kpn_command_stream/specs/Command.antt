@@ -78,15 +78,23 @@ IsOutputOf goes_to name (Some file) = (name ≢ standard) × (goes_to file ≡ n
 pub record IsInputFor {F : Type 0} (may_give : Loads) (comes_from : F → List ℕ) (left_in : F → Option (List ℕ))
     (place : Place) (input : Input F) : Type 0 where
   pub channel : input.channel ≡ place.channel
+  pub format : input.format ≡ place.format
   pub file : IsInputOf may_give comes_from left_in place.name.now input.file
   pub window : input.window ≡ fresh
   pub failed : input.failed ≡ None
 
--- the output of a place: nothing is kept
-pub record IsOutputFor {G : Type 0} (goes_to : G → List ℕ) (place : Place) (output : Output G) : Type 0 where
-  pub channel : output.channel ≡ place.channel
-  pub file : IsOutputOf goes_to place.name.now output.file
-  pub bytes : output.bytes.items ≡ []
+-- the output of a place, which clips or does not: nothing is kept
+pub record IsOutputFor {G : Type 0} (goes_to : G → List ℕ) (clips : Bool) (place : Place) (output : Output G) : Type 0
+  where
+    pub channel : output.channel ≡ place.channel
+    pub format : output.format ≡ record { items = place.format; clips = clips }
+    pub file : IsOutputOf goes_to place.name.now output.file
+    pub bytes : output.bytes.items ≡ []
+
+-- each output stays the one of its place
+abbrev pub StayOutputs : {G : Type 0} → (goes_to : G → List ℕ) → List Place → (before after : List (Output G)) → Type 0
+StayOutputs goes_to places before after =
+    (clips : Bool) → AllZip (IsOutputFor goes_to clips) places before → AllZip (IsOutputFor goes_to clips) places after
 
 -- its file, if it has one, holds nothing
 abbrev pub IsEmptied : {G : Type 0} → (holds_in : G → Option (List ℕ)) → Output G → Type 0
@@ -158,11 +166,9 @@ pub record Ran {I F O G : Type 0} (known : Known I F O G) (request : StreamReque
   pub inputs_are : first_input.each.now.items ≡ inputs
   pub input_is : first_input.standard.now ≡ input
   pub input_read : last_input.standard.now ≡ read
-  pub input_format : first_input.format ≡ request.format
   pub outputs_are : first_output.each.now.items ≡ outputs
   pub output_is : first_output.standard.now ≡ out
   pub output_written : last_output.standard.now ≡ written
-  pub output_format : first_output.format ≡ request.format
 
 -- the sinks of places, in order
 abbrev pub sinks_of : Places → List ℕ
@@ -175,7 +181,7 @@ pub record RanAt {I F O G : Type 0} (may_give : Loads) (names : Names F G) (know
   pub inputs : List (Input F)
   pub are_inputs : AllZip (IsInputFor may_give names.comes_from known.left_in) places.sources.items inputs
   pub outputs : List (Output G)
-  pub are_outputs : AllZip (IsOutputFor names.goes_to) places.sinks.items outputs
+  pub are_outputs : AllZip (IsOutputFor names.goes_to request.clips) places.sinks.items outputs
   pub are_emptied : All (IsEmptied known.holds_in) outputs
   pub ran : Ran known request t (sinks_of places) inputs outputs input read out written ending b lost
 
@@ -204,7 +210,7 @@ end_status ending lost stored is_told over =
 -- no trace is stored.
 pub data IsConcluded {S : Type 0} (may_give : S → Loads) (request : StreamRequest) (t : Tables) (ending : Ending)
     (b : Book) (lost : List Lost) (shelf kept : S) (status : ℕ) : Type 0 where
-  told : (over : Over) → IsOver (limits_of request) ending b over → (stored : Result (Unit {0}) Refusal) →
+  told : (over : Over) → IsOver (limits_of request) request.stats ending b over → (stored : Result (Unit {0}) Refusal) →
       IsTraceKept may_give request.trace t over shelf kept stored → (is_told : Bool) →
       status ≡ end_status ending lost stored is_told over →
       IsConcluded may_give request t ending b lost shelf kept status
@@ -213,10 +219,12 @@ pub data IsConcluded {S : Type 0} (may_give : S → Loads) (request : StreamRequ
 
 -- ---- the whole
 
--- each source has the input that is asked for, and each sink the output
+-- each source has the input that is asked for, and each sink the output, and their items are written so
 pub record AreAskedFor (request : StreamRequest) (d : Document) (places : Places) : Type 0 where
-  pub sources : ArePlaces Sources d (map name_in request.sources) (map file_in request.sources) places.sources.items
-  pub sinks : ArePlaces Sinks d (map name_in request.sinks) (map file_in request.sinks) places.sinks.items
+  pub sources : ArePlaces Sources d (map name_in request.sources) (map file_in request.sources) request.formats
+      places.sources.items
+  pub sinks : ArePlaces Sinks d (map name_in request.sinks) (map file_in request.sinks) request.formats
+      places.sinks.items
 
 -- A stream of this network. Given are the shelf, standard input and standard output, each as it was and as it is
 -- afterwards.

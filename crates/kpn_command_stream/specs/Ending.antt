@@ -13,6 +13,7 @@ use Rattle.kpn_stream.specs.declared.ending.Ending.{Ending}
 use Rattle.kpn_stream.specs.declared.ending.Ending.TheVariants as ending
 use Rattle.kpn_command_stream.specs.declared.ending.Over.{Over}
 use Rattle.kpn_command_stream.specs.Summary.{AreSinkEnds}
+use Rattle.kpn_command_stream.specs.Counters.{AreCountsIf}
 
 -- an event that is neither the close of a source nor a growth
 abbrev pub is_no_close : Event → Bool
@@ -31,10 +32,11 @@ IsOutcomeAt limits ending.Resting before told after =
     AreClosed before after × IsOutcome after.tables after.history after.commits limits told
 IsOutcomeAt limits other before told after = (told ≡ None) × (after ≡ before)
 
--- what is told of a stream: of its sinks before sources are closed that nobody reads, and the rest afterwards. Its
--- rings are those of its history
-pub record IsOver (limits : Limits) (ending : Ending) (b : Book) (over : Over) : Type 0 where
+-- what is told of a stream: of its sinks, and of its channels if they are asked for, before sources are closed that
+-- nobody reads, and the rest afterwards. Its rings are those of its history
+pub record IsOver (limits : Limits) (stats : Bool) (ending : Ending) (b : Book) (over : Over) : Type 0 where
   pub sinks : AreSinkEnds b over.sinks.items
+  pub channels : AreCountsIf stats b over.channels.items
   pub after : Book
   pub outcome : IsOutcomeAt limits ending b over.outcome after
   pub history : over.history.events ≡ after.history

@@ -1,10 +1,13 @@
 -- Which input each source of a network gets, and which output each sink.
-use Rattle.std.specs.Prelude.{◌≡◌, ℕ, ◌<◌, nat_eq, if◌then◌else◌, List, map, length, get_or, take, Option, Some, None, Ok, codes}
+use Rattle.std.specs.Prelude.{◌≡◌, ℕ, ◌<◌, nat_eq, if◌then◌else◌, List, map, length, get_or, take, All, Option, Some, None, Ok, codes}
 use Rattle.kpn_text.specs.Document.{Document}
 use Rattle.kpn_command_base.specs.declared.sources.Ends.{Ends}
 use Rattle.kpn_command_base.specs.declared.sources.NamedEnd.{NamedEnd}
 use Rattle.kpn_command_base.specs.Sources.{file_for, is_end, ends_named}
+use Rattle.kpn_text_names.specs.Names.{name_at}
 use Rattle.kpn_stream.specs.Ending.{end_numbers}
+use Rattle.kpn_stream_devices.specs.Formats.{format_name}
+use Rattle.kpn_command_stream.specs.Formats.{format_word}
 use Rattle.kpn_command_stream.specs.declared.places.Place.{Place}
 
 -- the name of standard input and of standard output
@@ -19,24 +22,33 @@ name_or_standard None count = if nat_eq count 1 then Some standard else None
 abbrev pub name_for : List NamedEnd → (number count : ℕ) → Option (List ℕ)
 name_for named number count = name_or_standard (file_for named number) count
 
--- The places of such ends in order of their channels, by the names in the options and the inputs or outputs there.
-pub record ArePlaces (ends : Ends) (d : Document) (names files : List (List ℕ)) (places : List Place) : Type 0 where
-  pub named : List NamedEnd
-  pub numbers : ends_named ends d names ≡ Ok (map (λ end. end.number) named)
-  pub given : map (λ end. end.file.now) named ≡ files
-  pub channels : map (λ place. place.channel) places ≡ end_numbers (is_end ends) d.tables
-  pub each : (number : ℕ) (place : Place) → number < length places
-      → name_for named number (length places) ≡ Some (get_or places number place).name.now
+-- the items of a place are written as the words behind `--format` say of its end
+abbrev pub HasFormat : Document → (words : List (List ℕ)) → Place → Type 0
+HasFormat d words place = format_word words (name_at d.names.channels place.channel) ≡ format_name place.format
+
+-- The places of such ends in order of their channels, by the names in the options, the inputs or outputs there, and the
+-- words behind `--format`.
+pub record ArePlaces (ends : Ends) (d : Document) (names files words : List (List ℕ)) (places : List Place) : Type 0
+  where
+    pub named : List NamedEnd
+    pub numbers : ends_named ends d names ≡ Ok (map (λ end. end.number) named)
+    pub given : map (λ end. end.file.now) named ≡ files
+    pub channels : map (λ place. place.channel) places ≡ end_numbers (is_end ends) d.tables
+    pub each : (number : ℕ) (place : Place) → number < length places
+        → name_for named number (length places) ≡ Some (get_or places number place).name.now
+    pub formats : All (HasFormat d words) places
 
 -- ---- scaffolding
 
 -- the places of the first ends, as many as this number says
-pub record ArePlaced (named : List NamedEnd) (ends : List ℕ) (number : ℕ) (places : List Place) : Type 0 where
+pub record ArePlaced (d : Document) (named : List NamedEnd) (words : List (List ℕ)) (ends : List ℕ) (number : ℕ)
+    (places : List Place) : Type 0 where
   pub channels : map (λ place. place.channel) places ≡ take number ends
   pub count : length places ≡ number
   pub each : (k : ℕ) (place : Place) → k < length places
       → name_for named k (length ends) ≡ Some (get_or places k place).name.now
+  pub formats : All (HasFormat d words) places
 
 -- the places of all ends
-abbrev pub AllPlaced : List NamedEnd → (ends : List ℕ) → List Place → Type 0
-AllPlaced named ends places = ArePlaced named ends (length ends) places
+abbrev pub AllPlaced : Document → List NamedEnd → (words : List (List ℕ)) → (ends : List ℕ) → List Place → Type 0
+AllPlaced d named words ends places = ArePlaced d named words ends (length ends) places

@@ -10,13 +10,14 @@ use Rattle.kpn_stream.specs.declared.faults.SinkFault.{SinkFault}
 use Rattle.kpn_stream.specs.declared.faults.SinkFault.TheVariants as output
 use Rattle.kpn_command_stream.specs.declared.running.Lost.{Lost}
 use Rattle.kpn_command_stream.specs.declared.refusal.StreamRefusal.{StreamRefusal}
-use Rattle.kpn_command_stream.specs.declared.refusal.StreamRefusal.TheVariants.{Common, Unnamed, SharedInput}
+use Rattle.kpn_command_stream.specs.declared.refusal.StreamRefusal.TheVariants.{Common, Unnamed, SharedInput, FormatWord}
 
--- 2 for an end that no option names, and for an input that two sources may not share
+-- 2 for an end that no option names, for an input that two sources may not share, and for a wrong word for a format
 abbrev pub refusal_status : StreamRefusal → ℕ
 refusal_status (Common refusal) = status_of refusal
 refusal_status (Unnamed ends name) = 2
 refusal_status SharedInput = 2
+refusal_status FormatWord = 2
 
 -- 6 for want of memory, else 1
 abbrev pub source_status : SourceFault → ℕ

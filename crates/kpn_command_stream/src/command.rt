@@ -6,6 +6,7 @@ ghost use Rattle.kpn_command_stream.specs.Places.{ArePlaces, standard};
 ghost use Rattle.kpn_command_stream.specs.Command.{AreWordsOf, IsStreamed, IsStreamedOf, NothingBegun, Streams, known_of, names_of};
 
 use crate::concluding::conclude;
+use crate::formats::{are_for_ends, are_formats};
 use crate::places::{Places, is_dash, places_of, share_an_input};
 use crate::refusal::StreamRefusal;
 use crate::running::run;
@@ -51,6 +52,9 @@ fn carry_out<S: Shelf + Ports, I: Look, O: Write, E: Write>(
     ensures refused { OnErr result
         (NothingBegun shelf.old shelf.new input.old input.new out.old out.new) }
 {
+    if !are_formats(&request.formats) {
+        return Err(StreamRefusal::FormatWord);
+    }
     let words = check_words(alloc, request, shelf)?;
     let document = load_document(alloc, shelf, request.file)?;
     stream_document(alloc, request, &words, &document, shelf, input, out, err)
@@ -75,7 +79,7 @@ fn stream_document<S: Shelf + Ports, I: Look, O: Write, E: Write>(
     ensures refused { OnErr result
         (NothingBegun shelf.old shelf.new input.old input.new out.old out.new) }
 {
-    let places = places_for(alloc, document, words, shelf)?;
+    let places = places_for(alloc, document, request, words, shelf)?;
     make_ready(shelf, request.trace)?;
     let mut lost = Vec::with_capacity(alloc, places.sinks.len())?;
     let streamed = run(
@@ -172,21 +176,27 @@ fn is_standard(word: &str) -> bool {
 fn places_for<'a, S: Ports>(
     alloc: Global,
     document: &Document,
+    request: &StreamRequest<'a>,
     words: &Words<'a>,
     shelf: &S,
 ) -> Result<Places<'a>, StreamRefusal>
     ensures sources { IfOk result (λ places. ArePlaces ends.Sources document.now
         (map (λ o. o.name.now) words.now.sources.items)
-        (map (λ o. o.file.now) words.now.sources.items) places.sources.items) }
+        (map (λ o. o.file.now) words.now.sources.items) request.now.formats
+        places.sources.items) }
     ensures sinks { IfOk result (λ places. ArePlaces ends.Sinks document.now
         (map (λ o. o.name.now) words.now.sinks.items)
-        (map (λ o. o.file.now) words.now.sinks.items) places.sinks.items) }
+        (map (λ o. o.file.now) words.now.sinks.items) request.now.formats places.sinks.items) }
 {
-    let sources = places_of(alloc, document, Ends::Sources, &words.sources)?;
+    let formats = &request.formats;
+    let sources = places_of(alloc, document, Ends::Sources, &words.sources, formats)?;
     if share_an_input(shelf, &sources) {
         return Err(StreamRefusal::SharedInput);
     }
-    let sinks = places_of(alloc, document, Ends::Sinks, &words.sinks)?;
+    let sinks = places_of(alloc, document, Ends::Sinks, &words.sinks, formats)?;
+    if !are_for_ends(formats, document) {
+        return Err(StreamRefusal::FormatWord);
+    }
     Ok(Places { sources, sinks })
 }
 

@@ -9,13 +9,14 @@ use crate::ending::{Over, over_of};
 use crate::places::{Places, place_of};
 use crate::refusal::{report_memory, report_sink, report_source};
 use crate::running::{Lost, limits_of};
+use crate::stats::tables_of;
 use crate::summary::{stream_status, summary_of};
 use kpn_command_base::{Refusal, StreamRequest, trace_of};
 use kpn_net::Network;
 use kpn_shelf::Shelf;
 use kpn_stream::{Ending, Streamed};
 use kpn_text::Document;
-use std::alloc::Global;
+use std::alloc::{AllocError, Global};
 use std::io::Write;
 
 /// Tells how the stream has ended, stores the trace, and returns the status.
@@ -33,7 +34,7 @@ pub(crate) fn conclude<S: Shelf, E: Write>(
         streamed.entry.ending streamed.entry.book lost.now shelf.old shelf.new result }
 {
     let ending = streamed.ending;
-    match over_of(alloc, streamed, &limits_of(request)) {
+    match over_of(alloc, streamed, &limits_of(request), request.stats) {
         Ok(over) => conclude_over(
             alloc, request, document, ending, lost, &over, places, shelf, err,
         ),
@@ -58,7 +59,7 @@ fn conclude_over<S: Shelf, E: Write>(
         × IsTraceKept S.may_give request.now.trace t over.now shelf.old shelf.new stored
         × (result ≡ end_status ending lost.now stored is_told over.now) }
 {
-    let is_told = tell(alloc, request.quiet, document, over, err);
+    let is_told = tell(alloc, request, document, over, err);
     let failed = report_failed(ending, document, lost, places, err);
     let stored = store_trace(alloc, request, document.network(), over, shelf);
     let unstored = report_trace(&stored, err);
@@ -129,25 +130,33 @@ fn store_under<S: Shelf>(
     }
 }
 
-/// Tells how the stream has ended, if it is not to be quiet. If it can't, memory ran out.
+/// Tells how the stream has ended, if it is not to be quiet, and the tables, if they are asked for. If it can't, memory
+/// ran out.
 fn tell<E: Write>(
     alloc: Global,
-    quiet: bool,
+    request: &StreamRequest<'_>,
     document: &Document,
     over: &Over,
     err: &mut E,
 ) -> bool {
-    if quiet {
-        return true;
-    }
-    match summary_of(
-        alloc,
-        document,
-        &over.sinks,
-        over.states.as_slice(),
-        over.rings.as_slice(),
-        over.outcome,
-    ) {
+    let states = over.states.as_slice();
+    let rings = over.rings.as_slice();
+    let is_told = request.quiet
+        || write_text(
+            summary_of(alloc, document, &over.sinks, states, rings, over.outcome),
+            err,
+        );
+    let has_tables = !request.stats
+        || write_text(
+            tables_of(alloc, document, &over.channels, states, request.quiet),
+            err,
+        );
+    is_told && has_tables
+}
+
+/// Writes a text, if there was memory for it.
+fn write_text<E: Write>(text: Result<String, AllocError>, err: &mut E) -> bool {
+    match text {
         Ok(text) => {
             let _ = err.write_all(text.as_bytes());
             true
@@ -235,7 +244,7 @@ fn report_trace<E: Write>(stored: &Result<(), Refusal>, err: &mut E) -> Option<u
     }
 }
 
-/// Reports that there was no memory for the summary.
+/// Reports that there was no memory for the summary or the tables.
 fn report_summary<E: Write>(is_told: bool, err: &mut E) -> Option<u8>
     ensures { result ≡ summary_fault is_told }
 {

@@ -1,12 +1,12 @@
 //! The devices of a stream, opened.
 ghost use Rattle.std.specs.Prelude.{◌≡◌, [], All, IfOk, IfSome, OnOk};
 ghost use Rattle.std.specs.List.{AllZip};
-ghost use Rattle.kpn_command_stream.specs.Command.{IsEmptied, IsInputFor, IsInputOf, IsOutputFor, IsOutputOf, KeepsName};
+ghost use Rattle.kpn_command_stream.specs.Command.{IsEmptied, IsInputFor, IsInputOf, IsOutputFor, IsOutputOf, KeepsName, StayOutputs};
 
 use crate::places::{Place, Places, is_dash};
 use kpn_command_base::Refusal;
 use kpn_shelf::Ports;
-use kpn_stream_devices::{Input, Output, Window};
+use kpn_stream_devices::{Input, Output, OutputFormat, Window};
 use kpn_text_items::{ItemFault, WriteFault};
 use std::alloc::Global;
 
@@ -40,6 +40,7 @@ fn input_for<S: Ports>(
     match open_input(shelf, place.name) {
         Ok(file) => Ok(Input {
             channel: place.channel,
+            format: place.format,
             file,
             window: Window::new(alloc),
             failed: None,
@@ -59,20 +60,21 @@ fn open_input<S: Ports>(shelf: &S, name: &str) -> Result<Option<S::Input>, ItemF
     Ok(Some(shelf.open_input(name)?))
 }
 
-/// An output for each sink, which is to take so many items at most. Files keep what they hold until all are open.
+/// An output for each sink, which is to take so many items at most, and clips or does not. Files keep what they hold until all are open.
 pub(crate) fn open_outputs<S: Ports>(
     alloc: Global,
     shelf: &S,
     places: &Places<'_>,
     wanted: Option<u64>,
+    clips: bool,
 ) -> Result<Vec<Output<S::Output>>, Refusal>
     ensures { IfOk result (λ outputs.
-        AllZip (IsOutputFor S.goes_to) places.now.sinks.items outputs.items) }
+        AllZip (IsOutputFor S.goes_to clips) places.now.sinks.items outputs.items) }
 {
     let mut outputs = Vec::new(alloc);
     for i in 0..places.sinks.len() {
         let place = places.sinks[i];
-        let output = output_for(alloc, shelf, place, wanted)?;
+        let output = output_for(alloc, shelf, place, wanted, clips)?;
         outputs.push(output)?;
     }
     Ok(outputs)
@@ -83,12 +85,17 @@ fn output_for<S: Ports>(
     shelf: &S,
     place: Place<'_>,
     wanted: Option<u64>,
+    clips: bool,
 ) -> Result<Output<S::Output>, Refusal>
-    ensures { IfOk result (IsOutputFor S.goes_to place.entry) }
+    ensures { IfOk result (IsOutputFor S.goes_to clips place.entry) }
 {
     match open_output(shelf, place.name) {
         Ok(file) => Ok(Output {
             channel: place.channel,
+            format: OutputFormat {
+                items: place.format,
+                clips,
+            },
             file,
             bytes: Vec::new(alloc),
             wanted,
@@ -113,9 +120,8 @@ pub(crate) fn empty_outputs<S: Ports>(
     places: &Places<'_>,
     outputs: &mut Vec<Output<S::Output>>,
 ) -> Result<(), Refusal>
-    requires { AllZip (IsOutputFor S.goes_to) places.now.sinks.items outputs.old.items }
     ensures outputs { OnOk result
-        (AllZip (IsOutputFor S.goes_to) places.now.sinks.items outputs.new.items) }
+        (StayOutputs S.goes_to places.now.sinks.items outputs.old.items outputs.new.items) }
     ensures emptied { OnOk result (All (IsEmptied S.Output.contents) outputs.new.items) }
 {
     for i in 0..outputs.len() {
@@ -126,6 +132,7 @@ pub(crate) fn empty_outputs<S: Ports>(
 
 fn empty_output<S: Ports>(shelf: &S, output: &mut Output<S::Output>) -> Result<(), Refusal>
     ensures channel { output.new.channel ≡ output.old.channel }
+    ensures format { output.new.format ≡ output.old.format }
     ensures bytes { output.new.bytes ≡ output.old.bytes }
     ensures name { KeepsName S.goes_to output.old.file output.new.file }
     ensures emptied { OnOk result (IsEmptied S.Output.contents output.new) }

@@ -1,7 +1,9 @@
-//! What a stream has come to: its sinks, its outcome, the states of its processes, its rings, and its history.
+//! What a stream has come to: its sinks, its channels if they are asked for, its outcome, the states of its processes,
+//! its rings, and its history.
 ghost use Rattle.std.specs.Prelude.{◌≡◌, IfOk};
 ghost use Rattle.kpn_command_stream.specs.Ending.{AreClosed, IsOutcomeAt, IsOver};
 
+use crate::counters::{ChannelCounts, counts_if};
 use crate::summary::{SinkEnd, sink_ends};
 use kpn_book::outcome_of;
 use kpn_lang::Sequence;
@@ -15,6 +17,7 @@ use std::alloc::{AllocError, Global};
 #[derive(Drop)]
 pub(crate) struct Over {
     pub(crate) sinks: Vec<SinkEnd>,
+    pub(crate) channels: Vec<ChannelCounts>,
     pub(crate) outcome: Option<Outcome>,
     pub(crate) states: Sequence<State>,
     pub(crate) rings: Sequence<Sequence<usize>>,
@@ -27,11 +30,13 @@ pub(crate) fn over_of(
     alloc: Global,
     streamed: Streamed<'_>,
     limits: &Limits,
+    stats: bool,
 ) -> Result<Over, AllocError>
-    ensures { IfOk result (IsOver limits.now streamed.entry.ending streamed.entry.book) }
+    ensures { IfOk result (IsOver limits.now stats streamed.entry.ending streamed.entry.book) }
 {
     let Streamed { ending, mut book } = streamed;
     let sinks = sink_ends(alloc, &book)?;
+    let channels = counts_if(alloc, stats, &book)?;
     let outcome = outcome_at(alloc, ending, &mut book, limits)?;
     book.known();
     let network = book.network();
@@ -39,6 +44,7 @@ pub(crate) fn over_of(
     let rings = rings_among(alloc, network, states.as_slice())?;
     Ok(Over {
         sinks,
+        channels,
         outcome,
         states,
         rings,

@@ -3,11 +3,15 @@
 
 mod command;
 mod concluding;
+mod counters;
 mod devices;
 mod ending;
+mod formats;
 mod places;
 mod refusal;
 mod running;
+mod stats;
 mod summary;
 
 pub use command::stream_command;
+pub use formats::has_lines;

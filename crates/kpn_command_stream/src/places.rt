@@ -4,10 +4,12 @@ ghost use Rattle.kpn_command_base.specs.Sources.{is_end};
 ghost use Rattle.kpn_stream.specs.Ending.{end_numbers};
 ghost use Rattle.kpn_command_stream.specs.Places.{AllPlaced, ArePlaces, name_for, standard};
 
+use crate::formats::format_for;
 use crate::refusal::StreamRefusal;
 use kpn_command_base::{Ends, FileOption, NamedEnd, ends_of, file_for};
 use kpn_shelf::Ports;
 use kpn_stream::end_numbers_of;
+use kpn_stream_devices::ItemFormat;
 use kpn_text::Document;
 use std::alloc::Global;
 
@@ -21,11 +23,12 @@ pub(crate) fn is_dash(name: &str) -> bool
     name == STANDARD
 }
 
-/// An end of a network by the number of its channel, and the name of its input or output.
+/// An end of a network by the number of its channel, the name of its input or output, and how its items are written.
 #[derive(Clone, Copy)]
 pub(crate) struct Place<'a> {
     pub(crate) channel: usize,
     pub(crate) name: &'a str,
+    pub(crate) format: ItemFormat,
 }
 
 /// The places of all sources and of all sinks.
@@ -36,18 +39,21 @@ pub(crate) struct Places<'a> {
 }
 
 /// The place of each of these ends, in order of their channels. The only one may be left out by the options, and is
-/// standard input or output then. If another is left out, the refusal names it.
+/// standard input or output then. If another is left out, the refusal names it. The words behind `--format` give the
+/// formats.
 pub(crate) fn places_of<'a>(
     alloc: Global,
     document: &Document,
     ends: Ends,
     options: &[FileOption<'a>],
+    formats: &[&'a str],
 ) -> Result<Vec<Place<'a>>, StreamRefusal>
     ensures { IfOk result (λ places. ArePlaces ends document.now
-        (map (λ o. o.name.now) options.now) (map (λ o. o.file.now) options.now) places.items) }
+        (map (λ o. o.name.now) options.now) (map (λ o. o.file.now) options.now)
+        (map (λ word. word.now) formats.now) places.items) }
 {
     let named = ends_of(alloc, document, ends, options)?;
-    places_by(alloc, document, ends, &named)
+    places_by(alloc, document, ends, &named, formats)
 }
 
 /// The places by the names that options give.
@@ -56,14 +62,16 @@ fn places_by<'a>(
     document: &Document,
     ends: Ends,
     named: &[NamedEnd<'a>],
+    formats: &[&'a str],
 ) -> Result<Vec<Place<'a>>, StreamRefusal>
-    ensures { IfOk result (λ places.
-        AllPlaced named.now (end_numbers (is_end ends) document.now.tables) places.items) }
+    ensures { IfOk result (λ places. AllPlaced document.now named.now
+        (map (λ word. word.now) formats.now)
+        (end_numbers (is_end ends) document.now.tables) places.items) }
 {
     let numbers = end_numbers_of(alloc, document.network())?;
     match ends {
-        Ends::Sources => place_each(alloc, document, ends, named, &numbers.sources),
-        Ends::Sinks => place_each(alloc, document, ends, named, &numbers.sinks),
+        Ends::Sources => place_each(alloc, document, ends, named, formats, &numbers.sources),
+        Ends::Sinks => place_each(alloc, document, ends, named, formats, &numbers.sinks),
     }
 }
 
@@ -73,9 +81,11 @@ fn place_each<'a>(
     document: &Document,
     ends: Ends,
     named: &[NamedEnd<'a>],
+    formats: &[&'a str],
     channels: &[usize],
 ) -> Result<Vec<Place<'a>>, StreamRefusal>
-    ensures { IfOk result (λ places. AllPlaced named.now channels.now places.items) }
+    ensures { IfOk result (λ places. AllPlaced document.now named.now
+        (map (λ word. word.now) formats.now) channels.now places.items) }
 {
     let mut places = Vec::new(alloc);
     for number in 0..channels.len() {
@@ -83,7 +93,14 @@ fn place_each<'a>(
         let Some(name) = name_for(named, number, channels.len()) else {
             return Err(unnamed(alloc, ends, document.channel_name(channel)));
         };
-        places.push(Place { channel, name })?;
+        let Some(format) = format_for(formats, document.channel_name(channel)) else {
+            return Err(StreamRefusal::FormatWord);
+        };
+        places.push(Place {
+            channel,
+            name,
+            format,
+        })?;
     }
     Ok(places)
 }
@@ -117,6 +134,7 @@ pub(crate) fn place_of<'a>(places: &[Place<'a>], channel: usize) -> Place<'a> {
     Place {
         channel,
         name: STANDARD,
+        format: ItemFormat::Lines,
     }
 }
 

@@ -11,6 +11,9 @@ use std::alloc::{AllocError, AllocFailed};
 use std::io;
 use std::io::Write;
 
+/// The formats of `--format`.
+const FORMATS: &str = "lines, u8, s8, s16le, s24le, s32le, s64le or f32le";
+
 /// Why a stream is not begun.
 #[derive(Drop)]
 pub(crate) enum StreamRefusal {
@@ -20,6 +23,8 @@ pub(crate) enum StreamRefusal {
     Unnamed(Ends, String),
     /// Two sources have one input that is no plain file: the one would read what is meant for the other.
     SharedInput,
+    /// A word behind `--format` names no format or no end, or says what an earlier one has said.
+    FormatWord,
 }
 
 impl From<Refusal> for StreamRefusal {
@@ -74,6 +79,10 @@ impl StreamRefusal {
                 let _ = tell_shared(err);
                 2
             }
+            StreamRefusal::FormatWord => {
+                let _ = tell_formats(err);
+                2
+            }
         }
     }
 }
@@ -89,6 +98,13 @@ fn tell_shared<E: Write>(err: &mut E) -> io::Result<()> {
     writeln!(
         err,
         "kpn: usage: --source NAME=IN, a plain file if two sources have it"
+    )
+}
+
+fn tell_formats<E: Write>(err: &mut E) -> io::Result<()> {
+    writeln!(
+        err,
+        "kpn: usage: --format FORMAT and --format NAME=FORMAT, once for each source and sink: {FORMATS}"
     )
 }
 

@@ -64,7 +64,7 @@ pub(crate) fn run<'n, S: Shelf + Ports, I: Look, O: Write>(
     ensures output { OnErr result (out.new ≡ out.old) }
 {
     let mut inputs = open_inputs(alloc, shelf, places)?;
-    let mut outputs = open_outputs(alloc, shelf, places, request.take)?;
+    let mut outputs = open_outputs(alloc, shelf, places, request.take, request.clips)?;
     empty_outputs(shelf, places, &mut outputs)?;
     run_between(
         alloc,
@@ -101,15 +101,12 @@ fn run_between<'n, I: Look, F: Look + Drop, O: Write, G: Write + Drop>(
     ensures input { OnErr result (input.new ≡ input.old) }
     ensures output { OnErr result (out.new ≡ out.old) }
 {
-    let format = request.format;
     let mut sources = Inputs {
         standard: input,
-        format,
         each: inputs,
     };
     let mut sinks = Outputs {
         standard: out,
-        format,
         each: outputs,
     };
     let limits = limits_of(request);

@@ -1,4 +1,4 @@
--- The lines of one input are counted by the calls for its source.
+-- The lines or samples of one input are counted by the calls for its source.
 use Rattle.std.proofs.Common.{◌≡◌, ◌≢◌, ℕ, suc, ◌+◌, true, false, ℤ, List, [], ◌∷◌, ◌++◌, length, length-append, get_or, Option, Some, None, Result, Ok, Err, refl, sym, ap, ◌∙◌, subst, inl, inr, arith}
 use Rattle.std.proofs.lemmas.Bool.{cases_eq, false≢true}
 use Rattle.kpn_net.specs.Tables.{Tables, channel_at, is_source}
@@ -12,13 +12,12 @@ use Rattle.kpn_run_history.proofs.Journals.{no_source, none_elsewhere}
 use Rattle.kpn_run_history.proofs.Legality.{Legal-before}
 use Rattle.kpn_run_history.proofs.OneMore.{item_here}
 use Rattle.kpn_run_history.proofs.Ownership.{IsOwn-last}
-use Rattle.kpn_command_base.specs.declared.stream_request.ItemFormat.TheVariants.{Lines}
 use Rattle.kpn_stream.specs.declared.faults.SourceFault.{SourceFault}
 use Rattle.kpn_stream.specs.declared.faults.SourceFault.TheVariants.{Read, BadItem, CutSample, NoMemory}
 use Rattle.kpn_stream.specs.Devices.{is_of_source, Fed, at_first, by_others, by_look, by_item, by_end, by_fault, by_no_memory}
 use Rattle.kpn_stream_devices.specs.declared.inputs.Input.{Input}
 use Rattle.kpn_stream_devices.specs.declared.inputs.Inputs.{Inputs}
-use Rattle.kpn_stream_devices.specs.Window.{Window, Counts, fresh, line_after, lines_used}
+use Rattle.kpn_stream_devices.specs.Window.{Window, Counts, fresh, one_after, used_after}
 use Rattle.kpn_stream_devices.specs.Inputs.{InputsGive, InputsLook, by_input, by_none, at_input, at_none, input_of}
 use Rattle.kpn_stream_devices.proofs.Firsts.{IsFirst, first_found, first_stays, found_mine, found_other, found_none}
 use Rattle.kpn_stream_devices.proofs.Firsts.{found_within, was_here, stays_here}
@@ -32,84 +31,76 @@ module _ {I F : Type 0} (left : I → Option (List ℕ)) (left_in : F → Option
   IsMine inputs = IsFirst channel_of c i inputs
 
   module _ (d : Input F) where
-    -- how many lines of the input were used
-    abbrev lines_of : Inputs I F → ℕ
-    lines_of x = (get_or x.each.now.items i d).window.lines
+    -- how many of the input were used
+    abbrev used_of : Inputs I F → ℕ
+    used_of x = (get_or x.each.now.items i d).window.used
 
     -- a call or a look leaves it the input of its source
-    abbrev KeepsMine : (before after : Inputs I F) → Type 0
-    KeepsMine before after = IsMine after.each.now.items × (after.format ≡ before.format)
-
     gives_keeps : (before : Inputs I F) (s : ℕ) (answer : Result (Option ℤ) SourceFault) (after : Inputs I F)
-        → IsMine before.each.now.items → InputsGive left left_in before s answer after → KeepsMine before after
-    gives_keeps before s answer after m (by_input j x y found at given each format ghost lent) = (
-      subst IsMine (sym each)
-          (first_stays channel_of c i before.each.now.items j x y
-          (found_within channel_of before.each.now.items s j x found) at given.channel m),
-      format,
-    )
+        → IsMine before.each.now.items → InputsGive left left_in before s answer after → IsMine after.each.now.items
+    gives_keeps before s answer after m (by_input j x y found at given each ghost lent) =
+        subst IsMine (sym each)
+        (first_stays channel_of c i before.each.now.items j x y
+        (found_within channel_of before.each.now.items s j x found) at given.channel m)
     gives_keeps before s answer after m (by_none found is same) =
-        subst (λ (x : Inputs I F). KeepsMine before x) (sym same) (m, refl)
+        subst (λ (x : Inputs I F). IsMine x.each.now.items) (sym same) m
 
     looks_keeps : (before : Inputs I F) (s : ℕ) (after : Inputs I F) → IsMine before.each.now.items
-        → InputsLook left left_in before s after → KeepsMine before after
-    looks_keeps before s after m (at_input j x y found at looks each format ghost lent) = (
-      subst IsMine (sym each)
-          (first_stays channel_of c i before.each.now.items j x y
-          (found_within channel_of before.each.now.items s j x found) at looks.channel m),
-      format,
-    )
+        → InputsLook left left_in before s after → IsMine after.each.now.items
+    looks_keeps before s after m (at_input j x y found at looks each ghost lent) =
+        subst IsMine (sym each)
+        (first_stays channel_of c i before.each.now.items j x y
+        (found_within channel_of before.each.now.items s j x found) at looks.channel m)
     looks_keeps before s after m (at_none found same) =
-        subst (λ (x : Inputs I F). KeepsMine before x) (sym same) (m, refl)
+        subst (λ (x : Inputs I F). IsMine x.each.now.items) (sym same) m
 
     -- a call for source c counts
     gives_mine : (before : Inputs I F) (answer : Result (Option ℤ) SourceFault) (after : Inputs I F)
         → IsMine before.each.now.items → InputsGive left left_in before c answer after
-        → Counts before.format answer (lines_of before) (lines_of after)
-    gives_mine before answer after m (by_input j x y found at given each format ghost lent) =
+        → Counts answer (used_of before) (used_of after)
+    gives_mine before answer after m (by_input j x y found at given each ghost lent) =
         let xs = before.each.now.items in
         let here = was_here xs after.each.now.items i j x y d (found_mine channel_of c i xs j x m found)
         (found_within channel_of xs c j x found) at each in
-        subst (λ (z : Input F). Counts before.format answer z.window.lines (lines_of after)) (sym here.0)
-        (subst (λ (z : Input F). Counts before.format answer x.window.lines z.window.lines) (sym here.1) given.counted)
+        subst (λ (z : Input F). Counts answer z.window.used (used_of after)) (sym here.0)
+        (subst (λ (z : Input F). Counts answer x.window.used z.window.used) (sym here.1) given.counted)
     gives_mine before answer after m (by_none found is same) =
         absurd (found_none channel_of c i before.each.now.items d m found)
 
     -- one for another source counts nothing here
     gives_other : (before : Inputs I F) (s : ℕ) (answer : Result (Option ℤ) SourceFault) (after : Inputs I F)
         → IsMine before.each.now.items → s ≢ c → InputsGive left left_in before s answer after
-        → lines_of after ≡ lines_of before
-    gives_other before s answer after m other (by_input j x y found at given each format ghost lent) =
-        ap (λ (z : Input F). z.window.lines)
+        → used_of after ≡ used_of before
+    gives_other before s answer after m other (by_input j x y found at given each ghost lent) =
+        ap (λ (z : Input F). z.window.used)
         (stays_here before.each.now.items after.each.now.items i j y d
         (found_other channel_of c i before.each.now.items s j x m other found) each)
-    gives_other before s answer after m other (by_none found is same) = ap lines_of same
+    gives_other before s answer after m other (by_none found is same) = ap used_of same
 
     -- and no look counts
     looks_any : (before : Inputs I F) (s : ℕ) (after : Inputs I F) → IsMine before.each.now.items
-        → InputsLook left left_in before s after → lines_of after ≡ lines_of before
-    looks_any before s after m (at_none found same) = ap lines_of same
-    looks_any before s after m (at_input j x y found at looks each format ghost lent) =
+        → InputsLook left left_in before s after → used_of after ≡ used_of before
+    looks_any before s after m (at_none found same) = ap used_of same
+    looks_any before s after m (at_input j x y found at looks each ghost lent) =
         let xs = before.each.now.items in
         elim (cases_eq s c) [
           | inl same ↦
               let there = subst (λ (n : ℕ). input_of xs n ≡ Some j) same found in
               let here = was_here xs after.each.now.items i j x y d (found_mine channel_of c i xs j x m there)
               (found_within channel_of xs s j x found) at each in
-              ap (λ (z : Input F). z.window.lines) here.1 ∙ looks.lines
-              ∙ sym (ap (λ (z : Input F). z.window.lines) here.0)
+              ap (λ (z : Input F). z.window.used) here.1 ∙ looks.used
+              ∙ sym (ap (λ (z : Input F). z.window.used) here.0)
           | inr other ↦
-              ap (λ (z : Input F). z.window.lines)
+              ap (λ (z : Input F). z.window.used)
               (stays_here xs after.each.now.items i j y d (found_other channel_of c i xs s j x m other found) each)
         ]
 
     module _ (t : Tables) (network : IsNetwork t) (first : Inputs I F) (source : is_source (channel_at t c) ≡ true)
-        (is_first : IsMine first.each.now.items) (lines : first.format ≡ Lines) (new : lines_of first ≡ 0) where
-      -- as many lines were used as items were fed
+        (is_first : IsMine first.each.now.items) (new : used_of first ≡ 0) where
+      -- as many were used as items were fed
       abbrev HasCounted : List Event → Inputs I F → Type 0
       HasCounted H now =
-          IsMine now.each.now.items × (now.format ≡ Lines)
-          × (lines_of now ≡ lines_used (length (written_on H c)))
+          IsMine now.each.now.items × (used_of now ≡ used_after (length (written_on H c)))
 
       -- an event of others feeds nothing to source c
       unfed : (B : List Event) (e : Event) → Legal t (B ++ e ∷ []) → is_of_source e ≡ false
@@ -125,46 +116,43 @@ module _ {I F : Type 0} (left : I → Option (List ℕ)) (left_in : F → Option
 
       -- the count stays, and so do the items
       counted_same : (later H : List Event) (before now : Inputs I F) → written_on later c ≡ written_on H c
-          → lines_of now ≡ lines_of before → KeepsMine before now → HasCounted H before → HasCounted later now
+          → used_of now ≡ used_of before → IsMine now.each.now.items → HasCounted H before → HasCounted later now
       counted_same later H before now same stays kept counted = (
-        kept.0,
-        kept.1 ∙ counted.1,
-        stays ∙ counted.2 ∙ ap (λ (xs : List ℤ). lines_used (length xs)) (sym same),
+        kept,
+        stays ∙ counted.1 ∙ ap (λ (xs : List ℤ). used_after (length xs)) (sym same),
       )
 
       -- an answer that is no item counts nothing
       counts_none : (H : List Event) (s : ℕ) (before now : Inputs I F) → HasCounted H before
-          → InputsGive left left_in before s (Ok None) now → lines_of now ≡ lines_of before
+          → InputsGive left left_in before s (Ok None) now → used_of now ≡ used_of before
       counts_none H s before now counted gave =
           elim (cases_eq s c) [
             | inl same ↦
-                subst (λ f. Counts f (Ok None) (lines_of before) (lines_of now)) counted.1
-                (gives_mine before (Ok None) now counted.0
-                (subst (λ (n : ℕ). InputsGive left left_in before n (Ok None) now) same gave))
+                gives_mine before (Ok None) now counted.0
+                (subst (λ (n : ℕ). InputsGive left left_in before n (Ok None) now) same gave)
             | inr other ↦ gives_other before s (Ok None) now counted.0 other gave
           ]
 
-      -- an item is a line more
+      -- an item is one more
       counts_one : (H : List Event) (v : ℤ) (before now : Inputs I F) → HasCounted H before
           → InputsGive left left_in before c (Ok (Some v)) now → HasCounted (H ++ event.Feed c v ∷ []) now
       counts_one H v before now counted gave =
           let kept = gives_keeps before c (Ok (Some v)) now counted.0 gave in
-          let one : lines_of now ≡ line_after (lines_of before) =
-          subst (λ f. Counts f (Ok (Some v)) (lines_of before) (lines_of now)) counted.1
-          (gives_mine before (Ok (Some v)) now counted.0 gave) in
+          let one : used_of now ≡ one_after (used_of before) =
+          gives_mine before (Ok (Some v)) now counted.0 gave in
           let items : written_on (H ++ event.Feed c v ∷ []) c ≡ written_on H c ++ v ∷ [] =
           written_on-push H (event.Feed c v) c ∙ ap (λ xs. written_on H c ++ xs) (item_here c v) in
           let count : length (written_on (H ++ event.Feed c v ∷ []) c) ≡ suc (length (written_on H c)) =
           omega (arith, ap length items, length-append (written_on H c) (v ∷ [])) in
-          (kept.0, kept.1 ∙ counted.1, one ∙ ap line_after counted.2 ∙ sym (ap lines_used count))
+          (kept, one ∙ ap one_after counted.1 ∙ sym (ap used_after count))
 
       counted_so_far : {H : List Event} {failed : Option (ℕ × SourceFault)} {now : Inputs I F}
           → Fed t (InputsGive left left_in) (InputsLook left left_in) first H failed now → Legal t H → failed ≡ None
           → HasCounted H now
-      counted_so_far at_first legal none = (is_first, lines, new)
+      counted_so_far at_first legal none = (is_first, new)
       counted_so_far (by_others H e failed now fed other) legal none =
           let counted = counted_so_far fed (Legal-before t H e legal) none in
-          counted_same (H ++ e ∷ []) H now now (unfed H e legal other) refl (counted.0, refl) counted
+          counted_same (H ++ e ∷ []) H now now (unfed H e legal other) refl counted.0 counted
       counted_so_far (by_look H s before now fed looked) legal none =
           let counted = counted_so_far fed legal refl in
           counted_same H H before now refl (looks_any before s now counted.0 looked)
@@ -189,7 +177,7 @@ module _ {I F : Type 0} (left : I → Option (List ℕ)) (left_in : F → Option
       counted_so_far (by_fault H s fault before now fed may gave) legal none = cc
       counted_so_far (by_no_memory H s given before now fed may gave) legal none = cc
 
-      -- which source has told which line as bad
+      -- which source has told which line or sample as bad
       abbrev told : Option (ℕ × SourceFault) → Option (ℕ × ℕ)
       told (Some (s, BadItem line)) = Some (s, line)
       told failed = None
@@ -211,11 +199,11 @@ module _ {I F : Type 0} (left : I → Option (List ℕ)) (left_in : F → Option
 
       bad_so_far : {H : List Event} {failed : Option (ℕ × SourceFault)} {now : Inputs I F} (line : ℕ)
           → Fed t (InputsGive left left_in) (InputsLook left left_in) first H failed now → Legal t H
-          → told failed ≡ Some (c, line) → line ≡ lines_used (length (written_on H c) + 1)
+          → told failed ≡ Some (c, line) → line ≡ used_after (length (written_on H c) + 1)
       bad_so_far line at_first legal is = cc
       bad_so_far line (by_others H e failed now fed other) legal is =
           bad_so_far line fed (Legal-before t H e legal) is
-          ∙ ap (λ (xs : List ℤ). lines_used (length xs + 1)) (sym (unfed H e legal other))
+          ∙ ap (λ (xs : List ℤ). used_after (length xs + 1)) (sym (unfed H e legal other))
       bad_so_far line (by_look H s before now fed looked) legal is = cc
       bad_so_far line (by_item H s v before now fed may gave) legal is = cc
       bad_so_far line (by_end H s before now fed may gave) legal is = cc
@@ -225,19 +213,18 @@ module _ {I F : Type 0} (left : I → Option (List ℕ)) (left_in : F → Option
           let mine : InputsGive left left_in before c (Err (BadItem line)) now =
           subst (λ (n : ℕ). InputsGive left left_in before n (Err (BadItem line)) now) bad.0
           (subst (λ f. InputsGive left left_in before s (Err f) now) bad.1 gave) in
-          let number : line ≡ line_after (lines_of before) =
-          subst (λ f. Counts f (Err (BadItem line)) (lines_of before) (lines_of now)) counted.1
-          (gives_mine before (Err (BadItem line)) now counted.0 mine) in
+          let number : line ≡ one_after (used_of before) =
+          gives_mine before (Err (BadItem line)) now counted.0 mine in
           let next : suc (length (written_on H c)) ≡ length (written_on H c) + 1 = omega arith in
-          number ∙ ap line_after counted.2 ∙ ap lines_used next
+          number ∙ ap one_after counted.1 ∙ ap used_after next
       bad_so_far line (by_no_memory H s given before now fed may gave) legal is = cc
 
 pub bad_line : {I F : Type 0} (left : I → Option (List ℕ)) (left_in : F → Option (List ℕ)) (t : Tables)
     (network : IsNetwork t) (c i : ℕ) (first : Inputs I F) (d : Input F) → is_source (channel_at t c) ≡ true
-    → first.format ≡ Lines → input_of first.each.now.items c ≡ Some i
+    → input_of first.each.now.items c ≡ Some i
     → (get_or first.each.now.items i d).window ≡ fresh → {H : List Event} → {line : ℕ} → {now : Inputs I F}
     → Fed t (InputsGive left left_in) (InputsLook left left_in) first H (Some (c, BadItem line)) now → Legal t H
-    → line ≡ lines_used (length (written_on H c) + 1)
-bad_line left left_in t network c i first d source lines found new {line = line} fed legal =
-    bad_so_far left left_in c i d t network first source (first_found channel_of c i first.each.now.items found) lines
-    (ap (λ (w : Window). w.lines) new) line fed legal refl
+    → line ≡ used_after (length (written_on H c) + 1)
+bad_line left left_in t network c i first d source found new {line = line} fed legal =
+    bad_so_far left left_in c i d t network first source (first_found channel_of c i first.each.now.items found)
+    (ap (λ (w : Window). w.used) new) line fed legal refl

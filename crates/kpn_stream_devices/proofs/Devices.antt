@@ -4,46 +4,28 @@ use Rattle.std.specs.Prelude.{ℤ}
 use Rattle.std.specs.Io.KnownBytes.{Keeps, Consumes, Appends, prepend_known, append_known}
 use Rattle.std.proofs.KnownBytes.{Keeps-trans, Keeps-refl, Appends-kept, append_known-grown}
 use Rattle.std.proofs.lemmas.Bool.{true≢false}
-use Rattle.kpn_command_base.specs.declared.stream_request.ItemFormat.{ItemFormat}
-use Rattle.kpn_command_base.specs.declared.stream_request.ItemFormat.TheVariants.{Lines, S16, S32, S64}
+use Rattle.kpn_stream_devices.specs.declared.formats.ItemFormat.{ItemFormat}
+use Rattle.kpn_stream_devices.specs.declared.formats.ItemFormat.TheVariants.{Lines, Samples}
+use Rattle.kpn_stream_devices.specs.declared.formats.OutputFormat.{OutputFormat}
 use Rattle.kpn_stream.specs.declared.faults.SourceFault.{SourceFault}
 use Rattle.kpn_stream.specs.declared.faults.SourceFault.TheVariants.{Read, NoMemory}
 use Rattle.kpn_stream.specs.declared.faults.SinkFault.{SinkFault}
 use Rattle.kpn_stream.specs.declared.faults.SinkFault.TheVariants.{Gone, NoSample, Write}
 use Rattle.kpn_stream.specs.declared.faults.SinkFault.TheVariants as sink_fault
-use Rattle.kpn_stream_devices.specs.Formats.{HasItem, item_bytes}
+use Rattle.kpn_stream_devices.specs.Formats.{HasText, item_bytes, text_of, written_item}
 use Rattle.kpn_stream_devices.specs.Window.{Window, FormatGives, Counts, IfKnown, Gives, IsEndKnown, NeedsMore, Tells, left_of}
 use Rattle.kpn_stream_devices.specs.declared.inputs.Input.{Input}
-use Rattle.kpn_stream_devices.specs.Inputs.{InputGives, IsAsked, HaveMoved, FailsToRead, ReadsOnly, Waits, kept_fault}
+use Rattle.kpn_stream_devices.specs.Inputs.{device_left, InputGives, IsAsked, HaveMoved, FailsToRead, ReadsOnly, Waits, kept_fault}
 use Rattle.kpn_stream_devices.specs.declared.inputs.Failed.{Failed}
 use Rattle.kpn_stream_devices.specs.declared.inputs.Failed.TheVariants as look_fault
 use Rattle.kpn_stream_devices.specs.Outputs.{HandsOn, TakesItem}
 
 -- ---- inputs
 
--- what the bytes alone tell is given
-pub tells_gives : (format : ItemFormat) (w : Window) (answer : Result (Option ℤ) SourceFault) (after : Window)
-    (device : Option (List ℕ)) → Tells format w answer after → IsEndKnown w device
-    → Gives format w device answer after device
-tells_gives Lines w answer after device tells known = tells.given device known
-tells_gives S16 w answer after device tells known = tells device known
-tells_gives S32 w answer after device tells known = tells device known
-tells_gives S64 w answer after device tells known = tells device known
-
--- and so is the count of lines
-tells_counts : (format : ItemFormat) (w : Window) (answer : Result (Option ℤ) SourceFault) (after : Window)
-    → Tells format w answer after → Counts format answer w.lines after.lines
-tells_counts Lines w answer after tells = tells.counted
-tells_counts S16 w answer after tells = tt
-tells_counts S32 w answer after tells = tt
-tells_counts S64 w answer after tells = tt
-
 -- an input is open whose bytes are too few
 pub needs_open : (format : ItemFormat) (w : Window) → NeedsMore format w → w.is_over ≡ false
 needs_open Lines w needs = needs.0
-needs_open S16 w needs = needs.0
-needs_open S32 w needs = needs.0
-needs_open S64 w needs = needs.0
+needs_open (Samples sample) w needs = needs.0
 
 -- nothing is said of the device of an open input
 pub not_over : (w : Window) (device : Option (List ℕ)) → w.is_over ≡ false → IsEndKnown w device
@@ -78,10 +60,10 @@ gives_after format first w after device between read answer kept given =
     if_after (λ left rest. FormatGives format left rest answer) (left_of first device) (left_of w between)
     (left_of after read) kept given
 
--- the count goes on from the lines that were used before some bytes moved
-counts_after : (format : ItemFormat) (answer : Result (Option ℤ) SourceFault) (first used now : ℕ) → used ≡ first
-    → Counts format answer used now → Counts format answer first now
-counts_after format answer first used now same counts = subst (λ (n : ℕ). Counts format answer n now) same counts
+-- the count goes on from those that were used before some bytes moved
+counts_after : (answer : Result (Option ℤ) SourceFault) (first used now : ℕ) → used ≡ first → Counts answer used now
+    → Counts answer first now
+counts_after answer first used now same counts = subst (λ (n : ℕ). Counts answer n now) same counts
 
 if_kept : (P : List ℕ → List ℕ → Type 0) → ((xs ys : List ℕ) → P xs ys) → (a b : Option (List ℕ)) → Keeps a b
     → IfKnown a b P
@@ -94,21 +76,13 @@ pub fault_any : (format : ItemFormat) (failed : Failed) (xs ys : List ℕ)
     → FormatGives format xs ys (Err (kept_fault failed))
 fault_any Lines look_fault.Read xs ys = tt
 fault_any Lines look_fault.NoMemory xs ys = tt
-fault_any S16 look_fault.Read xs ys = tt
-fault_any S16 look_fault.NoMemory xs ys = tt
-fault_any S32 look_fault.Read xs ys = tt
-fault_any S32 look_fault.NoMemory xs ys = tt
-fault_any S64 look_fault.Read xs ys = tt
-fault_any S64 look_fault.NoMemory xs ys = tt
+fault_any (Samples sample) look_fault.Read xs ys = tt
+fault_any (Samples sample) look_fault.NoMemory xs ys = tt
 
--- it uses no line
-pub fault_counts : (format : ItemFormat) (failed : Failed) (used now : ℕ) → now ≡ used
-    → Counts format (Err (kept_fault failed)) used now
-fault_counts Lines look_fault.Read used now same = same
-fault_counts Lines look_fault.NoMemory used now same = same
-fault_counts S16 failed used now same = tt
-fault_counts S32 failed used now same = tt
-fault_counts S64 failed used now same = tt
+-- it uses nothing
+pub fault_counts : (failed : Failed) (used now : ℕ) → now ≡ used → Counts (Err (kept_fault failed)) used now
+fault_counts look_fault.Read used now same = same
+fault_counts look_fault.NoMemory used now same = same
 
 -- a device that fails may do so at any time
 pub device_fails : (format : ItemFormat) (failed : Failed) (first after : Window) (device read : Option (List ℕ))
@@ -146,74 +120,81 @@ module _ {I F : Type 0} (left : I → Option (List ℕ)) (left_in : F → Option
       → input.failed ≡ Some failed → FailsToRead left left_in standard input standard input (kept_fault failed)
   failed_before standard input failed is_open is = record {
     channel = refl;
+    format = refl;
     only = reads_none standard input.file;
-    counted = λ format. fault_counts format failed _ _ refl;
+    counted = fault_counts failed _ _ refl;
     at_hand = λ some. (refl, refl);
     known = λ known. known;
     given = λ format. device_fails format failed input.window input.window _ _ (Keeps-refl _);
   }
 
-  module _ (format : ItemFormat) (first : I) (input : Input F) where
+  module _ (first : I) (input : Input F) where
     -- So far bytes have moved from the device to the window, and none if the answer was at hand.
-    pub at_start : IsAsked left left_in format first input first input
+    pub at_start : IsAsked left left_in first input first input
     at_start = record {
       moved = record {
         channel = refl;
+        format = refl;
         only = reads_none first input.file;
-        lines = refl;
+        used = refl;
         kept = Keeps-refl _;
         known = λ known. known;
       };
       at_hand = λ at_hand. (refl, refl);
     }
 
-    module _ (between : I) (moved : Input F) (so_far : IsAsked left left_in format first input between moved) where
+    module _ (between : I) (moved : Input F) (so_far : IsAsked left left_in first input between moved) where
       -- the bytes tell the answer
-      pub told_after : (answer : Result (Option ℤ) SourceFault) (w : Window) → Tells format moved.window answer w
+      pub told_after : (answer : Result (Option ℤ) SourceFault) (w : Window) → Tells moved.format moved.window answer w
           → w.is_over ≡ moved.window.is_over
-          → InputGives left left_in format first input answer between (record moved { window = w })
+          → InputGives left left_in first input answer between (record moved { window = w })
       told_after answer w tells same = record {
         channel = so_far.moved.channel;
+        format = so_far.moved.format;
         only = so_far.moved.only;
-        counted =
-            counts_after format answer _ _ _ so_far.moved.lines (tells_counts format moved.window answer w tells);
+        counted = counts_after answer _ _ _ so_far.moved.used tells.counted;
         known = λ known over. so_far.moved.known known (sym same ∙ over);
-        given = λ known. gives_after format input.window moved.window w _ _ _ answer so_far.moved.kept
-            (tells_gives format moved.window answer w _ tells (so_far.moved.known known));
+        given = λ known. gives_after input.format input.window moved.window w _ _ _ answer so_far.moved.kept
+            (subst
+            (λ (f : ItemFormat). Gives f moved.window (device_left left left_in between moved.file) answer w
+            (device_left left left_in between moved.file)) so_far.moved.format
+            (tells.given _ (so_far.moved.known known)));
         at_hand = λ at_hand.
             let is = so_far.at_hand at_hand in (is.0, ap (λ (i : Input F). i.file) is.1);
       }
 
       -- after too many reads
-      pub fails_at_last : InputGives left left_in format first input (Err Read) between moved
+      pub fails_at_last : InputGives left left_in first input (Err Read) between moved
       fails_at_last = record {
         channel = so_far.moved.channel;
+        format = so_far.moved.format;
         only = so_far.moved.only;
-        counted = fault_counts format look_fault.Read _ _ so_far.moved.lines;
+        counted = fault_counts look_fault.Read _ _ so_far.moved.used;
         known = so_far.moved.known;
-        given = λ known. device_fails format look_fault.Read input.window moved.window _ _ so_far.moved.kept;
+        given = λ known. device_fails input.format look_fault.Read input.window moved.window _ _ so_far.moved.kept;
         at_hand = λ at_hand.
             let is = so_far.at_hand at_hand in (is.0, ap (λ (i : Input F). i.file) is.1);
       }
 
       -- the bytes tell nothing yet
-      module _ (w : Window) (same : w ≡ moved.window) (needs : NeedsMore format moved.window) (read : I)
+      module _ (w : Window) (same : w ≡ moved.window) (needs : NeedsMore moved.format moved.window) (read : I)
           (after : Input F) where
         -- so the first ones told nothing, and the answer was at hand only if a look had failed
-        needed : (Waits format input → ⊥) → input.failed ≡ None → ⊥
+        needed : (Waits input → ⊥) → input.failed ≡ None → ⊥
         needed at_hand none =
-            at_hand (subst (λ (i : Input F). NeedsMore format i.window) (so_far.at_hand at_hand).1 needs, none)
+            at_hand (subst (λ (i : Input F). NeedsMore i.format i.window) (so_far.at_hand at_hand).1 needs, none)
 
         -- some more move
         pub more_after : HaveMoved left left_in between (record moved { window = w }) read after
-            → moved.failed ≡ None → IsAsked left left_in format first input read after
+            → moved.failed ≡ None → IsAsked left left_in first input read after
         more_after more none =
             let next = subst (λ (x : Window). HaveMoved left left_in between (record moved { window = x }) read after) same more in
             record {
               moved = record {
                 channel = next.channel ∙ so_far.moved.channel;
+                format = next.format ∙ so_far.moved.format;
                 only = reads_more first between read input.file moved.file after.file so_far.moved.only next.only;
-                lines = next.lines ∙ so_far.moved.lines;
+                used = next.used ∙ so_far.moved.used;
                 kept = Keeps-trans _ _ _ so_far.moved.kept next.kept;
                 known = λ known. next.known (so_far.moved.known known);
               };
@@ -224,16 +205,17 @@ module _ {I F : Type 0} (left : I → Option (List ℕ)) (left_in : F → Option
         -- the next read fails, or a look has failed
         pub fails_after : (fault : SourceFault)
             → FailsToRead left left_in between (record moved { window = w }) read after fault
-            → InputGives left left_in format first input (Err fault) read after
+            → InputGives left left_in first input (Err fault) read after
         fails_after fault fails =
             let last = subst (λ (x : Window). FailsToRead left left_in between (record moved { window = x }) read after fault) same fails in
             record {
               channel = last.channel ∙ so_far.moved.channel;
+              format = last.format ∙ so_far.moved.format;
               only = reads_more first between read input.file moved.file after.file so_far.moved.only last.only;
-              counted = counts_after format (Err fault) _ _ _ so_far.moved.lines (last.counted format);
+              counted = counts_after (Err fault) _ _ _ so_far.moved.used last.counted;
               known = λ known. last.known (so_far.moved.known known);
-              given = λ known. gives_after format input.window moved.window after.window _ _ _ (Err fault)
-                  so_far.moved.kept (last.given format);
+              given = λ known. gives_after input.format input.window moved.window after.window _ _ _ (Err fault)
+                  so_far.moved.kept (last.given input.format);
               at_hand = λ at_hand.
                   let is = so_far.at_hand at_hand in
                   let none = last.at_hand
@@ -256,16 +238,19 @@ none_taken count chunk within none = omega (arith, length-take count chunk, ap l
 -- ---- outputs
 
 -- an item was put and kept, and what was kept is handed on
-pub handed : (format : ItemFormat) (item : ℤ) (before kept after : Option (List ℕ))
-    (answer : Result (Unit {0}) SinkFault) (bytes : List ℕ) → HasItem format item
-    → Appends before kept (item_bytes format item) → HandsOn answer bytes kept after
+pub handed : (format : OutputFormat) (item written : ℤ) (before kept after : Option (List ℕ))
+    (answer : Result (Unit {0}) SinkFault) (bytes : List ℕ) → HasText format item → written ≡ written_item format item
+    → Appends before kept (item_bytes format.items written) → HandsOn answer bytes kept after
     → TakesItem format item answer before after
-handed format item before kept after (Ok done) bytes has put on =
-    (has, Appends-kept before kept after (item_bytes format item) put on.1)
-handed format item before kept after (Err Gone) bytes has put on = tt
-handed format item before kept after (Err Write) bytes has put on = tt
-handed format item before kept after (Err sink_fault.NoMemory) bytes has put on = absurd on.1
-handed format item before kept after (Err (NoSample other)) bytes has put on = absurd on.1
+handed format item written before kept after (Ok done) bytes has is put on = (
+  has,
+  Appends-kept before kept after (text_of format item)
+      (subst (λ (v : ℤ). Appends before kept (item_bytes format.items v)) is put) on.1,
+)
+handed format item written before kept after (Err Gone) bytes has is put on = tt
+handed format item written before kept after (Err Write) bytes has is put on = tt
+handed format item written before kept after (Err sink_fault.NoMemory) bytes has is put on = absurd on.1
+handed format item written before kept after (Err (NoSample other)) bytes has is put on = absurd on.1
 
 -- bytes that are kept were put
 pub kept_more : (device : Option (List ℕ)) (old new bytes : List ℕ) → new ≡ old ++ bytes

@@ -17,7 +17,7 @@ use Rattle.kpn_stream.specs.Ending.{end_numbers}
 use Rattle.kpn_run_history.specs.Legal.{Legal}
 use Rattle.kpn_stream_devices.specs.declared.outputs.Output.{Output}
 use Rattle.kpn_stream_devices.specs.declared.outputs.Outputs.{Outputs}
-use Rattle.kpn_stream_devices.specs.Out.{HasOwnDevice, IsServed, items_bytes}
+use Rattle.kpn_stream_devices.specs.Out.{HasOwnDevice, IsServed, text_of_all}
 use Rattle.kpn_stream_devices.specs.Outputs.{OutputsTake, OutputsFlush, Flushes, by_output, by_none}
 use Rattle.kpn_stream_devices.specs.Outputs.{device_holds, output_of, was_put}
 use Rattle.kpn_stream_devices.proofs.Firsts.{found_mine, found_other, found_none, found_within, was_here, stays_here}
@@ -103,21 +103,21 @@ module _ {O G : Type 0} (holds : O → Option (List ℕ)) (holds_in : G → Opti
       → IsMine holds holds_in c i before.each.now.items → Flush before c answer after → kept after ≡ []
   own_keeps before answer after m (by_none found is same) =
       absurd (found_none channel_of c i before.each.now.items d m.first found)
-  own_keeps before answer after m (by_output j o w found at channel only does each format ghost lent) =
+  own_keeps before answer after m (by_output j o w found at channel format only does each ghost lent) =
       let os = before.each.now.items in
       let here = was_here os after.each.now.items i j o w d (found_mine channel_of c i os j o m.first found)
       (found_within channel_of os c j o found) at each in
       ap (λ (x : Output G). x.bytes.items) here.1 ∙ nothing answer does
     where
       nothing : (answer : Result (Unit {0}) SinkFault)
-          → Flushes holds holds_in answer before.format before.standard.now o after.standard.now w → w.bytes.items ≡ []
+          → Flushes holds holds_in answer before.standard.now o after.standard.now w → w.bytes.items ≡ []
       nothing (Ok done) does = does.0
       nothing (Err fault) does = does.0
 
   other_keeps : (before : Outputs O G) (s : ℕ) (answer : Result (Unit {0}) SinkFault) (after : Outputs O G)
       → IsMine holds holds_in c i before.each.now.items → s ≢ c → Flush before s answer after → kept after ≡ kept before
   other_keeps before s answer after m other (by_none found is same) = ap kept same
-  other_keeps before s answer after m other (by_output j o w found at channel only does each format ghost lent) =
+  other_keeps before s answer after m other (by_output j o w found at channel format only does each ghost lent) =
       let os = before.each.now.items in
       ap (λ (x : Output G). x.bytes.items)
       (stays_here os after.each.now.items i j w d (found_other channel_of c i os s j o m.first other found) each)
@@ -208,12 +208,12 @@ module _ {O G : Type 0} (holds : O → Option (List ℕ)) (holds_in : G → Opti
   held : (H : List Event) (now : Outputs O G) → Put H now → kept now ≡ []
       → Appends (was_put holds holds_in first.standard.now (get_or first.each.now.items i d))
       (device_holds holds holds_in now.standard.now (get_or now.each.now.items i d).file)
-      (items_bytes first.format (read_on H c))
+      (text_of_all (get_or first.each.now.items i d).format (read_on H c))
   held H now put none =
       subst
       (λ (bytes : Option (List ℕ)).
       Appends (was_put holds holds_in first.standard.now (get_or first.each.now.items i d)) bytes
-      (items_bytes first.format (read_on H c)))
+      (text_of_all (get_or first.each.now.items i d).format (read_on H c)))
       (ap (append_known (device_holds holds holds_in now.standard.now (get_or now.each.now.items i d).file)) none
       ∙ none_more (device_holds holds holds_in now.standard.now (get_or now.each.now.items i d).file)) put.1
     where
@@ -229,7 +229,7 @@ pub all_out : {O G : Type 0} (holds : O → Option (List ℕ)) (holds_in : G →
     → Legal t last.before → Contains (end_numbers is_sink t) c → is_left H c ≡ false
     → Appends (was_put holds holds_in first.standard.now (get_or first.each.now.items i d))
     (device_holds holds holds_in now.standard.now (get_or now.each.now.items i d).file)
-    (items_bytes first.format (read_on H c))
+    (text_of_all (get_or first.each.now.items i d).format (read_on H c))
 all_out holds holds_in t network first now c i d sink found own wanted H last legal there stays =
     let served : IsServed last.before None c = record {
       stays =

@@ -1,3 +1,4 @@
+pub mod Rounding
 pub mod Lines
 pub mod Telling
 pub mod Devices

@@ -16,17 +16,17 @@ use Rattle.kpn_run_history.proofs.Journals.{no_sink, none_elsewhere}
 use Rattle.kpn_run_history.proofs.Legality.{Legal-before}
 use Rattle.kpn_run_history.proofs.OneMore.{item_here}
 use Rattle.kpn_run_history.proofs.Ownership.{IsOwn-last}
-use Rattle.kpn_command_base.specs.declared.stream_request.ItemFormat.{ItemFormat}
 use Rattle.kpn_stream.specs.declared.faults.SinkFault.{SinkFault}
 use Rattle.kpn_stream.specs.declared.faults.SinkFault.TheVariants as sink_fault
 use Rattle.kpn_stream.specs.Devices.{is_of_sink, Served, none_yet, meanwhile, took, took_not, flushed, flushed_not}
 use Rattle.kpn_stream.specs.Devices.{took_in_vain, left, left_not, had_enough, had_enough_not}
 use Rattle.kpn_stream_devices.proofs.Firsts.{IsFirst, holds_still, first_found, first_stays, found_mine, found_other}
 use Rattle.kpn_stream_devices.proofs.Firsts.{found_none, found_within, was_here, stays_here}
+use Rattle.kpn_stream_devices.specs.declared.formats.OutputFormat.{OutputFormat}
 use Rattle.kpn_stream_devices.specs.declared.outputs.Output.{Output}
 use Rattle.kpn_stream_devices.specs.declared.outputs.Outputs.{Outputs}
-use Rattle.kpn_stream_devices.specs.Formats.{item_bytes}
-use Rattle.kpn_stream_devices.specs.Out.{HasOwnDevice, IsServed, items_bytes}
+use Rattle.kpn_stream_devices.specs.Formats.{text_of}
+use Rattle.kpn_stream_devices.specs.Out.{HasOwnDevice, IsServed, text_of_all}
 use Rattle.kpn_stream_devices.specs.Outputs.{OutputRel, OutputsDo, OutputsTake, OutputsFlush, Takes, Flushes}
 use Rattle.kpn_stream_devices.specs.Outputs.{WritesOnly, by_output, by_none, device_holds, output_of, was_put}
 
@@ -72,25 +72,32 @@ module _ {O G : Type 0} (holds : O → Option (List ℕ)) (holds_in : G → Opti
     ];
   }
 
-  module _ (Does : ItemFormat → OutputRel O G) (before : Outputs O G) (answer : Result (Unit {0}) SinkFault)
+  -- how output i writes items
+  abbrev pub format_at : Output G → Outputs O G → OutputFormat
+  format_at d x = (get_or x.each.now.items i d).format
+
+  module _ (Does : OutputRel O G) (before : Outputs O G) (answer : Result (Unit {0}) SinkFault)
       (after : Outputs O G) (m : IsMine before.each.now.items) where
-    stays_mine : (s : ℕ) → OutputsDo Does before s answer after
-        → IsMine after.each.now.items × (after.format ≡ before.format)
-    stays_mine s (by_output j o w found at channel only does each format ghost lent) =
-        let below = found_within channel_of before.each.now.items s j o found in (
+    stays_mine : (d : Output G) (s : ℕ) → OutputsDo Does before s answer after
+        → IsMine after.each.now.items × (format_at d after ≡ format_at d before)
+    stays_mine d s (by_output j o w found at channel format only does each ghost lent) =
+        let os = before.each.now.items in
+        let below = found_within channel_of os s j o found in (
           subst IsMine (sym each)
-              (changed before.each.now.items j o w below at channel
+              (changed os j o w below at channel
               (file_stays before.standard.now after.standard.now o.file w.file only) m),
-          format,
+          ap (λ (xs : List (Output G)). (get_or xs i d).format) each
+              ∙ holds_still (λ (x : Output G). x.format ≡ format_at d before) os j o w below at (λ is. format ∙ is) i d
+              m.first.within refl,
         )
-    stays_mine s (by_none found is same) =
-        subst (λ (x : Outputs O G). IsMine x.each.now.items × (x.format ≡ before.format)) (sym same) (m, refl)
+    stays_mine d s (by_none found is same) =
+        subst (λ (x : Outputs O G). IsMine x.each.now.items × (format_at d x ≡ format_at d before)) (sym same) (m, refl)
 
     -- a call for sink c is one for output i
     own_call : (d : Output G) → OutputsDo Does before c answer after → (o : Output G) × (w : Output G)
         × (get_or before.each.now.items i d ≡ o) × (get_or after.each.now.items i d ≡ w)
-        × Does before.format before.standard.now o after.standard.now w
-    own_call d (by_output j o w found at channel only does each format ghost lent) =
+        × Does before.standard.now o after.standard.now w
+    own_call d (by_output j o w found at channel format only does each ghost lent) =
         let os = before.each.now.items in
         let here = was_here os after.each.now.items i j o w d (found_mine channel_of c i os j o m.first found)
         (found_within channel_of os c j o found) at each in
@@ -101,7 +108,7 @@ module _ {O G : Type 0} (holds : O → Option (List ℕ)) (holds_in : G → Opti
     other_call : (s : ℕ) → s ≢ c → (d : Output G) → OutputsDo Does before s answer after
         → was_put holds holds_in after.standard.now (get_or after.each.now.items i d)
         ≡ was_put holds holds_in before.standard.now (get_or before.each.now.items i d)
-    other_call s other d (by_output j o w found at channel only does each format ghost lent) =
+    other_call s other d (by_output j o w found at channel format only does each ghost lent) =
         let os = before.each.now.items in
         let away : i ≢ j = found_other channel_of c i os s j o m.first other found in
         let file : o.file ≡ None → IsSome (get_or os i d).file = λ none. elim m.own [
@@ -138,17 +145,18 @@ module _ {O G : Type 0} (holds : O → Option (List ℕ)) (holds_in : G → Opti
     -- it is the text of what was taken, and the output is still that of the sink
     abbrev pub IsPut : List Event → Outputs O G → Type 0
     IsPut H now =
-        (IsMine now.each.now.items × (now.format ≡ first.format))
-        × Appends (put_then first) (put_then now) (items_bytes first.format (read_on H c))
+        (IsMine now.each.now.items × (format_at d now ≡ format_at d first))
+        × Appends (put_then first) (put_then now) (text_of_all (format_at d first) (read_on H c))
 
     -- the same items, and the same bytes
     by_same : (later H : List Event) (before now : Outputs O G) → read_on later c ≡ read_on H c
-        → put_then now ≡ put_then before → IsMine now.each.now.items × (now.format ≡ before.format) → IsPut H before
+        → put_then now ≡ put_then before → IsMine now.each.now.items × (format_at d now ≡ format_at d before)
+        → IsPut H before
         → IsPut later now
     by_same later H before now reads puts kept put = (
       (kept.0, kept.1 ∙ put.0.1),
-      subst (λ x. Appends (put_then first) x (items_bytes first.format (read_on later c))) (sym puts)
-          (subst (λ xs. Appends (put_then first) (put_then before) (items_bytes first.format xs)) (sym reads) put.1),
+      subst (λ x. Appends (put_then first) x (text_of_all (format_at d first) (read_on later c))) (sym puts)
+          (subst (λ xs. Appends (put_then first) (put_then before) (text_of_all (format_at d first) xs)) (sym reads) put.1),
     )
 
     -- an item more
@@ -156,24 +164,23 @@ module _ {O G : Type 0} (holds : O → Option (List ℕ)) (holds_in : G → Opti
         → IsPut H before → IsPut (H ++ event.Take c v ∷ []) now
     by_item H v before now answer put =
         let Does = Takes holds holds_in v (Ok tt) in
-        let kept = stays_mine Does before (Ok tt) now put.0.0 c answer in
+        let kept = stays_mine Does before (Ok tt) now put.0.0 d c answer in
         let r = own_call Does before (Ok tt) now put.0.0 d answer in
-        let more : Appends (put_then before) (put_then now) (item_bytes first.format v) =
-        subst (λ f. Appends (put_then before) (put_then now) (item_bytes f v)) put.0.1
+        let more : Appends (put_then before) (put_then now) (text_of (format_at d first) v) =
+        subst (λ (f : OutputFormat). Appends (put_then before) (put_then now) (text_of f v)) put.0.1
         (subst
-        (λ (x : Output G).
-        Appends (was_put holds holds_in before.standard.now x) (put_then now) (item_bytes before.format v))
+        (λ (x : Output G). Appends (was_put holds holds_in before.standard.now x) (put_then now) (text_of x.format v))
         (sym r.2)
         (subst
         (λ (x : Output G).
         Appends (was_put holds holds_in before.standard.now r.0) (was_put holds holds_in now.standard.now x)
-        (item_bytes before.format v)) (sym r.3) r.4.1)) in (
+        (text_of r.0.format v)) (sym r.3) r.4.1)) in (
           (kept.0, kept.1 ∙ put.0.1),
           subst (λ xs. Appends (put_then first) (put_then now) xs)
               (sym
-              (ap (items_bytes first.format)
+              (ap (text_of_all (format_at d first))
               (read_on-push H (event.Take c v) c ∙ ap (λ xs. read_on H c ++ xs) (item_here c v))
-              ∙ flat_map-push (item_bytes first.format) (read_on H c) v))
+              ∙ flat_map-push (text_of (format_at d first)) (read_on H c) v))
               (Appends-trans (put_then first) (put_then before) (put_then now) _ _ put.1 more),
         )
 
@@ -182,7 +189,7 @@ module _ {O G : Type 0} (holds : O → Option (List ℕ)) (holds_in : G → Opti
         → IsPut H before → IsPut H now
     by_flush H before now answer put =
         let Does = Flushes holds holds_in (Ok tt) in
-        let kept = stays_mine Does before (Ok tt) now put.0.0 c answer in
+        let kept = stays_mine Does before (Ok tt) now put.0.0 d c answer in
         let r = own_call Does before (Ok tt) now put.0.0 d answer in
         let same : Keeps (put_then before) (put_then now) =
         subst (λ (x : Output G). Keeps (was_put holds holds_in before.standard.now x) (put_then now)) (sym r.2)
@@ -195,12 +202,12 @@ module _ {O G : Type 0} (holds : O → Option (List ℕ)) (holds_in : G → Opti
         )
 
     -- a call for another sink
-    pub by_other : (Does : ItemFormat → OutputRel O G) (later H : List Event) (s : ℕ)
+    pub by_other : (Does : OutputRel O G) (later H : List Event) (s : ℕ)
         (answer : Result (Unit {0}) SinkFault) (before now : Outputs O G) → s ≢ c → read_on later c ≡ read_on H c
         → OutputsDo Does before s answer now → IsPut H before → IsPut later now
     by_other Does later H s answer before now other reads does put =
         by_same later H before now reads (other_call Does before answer now put.0.0 s other d does)
-        (stays_mine Does before answer now put.0.0 s does) put
+        (stays_mine Does before answer now put.0.0 d s does) put
 
     -- from sink c nothing was taken by an event of others
     untaken : (B : List Event) (e : Event) → Legal t (B ++ e ∷ []) → is_of_sink e ≡ false

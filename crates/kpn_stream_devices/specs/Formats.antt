@@ -1,36 +1,124 @@
 -- How items are written in the inputs and outputs of a stream.
-use Rattle.std.specs.Prelude.{ℕ, ℤ, List, FitsSigned}
-use Rattle.std.specs.Int.{w16, w32, w64}
+use Rattle.std.specs.Prelude.{◌≡◌, ℕ, ◌^◌, ◌-◌, ℤ, pos, neg_ℤ, ◌≤ℤ◌, List, Option, Some, codes, if◌then◌else◌}
+use Rattle.std.specs.Int.{w64, int_min, int_max}
 use Rattle.byteorder.specs.Endian.{little_number, little_bytes, low_bytes, twos_complement}
 use Rattle.kpn_text_items.specs.ItemFile.{item_line}
-use Rattle.kpn_command_base.specs.declared.stream_request.ItemFormat.{ItemFormat}
-use Rattle.kpn_command_base.specs.declared.stream_request.ItemFormat.TheVariants.{Lines, S16, S32, S64}
+use Rattle.kpn_stream_devices.specs.Floats.{float_item, float_bits}
+use Rattle.kpn_stream_devices.specs.declared.formats.SampleFormat.{SampleFormat}
+use Rattle.kpn_stream_devices.specs.declared.formats.SampleFormat.TheVariants.{U8, S8, S16, S24, S32, S64, F32}
+use Rattle.kpn_stream_devices.specs.declared.formats.ItemFormat.{ItemFormat}
+use Rattle.kpn_stream_devices.specs.declared.formats.ItemFormat.TheVariants.{Lines, Samples}
+use Rattle.kpn_stream_devices.specs.declared.formats.OutputFormat.{OutputFormat}
 
--- how many bytes a sample has; lines have none
-abbrev pub sample_width : ItemFormat → ℕ
-sample_width Lines = 0
+-- ---- samples
+
+-- how many bytes a sample has
+abbrev pub sample_width : SampleFormat → ℕ
+sample_width U8 = 1
+sample_width S8 = 1
 sample_width S16 = 2
+sample_width S24 = 3
 sample_width S32 = 4
 sample_width S64 = 8
+sample_width F32 = 4
 
 -- the number that the first so many bytes write: two's complement, the lowest byte first
-abbrev pub sample_value : (width : ℕ) → List ℕ → ℤ
-sample_value width bytes = twos_complement width (little_number width bytes)
+abbrev pub signed_value : (width : ℕ) → List ℕ → ℤ
+signed_value width bytes = twos_complement width (little_number width bytes)
 
--- the sample of so many bytes that writes a number
-abbrev pub sample_bytes : (width : ℕ) → ℤ → List ℕ
-sample_bytes width item = little_bytes width (low_bytes w64 width item)
+-- the item that the first bytes write, if they write one
+abbrev pub sample_value : SampleFormat → List ℕ → Option ℤ
+sample_value U8 bytes = Some (pos (little_number 1 bytes))
+sample_value S8 bytes = Some (signed_value 1 bytes)
+sample_value S16 bytes = Some (signed_value 2 bytes)
+sample_value S24 bytes = Some (signed_value 3 bytes)
+sample_value S32 bytes = Some (signed_value 4 bytes)
+sample_value S64 bytes = Some (signed_value 8 bytes)
+sample_value F32 bytes = float_item (little_number 4 bytes)
+
+-- the lowest so many bytes of a number, the lowest first
+abbrev pub number_bytes : (width : ℕ) → ℤ → List ℕ
+number_bytes width item = little_bytes width (low_bytes w64 width item)
+
+-- the sample that writes an item
+abbrev pub sample_bytes : SampleFormat → ℤ → List ℕ
+sample_bytes U8 item = number_bytes 1 item
+sample_bytes S8 item = number_bytes 1 item
+sample_bytes S16 item = number_bytes 2 item
+sample_bytes S24 item = number_bytes 3 item
+sample_bytes S32 item = number_bytes 4 item
+sample_bytes S64 item = number_bytes 8 item
+sample_bytes F32 item = number_bytes 4 (pos (float_bits item))
+
+-- the least and the greatest item of a sample
+abbrev pub least_sample : SampleFormat → ℤ
+least_sample U8 = pos 0
+least_sample S8 = neg_ℤ (pos (2 ^ 7))
+least_sample S16 = neg_ℤ (pos (2 ^ 15))
+least_sample S24 = neg_ℤ (pos (2 ^ 23))
+least_sample S32 = neg_ℤ (pos (2 ^ 31))
+least_sample S64 = neg_ℤ (pos (2 ^ 63))
+least_sample F32 = neg_ℤ (pos (2 ^ 63))
+
+abbrev pub greatest_sample : SampleFormat → ℤ
+greatest_sample U8 = pos (2 ^ 8 - 1)
+greatest_sample S8 = pos (2 ^ 7 - 1)
+greatest_sample S16 = pos (2 ^ 15 - 1)
+greatest_sample S24 = pos (2 ^ 23 - 1)
+greatest_sample S32 = pos (2 ^ 31 - 1)
+greatest_sample S64 = pos (2 ^ 63 - 1)
+greatest_sample F32 = pos (2 ^ 63 - 1)
+
+-- ---- formats
+
+abbrev pub least_item : ItemFormat → ℤ
+least_item Lines = neg_ℤ (pos (2 ^ 63))
+least_item (Samples sample) = least_sample sample
+
+abbrev pub greatest_item : ItemFormat → ℤ
+greatest_item Lines = pos (2 ^ 63 - 1)
+greatest_item (Samples sample) = greatest_sample sample
 
 -- a format has a text for an item
 abbrev pub HasItem : ItemFormat → ℤ → Type 0
-HasItem Lines item = FitsSigned w64 item
-HasItem S16 item = FitsSigned w16 item
-HasItem S32 item = FitsSigned w32 item
-HasItem S64 item = FitsSigned w64 item
+HasItem format item = (least_item format ≤ℤ item) × (item ≤ℤ greatest_item format)
 
 -- the text of an item
 abbrev pub item_bytes : ItemFormat → ℤ → List ℕ
 item_bytes Lines item = item_line item
-item_bytes S16 item = sample_bytes 2 item
-item_bytes S32 item = sample_bytes 4 item
-item_bytes S64 item = sample_bytes 8 item
+item_bytes (Samples sample) item = sample_bytes sample item
+
+-- the nearest item for which a format has a text
+abbrev pub nearest_item : ItemFormat → ℤ → ℤ
+nearest_item format item = int_max (least_item format) (int_min item (greatest_item format))
+
+-- ---- outputs
+
+-- the item that an output writes for an item: the nearest that fits, if it clips
+abbrev pub written_item : OutputFormat → ℤ → ℤ
+written_item format item = if format.clips then nearest_item format.items item else item
+
+-- an output has a text for an item
+abbrev pub HasText : OutputFormat → ℤ → Type 0
+HasText format item = HasItem format.items (written_item format item)
+
+-- the text that it writes for the item
+abbrev pub text_of : OutputFormat → ℤ → List ℕ
+text_of format item = item_bytes format.items (written_item format item)
+
+-- ---- words
+
+-- the word that names a format
+abbrev pub format_name : ItemFormat → List ℕ
+format_name Lines = codes "lines"
+format_name (Samples U8) = codes "u8"
+format_name (Samples S8) = codes "s8"
+format_name (Samples S16) = codes "s16le"
+format_name (Samples S24) = codes "s24le"
+format_name (Samples S32) = codes "s32le"
+format_name (Samples S64) = codes "s64le"
+format_name (Samples F32) = codes "f32le"
+
+-- this word names no format
+abbrev pub IsNoFormat : (name : List ℕ) → Type 0
+IsNoFormat name = (format : ItemFormat) → name ≡ format_name format → ⊥

@@ -1,6 +1,6 @@
 -- The inputs of a stream, as the devices of its sources.
 use Rattle.std.specs.Prelude.{◌≡◌, ℕ, nat_eq, ℤ, List, position, get_or, slice_set, Option, Some, None, Result, Ok, Err, ⊤}
-use Rattle.kpn_command_base.specs.declared.stream_request.ItemFormat.{ItemFormat}
+use Rattle.kpn_stream_devices.specs.declared.formats.ItemFormat.{ItemFormat}
 use Rattle.kpn_stream.specs.declared.faults.SourceFault.{SourceFault}
 use Rattle.kpn_stream.specs.declared.faults.SourceFault.TheVariants as source_fault
 use Rattle.kpn_stream_devices.specs.declared.inputs.Failed.{Failed}
@@ -23,24 +23,24 @@ ReadsOnly standard read (Some file) (Some after) = read ≡ standard
 ReadsOnly standard read file after = ⊥
 
 -- an input waits for its device: the unused bytes are too few to tell, and no look has met a fault
-abbrev pub Waits : {F : Type 0} → ItemFormat → Input F → Type 0
-Waits format input = NeedsMore format input.window × (input.failed ≡ None)
+abbrev pub Waits : {F : Type 0} → Input F → Type 0
+Waits input = NeedsMore input.format input.window × (input.failed ≡ None)
 
 -- What one input gives. Given are standard input and the input, each as it was and as it is afterwards.
-pub record InputGives {I F : Type 0} (left : I → Option (List ℕ)) (left_in : F → Option (List ℕ))
-    (format : ItemFormat) (standard : I) (input : Input F) (answer : Result (Option ℤ) SourceFault) (read : I)
-    (after : Input F) : Type 0 where
+pub record InputGives {I F : Type 0} (left : I → Option (List ℕ)) (left_in : F → Option (List ℕ)) (standard : I)
+    (input : Input F) (answer : Result (Option ℤ) SourceFault) (read : I) (after : Input F) : Type 0 where
   pub channel : after.channel ≡ input.channel
+  pub format : after.format ≡ input.format
   pub only : ReadsOnly standard read input.file after.file
-  pub counted : Counts format answer input.window.lines after.window.lines
+  pub counted : Counts answer input.window.used after.window.used
   -- if the input is known to be over only where its device is at its end, this stays so, and the answer is right
   pub known : IsEndKnown input.window (device_left left left_in standard input.file)
       → IsEndKnown after.window (device_left left left_in read after.file)
   pub given : IsEndKnown input.window (device_left left left_in standard input.file)
-      → Gives format input.window (device_left left left_in standard input.file) answer
+      → Gives input.format input.window (device_left left left_in standard input.file) answer
       after.window (device_left left left_in read after.file)
   -- no device is asked if the answer is at hand
-  pub at_hand : (Waits format input → ⊥) → (read ≡ standard) × (after.file ≡ input.file)
+  pub at_hand : (Waits input → ⊥) → (read ≡ standard) × (after.file ≡ input.file)
 
 -- which input is that of a source: the first for its channel
 abbrev pub input_of : {F : Type 0} → List (Input F) → (source : ℕ) → Option ℕ
@@ -52,8 +52,9 @@ pub data InputsGive {I F : Type 0} (left : I → Option (List ℕ)) (left_in : F
     (source : ℕ) (answer : Result (Option ℤ) SourceFault) (after : Inputs I F) : Type 0 where
   by_input : (i : ℕ) (input read : Input F) → input_of before.each.now.items source ≡ Some i →
       get_or before.each.now.items i input ≡ input →
-      InputGives left left_in before.format before.standard.now input answer after.standard.now read → after.each.now.items ≡ slice_set before.each.now.items i read →
-      after.format ≡ before.format → after.standard.ghost_name ≡ before.standard.ghost_name →
+      InputGives left left_in before.standard.now input answer after.standard.now read →
+      after.each.now.items ≡ slice_set before.each.now.items i read →
+      after.standard.ghost_name ≡ before.standard.ghost_name →
       after.each.ghost_name ≡ before.each.ghost_name →
       InputsGive left left_in before source answer after
   by_none : input_of before.each.now.items source ≡ None → answer ≡ Ok None → after ≡ before →
@@ -63,15 +64,16 @@ pub data InputsGive {I F : Type 0} (left : I → Option (List ℕ)) (left_in : F
 abbrev pub IsAtHand : {I F : Type 0} → Inputs I F → (source : ℕ) → Type 0
 IsAtHand {F = F} inputs source =
     (i : ℕ) (input : Input F) → input_of inputs.each.now.items source ≡ Some i
-    → get_or inputs.each.now.items i input ≡ input → Waits inputs.format input → ⊥
+    → get_or inputs.each.now.items i input ≡ input → Waits input → ⊥
 
 -- What a look at an input does: what has come moves from the device to the window, and nothing else happens; or a fault
 -- is kept, which the next call tells.
 pub record InputLooks {I F : Type 0} (left : I → Option (List ℕ)) (left_in : F → Option (List ℕ))
     (standard : I) (input : Input F) (read : I) (after : Input F) : Type 0 where
   pub channel : after.channel ≡ input.channel
+  pub format : after.format ≡ input.format
   pub only : ReadsOnly standard read input.file after.file
-  pub lines : after.window.lines ≡ input.window.lines
+  pub used : after.window.used ≡ input.window.used
   pub known : IsEndKnown input.window (device_left left left_in standard input.file)
       → IsEndKnown after.window (device_left left left_in read after.file)
   pub kept : after.failed ≡ None
@@ -85,7 +87,7 @@ pub data InputsLook {I F : Type 0} (left : I → Option (List ℕ)) (left_in : F
   at_input : (i : ℕ) (input read : Input F) → input_of before.each.now.items source ≡ Some i →
       get_or before.each.now.items i input ≡ input → InputLooks left left_in before.standard.now input
       after.standard.now read → after.each.now.items ≡ slice_set before.each.now.items i read →
-      after.format ≡ before.format → after.standard.ghost_name ≡ before.standard.ghost_name →
+      after.standard.ghost_name ≡ before.standard.ghost_name →
       after.each.ghost_name ≡ before.each.ghost_name →
       InputsLook left left_in before source after
   at_none : input_of before.each.now.items source ≡ None → after ≡ before → InputsLook left left_in before source after
@@ -101,25 +103,27 @@ kept_fault look_fault.NoMemory = source_fault.NoMemory
 pub record HaveMoved {I F : Type 0} (left : I → Option (List ℕ)) (left_in : F → Option (List ℕ))
     (standard : I) (input : Input F) (read : I) (after : Input F) : Type 0 where
   pub channel : after.channel ≡ input.channel
+  pub format : after.format ≡ input.format
   pub only : ReadsOnly standard read input.file after.file
-  pub lines : after.window.lines ≡ input.window.lines
+  pub used : after.window.used ≡ input.window.used
   pub kept : Keeps (left_of input.window (device_left left left_in standard input.file))
       (left_of after.window (device_left left left_in read after.file))
   pub known : IsEndKnown input.window (device_left left left_in standard input.file)
       → IsEndKnown after.window (device_left left left_in read after.file)
 
 -- so far bytes have moved, and none if the answer was at hand
-pub record IsAsked {I F : Type 0} (left : I → Option (List ℕ)) (left_in : F → Option (List ℕ)) (format : ItemFormat)
-    (standard : I) (input : Input F) (read : I) (after : Input F) : Type 0 where
+pub record IsAsked {I F : Type 0} (left : I → Option (List ℕ)) (left_in : F → Option (List ℕ)) (standard : I)
+    (input : Input F) (read : I) (after : Input F) : Type 0 where
   pub moved : HaveMoved left left_in standard input read after
-  pub at_hand : (Waits format input → ⊥) → (read ≡ standard) × (after ≡ input)
+  pub at_hand : (Waits input → ⊥) → (read ≡ standard) × (after ≡ input)
 
 -- a read fails, or there is no memory for what it gave; or a look has failed before, and no device is asked
 pub record FailsToRead {I F : Type 0} (left : I → Option (List ℕ)) (left_in : F → Option (List ℕ))
     (standard : I) (input : Input F) (read : I) (after : Input F) (fault : SourceFault) : Type 0 where
   pub channel : after.channel ≡ input.channel
+  pub format : after.format ≡ input.format
   pub only : ReadsOnly standard read input.file after.file
-  pub counted : (format : ItemFormat) → Counts format (Err fault) input.window.lines after.window.lines
+  pub counted : Counts (Err fault) input.window.used after.window.used
   pub at_hand : (input.failed ≡ None → ⊥) → (read ≡ standard) × (after ≡ input)
   pub known : IsEndKnown input.window (device_left left left_in standard input.file)
       → IsEndKnown after.window (device_left left left_in read after.file)

@@ -1,3 +1,4 @@
+pub mod Floats
 pub mod Formats
 pub mod Window
 pub mod Inputs

@@ -1,15 +1,15 @@
 -- What has gone out: what the output of a sink was put, beside what was taken from the sink.
 use Rattle.std.specs.Prelude.{◌≡◌, ◌≢◌, ◌⊎◌, ℕ, ◌<◌, false, ℤ, List, length, get_or, flat_map, IsSome, Option, Some}
-use Rattle.kpn_command_base.specs.declared.stream_request.ItemFormat.{ItemFormat}
 use Rattle.kpn_run_history.specs.declared.event.Event.{Event}
 use Rattle.kpn_run_history.specs.Channels.{is_left}
 use Rattle.kpn_stream.specs.declared.faults.SinkFault.{SinkFault}
+use Rattle.kpn_stream_devices.specs.declared.formats.OutputFormat.{OutputFormat}
 use Rattle.kpn_stream_devices.specs.declared.outputs.Output.{Output}
-use Rattle.kpn_stream_devices.specs.Formats.{item_bytes}
+use Rattle.kpn_stream_devices.specs.Formats.{text_of}
 
 -- the texts of these items, one behind the other
-abbrev pub items_bytes : ItemFormat → List ℤ → List ℕ
-items_bytes format items = flat_map (item_bytes format) items
+abbrev pub text_of_all : OutputFormat → List ℤ → List ℕ
+text_of_all format items = flat_map (text_of format) items
 
 -- output i has a device of its own: a file, or else all others have files
 abbrev pub HasOwnDevice : {G : Type 0} → List (Output G) → (i : ℕ) → Type 0

@@ -1,12 +1,12 @@
 -- The outputs of a stream, as the devices of its sinks.
 use Rattle.std.specs.Prelude.{◌≡◌, ℕ, nat_eq, ℤ, List, [], position, get_or, slice_set, Option, Some, None, Result, Ok, Err, ⊤}
 use Rattle.std.specs.Io.KnownBytes.{append_known, Appends, Keeps}
-use Rattle.kpn_command_base.specs.declared.stream_request.ItemFormat.{ItemFormat}
+use Rattle.kpn_stream_devices.specs.declared.formats.OutputFormat.{OutputFormat}
 use Rattle.kpn_stream.specs.declared.faults.SinkFault.{SinkFault}
 use Rattle.kpn_stream.specs.declared.faults.SinkFault.TheVariants.{Gone, NoMemory, NoSample, Write}
 use Rattle.kpn_stream_devices.specs.declared.outputs.Output.{Output}
 use Rattle.kpn_stream_devices.specs.declared.outputs.Outputs.{Outputs}
-use Rattle.kpn_stream_devices.specs.Formats.{HasItem, item_bytes}
+use Rattle.kpn_stream_devices.specs.Formats.{HasText, text_of}
 
 -- what a device holds: the file, or else standard output
 abbrev pub device_holds : {O G : Type 0} → (holds : O → Option (List ℕ)) (holds_in : G → Option (List ℕ))
@@ -22,11 +22,12 @@ was_put holds holds_in standard output =
 
 -- What an output does with an item: it takes the item's text; or the format has none, or there is no memory for it, and
 -- nothing was taken; or nobody knows what went out.
-abbrev pub TakesItem : ItemFormat → (item : ℤ) → Result (Unit {0}) SinkFault → (before after : Option (List ℕ)) → Type 0
-TakesItem format item (Ok done) before after = HasItem format item × Appends before after (item_bytes format item)
+abbrev pub TakesItem : OutputFormat → (item : ℤ) → Result (Unit {0}) SinkFault → (before after : Option (List ℕ))
+    → Type 0
+TakesItem format item (Ok done) before after = HasText format item × Appends before after (text_of format item)
 TakesItem format item (Err (NoSample other)) before after =
-    (other ≡ item) × (¬ HasItem format item) × Keeps before after
-TakesItem format item (Err NoMemory) before after = HasItem format item × Keeps before after
+    (other ≡ item) × (¬ HasText format item) × Keeps before after
+TakesItem format item (Err NoMemory) before after = HasText format item × Keeps before after
 TakesItem format item (Err Gone) before after = ⊤
 TakesItem format item (Err Write) before after = ⊤
 
@@ -60,13 +61,14 @@ output_of outputs sink = position (λ output. nat_eq output.channel sink) output
 
 -- What the outputs do for a sink. It has an output, and the others stay as they were; or it has none, and nothing
 -- changes.
-pub data OutputsDo {O G : Type 0} (Does : ItemFormat → OutputRel O G) (before : Outputs O G)
+pub data OutputsDo {O G : Type 0} (Does : OutputRel O G) (before : Outputs O G)
     (sink : ℕ) (answer : Result (Unit {0}) SinkFault) (after : Outputs O G) : Type 0 where
   by_output : (i : ℕ) (output written : Output G) → output_of before.each.now.items sink ≡ Some i →
       get_or before.each.now.items i output ≡ output → written.channel ≡ output.channel →
+      written.format ≡ output.format →
       WritesOnly before.standard.now after.standard.now output.file written.file →
-      Does before.format before.standard.now output after.standard.now written →
-      after.each.now.items ≡ slice_set before.each.now.items i written → after.format ≡ before.format →
+      Does before.standard.now output after.standard.now written →
+      after.each.now.items ≡ slice_set before.each.now.items i written →
       after.standard.ghost_name ≡ before.standard.ghost_name → after.each.ghost_name ≡ before.each.ghost_name →
       OutputsDo Does before sink answer after
   by_none : output_of before.each.now.items sink ≡ None → answer ≡ Ok tt → after ≡ before →
@@ -74,13 +76,13 @@ pub data OutputsDo {O G : Type 0} (Does : ItemFormat → OutputRel O G) (before 
 
 module _ {O G : Type 0} (holds : O → Option (List ℕ)) (holds_in : G → Option (List ℕ)) where
   -- an output takes an item
-  abbrev pub Takes : ℤ → Result (Unit {0}) SinkFault → ItemFormat → OutputRel O G
-  Takes item answer format standard output written after =
-      TakesItem format item answer (was_put holds holds_in standard output) (was_put holds holds_in written after)
+  abbrev pub Takes : ℤ → Result (Unit {0}) SinkFault → OutputRel O G
+  Takes item answer standard output written after =
+      TakesItem output.format item answer (was_put holds holds_in standard output) (was_put holds holds_in written after)
 
   -- an output hands on what it kept
-  abbrev pub Flushes : Result (Unit {0}) SinkFault → ItemFormat → OutputRel O G
-  Flushes answer format standard output written after =
+  abbrev pub Flushes : Result (Unit {0}) SinkFault → OutputRel O G
+  Flushes answer standard output written after =
       HandsOn answer after.bytes.items (was_put holds holds_in standard output) (was_put holds holds_in written after)
 
   -- the outputs take an item

@@ -3,38 +3,36 @@ use Rattle.std.specs.Prelude.{◌≡◌, ℕ, zero, suc, ◌+◌, ◌<◌, ◌�
 use Rattle.std.specs.Str.Lines.{lines}
 use Rattle.std.specs.Io.KnownBytes.{prepend_known, IsAtEnd}
 use Rattle.kpn_text_items.specs.ItemLine.{SpellsItem}
-use Rattle.kpn_command_base.specs.declared.stream_request.ItemFormat.{ItemFormat}
-use Rattle.kpn_command_base.specs.declared.stream_request.ItemFormat.TheVariants.{Lines, S16, S32, S64}
+use Rattle.kpn_stream_devices.specs.declared.formats.SampleFormat.{SampleFormat}
+use Rattle.kpn_stream_devices.specs.declared.formats.ItemFormat.{ItemFormat}
+use Rattle.kpn_stream_devices.specs.declared.formats.ItemFormat.TheVariants.{Lines, Samples}
 use Rattle.kpn_stream.specs.declared.faults.SourceFault.{SourceFault}
 use Rattle.kpn_stream.specs.declared.faults.SourceFault.TheVariants.{Read, BadItem, CutSample, NoMemory}
-use Rattle.kpn_stream_devices.specs.Formats.{sample_value}
+use Rattle.kpn_stream_devices.specs.Formats.{sample_width, sample_value}
 
--- the bytes that were read and not used, whether the input has ended behind them, and how many lines were used
+-- the bytes that were read and not used, whether the input has ended behind them, and how many lines or samples were
+-- used
 pub record Window : Type 0 where
   pub unused : List ℕ
   pub is_over : Bool
-  pub lines : ℕ
+  pub used : ℕ
 
 -- nothing was read yet
 abbrev pub fresh : Window
-fresh = record { unused = []; is_over = false; lines = 0 }
+fresh = record { unused = []; is_over = false; used = 0 }
 
--- one line more was used; the count stops at the largest number
-abbrev pub line_after : ℕ → ℕ
-line_after n = min (n + 1) (2 ^ 64 - 1)
+-- one more was used; the count stops at the largest number
+abbrev pub one_after : ℕ → ℕ
+one_after n = min (n + 1) (2 ^ 64 - 1)
 
--- so many lines were used, from the beginning on
-abbrev pub lines_used : ℕ → ℕ
-lines_used zero = 0
-lines_used (suc n) = line_after (lines_used n)
+-- so many were used, from the beginning on
+abbrev pub used_after : ℕ → ℕ
+used_after zero = 0
+used_after (suc n) = one_after (used_after n)
 
--- these bytes are unused
-abbrev pub with_unused : List ℕ → Window → Window
-with_unused bytes w = record w { unused = bytes }
-
--- a line was used, and these bytes are unused
-abbrev pub with_line : List ℕ → Window → Window
-with_line bytes w = record w { unused = bytes; lines = line_after w.lines }
+-- a line or a sample was used, and these bytes are unused
+abbrev pub with_one : List ℕ → Window → Window
+with_one bytes w = record w { unused = bytes; used = one_after w.used }
 
 -- a line spells no item
 abbrev pub SpellsNone : List ℕ → Type 0
@@ -57,21 +55,22 @@ LineGives before after (Err CutSample) = ⊥
 LineGives before after (Err Read) = ⊤
 LineGives before after (Err NoMemory) = ⊤
 
--- the first so many bytes write the item, and those behind them are left; or nothing is left; or too few bytes
-abbrev pub SampleGives : (width : ℕ) (before after : List ℕ) → Result (Option ℤ) SourceFault → Type 0
-SampleGives width before after (Ok (Some item)) =
-    (width ≤ length before) × (item ≡ sample_value width before) × (after ≡ drop width before)
-SampleGives width before after (Ok None) = before ≡ []
-SampleGives width before after (Err (BadItem line)) = ⊥
-SampleGives width before after (Err CutSample) = (0 < length before) × (length before < width)
-SampleGives width before after (Err Read) = ⊤
-SampleGives width before after (Err NoMemory) = ⊤
+-- the first bytes write the item, and those behind the sample are left; or nothing is left; or the first sample writes
+-- none; or too few bytes
+abbrev pub SampleGives : SampleFormat → (before after : List ℕ) → Result (Option ℤ) SourceFault → Type 0
+SampleGives sample before after (Ok (Some item)) =
+    (sample_width sample ≤ length before) × (sample_value sample before ≡ Some item)
+    × (after ≡ drop (sample_width sample) before)
+SampleGives sample before after (Ok None) = before ≡ []
+SampleGives sample before after (Err (BadItem number)) =
+    (sample_width sample ≤ length before) × (sample_value sample before ≡ None)
+SampleGives sample before after (Err CutSample) = (0 < length before) × (length before < sample_width sample)
+SampleGives sample before after (Err Read) = ⊤
+SampleGives sample before after (Err NoMemory) = ⊤
 
 abbrev pub FormatGives : ItemFormat → (before after : List ℕ) → Result (Option ℤ) SourceFault → Type 0
 FormatGives Lines before after answer = LineGives before after answer
-FormatGives S16 before after answer = SampleGives 2 before after answer
-FormatGives S32 before after answer = SampleGives 4 before after answer
-FormatGives S64 before after answer = SampleGives 8 before after answer
+FormatGives (Samples sample) before after answer = SampleGives sample before after answer
 
 -- of an input whose bytes are known
 abbrev pub IfKnown : (before after : Option (List ℕ)) → (List ℕ → List ℕ → Type 0) → Type 0
@@ -85,17 +84,12 @@ abbrev pub Gives : ItemFormat → (before : Window) (device : Option (List ℕ))
 Gives format before device answer after read =
     IfKnown (left_of before device) (left_of after read) (λ left rest. FormatGives format left rest answer)
 
--- How many lines were used before an answer and are used then: an item is one line more, and a line that spells none is
+-- How many were used before an answer and are used then: an item is one more, and a line or a sample that has none is
 -- told by the number that it has, counted from 1.
-abbrev pub CountsLine : Result (Option ℤ) SourceFault → (used now : ℕ) → Type 0
-CountsLine (Ok (Some item)) used now = now ≡ line_after used
-CountsLine (Err (BadItem line)) used now = line ≡ line_after used
-CountsLine answer used now = now ≡ used
-
--- samples are not counted
-abbrev pub Counts : ItemFormat → Result (Option ℤ) SourceFault → (used now : ℕ) → Type 0
-Counts Lines answer used now = CountsLine answer used now
-Counts format answer used now = ⊤
+abbrev pub Counts : Result (Option ℤ) SourceFault → (used now : ℕ) → Type 0
+Counts (Ok (Some item)) used now = now ≡ one_after used
+Counts (Err (BadItem number)) used now = number ≡ one_after used
+Counts answer used now = now ≡ used
 
 -- if the input is over, its device has nothing left
 abbrev pub IsEndKnown : Window → (device : Option (List ℕ)) → Type 0
@@ -109,30 +103,18 @@ abbrev pub LineNeedsMore : Window → Type 0
 LineNeedsMore w =
     (w.is_over ≡ false) × (length w.unused < 22) × (position (λ byte. byte == 10) w.unused ≡ None)
 
-abbrev pub SampleNeedsMore : (width : ℕ) → Window → Type 0
-SampleNeedsMore width w = (w.is_over ≡ false) × (length w.unused < width)
+abbrev pub SampleNeedsMore : SampleFormat → Window → Type 0
+SampleNeedsMore sample w = (w.is_over ≡ false) × (length w.unused < sample_width sample)
 
 abbrev pub NeedsMore : ItemFormat → Window → Type 0
 NeedsMore Lines w = LineNeedsMore w
-NeedsMore S16 w = SampleNeedsMore 2 w
-NeedsMore S32 w = SampleNeedsMore 4 w
-NeedsMore S64 w = SampleNeedsMore 8 w
+NeedsMore (Samples sample) w = SampleNeedsMore sample w
 
 -- ---- scaffolding: what the unused bytes alone tell
 
--- an answer that holds whatever the device has left, of a line, of a sample of so many bytes, and by the format
-pub record LineTells (before : Window) (answer : Result (Option ℤ) SourceFault) (after : Window) : Type 0 where
-  pub counted : CountsLine answer before.lines after.lines
+-- an answer that holds whatever the device has left
+pub record Tells (format : ItemFormat) (before : Window) (answer : Result (Option ℤ) SourceFault) (after : Window)
+    : Type 0 where
+  pub counted : Counts answer before.used after.used
   pub given : (device : Option (List ℕ)) → IsEndKnown before device
-      → IfKnown (left_of before device) (left_of after device) (λ left rest. LineGives left rest answer)
-
-abbrev pub SampleTells : (width : ℕ) (before : Window) → Result (Option ℤ) SourceFault → (after : Window) → Type 0
-SampleTells width before answer after =
-    (device : Option (List ℕ)) → IsEndKnown before device → IfKnown (left_of before device) (left_of after device)
-    (λ left rest. SampleGives width left rest answer)
-
-abbrev pub Tells : ItemFormat → (before : Window) → Result (Option ℤ) SourceFault → (after : Window) → Type 0
-Tells Lines before answer after = LineTells before answer after
-Tells S16 before answer after = SampleTells 2 before answer after
-Tells S32 before answer after = SampleTells 4 before answer after
-Tells S64 before answer after = SampleTells 8 before answer after
+      → IfKnown (left_of before device) (left_of after device) (λ left rest. FormatGives format left rest answer)

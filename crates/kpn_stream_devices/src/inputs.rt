@@ -6,8 +6,8 @@ ghost use Rattle.kpn_shelf.specs.Look.{LookConsumes, LooksAtMost};
 ghost use Rattle.kpn_stream.specs.declared.devices.Look.TheVariants as look;
 ghost use Rattle.kpn_stream_devices.specs.Inputs.{device_left, input_of, kept_fault, FailsToRead, HaveMoved, InputGives, InputLooks, ReadsOnly, Waits};
 
+use crate::formats::ItemFormat;
 use crate::window::{Answer, Window};
-use kpn_command_base::ItemFormat;
 use kpn_shelf::Look;
 use kpn_stream::{Look as Shown, SourceFault, Sources};
 use kpn_text_items::{ItemFault, read_some};
@@ -31,6 +31,7 @@ pub enum Failed {
 #[derive(Drop)]
 pub struct Input<F: Drop> {
     pub channel: usize,
+    pub format: ItemFormat,
     pub file: Option<F>,
     pub window: Window,
     pub failed: Option<Failed>,
@@ -40,7 +41,6 @@ pub struct Input<F: Drop> {
 #[derive(Drop)]
 pub struct Inputs<'i, I, F: Drop> {
     pub standard: &'i mut I,
-    pub format: ItemFormat,
     pub each: &'i mut Vec<Input<F>>,
 }
 
@@ -57,13 +57,12 @@ impl<I: Look, F: Look + Drop> Sources for Inputs<'_, I, F> {
         let Some(i) = input_of(self.each, source) else {
             return Ok(None);
         };
-        let format = self.format;
-        next_of(&mut self.each[i], self.standard, format)
+        next_of(&mut self.each[i], self.standard)
     }
 
     fn is_at_hand(&self, source: usize) -> bool {
         match input_of(self.each, source) {
-            Some(i) => is_told(&self.each[i], self.format),
+            Some(i) => is_told(&self.each[i]),
             None => true,
         }
     }
@@ -72,8 +71,7 @@ impl<I: Look, F: Look + Drop> Sources for Inputs<'_, I, F> {
         let Some(i) = input_of(self.each, source) else {
             return Shown::AtHand;
         };
-        let format = self.format;
-        look_at(&mut self.each[i], self.standard, format)
+        look_at(&mut self.each[i], self.standard)
     }
 
     fn linger(&self) {
@@ -89,28 +87,24 @@ fn input_of<F: Drop>(inputs: &[Input<F>], source: usize) -> Option<usize>
 }
 
 /// Whether an input has an answer without its device.
-fn is_told<F: Drop>(input: &Input<F>, format: ItemFormat) -> bool
-    ensures told { Waits format input.now → result ≡ false }
+fn is_told<F: Drop>(input: &Input<F>) -> bool
+    ensures told { Waits input.now → result ≡ false }
     ensures open { result ≡ false → input.now.window.is_over ≡ false }
 {
-    input.failed.is_some() || input.window.is_at_hand(format)
+    input.failed.is_some() || input.window.is_at_hand(input.format)
 }
 
 /// Takes in what has come, unless the answer of the input is at hand. Shows whether it is then.
-fn look_at<I: Look, F: Look + Drop>(
-    input: &mut Input<F>,
-    standard: &mut I,
-    format: ItemFormat,
-) -> Shown
+fn look_at<I: Look, F: Look + Drop>(input: &mut Input<F>, standard: &mut I) -> Shown
     ensures looks { InputLooks I.remaining F.remaining standard.old input.old
         standard.new input.new }
-    ensures at_hand { result ≡ look.AtHand → Waits format input.new → ⊥ }
+    ensures at_hand { result ≡ look.AtHand → Waits input.new → ⊥ }
 {
-    if is_told(input, format) {
+    if is_told(input) {
         return Shown::AtHand;
     }
     take_in(input, standard);
-    if is_told(input, format) {
+    if is_told(input) {
         return Shown::AtHand;
     }
     if can_look(input, standard) {
@@ -164,16 +158,12 @@ fn look_device<I: Look, F: Look + Drop>(
 }
 
 /// The answer of an input. It reads until there are bytes enough to tell.
-fn next_of<I: Read, F: Read + Drop>(
-    input: &mut Input<F>,
-    standard: &mut I,
-    format: ItemFormat,
-) -> Answer
-    ensures { InputGives I.remaining F.remaining format standard.old input.old result
+fn next_of<I: Read, F: Read + Drop>(input: &mut Input<F>, standard: &mut I) -> Answer
+    ensures { InputGives I.remaining F.remaining standard.old input.old result
         standard.new input.new }
 {
     for _read in 0..u64::MAX {
-        if let Some(answer) = input.window.next(format) {
+        if let Some(answer) = input.window.next(input.format) {
             return answer;
         }
         if let Err(fault) = read_on(input, standard) {

@@ -7,31 +7,30 @@ ghost use Rattle.kpn_run_history.specs.declared.event.Event.{Event};
 ghost use Rattle.kpn_run_history.specs.Channels.{written_on, read_on, is_left};
 ghost use Rattle.kpn_run_history.specs.Legal.{Legal};
 ghost use Rattle.kpn_stream.specs.declared.faults.SinkFault.{SinkFault};
-ghost use Rattle.kpn_command_base.specs.declared.stream_request.ItemFormat.TheVariants.{Lines};
 ghost use Rattle.kpn_stream.specs.declared.faults.SourceFault.TheVariants.{BadItem};
 ghost use Rattle.kpn_stream.specs.Devices.{AreFlushedLast, Fed, Served};
 ghost use Rattle.kpn_stream.specs.Ending.{end_numbers};
 ghost use Rattle.kpn_stream_devices.specs.declared.inputs.Input.{Input as Source};
 ghost use Rattle.kpn_stream_devices.specs.declared.inputs.Inputs.{Inputs as Devices};
 ghost use Rattle.kpn_stream_devices.specs.Inputs.{InputsGive, InputsLook, input_of};
-ghost use Rattle.kpn_stream_devices.specs.Window.{fresh, lines_used};
+ghost use Rattle.kpn_stream_devices.specs.Window.{fresh, used_after};
 ghost use Rattle.kpn_stream_devices.specs.declared.outputs.Output.{Output as One};
 ghost use Rattle.kpn_stream_devices.specs.declared.outputs.Outputs.{Outputs as Targets};
-ghost use Rattle.kpn_stream_devices.specs.Out.{HasOwnDevice, IsServed, items_bytes};
+ghost use Rattle.kpn_stream_devices.specs.Out.{HasOwnDevice, IsServed, text_of_all};
 ghost use Rattle.kpn_stream_devices.specs.Outputs.{OutputsFlush, OutputsTake, device_holds, output_of, was_put};
 
 use kpn_shelf::Look;
 use std::io::Write;
 
-/// The line that an input of lines tells as bad is the one behind those that gave the items so far, counted from 1.
+/// The line or sample that an input tells as bad is the one behind those that gave the items so far, counted from 1.
 pub fn the_bad_line<I: Look, F: Look + Drop>()
     ensures { (t : Tables) → IsNetwork t → (H : List Event) → Legal t H
-        → (first now : Devices I F) (c i line : ℕ)
+        → (first now : Devices I F) (c i number : ℕ)
         → Fed t (InputsGive I.remaining F.remaining) (InputsLook I.remaining F.remaining)
-        first H (Some (c, BadItem line)) now → is_source (channel_at t c) ≡ true
-        → first.format ≡ Lines → input_of first.each.now.items c ≡ Some i
+        first H (Some (c, BadItem number)) now → is_source (channel_at t c) ≡ true
+        → input_of first.each.now.items c ≡ Some i
         → (d : Source F) → (get_or first.each.now.items i d).window ≡ fresh
-        → line ≡ lines_used (length (written_on H c) + 1) }
+        → number ≡ used_after (length (written_on H c) + 1) }
 {}
 
 /// The output of a sink that was not left, and whose device has not failed, was put the texts of all items that were
@@ -45,7 +44,7 @@ pub fn what_was_put<O: Write, G: Write + Drop>()
         → IsServed H failed c → (d : One G) → Appends
         (was_put O.contents G.contents first.standard.now (get_or first.each.now.items i d))
         (was_put O.contents G.contents now.standard.now (get_or now.each.now.items i d))
-        (items_bytes first.format (read_on H c)) }
+        (text_of_all (get_or first.each.now.items i d).format (read_on H c)) }
 {}
 
 /// Once a stream has ended without a failed device, the device of each sink that was not left holds them.
@@ -58,5 +57,6 @@ pub fn what_is_out<O: Write, G: Write + Drop>()
         → HasOwnDevice first.each.now.items i → is_left H c ≡ false → (d : One G) → Appends
         (was_put O.contents G.contents first.standard.now (get_or first.each.now.items i d))
         (device_holds O.contents G.contents now.standard.now
-        (get_or now.each.now.items i d).file) (items_bytes first.format (read_on H c)) }
+        (get_or now.each.now.items i d).file)
+        (text_of_all (get_or first.each.now.items i d).format (read_on H c)) }
 {}

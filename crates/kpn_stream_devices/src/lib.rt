@@ -1,11 +1,14 @@
 //! The devices of `kpn stream`: inputs and outputs of items, as lines or as samples.
 #![tactic(auto)]
 
+mod floats;
+mod formats;
 mod inputs;
 pub mod laws;
 mod outputs;
 mod window;
 
+pub use formats::{ItemFormat, OutputFormat, SampleFormat};
 pub use inputs::{Failed, Input, Inputs};
 pub use outputs::{Output, Outputs};
 pub use window::Window;

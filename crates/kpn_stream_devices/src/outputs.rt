@@ -1,13 +1,14 @@
 //! The outputs of a stream, as the devices of its sinks.
-ghost use Rattle.std.specs.Prelude.{◌≡◌, ◌≤◌, ◌↔◌, ◌++◌, ℤ, IsTrue, OnOk, OnErr, IfErr};
+ghost use Rattle.std.specs.Prelude.{◌≡◌, ◌≤◌, ◌++◌, OnOk, OnErr, IfErr};
 ghost use Rattle.std.specs.Io.KnownBytes.{Appends};
 ghost use Rattle.kpn_text_items.specs.ItemFile.{item_line};
-ghost use Rattle.kpn_stream_devices.specs.Formats.{HasItem, item_bytes, sample_bytes};
+ghost use Rattle.kpn_stream_devices.specs.Formats.{item_bytes, number_bytes, sample_bytes};
 ghost use Rattle.kpn_stream_devices.specs.Outputs.{device_holds, output_of, was_put, TakesItem, HandsOn, IsOfDevice, WritesOnly};
 
+use crate::floats::float_bits;
+use crate::formats::{ItemFormat, OutputFormat, SampleFormat};
 use byteorder::{ByteOrder, LittleEndian};
 use itoa::Buffer;
-use kpn_command_base::ItemFormat;
 use kpn_stream::{SinkFault, Sinks};
 use std::alloc::AllocError;
 use std::io;
@@ -21,6 +22,7 @@ const FULL: usize = 8192;
 #[derive(Drop)]
 pub struct Output<G: Drop> {
     pub channel: usize,
+    pub format: OutputFormat,
     pub file: Option<G>,
     pub bytes: Vec<u8>,
     pub wanted: Option<u64>,
@@ -30,7 +32,6 @@ pub struct Output<G: Drop> {
 #[derive(Drop)]
 pub struct Outputs<'o, O, G: Drop> {
     pub standard: &'o mut O,
-    pub format: ItemFormat,
     pub each: &'o mut Vec<Output<G>>,
 }
 
@@ -45,8 +46,7 @@ impl<O: Write, G: Write + Drop> Sinks for Outputs<'_, O, G> {
         let Some(i) = output_of(self.each, sink) else {
             return Ok(());
         };
-        let format = self.format;
-        put_to(&mut self.each[i], self.standard, format, item)
+        put_to(&mut self.each[i], self.standard, item)
     }
 
     fn flush(&mut self, sink: usize) -> Result<(), SinkFault> {
@@ -68,19 +68,19 @@ fn output_of<G: Drop>(outputs: &[Output<G>], sink: usize) -> Option<usize>
 fn put_to<O: Write, G: Write + Drop>(
     output: &mut Output<G>,
     standard: &mut O,
-    format: ItemFormat,
     item: i64,
 ) -> Result<(), SinkFault>
     ensures channel { output.new.channel ≡ output.old.channel }
+    ensures format { output.new.format ≡ output.old.format }
     ensures only { WritesOnly standard.old standard.new output.old.file output.new.file }
-    ensures taken { TakesItem format item result
+    ensures taken { TakesItem output.old.format item result
         (was_put O.contents G.contents standard.old output.old)
         (was_put O.contents G.contents standard.new output.new) }
 {
-    if !has_item(format, item) {
+    let Some(written) = output.format.written(item) else {
         return Err(SinkFault::NoSample(item));
-    }
-    if push(&mut output.bytes, format, item).is_err() {
+    };
+    if push(&mut output.bytes, output.format.items, written).is_err() {
         return Err(SinkFault::NoMemory);
     }
     output.wanted = one_less(output.wanted);
@@ -99,17 +99,6 @@ fn is_none_wanted(wanted: Option<u64>) -> bool {
     matches!(wanted, Some(0))
 }
 
-/// Whether a format has a text for an item.
-fn has_item(format: ItemFormat, item: i64) -> bool
-    ensures { IsTrue result ↔ HasItem format item }
-{
-    match format {
-        ItemFormat::Lines | ItemFormat::S64 => true,
-        ItemFormat::S16 => i64::from(i16::MIN) <= item && item <= i64::from(i16::MAX),
-        ItemFormat::S32 => i64::from(i32::MIN) <= item && item <= i64::from(i32::MAX),
-    }
-}
-
 /// Puts the text of an item behind these bytes, all of it or nothing.
 fn push(bytes: &mut Vec<u8>, format: ItemFormat, item: i64) -> Result<(), AllocError>
     ensures whole { OnOk result (bytes.new.items ≡ bytes.old.items ++ item_bytes format item) }
@@ -117,9 +106,7 @@ fn push(bytes: &mut Vec<u8>, format: ItemFormat, item: i64) -> Result<(), AllocE
 {
     match format {
         ItemFormat::Lines => push_line(bytes, item),
-        ItemFormat::S16 => push_sample(bytes, item, 2),
-        ItemFormat::S32 => push_sample(bytes, item, 4),
-        ItemFormat::S64 => push_sample(bytes, item, 8),
+        ItemFormat::Samples(sample) => push_sample(bytes, sample, item),
     }
 }
 
@@ -135,10 +122,25 @@ fn push_line(bytes: &mut Vec<u8>, item: i64) -> Result<(), AllocError>
     Ok(())
 }
 
-fn push_sample(bytes: &mut Vec<u8>, item: i64, width: usize) -> Result<(), AllocError>
+fn push_sample(bytes: &mut Vec<u8>, sample: SampleFormat, item: i64) -> Result<(), AllocError>
+    ensures whole { OnOk result (bytes.new.items ≡ bytes.old.items ++ sample_bytes sample item) }
+    ensures nothing { OnErr result (bytes.new.items ≡ bytes.old.items) }
+{
+    match sample {
+        SampleFormat::U8 | SampleFormat::S8 => push_number(bytes, item, 1),
+        SampleFormat::S16 => push_number(bytes, item, 2),
+        SampleFormat::S24 => push_number(bytes, item, 3),
+        SampleFormat::S32 => push_number(bytes, item, 4),
+        SampleFormat::S64 => push_number(bytes, item, 8),
+        SampleFormat::F32 => push_number(bytes, i64::from(float_bits(item)), 4),
+    }
+}
+
+/// Puts the lowest bytes of an item behind these bytes, so many, the lowest of them first.
+fn push_number(bytes: &mut Vec<u8>, item: i64, width: usize) -> Result<(), AllocError>
     requires low { 1 ≤ width }
     requires high { width ≤ 8 }
-    ensures whole { OnOk result (bytes.new.items ≡ bytes.old.items ++ sample_bytes width item) }
+    ensures whole { OnOk result (bytes.new.items ≡ bytes.old.items ++ number_bytes width item) }
     ensures nothing { OnErr result (bytes.new.items ≡ bytes.old.items) }
 {
     let mut sample = [0; 8];
@@ -152,6 +154,7 @@ fn hand_on<O: Write, G: Write + Drop>(
     standard: &mut O,
 ) -> Result<(), SinkFault>
     ensures channel { output.new.channel ≡ output.old.channel }
+    ensures format { output.new.format ≡ output.old.format }
     ensures only { WritesOnly standard.old standard.new output.old.file output.new.file }
     ensures handed_on { HandsOn result output.new.bytes.items
         (was_put O.contents G.contents standard.old output.old)

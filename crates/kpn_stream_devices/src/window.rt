@@ -1,9 +1,10 @@
 //! The bytes of an input that were read and not yet used, and the items that they spell.
 ghost use Rattle.std.specs.Prelude.{◌≡◌, ◌+◌, ◌<◌, ◌≤◌, ◌++◌, [], true, false, Ok, Err, Some, None, drop, length, vec_len, IfOk, OnOk, OnErr, IfSome, MatchOption, position, ◌==◌};
-ghost use Rattle.kpn_stream_devices.specs.Window.{fresh, line_after, with_unused, with_line, NeedsMore, LineNeedsMore, SampleNeedsMore, Tells, LineTells, SampleTells};
+ghost use Rattle.kpn_stream_devices.specs.Formats.{sample_width};
+ghost use Rattle.kpn_stream_devices.specs.Window.{fresh, one_after, with_one, NeedsMore, LineNeedsMore, SampleNeedsMore, Tells};
+ghost use Rattle.kpn_stream_devices.specs.declared.formats.ItemFormat.TheVariants.{Lines, Samples};
 
-use byteorder::{ByteOrder, LittleEndian};
-use kpn_command_base::ItemFormat;
+use crate::formats::{ItemFormat, SampleFormat};
 use kpn_stream::SourceFault;
 use kpn_text_items::{item_of_line, line_feed, without_carriage_return};
 use std::alloc::{AllocError, Global};
@@ -22,7 +23,7 @@ pub struct Window {
     // so many of the bytes were used
     start: usize,
     is_over: bool,
-    lines: u64,
+    used: u64,
 }
 
 impl Model for Window {
@@ -34,7 +35,7 @@ impl Model for Window {
     ghost view = { λ w. record {
       unused = drop w.start w.bytes.items;
       is_over = w.is_over;
-      lines = w.lines;
+      used = w.used;
     } };
 
     ghost invariant = { λ w. w.start ≤ length w.bytes.items };
@@ -49,7 +50,7 @@ impl Window {
             bytes: Vec::new(alloc),
             start: 0,
             is_over: false,
-            lines: 0,
+            used: 0,
         }
     }
 
@@ -63,7 +64,7 @@ impl Window {
     /// Takes what one read gave. If it gave nothing, the input is over. The error is that memory ran out.
     pub fn add(&mut self, bytes: &[u8]) -> Result<(), AllocError>
         ensures added { OnOk result (self.new.unused ≡ self.old.unused ++ bytes.now) }
-        ensures lines { self.new.lines ≡ self.old.lines }
+        ensures used { self.new.used ≡ self.old.used }
         ensures over { self.new.is_over ≡ true → bytes.now ≡ [] }
     {
         if bytes.is_empty() {
@@ -83,24 +84,16 @@ impl Window {
         self.start = 0;
     }
 
-    /// Uses some bytes.
-    fn pass(&mut self, count: usize)
+    /// Uses a line or a sample of so many bytes, and returns its number.
+    fn pass(&mut self, count: usize) -> u64
         requires { count ≤ length self.old.unused }
-        ensures { self.new ≡ with_unused (drop count self.old.unused) self.old }
+        ensures passed { self.new ≡ with_one (drop count self.old.unused) self.old }
+        ensures number { result ≡ one_after self.old.used }
     {
         self.start += count;
-    }
-
-    /// Uses a line of so many bytes, and returns its number.
-    fn pass_line(&mut self, count: usize) -> u64
-        requires { count ≤ length self.old.unused }
-        ensures passed { self.new ≡ with_line (drop count self.old.unused) self.old }
-        ensures line { result ≡ line_after self.old.lines }
-    {
-        self.start += count;
-        let line = self.lines.saturating_add(1);
-        self.lines = line;
-        line
+        let number = self.used.saturating_add(1);
+        self.used = number;
+        number
     }
 
     /// The answer of the source, if no more bytes are needed to tell.
@@ -112,9 +105,7 @@ impl Window {
     {
         match format {
             ItemFormat::Lines => self.next_line(),
-            ItemFormat::S16 => self.next_sample(2),
-            ItemFormat::S32 => self.next_sample(4),
-            ItemFormat::S64 => self.next_sample(8),
+            ItemFormat::Samples(sample) => self.next_sample(sample),
         }
     }
 
@@ -127,14 +118,12 @@ impl Window {
         self.is_over
             || match format {
                 ItemFormat::Lines => unused.len() >= LONGEST || line_feed(unused).is_some(),
-                ItemFormat::S16 => unused.len() >= 2,
-                ItemFormat::S32 => unused.len() >= 4,
-                ItemFormat::S64 => unused.len() >= 8,
+                ItemFormat::Samples(sample) => unused.len() >= sample.width(),
             }
     }
 
     fn next_line(&mut self) -> Option<Answer>
-        ensures told { IfSome result (λ answer. LineTells self.old answer self.new) }
+        ensures told { IfSome result (λ answer. Tells Lines self.old answer self.new) }
         ensures needs_more { result ≡ None → self.new ≡ self.old }
         ensures needs { result ≡ None → LineNeedsMore self.old }
         ensures over { self.new.is_over ≡ self.old.is_over }
@@ -148,18 +137,18 @@ impl Window {
     /// The answer of the line that has a line feed behind so many bytes.
     fn line_of(&mut self, end: usize) -> Answer
         requires { position (λ byte. byte == 10) self.old.unused ≡ Some end }
-        ensures told { LineTells self.old result self.new }
+        ensures told { Tells Lines self.old result self.new }
         ensures over { self.new.is_over ≡ self.old.is_over }
     {
         let item = item_of_line(without_carriage_return(&self.unused()[..end]));
-        let line = self.pass_line(end + 1);
+        let line = self.pass(end + 1);
         told(item, line)
     }
 
     /// The answer of the last line, which lacks its line feed.
     fn last_line(&mut self) -> Option<Answer>
         requires { position (λ byte. byte == 10) self.old.unused ≡ None }
-        ensures told { IfSome result (λ answer. LineTells self.old answer self.new) }
+        ensures told { IfSome result (λ answer. Tells Lines self.old answer self.new) }
         ensures needs_more { result ≡ None → self.new ≡ self.old }
         ensures needs { result ≡ None → LineNeedsMore self.old }
         ensures over { self.new.is_over ≡ self.old.is_over }
@@ -174,7 +163,7 @@ impl Window {
         if count < LONGEST {
             return None;
         }
-        let line = self.pass_line(count);
+        let line = self.pass(count);
         Some(Err(SourceFault::BadItem(line)))
     }
 
@@ -184,37 +173,36 @@ impl Window {
         requires some { 0 < count }
         requires over { self.old.is_over ≡ true }
         requires line { position (λ byte. byte == 10) self.old.unused ≡ None }
-        ensures told { LineTells self.old result self.new }
+        ensures told { Tells Lines self.old result self.new }
         ensures over { self.new.is_over ≡ self.old.is_over }
     {
         let item = item_of_line(self.unused());
-        let line = self.pass_line(count);
+        let line = self.pass(count);
         told(item, line)
     }
 
-    /// The answer of a sample of so many bytes.
-    fn next_sample(&mut self, width: usize) -> Option<Answer>
-        requires low { 1 ≤ width }
-        requires high { width ≤ 8 }
-        ensures told { IfSome result (λ answer. SampleTells width self.old answer self.new) }
+    /// The answer of a sample.
+    fn next_sample(&mut self, sample: SampleFormat) -> Option<Answer>
+        ensures told { IfSome result (λ answer. Tells (Samples sample) self.old answer self.new) }
         ensures needs_more { result ≡ None → self.new ≡ self.old }
-        ensures needs { result ≡ None → SampleNeedsMore width self.old }
+        ensures needs { result ≡ None → SampleNeedsMore sample self.old }
         ensures over { self.new.is_over ≡ self.old.is_over }
     {
         let unused = self.unused();
+        let width = sample.width();
         if unused.len() < width {
-            return self.no_sample(width);
+            return self.no_sample(sample);
         }
-        let item = LittleEndian::read_int(unused, width);
-        self.pass(width);
-        Some(given(item))
+        let item = sample.value(unused);
+        let number = self.pass(width);
+        Some(told(item, number))
     }
 
     /// The answer if there are too few bytes for a sample.
-    fn no_sample(&self, width: usize) -> Option<Answer>
-        requires { length self.now.unused < width }
-        ensures told { IfSome result (λ answer. SampleTells width self.now answer self.now) }
-        ensures needs { result ≡ None → SampleNeedsMore width self.now }
+    fn no_sample(&self, sample: SampleFormat) -> Option<Answer>
+        requires { length self.now.unused < sample_width sample }
+        ensures told { IfSome result (λ answer. Tells (Samples sample) self.now answer self.now) }
+        ensures needs { result ≡ None → SampleNeedsMore sample self.now }
     {
         if !self.is_over {
             return None;
@@ -226,20 +214,13 @@ impl Window {
     }
 }
 
-/// The answer that there is an item.
-fn given(item: i64) -> Answer
-    ensures { result ≡ Ok (Some item) }
-{
-    Ok(Some(item))
-}
-
-/// The answer of a line, counted from 1, that spells this item, or none.
-fn told(item: Option<i64>, line: u64) -> Answer
+/// The answer of a line or a sample, counted from 1, that spells this item, or none.
+fn told(item: Option<i64>, number: u64) -> Answer
     ensures item { IfSome item (λ item. result ≡ Ok (Some item)) }
-    ensures none { item ≡ None → result ≡ Err (SourceFault.BadItem line) }
+    ensures none { item ≡ None → result ≡ Err (SourceFault.BadItem number) }
 {
     match item {
         Some(item) => Ok(Some(item)),
-        None => Err(SourceFault::BadItem(line)),
+        None => Err(SourceFault::BadItem(number)),
     }
 }

@@ -1,5 +1,5 @@
 -- The answer to the command that the words name is the answer to the words.
-use Rattle.std.proofs.Common.{arith, rules}
+use Rattle.std.proofs.Common.{arith}
 use Rattle.std.proofs.lemmas.Grind.{common_steps}
 use Rattle.kpn_command_line.specs.Asked.{Names, rows_in}
 use Rattle.kpn_command_line.proofs.Nothing.{answer_to_words}

@@ -1,5 +1,5 @@
 -- The places, the run between them, and the end.
-use Rattle.std.proofs.Common.{List, subst}
+use Rattle.std.proofs.Common.{List, refl, subst}
 use Rattle.kpn_command_base.specs.declared.sources.Ends.TheVariants.{Sources, Sinks}
 use Rattle.kpn_command_stream.specs.Command.{IsConcluded}
 use Rattle.kpn_command_stream.specs.declared.running.Lost.{Lost}
@@ -15,8 +15,8 @@ returns-clause-streamed g c =
     record {
       places = c.in_ok-places.places;
       asked_for = record {
-        sources = placed_by Sources _ _ _ _ _ _ words.source_names words.source_files places.sources;
-        sinks = placed_by Sinks _ _ _ _ _ _ words.sink_names words.sink_files places.sinks;
+        sources = placed_by Sources _ _ _ _ _ _ _ _ words.source_names words.source_files refl places.sources;
+        sinks = placed_by Sinks _ _ _ _ _ _ _ _ words.sink_names words.sink_files refl places.sinks;
       };
       ending = ending;
       book = book;

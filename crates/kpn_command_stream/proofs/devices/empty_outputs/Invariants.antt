@@ -1,10 +1,9 @@
 -- All outputs stay open, and the files of the first ones hold nothing.
 use Rattle.std.proofs.Common.{All, take}
-use Rattle.std.specs.List.{AllZip}
-use Rattle.kpn_command_stream.specs.Command.{IsEmptied, IsOutputFor}
+use Rattle.kpn_command_stream.specs.Command.{IsEmptied, StayOutputs}
 use Rattle.kpn_command_stream.proofs.devices.empty_outputs.Given as goal
 
 abbrev pub invariant-loop-i : goal.invariant-loop-i
 invariant-loop-i g l =
-    AllZip (IsOutputFor g.S.Ports.goes_to) l.places.sinks.items l.outputs.items
+    StayOutputs g.S.Ports.goes_to l.places.sinks.items l.initial.outputs.items l.outputs.items
     × All (IsEmptied g.S.Output.Write.contents) (take l.i l.outputs.items)

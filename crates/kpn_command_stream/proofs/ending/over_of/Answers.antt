@@ -8,6 +8,7 @@ returns c =
     let t = c.network-network.result.now in
     record {
       sinks = c.in_ok-sinks.ensures;
+      channels = c.in_ok-channels.ensures;
       after = c.outcome_at.new.book;
       outcome = c.in_ok-outcome.ensures;
       history = c.in_ok-states.ensures.history;

@@ -1,6 +1,8 @@
 -- The places so far.
+use Rattle.std.proofs.Common.{map}
 use Rattle.kpn_command_stream.specs.Places.{ArePlaced}
 use Rattle.kpn_command_stream.proofs.places.place_each.Given as goal
 
 abbrev pub invariant-loop-number : goal.invariant-loop-number
-invariant-loop-number l = ArePlaced l.named l.channels l.number l.places.items
+invariant-loop-number l =
+    ArePlaced l.document l.named (map (λ word. word.now) l.formats) l.channels l.number l.places.items

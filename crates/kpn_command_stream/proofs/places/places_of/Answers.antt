@@ -1,5 +1,5 @@
 -- The places of all ends by what the options name.
-use Rattle.std.proofs.Common.{List, subst}
+use Rattle.std.proofs.Common.{List, map, subst}
 use Rattle.std.proofs.lemmas.Result.{IfOk-weaker}
 use Rattle.kpn_command_base.specs.declared.sources.NamedEnd.{NamedEnd}
 use Rattle.kpn_command_base.specs.Sources.{is_end}
@@ -12,10 +12,11 @@ pub returns : goal.returns
 returns c =
     IfOk-weaker c.places_by.result _ _
     (λ places placed.
-    all_placed c.args.ends c.args.document.now _ _ c.in_ok-named.named.items places.items c.in_ok-named.ensures.named
+    all_placed c.args.ends c.args.document.now _ _ _ c.in_ok-named.named.items places.items c.in_ok-named.ensures.named
     c.in_ok-named.ensures.files
     (subst
     (λ (named : List NamedEnd).
-    AllPlaced named (end_numbers (is_end c.args.ends) c.args.document.now.tables) places.items)
+    AllPlaced c.args.document.now named (map (λ word. word.now) c.args.formats.now)
+    (end_numbers (is_end c.args.ends) c.args.document.now.tables) places.items)
     c.deref.ensures.value placed))
     c.places_by.ensures

@@ -1,5 +1,5 @@
 -- The run, from standard input and output as they were to what they are afterwards.
-use Rattle.std.proofs.Common.{refl, ap, rules}
+use Rattle.std.proofs.Common.{refl, rules}
 use Rattle.kpn_command_stream.proofs.Keeping.{ran_by}
 use Rattle.kpn_command_stream.proofs.running.run_between.Goals as goal
 
@@ -16,9 +16,7 @@ returns-clause-ran g c =
       inputs_are = refl;
       input_is = refl;
       input_read = search rules;
-      input_format = ap (λ r. r.format) c.request.view_is;
       outputs_are = refl;
       output_is = refl;
       output_written = search rules;
-      output_format = ap (λ r. r.format) c.request.view_is;
     }

@@ -5,27 +5,27 @@ use Rattle.kpn_stream_devices.proofs.inputs.next_of.Goals as goal
 
 pub loop-read-init : goal.loop-read-init
 loop-read-init g c =
-    at_start g.I.Read.remaining g.F.Read.remaining c.args.format c.args.standard.now c.args.input.now
+    at_start g.I.Read.remaining g.F.Read.remaining c.args.standard.now c.args.input.now
 
 pub returns-in-Some : goal.returns-in-Some
 returns-in-Some g c =
-    told_after g.I.Read.remaining g.F.Read.remaining c.args.format c.args.standard.now c.args.input.now
+    told_after g.I.Read.remaining g.F.Read.remaining c.args.standard.now c.args.input.now
     c.loop-read.standard c.loop-read.input c.loop-read.invariant c.in-Some.answer c.next.new.self c.in-Some.ensures.told
     c.next.ensures.over
 
 pub returns-in-Err : goal.returns-in-Err
 returns-in-Err g c =
-    fails_after g.I.Read.remaining g.F.Read.remaining c.args.format c.args.standard.now c.args.input.now
+    fails_after g.I.Read.remaining g.F.Read.remaining c.args.standard.now c.args.input.now
     c.loop-read.standard c.loop-read.input c.loop-read.invariant c.next.new.self (search rules) (search rules)
     c.read_on.new.standard c.read_on.new.input c.in-Err.fault c.in-Err.ensures.fault
 
 pub loop-read-preserved : goal.loop-read-preserved
 loop-read-preserved g c =
-    more_after g.I.Read.remaining g.F.Read.remaining c.args.format c.args.standard.now c.args.input.now
+    more_after g.I.Read.remaining g.F.Read.remaining c.args.standard.now c.args.input.now
     c.loop-read.standard c.loop-read.input c.loop-read.invariant c.next.new.self (search rules) (search rules)
     c.read_on.new.standard c.read_on.new.input (search rules) (search rules)
 
 pub returns : goal.returns
 returns g c =
-    fails_at_last g.I.Read.remaining g.F.Read.remaining c.args.format c.args.standard.now c.args.input.now
+    fails_at_last g.I.Read.remaining g.F.Read.remaining c.args.standard.now c.args.input.now
     c.loop-read.standard c.loop-read.input c.loop-read.invariant

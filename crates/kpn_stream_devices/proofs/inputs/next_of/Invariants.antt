@@ -4,4 +4,4 @@ use Rattle.kpn_stream_devices.proofs.inputs.next_of.Given as goal
 
 abbrev pub invariant-loop-read : goal.invariant-loop-read
 invariant-loop-read g l =
-    IsAsked g.I.Read.remaining g.F.Read.remaining l.format l.fn.standard l.fn.input l.standard l.input
+    IsAsked g.I.Read.remaining g.F.Read.remaining l.fn.standard l.fn.input l.standard l.input

@@ -9,8 +9,9 @@ returns-in_default-clause-fault g c =
     let w = c.args.input.now.window in
     record {
       channel = refl;
+      format = refl;
       only = c.in_default.ensures.only;
-      counted = λ format. fault_counts format Read w.lines w.lines refl;
+      counted = fault_counts Read w.used w.used refl;
       at_hand = λ some. absurd (some c.requires.unfailed);
       known = λ known. not_over w _ c.requires.open;
       given = λ format. device_fails format Read w w _ _ (stayed w.unused _ _ c.in_default.ensures.bytes);

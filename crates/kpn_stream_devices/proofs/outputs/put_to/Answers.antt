@@ -5,5 +5,5 @@ use Rattle.kpn_stream_devices.proofs.outputs.put_to.Goals as goal
 
 pub returns-clause-taken : goal.returns-clause-taken
 returns-clause-taken g c =
-    handed c.args.format c.args.item _ _ _ c.hand_on.result _ (search rules) (search (kept_more, rules))
-    c.hand_on.ensures.handed_on
+    handed c.args.output.now.format c.args.item c.in-Some.written _ _ _ c.hand_on.result _ (search rules) (search rules)
+    (search (kept_more, rules)) c.hand_on.ensures.handed_on

@@ -8,4 +8,4 @@ returns-clause-looks g c =
     at_input c.in-Some.i c.index_mut.result.now c.look_at.new.input
     (ap (λ is. input_of is c.args.source) (sym c.deref.ensures.value) ∙ sym c.input_of.ensures ∙ c.in-Some.is)
     (search rules)
-    c.look_at.ensures.looks refl refl refl refl
+    c.look_at.ensures.looks refl refl refl

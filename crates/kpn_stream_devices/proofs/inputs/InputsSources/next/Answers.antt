@@ -8,4 +8,4 @@ returns g c =
     by_input c.in-Some.i c.index_mut.result.now c.next_of.new.input
     (ap (λ is. input_of is c.args.source) (sym c.deref.ensures.value) ∙ sym c.input_of.ensures ∙ c.in-Some.is)
     (search rules)
-    c.next_of.ensures refl refl refl refl
+    c.next_of.ensures refl refl refl

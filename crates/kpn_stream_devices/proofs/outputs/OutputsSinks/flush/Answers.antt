@@ -8,4 +8,4 @@ returns g c =
     by_output c.in-Some.i c.index_mut.result.now c.hand_on.new.output
     (ap (λ os. output_of os c.args.sink) (sym c.deref.ensures.value) ∙ sym c.output_of.ensures ∙ c.in-Some.is)
     (search rules)
-    c.hand_on.ensures.channel c.hand_on.ensures.only c.hand_on.ensures.handed_on refl refl refl refl
+    c.hand_on.ensures.channel c.hand_on.ensures.format c.hand_on.ensures.only c.hand_on.ensures.handed_on refl refl refl

@@ -10,7 +10,7 @@ returns g c =
     let fits : SFits w64 c.args.item = search rules in
     by_output c.in-Some.i c.index_mut.result.now c.put_to.new.output
     (ap (λ os. output_of os c.args.sink) (sym c.deref.ensures.value) ∙ sym c.output_of.ensures ∙ c.in-Some.is)
-    (search rules) c.put_to.ensures.channel c.put_to.ensures.only
-    (subst (λ (v : ℤ). Takes g.O.Write.contents g.G.Write.contents v c.put_to.result c.args.self.now.format
+    (search rules) c.put_to.ensures.channel c.put_to.ensures.format c.put_to.ensures.only
+    (subst (λ (v : ℤ). Takes g.O.Write.contents g.G.Write.contents v c.put_to.result
     c.args.self.now.standard.now c.index_mut.result.now c.put_to.new.standard c.put_to.new.output)
-    (to_z-of_z w64 c.args.item fits) c.put_to.ensures.taken) refl refl refl refl
+    (to_z-of_z w64 c.args.item fits) c.put_to.ensures.taken) refl refl refl

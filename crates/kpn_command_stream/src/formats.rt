@@ -1,0 +1,132 @@
+//! The words behind `--format`: each is a format for all ends, or `NAME=FORMAT` for one.
+ghost use Rattle.std.specs.Prelude.{◌≡◌, map, option_map, MatchOption};
+ghost use Rattle.kpn_stream_devices.specs.Formats.{format_name, IsNoFormat};
+ghost use Rattle.kpn_command_stream.specs.Formats.{common_format, first_that, format_word, named_format};
+
+use kpn_stream_devices::ItemFormat;
+use kpn_text::Document;
+
+/// The word for ends of which no option says anything.
+const USUAL: &str = "lines";
+
+/// Whether each of these words names a format.
+pub(crate) fn are_formats(words: &[&str]) -> bool {
+    words.iter().all(|word| is_format(word))
+}
+
+/// Whether a word names a format.
+fn is_format(word: &str) -> bool {
+    let name = match word.split_once('=') {
+        Some((_, format)) => format,
+        None => word,
+    };
+    ItemFormat::of_word(name).is_some()
+}
+
+/// Whether each of these words is for all ends or for one that the network has, and no two are for the same.
+pub(crate) fn are_for_ends(words: &[&str], document: &Document) -> bool {
+    for i in 0..words.len() {
+        if !is_for_end(words[i], document) || is_said(&words[..i], words[i]) {
+            return false;
+        }
+    }
+    true
+}
+
+/// Whether a word is for all ends or for one that the network has.
+fn is_for_end(word: &str, document: &Document) -> bool {
+    match word.split_once('=') {
+        Some((name, _)) => is_end(document, name),
+        None => true,
+    }
+}
+
+/// Whether a network has a source or a sink of this name.
+fn is_end(document: &Document, name: &str) -> bool {
+    match document.find_channel(name) {
+        Some(channel) => {
+            document.network().is_source(channel) || document.network().is_sink(channel)
+        }
+        None => false,
+    }
+}
+
+/// Whether one of these words is for the same ends.
+fn is_said(words: &[&str], word: &str) -> bool {
+    words.iter().any(|before| name_in(before) == name_in(word))
+}
+
+/// The name of the end that a word is for, or nothing if it is for all.
+fn name_in(word: &str) -> &str {
+    match word.split_once('=') {
+        Some((name, _)) => name,
+        None => "",
+    }
+}
+
+/// Whether the items of the end of this name are lines.
+pub fn has_lines(words: &[&str], name: &str) -> bool {
+    matches!(format_for(words, name), Some(ItemFormat::Lines))
+}
+
+/// The format of the end of this name.
+pub(crate) fn format_for(words: &[&str], name: &str) -> Option<ItemFormat>
+    ensures { let word = format_word (map (λ word. word.now) words.now) name.now in
+        MatchOption result (IsNoFormat word) (λ format. word ≡ format_name format) }
+{
+    ItemFormat::of_word(word_for(words, name))
+}
+
+/// The word for the end of this name: the one that names it, or else the one for all.
+fn word_for<'a>(words: &[&'a str], name: &str) -> &'a str
+    ensures { result.now ≡ format_word (map (λ word. word.now) words.now) name.now }
+{
+    match word_named(words, name) {
+        Some(word) => word,
+        None => common_word(words).unwrap_or(USUAL),
+    }
+}
+
+/// What the first word for the end of this name says.
+fn word_named<'a>(words: &[&'a str], name: &str) -> Option<&'a str>
+    ensures { option_map (λ format. format.now) result
+        ≡ first_that (λ word. named_format word name.now) (map (λ word. word.now) words.now) }
+{
+    for word in words {
+        if let Some(format) = named_format(word, name) {
+            return Some(format);
+        }
+    }
+    None
+}
+
+/// The first word for all ends.
+fn common_word<'a>(words: &[&'a str]) -> Option<&'a str>
+    ensures { option_map (λ format. format.now) result
+        ≡ first_that common_format (map (λ word. word.now) words.now) }
+{
+    for word in words {
+        if let Some(format) = common_format(word) {
+            return Some(format);
+        }
+    }
+    None
+}
+
+/// What a word says of the end of this name.
+fn named_format<'a>(word: &'a str, name: &str) -> Option<&'a str>
+    ensures { option_map (λ format. format.now) result ≡ named_format word.now name.now }
+{
+    let (end, format) = word.split_once('=')?;
+    if end == name { Some(format) } else { None }
+}
+
+/// What a word says of all ends.
+fn common_format(word: &str) -> Option<&str>
+    ensures { option_map (λ format. format.now) result ≡ common_format word.now }
+{
+    match word.split_once('=') {
+        Some(_) => None,
+        None => Some(word),
+    }
+}
